@@ -1,0 +1,27 @@
+-- What a reader that gives the rows at a place may say of it.
+use Rattle.std.proofs.Common.{◌≡◌, ℕ, ◌≤◌, List, length, Result, Ok, Err, sym, ap, ◌∙◌}
+use Rattle.etcs_bits.specs.declared.fault.DecodeError.{DecodeError}
+use Rattle.etcs_bits.specs.declared.fault.DecodeError.TheVariants as errors
+use Rattle.etcs_bits.specs.Rows.{Row, Place, IsSpelled}
+use Rattle.etcs_bits.specs.Fields.{Fields, AreRowsOf}
+use Rattle.etcs_bits.specs.Fault.{IsFault, NoneBegins}
+use Rattle.etcs_bits.specs.Reading.{rows_at}
+use Rattle.etcs_bits.specs.Layout.{Fails, OfFault}
+use Rattle.etcs_bits.proofs.ReadingLemmas.{read_is_spelled, fault_is_told}
+use Rattle.etcs_bits.proofs.FaultLemmas.{none_stands}
+
+pub is_spelled : (fields : Fields) (rows : List Row) (p q : Place) → p.at ≤ length p.bits → rows_at fields p ≡ Ok (rows, q) → IsSpelled rows p q
+is_spelled fields rows p q within e = (read_is_spelled fields p (rows, q) within e).spelled
+
+pub is_fault : (e : DecodeError) (fields : Fields) (p : Place) → p.at ≤ length p.bits → Fails e (rows_at fields p) → OfFault e (λ f. IsFault fields p f)
+is_fault errors.Memory fields p within fails = tt
+is_fault (errors.Fault f) fields p within fails = fault_is_told fields p f within fails
+
+pub none_begins : {X : Type 0} (rows : X → List Row) (e : DecodeError) (fields : Fields) (p : Place) → p.at ≤ length p.bits → ((x : X) → AreRowsOf fields (rows x)) → Fails e (rows_at fields p) → OfFault e (λ f. NoneBegins rows p f)
+none_begins rows errors.Memory fields p within are_rows fails = tt
+none_begins rows (errors.Fault f) fields p within are_rows fails =
+    λ bits len front x to spelled. none_stands fields p f bits (rows x) to within len front (fault_is_told fields p f within fails) (are_rows x) spelled
+
+-- records with the same rows are one
+pub same_record : {X : Type 0} (rows : X → List Row) (record_of : List Row → X) → ((x : X) → record_of (rows x) ≡ x) → (v w : X) → rows v ≡ rows w → v ≡ w
+same_record rows record_of is_record v w e = sym (is_record v) ∙ ap record_of e ∙ is_record w

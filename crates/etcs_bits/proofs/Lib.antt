@@ -1,0 +1,9 @@
+pub mod NumberLemmas
+pub mod BindLemmas
+pub mod StandLemmas
+pub mod ReadingLemmas
+pub mod FaultLemmas
+pub mod LayoutLemmas
+pub mod PutLemmas
+pub mod WidthLemmas
+pub mod NumeralLemmas

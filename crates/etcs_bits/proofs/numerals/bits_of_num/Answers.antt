@@ -1,0 +1,19 @@
+use Rattle.std.proofs.Common.{◌≡◌, ◌∙◌, ap, sym, length-set, ◌≤◌, take, length, arith}
+use Rattle.std.proofs.lemmas.List.{take_all}
+use Rattle.etcs_bits.specs.Number.{num}
+use Rattle.etcs_bits.proofs.NumberLemmas.{length-num}
+use Rattle.etcs_bits.proofs.NumeralLemmas.{bits_more}
+use Rattle.etcs_bits.proofs.numerals.bits_of_num.Goals as goal
+
+-- one bit more of the number stands
+pub bits-preserved : goal.bits-preserved
+bits-preserved c = record {
+  whole = length-set c.bits.block c.bits.k _ ∙ c.bits.invariant.whole;
+  so_far = bits_more c.args.width c.args.n c.bits.k c.bits.block c.bits-test.true (omega arith) c.bits.invariant.so_far;
+}
+
+-- the loop ends with all of them
+pub returns : goal.returns
+returns c =
+    let e : c.bits.k ≡ c.args.width = omega arith in
+    ap (λ j. take j c.bits.block) (sym e) ∙ c.bits.invariant.so_far ∙ take_all c.bits.k (num c.args.width c.args.n) (rw length-num (omega arith))

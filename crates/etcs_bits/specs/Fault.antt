@@ -1,0 +1,46 @@
+-- The fault of bits that spell no record: which field it is told of, why, and how many bits decide
+-- it. A fault is what an open list of fields tells that stands at the front of the input.
+use Rattle.std.specs.Prelude.{◌≡◌, ℕ, ◌+◌, ◌-◌, ◌<◌, ◌^◌, Bool, true, false, ◌⊎◌, List, length, take}
+use Rattle.etcs_bits.specs.declared.fault.Fault.{Fault}
+use Rattle.etcs_bits.specs.declared.fault.FaultKind.TheVariants.{Short, Length, NoEnd}
+use Rattle.etcs_bits.specs.Number.{num}
+use Rattle.etcs_bits.specs.Rows.{Variable, Row, Place, Stands, IsSpelled}
+use Rattle.etcs_bits.specs.Fields.{Fields, Due, due, differs, IsOpen}
+
+-- the field here does not fit: the input's length decides it
+abbrev pub short : Place → Fault
+short p = record { at = p.at; end = length p.bits; why = Short }
+
+-- Fewer bits are left than a field has. Where a telegram's packets may end, any input with the same
+-- front has as few, so that no bit past this place decides it.
+abbrev pub lack : Bool → Place → Fault
+lack true p = record { at = p.at; end = p.at; why = NoEnd }
+lack false p = short p
+
+-- the field here has a number that is not allowed
+abbrev pub refused : Variable → Place → Fault
+refused x p = record { at = p.at; end = p.at + x.width; why = x.refusal }
+
+-- What an open list that ends here tells.
+abbrev pub Tells : Due → Place → Fault → Type 0
+Tells (due x) e fault =
+    ((length e.bits < e.at + x.width) × (fault ≡ lack x.closes e))
+    ⊎ ((n : ℕ) × (after : Place) × Stands (num x.width n) e after × (n < 2 ^ x.width)
+    × (x.allows n ≡ false) × (fault ≡ refused x e))
+Tells (differs back) e fault = fault ≡ record { at = e.at - back; end = e.at; why = Length }
+
+-- Some open list of these fields, each row allowed, stands here and tells the fault.
+pub record IsFault (fields : Fields) (from : Place) (fault : Fault) : Type 0 where
+  pub rows : List Row
+  pub next : Due
+  pub reached : Place
+  pub is_open : IsOpen fields rows next
+  pub spelled : IsSpelled rows from reached
+  pub tells : Tells next reached fault
+
+-- No input of the same length that begins with the same first `end` bits has such a record here.
+abbrev pub NoneBegins : {X : Type 0} → (X → List Row) → Place → Fault → Type 0
+NoneBegins {X} rows from fault =
+    (bits : List Bool) → length bits ≡ length from.bits
+    → take fault.end bits ≡ take fault.end from.bits
+    → (x : X) (to : Place) → IsSpelled (rows x) (record { bits = bits; at = from.at }) to → ⊥

@@ -1,0 +1,11 @@
+pub mod Number
+pub mod Rows
+pub mod Fields
+pub mod Fault
+pub mod Reading
+pub mod Layout
+pub mod Variables
+pub mod RowLemmas
+pub mod VariableLemmas
+pub mod Identity
+pub mod Laws

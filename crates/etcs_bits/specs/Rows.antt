@@ -1,0 +1,67 @@
+-- A record is a list of rows, each a variable of the standard with a number, and its spelling is
+-- the bits of these numbers, one after the other without a gap (SUBSET-026, 7.4 and 7.5).
+use Rattle.std.specs.Prelude.{◌≡◌, ℕ, zero, suc, ◌+◌, ◌<◌, ◌^◌, Bool, IsTrue, List, [], ◌∷◌, ◌++◌, length, drop}
+use Rattle.std.specs.List.{AllByRecursion}
+use Rattle.etcs_bits.specs.declared.fault.FaultKind.{FaultKind}
+use Rattle.etcs_bits.specs.Number.{num}
+
+-- a variable: how many bits it has, which numbers are not spare, and what a spare one is called
+pub record Variable : Type 0 where
+  pub width : ℕ
+  pub allows : ℕ → Bool
+  pub refusal : FaultKind
+  -- whether a telegram's packets may end in its place, so that want of room has a name of its own
+  pub closes : Bool
+
+-- one variable of a record, with its number
+pub record Row : Type 0 where
+  pub variable : Variable
+  pub number : ℕ
+
+abbrev pub row : Variable → ℕ → Row
+row x n = record { variable = x; number = n }
+
+-- the rows of a record that is one variable
+unfoldable pub alone : Variable → ℕ → List Row
+alone x n = row x n ∷ []
+
+-- the number is one of its variable, and is not spare
+abbrev pub IsAllowed : Row → Type 0
+IsAllowed r = (r.number < 2 ^ r.variable.width) × IsTrue (r.variable.allows r.number)
+
+-- each row is allowed
+abbrev pub AreAllowed : List Row → Type 0
+AreAllowed rows = AllByRecursion IsAllowed rows
+
+-- the numbers of the rows, one after the other, without a gap
+abbrev pub join : List Row → List Bool
+join [] = []
+join (r ∷ rows) = num r.variable.width r.number ++ join rows
+
+-- how many bits the rows have
+abbrev pub width : List Row → ℕ
+width [] = 0
+width (r ∷ rows) = r.variable.width + width rows
+
+-- the number of the row with this place in the list, from 0 on; 0 past the end
+abbrev pub number_at : ℕ → List Row → ℕ
+number_at n [] = 0
+number_at zero (r ∷ rows) = r.number
+number_at (suc n) (r ∷ rows) = number_at n rows
+
+-- a place in a list of bits
+pub record Place : Type 0 where
+  pub bits : List Bool
+  pub at : ℕ
+
+-- the bits stand from one place up to the other
+pub record Stands (bits : List Bool) (from to : Place) : Type 0 where
+  pub same : to.bits ≡ from.bits
+  pub here : drop from.at from.bits ≡ bits ++ drop to.at from.bits
+  pub past : to.at ≡ from.at + length bits
+
+-- The record with these rows is spelled from one place up to the other: each row is allowed, and
+-- their join stands there.
+pub record IsSpelled (rows : List Row) (from to : Place) : Type 0 where
+  pub allowed : AreAllowed rows
+  pub stands : Stands (join rows) from to

@@ -1,0 +1,93 @@
+-- The variables of a telegram's header, by the standard's table (SUBSET-026, 7.5.1): the width of
+-- each, its numbers, and which of them are spare.
+use Rattle.std.specs.Prelude.{ℕ, Bool, ◌==◌, ◌||◌, ◌&&◌, nat_le, nat_lt, if◌then◌else◌, false}
+use Rattle.etcs_bits.specs.declared.fault.FaultKind.{FaultKind}
+use Rattle.etcs_bits.specs.declared.fault.FaultKind.TheVariants.{Spare, Version as WrongVersion, Loop, Downlink}
+use Rattle.etcs_bits.specs.declared.transmission.Transmission.{Transmission}
+use Rattle.etcs_bits.specs.declared.transmission.Transmission.TheVariants as transmissions
+use Rattle.etcs_bits.specs.declared.transmission.Medium.{Medium}
+use Rattle.etcs_bits.specs.declared.transmission.Medium.TheVariants as media
+use Rattle.etcs_bits.specs.declared.version.Version.{Version}
+use Rattle.etcs_bits.specs.declared.version.Version.TheVariants as versions
+use Rattle.etcs_bits.specs.declared.duplicate.Dup.{Dup}
+use Rattle.etcs_bits.specs.declared.duplicate.Dup.TheVariants as dups
+use Rattle.etcs_bits.specs.Rows.{Variable}
+
+-- a variable of w bits without a spare number, for w from 1 to 32; no other w has any number
+abbrev pub plain : ℕ → Variable
+plain w = record { width = w; allows = λ _. nat_le 1 w && nat_le w 32; refusal = Spare; closes = false }
+
+-- a variable of which one number alone is allowed
+abbrev pub only : ℕ → ℕ → FaultKind → Variable
+only w k why = record { width = w; allows = λ n. n == k; refusal = why; closes = false }
+
+-- Q_UPDOWN, 1 bit: 1 is track to train
+abbrev pub q_updown : Variable
+q_updown = only 1 1 Downlink
+
+abbrev pub transmission_number : Transmission → ℕ
+transmission_number transmissions.TrackToTrain = 1
+
+abbrev pub transmission_of : ℕ → Transmission
+transmission_of n = transmissions.TrackToTrain
+
+-- Q_MEDIA, 1 bit: 0 is a balise
+abbrev pub q_media : Variable
+q_media = only 1 0 Loop
+
+abbrev pub medium_number : Medium → ℕ
+medium_number media.Balise = 0
+
+abbrev pub medium_of : ℕ → Medium
+medium_of n = media.Balise
+
+-- M_VERSION, 7 bits: 32 is 2.0, 33 is 2.1
+abbrev pub m_version : Variable
+m_version = record { width = 7; allows = λ n. (n == 32) || (n == 33); refusal = WrongVersion; closes = false }
+
+abbrev pub version_number : Version → ℕ
+version_number versions.V2_0 = 32
+version_number versions.V2_1 = 33
+
+abbrev pub version_of : ℕ → Version
+version_of n = if n == 32 then versions.V2_0 else versions.V2_1
+
+-- N_PIG, 3 bits: the position of the balise in its group
+abbrev pub n_pig : Variable
+n_pig = plain 3
+
+-- N_TOTAL, 3 bits: the number of balises in the group, less one
+abbrev pub n_total : Variable
+n_total = plain 3
+
+-- M_DUP, 2 bits: 0 no duplicate, 1 of the next balise, 2 of the previous one; 3 is spare
+abbrev pub m_dup : Variable
+m_dup = record { width = 2; allows = λ n. nat_lt n 3; refusal = Spare; closes = false }
+
+abbrev pub dup_number : Dup → ℕ
+dup_number dups.Single = 0
+dup_number dups.Next = 1
+dup_number dups.Previous = 2
+
+abbrev pub dup_of : ℕ → Dup
+dup_of n = if n == 0 then dups.Single else (if n == 1 then dups.Next else dups.Previous)
+
+-- M_MCOUNT, 8 bits: the message counter
+abbrev pub m_mcount : Variable
+m_mcount = plain 8
+
+-- NID_C, 10 bits: the country or region
+abbrev pub nid_c : Variable
+nid_c = plain 10
+
+-- NID_BG, 14 bits: the balise group in it
+abbrev pub nid_bg : Variable
+nid_bg = plain 14
+
+-- Q_LINK, 1 bit: 1 is linked
+abbrev pub q_link : Variable
+q_link = plain 1
+
+-- a flag of one bit: 1 is true
+abbrev pub flag_of : ℕ → Bool
+flag_of n = n == 1

@@ -1,0 +1,122 @@
+//! A place among bits, from which fields are read.
+
+ghost use Rattle.std.specs.Prelude.{◌≡◌, ◌+◌, ◌<◌, ◌≤◌, ◌^◌, length, Ok, Err, IfOk, MatchResult, OnErr};
+ghost use Rattle.etcs_bits.specs.Fault.{short};
+ghost use Rattle.etcs_bits.specs.Reading.{taken};
+
+use crate::bits::Bits;
+use crate::fault::{Fault, FaultKind};
+use crate::numerals::num_of;
+use std::marker::Model;
+
+/// Where a reader stands: lent bits, and the place of the next of them. Contracts see it as such a
+/// place. It takes no memory.
+#[derive(Drop)]
+pub struct Cursor<'a> {
+    bits: &'a [bool],
+    at: usize,
+}
+
+impl<'a> Model for Cursor<'a> {
+    ghost use Rattle.std.specs.Prelude.{length, ◌≤◌};
+    ghost use Rattle.etcs_bits.specs.Rows.{Place};
+
+    ghost Value = { Place };
+
+    ghost view = { λ c. record { bits = c.bits.now; at = c.at } };
+
+    ghost invariant = { λ c. c.at ≤ length c.bits.now };
+}
+
+// The fault of a field that does not fit.
+#[cold]
+fn no_room(at: usize, end: usize) -> Fault
+    ensures { result ≡ record { at = at; end = end; why = FaultKind.Short } }
+{
+    Fault {
+        at,
+        end,
+        why: FaultKind::Short,
+    }
+}
+
+impl<'a> Cursor<'a> {
+    /// The beginning of the bits.
+    #[inline]
+    pub fn new(bits: &'a Bits) -> Cursor<'a>
+        ensures { result ≡ record { bits = bits.now; at = 0 } }
+    {
+        Cursor {
+            bits: bits.as_slice(),
+            at: 0,
+        }
+    }
+
+    /// The place of the next bit, counted from 0 at the start of the bits.
+    #[inline]
+    pub fn at(&self) -> usize
+        ensures place { result ≡ self.now.at }
+        ensures inside { result ≤ length self.now.bits }
+    {
+        self.at
+    }
+
+    /// How many bits are left.
+    #[inline]
+    pub fn left(&self) -> usize
+        ensures { self.now.at + result ≡ length self.now.bits }
+    {
+        self.bits.len() - self.at
+    }
+
+    /// The number of the next `width` bits, most significant first, and the cursor then stands
+    /// behind them. Where fewer are left: a Short fault at the cursor, whose `end` is the length of
+    /// the bits, and the cursor stays.
+    #[inline(always)]
+    pub fn take(&mut self, width: u32) -> Result<u64, Fault>
+        requires low { 1 ≤ width }
+        requires high { width ≤ 32 }
+        ensures exact { MatchResult result (λ n. taken width self.old ≡ Ok (n, self.new))
+            (λ f. taken width self.old ≡ Err f) }
+        ensures small { IfOk result (λ n. n < 2 ^ width) }
+        ensures err { OnErr result (self.new ≡ self.old) }
+    {
+        let len = self.bits.len();
+        if len - self.at < width as usize {
+            return Err(no_room(self.at, len));
+        }
+        let n = num_of(&self.bits[self.at..self.at + width as usize]);
+        self.at += width as usize;
+        Ok(n)
+    }
+
+    // The fault of a field of `width` bits that no number may stand in.
+    #[cold]
+    pub(crate) fn refusal(&self, width: u32) -> Fault
+        ensures short { length self.now.bits < self.now.at + width → result ≡ short self.now }
+        ensures spare { self.now.at + width ≤ length self.now.bits
+            → result ≡ record { at = self.now.at; end = self.now.at + width; why = FaultKind.Spare } }
+    {
+        let len = self.bits.len();
+        if len - self.at < width as usize {
+            return no_room(self.at, len);
+        }
+        Fault {
+            at: self.at,
+            end: self.at + width as usize,
+            why: FaultKind::Spare,
+        }
+    }
+
+    // A second cursor at the same place.
+    #[inline]
+    pub(crate) fn fork(&self) -> Cursor<'a>
+        ensures same { result ≡ self.now }
+        ensures inside { result.at ≤ length result.bits }
+    {
+        Cursor {
+            bits: self.bits,
+            at: self.at,
+        }
+    }
+}

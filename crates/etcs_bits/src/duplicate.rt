@@ -1,0 +1,93 @@
+//! The mark by which balises declare each other duplicates.
+
+ghost use Rattle.std.specs.Prelude.{◌≡◌, ◌↔◌, IsTrue, IsSome, IfSome};
+
+use crate::bits::Bits;
+use crate::cursor::Cursor;
+use crate::fault::{DecodeError, FaultKind, refused};
+use crate::layout::Layout;
+use crate::memory::Memory;
+use std::alloc::Global;
+
+/// M_DUP, 2 bits: whether a balise says the same as a neighbour in its group, so that a train may
+/// miss one of the two (SUBSET-026, 3.16.2 and 7.5.1). 3 is spare.
+#[derive(Clone, Copy, Debug, PartialEq, Eq)]
+pub enum Dup {
+    /// 0: no duplicate.
+    Single,
+    /// 1: a duplicate of the next balise, the one with N_PIG one greater.
+    Next,
+    /// 2: a duplicate of the previous balise, the one with N_PIG one less.
+    Previous,
+}
+
+impl Dup {
+    ghost use Rattle.etcs_bits.specs.Variables.{m_dup, dup_number};
+
+    /// The mark of a number; None from 3 on.
+    #[inline]
+    pub fn new(n: u32) -> Option<Dup>
+        ensures some { IfSome result (λ v. dup_number v ≡ n) }
+        ensures allowed { IsSome result ↔ IsTrue (m_dup.allows n) }
+    {
+        match n {
+            0 => Some(Dup::Single),
+            1 => Some(Dup::Next),
+            2 => Some(Dup::Previous),
+            _ => None,
+        }
+    }
+
+    /// The number of a mark.
+    #[inline]
+    pub fn number(self) -> u32
+        ensures { result ≡ dup_number self }
+    {
+        match self {
+            Dup::Single => 0,
+            Dup::Next => 1,
+            Dup::Previous => 2,
+        }
+    }
+}
+
+#[tactic(auto, unfolding(crate::specs::Rows::alone))]
+impl Layout for Dup {
+    ghost use Rattle.etcs_bits.specs.Rows.{alone, number_at};
+    ghost use Rattle.etcs_bits.specs.Fields.{one};
+    ghost use Rattle.etcs_bits.specs.RowLemmas.{alone_rows};
+    ghost use Rattle.etcs_bits.specs.Variables.{m_dup, dup_number, dup_of};
+    ghost use Rattle.etcs_bits.specs.VariableLemmas.{dup_record};
+
+    ghost rows = { λ v. alone m_dup (dup_number v) };
+
+    ghost fields = { one m_dup };
+
+    ghost record_of = { λ rows. dup_of (number_at 0 rows) };
+
+    ghost are_rows = { λ v. alone_rows m_dup (dup_number v) };
+
+    ghost is_record = { dup_record };
+
+    fn is_allowed(&self) -> bool {
+        true
+    }
+
+    fn width(&self) -> u64 {
+        2
+    }
+
+    fn put(&self, out: &mut Bits) -> Result<(), Memory> {
+        out.push_num(2, u64::from(self.number()))
+    }
+
+    #[inline]
+    fn scan(_alloc: Global, cur: &mut Cursor<'_>) -> Result<Self, DecodeError> {
+        let at = cur.at();
+        let n = cur.take(2)?;
+        match Dup::new(n as u32) {
+            Some(dup) => Ok(dup),
+            None => Err(refused(at, cur, FaultKind::Spare)),
+        }
+    }
+}

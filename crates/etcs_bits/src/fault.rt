@@ -1,0 +1,100 @@
+//! Why bits spell no record.
+
+ghost use Rattle.std.specs.Prelude.{◌≡◌};
+ghost use Rattle.etcs_bits.specs.declared.fault.DecodeError.TheVariants as errors;
+
+use crate::cursor::Cursor;
+use crate::memory::Memory;
+use thiserror::Error;
+
+/// What is wrong in the place of a field. The texts are those that the program prints.
+#[derive(Clone, Copy, Debug, PartialEq, Eq, Error)]
+pub enum FaultKind {
+    /// The field does not fit in the bits that are left.
+    #[error("short")]
+    Short,
+    /// The field holds a spare value, one that the standard gives no meaning.
+    #[error("spare")]
+    Spare,
+    /// L_PACKET is not the width of its packet, or L_MESSAGE not the count of bytes.
+    #[error("length")]
+    Length,
+    /// Fewer than eight bits are left, and no end mark (packet 255) was met.
+    #[error("no end")]
+    NoEnd,
+    /// M_VERSION is neither 32 nor 33: a system version other than 2.0 and 2.1.
+    #[error("version")]
+    Version,
+    /// Q_MEDIA is 1: the telegram is for a loop.
+    #[error("loop")]
+    Loop,
+    /// Q_UPDOWN is 0: the telegram goes from train to track.
+    #[error("down-link")]
+    Downlink,
+    /// NID_MESSAGE is neither 3 nor 136.
+    #[error("message kind")]
+    MessageKind,
+    /// A movement authority message holds no packet 15.
+    #[error("no authority")]
+    NoAuthority,
+    /// A position report message holds neither packet 0 nor packet 1.
+    #[error("no report")]
+    NoReport,
+    /// A packet other than the end mark (packet 255), which this stage of the product does not read.
+    #[error("unsupported")]
+    Unsupported,
+}
+
+/// The first fault of an input.
+///
+/// No input of the same length that begins with the same first `end` bits is accepted. Places count
+/// bits from 0 at the start of the input.
+#[derive(Clone, Copy, Debug, PartialEq, Eq, Error)]
+#[error("{why} at {at} end {end}")]
+pub struct Fault {
+    /// The first bit of the field in whose place the fault was found.
+    pub at: usize,
+    /// How many bits decide it.
+    pub end: usize,
+    /// What is wrong there.
+    pub why: FaultKind,
+}
+
+/// Why bits were not decoded.
+#[derive(Clone, Copy, Debug, PartialEq, Eq, Error)]
+pub enum DecodeError {
+    /// Memory ran out. A later fault may then go unseen.
+    #[error("out of memory")]
+    Memory,
+    /// The bits spell no record; this is their first fault.
+    #[error("{0}")]
+    Fault(Fault),
+}
+
+impl From<Fault> for DecodeError {
+    ghost from_gives = { λ fault error. error ≡ errors.Fault fault };
+
+    fn from(fault: Fault) -> DecodeError {
+        DecodeError::Fault(fault)
+    }
+}
+
+impl From<Memory> for DecodeError {
+    ghost from_gives = { λ _ error. error ≡ errors.Memory };
+
+    fn from(_memory: Memory) -> DecodeError {
+        DecodeError::Memory
+    }
+}
+
+// The refusal of the field that began at `at` and ends at the cursor.
+#[cold]
+pub(crate) fn refused(at: usize, cur: &Cursor<'_>, why: FaultKind) -> DecodeError
+    ensures { result ≡ DecodeError.Fault (record { at = at; end = cur.now.at; why = why }) }
+{
+    DecodeError::Fault(Fault {
+        at,
+        end: cur.at(),
+        why,
+    })
+}

@@ -1,0 +1,56 @@
+//! The identity of a balise group.
+
+use crate::bits::Bits;
+use crate::cursor::Cursor;
+use crate::fault::DecodeError;
+use crate::layout::Layout;
+use crate::memory::Memory;
+use crate::plain::{Country, GroupNumber};
+use std::alloc::Global;
+
+/// Which balise group it is: 24 bits, NID_C and NID_BG. Both numbers are in range. SUBSET-026,
+/// 7.5.1.
+#[derive(Clone, Copy, Debug, PartialEq, Eq)]
+pub struct Identity {
+    /// NID_C, 10 bits: the country or region.
+    pub country: Country,
+    /// NID_BG, 14 bits: the group's number there.
+    pub group: GroupNumber,
+}
+
+impl Layout for Identity {
+    ghost use Rattle.etcs_bits.specs.Identity.{identity_rows, identity_fields, identity_of, identity_are_rows, identity_record};
+
+    ghost rows = { identity_rows };
+
+    ghost fields = { identity_fields };
+
+    ghost record_of = { identity_of };
+
+    ghost are_rows = { identity_are_rows };
+
+    ghost is_record = { identity_record };
+
+    #[tactic(auto, using(crate::proofs::PutLemmas::allowed_both))]
+    fn is_allowed(&self) -> bool {
+        self.country.is_allowed() && self.group.is_allowed()
+    }
+
+    #[tactic(auto, using(crate::proofs::WidthLemmas::width_both), unfolding(crate::specs::Rows::alone))]
+    fn width(&self) -> u64 {
+        24
+    }
+
+    #[tactic(auto, using(crate::proofs::PutLemmas::puts_then, crate::proofs::PutLemmas::allowed_both))]
+    fn put(&self, out: &mut Bits) -> Result<(), Memory> {
+        self.country.put(out)?;
+        self.group.put(out)
+    }
+
+    #[inline]
+    fn scan(alloc: Global, cur: &mut Cursor<'_>) -> Result<Self, DecodeError> {
+        let country = Country::scan(alloc, cur)?;
+        let group = GroupNumber::scan(alloc, cur)?;
+        Ok(Identity { country, group })
+    }
+}

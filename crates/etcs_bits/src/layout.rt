@@ -1,0 +1,85 @@
+//! What a record of fields is, and how it is written and read.
+
+ghost use Rattle.std.specs.Prelude.{◌≡◌, ◌↔◌, ◌++◌, min, List, IsTrue, IfOk, OnOk, OnErr};
+ghost use Rattle.etcs_bits.specs.Rows.{Row, AreAllowed, join, width, IsSpelled};
+ghost use Rattle.etcs_bits.specs.Fields.{Fields, AreRowsOf};
+ghost use Rattle.etcs_bits.specs.Fault.{IsFault, NoneBegins};
+ghost use Rattle.etcs_bits.specs.Reading.{rows_at};
+ghost use Rattle.etcs_bits.specs.Layout.{Gives, IfFault, Puts};
+
+use crate::bits::Bits;
+use crate::cursor::Cursor;
+use crate::fault::DecodeError;
+use crate::memory::Memory;
+use std::alloc::Global;
+
+/// A record that is spelled field after field, without a gap (SUBSET-026, 7.4).
+///
+/// Users call [`is_allowed`](Layout::is_allowed), [`write`](Layout::write) and
+/// [`read`](Layout::read). A record gives the rest: its rows, its table of fields, and the plain
+/// steps `width`, `put` and `scan`.
+pub trait Layout: Drop {
+    /// The variables of a record, each with its number, in the order of its fields.
+    ghost rows: { Self → List Row };
+
+    /// Which fields come, and in which order.
+    ghost fields: { Fields };
+
+    /// The record that has these rows.
+    ghost record_of: { List Row → Self };
+
+    /// Whether each variable has a number of its width that is not spare. Takes no memory.
+    fn is_allowed(&self) -> bool
+        ensures { IsTrue result ↔ AreAllowed (rows self.now) };
+
+    /// How many bits the spelling has; `u64::MAX` where it has more.
+    fn width(&self) -> u64
+        ensures { result ≡ min (width (rows self.now)) u64.MAX };
+
+    /// Appends the spelling. After want of memory a part of it may stand there: users call `write`.
+    fn put(&self, out: &mut Bits) -> Result<(), Memory>
+        requires { AreAllowed (rows self.now) }
+        ensures { Puts (join (rows self.now)) result out.old out.new };
+
+    /// Reads on from the cursor. After an error it may stand anywhere: users call `read`.
+    fn scan(alloc: Global, cur: &mut Cursor<'_>) -> Result<Self, DecodeError>
+        ensures { Gives rows result (rows_at fields cur.old) cur.new };
+
+    /// Appends the spelling. On want of memory nothing is appended.
+    final fn write(&self, out: &mut Bits) -> Result<(), Memory>
+        requires { AreAllowed (rows self.now) }
+        ensures ok { OnOk result (out.new ≡ out.old ++ join (rows self.now)) }
+        ensures err { OnErr result (out.new ≡ out.old) }
+    {
+        let len = out.len();
+        let done = self.put(out);
+        if done.is_err() {
+            out.truncate(len);
+        }
+        done
+    }
+
+    /// Reads the record whose spelling stands at the cursor, which then stands behind it.
+    ///
+    /// A fault is the first one of the fields that stand there, and then no record is spelled
+    /// there, in any input of the same length with the same first `end` bits. After an error the
+    /// cursor stands where it stood.
+    final fn read(alloc: Global, cur: &mut Cursor<'_>) -> Result<Self, DecodeError>
+        ensures ok { IfOk result (λ v. IsSpelled (rows v) cur.old cur.new) }
+
+        ensures fault { IfFault result (λ f. IsFault fields cur.old f) }
+        ensures none { IfFault result (λ f. NoneBegins rows cur.old f) }
+        ensures err { OnErr result (cur.new ≡ cur.old) }
+    {
+        let mut ahead = cur.fork();
+        let value = Self::scan(alloc, &mut ahead)?;
+        *cur = ahead;
+        Ok(value)
+    }
+
+    /// The rows of a record are a whole list of its fields.
+    ghost are_rows: { (v : Self) → AreRowsOf fields (rows v) };
+
+    /// A record is the one of its rows, so two records with the same rows are one.
+    ghost is_record: { (v : Self) → record_of (rows v) ≡ v };
+}

@@ -1,0 +1,114 @@
+//! Variables without a spare number.
+
+ghost use Rattle.std.specs.Prelude.{◌≡◌, ◌↔◌, ◌<◌, ◌^◌, IsTrue, IsSome, IfSome};
+
+use crate::bits::Bits;
+use crate::cursor::Cursor;
+use crate::fault::DecodeError;
+use crate::layout::Layout;
+use crate::memory::Memory;
+use std::alloc::Global;
+use std::marker::Model;
+
+/// A variable of `W` bits, 1 to 32, each of whose numbers is allowed (SUBSET-026, 7.5.1). At any
+/// other `W` no number is. Contracts see it as its number.
+#[derive(Clone, Copy, Debug, PartialEq, Eq)]
+pub struct Plain<const W: u32> {
+    number: u32,
+}
+
+/// N_PIG, 3 bits: the position of a balise in its group, from 0 on.
+pub type Position = Plain<3>;
+
+/// N_TOTAL, 3 bits: how many balises a group has, less one.
+pub type Total = Plain<3>;
+
+/// M_MCOUNT, 8 bits: the message counter. 254 fits no message of the group, 255 fits every one.
+pub type Counter = Plain<8>;
+
+/// NID_C, 10 bits: the country or region of a balise group.
+pub type Country = Plain<10>;
+
+/// NID_BG, 14 bits: the number of a balise group in its country or region.
+pub type GroupNumber = Plain<14>;
+
+impl<const W: u32> Model for Plain<W> {
+    ghost use Rattle.std.specs.Prelude.{ℕ, ◌<◌, ◌^◌, IsTrue};
+    ghost use Rattle.etcs_bits.specs.Variables.{plain};
+
+    ghost Value = { ℕ };
+
+    ghost view = { λ p. p.number };
+
+    ghost invariant = { λ p. (p.number < 2 ^ W) × IsTrue ((plain W).allows p.number) };
+
+    ghost inverse = { λ n. record { number = n } };
+}
+
+impl<const W: u32> Plain<W> {
+    ghost use Rattle.etcs_bits.specs.Variables.{plain};
+
+    /// The variable with this number; None exactly where the number does not fit in `W` bits, and
+    /// for a `W` outside 1 to 32 always.
+    #[inline]
+    pub fn new(n: u32) -> Option<Self>
+        ensures some { IfSome result (λ p. p ≡ n) }
+        ensures allowed { IsSome result ↔ ((n < 2 ^ W) × IsTrue ((plain W).allows n)) }
+    {
+        if W == 0 || 32 < W || (W < 32 && 1 << W <= n) {
+            return None;
+        }
+        Some(Plain { number: n })
+    }
+
+    /// The number.
+    #[inline]
+    pub fn number(self) -> u32
+        ensures number { result ≡ self.entry }
+        ensures small { result < 2 ^ W }
+        ensures allowed { IsTrue ((plain W).allows result) }
+    {
+        self.number
+    }
+}
+
+#[tactic(auto, unfolding(crate::specs::Rows::alone))]
+impl<const W: u32> Layout for Plain<W> {
+    ghost use Rattle.etcs_bits.specs.Rows.{alone, number_at};
+    ghost use Rattle.etcs_bits.specs.Fields.{one};
+    ghost use Rattle.etcs_bits.specs.RowLemmas.{alone_rows};
+    ghost use Rattle.etcs_bits.specs.Variables.{plain};
+    ghost use Rattle.etcs_bits.specs.VariableLemmas.{number_alone};
+
+    ghost rows = { λ p. alone (plain W) p };
+
+    ghost fields = { one (plain W) };
+
+    ghost record_of = { number_at 0 };
+
+    ghost are_rows = { λ p. alone_rows (plain W) p };
+
+    ghost is_record = { λ p. number_alone (plain W) p };
+
+    fn is_allowed(&self) -> bool {
+        let _number = self.number();
+        true
+    }
+
+    fn width(&self) -> u64 {
+        u64::from(W)
+    }
+
+    fn put(&self, out: &mut Bits) -> Result<(), Memory> {
+        out.push_num(W, u64::from(self.number()))
+    }
+
+    #[inline]
+    fn scan(_alloc: Global, cur: &mut Cursor<'_>) -> Result<Self, DecodeError> {
+        if W == 0 || 32 < W {
+            return Err(DecodeError::Fault(cur.refusal(W)));
+        }
+        let n = cur.take(W)?;
+        Ok(Plain { number: n as u32 })
+    }
+}

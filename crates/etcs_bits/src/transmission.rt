@@ -1,0 +1,160 @@
+//! Between whom a telegram goes, and what sends it.
+
+ghost use Rattle.std.specs.Prelude.{◌≡◌, ◌↔◌, IsTrue, IsSome, IfSome};
+
+use crate::bits::Bits;
+use crate::cursor::Cursor;
+use crate::fault::{DecodeError, FaultKind, refused};
+use crate::layout::Layout;
+use crate::memory::Memory;
+use std::alloc::Global;
+
+/// Q_UPDOWN, 1 bit: in which direction a telegram goes. Only track to train (1) is read; the other
+/// number is a Downlink fault. SUBSET-026, 7.5.1.
+#[derive(Clone, Copy, Debug, PartialEq, Eq)]
+pub enum Transmission {
+    /// 1: from the track to the train.
+    TrackToTrain,
+}
+
+impl Transmission {
+    ghost use Rattle.etcs_bits.specs.Variables.{q_updown, transmission_number};
+
+    /// The value of a number; None for every number but 1.
+    #[inline]
+    pub fn new(n: u32) -> Option<Transmission>
+        ensures some { IfSome result (λ v. transmission_number v ≡ n) }
+        ensures allowed { IsSome result ↔ IsTrue (q_updown.allows n) }
+    {
+        match n {
+            1 => Some(Transmission::TrackToTrain),
+            _ => None,
+        }
+    }
+
+    /// The number of a value.
+    #[inline]
+    pub fn number(self) -> u32
+        ensures { result ≡ transmission_number self }
+    {
+        match self {
+            Transmission::TrackToTrain => 1,
+        }
+    }
+}
+
+#[tactic(auto, unfolding(crate::specs::Rows::alone))]
+impl Layout for Transmission {
+    ghost use Rattle.etcs_bits.specs.Rows.{alone, number_at};
+    ghost use Rattle.etcs_bits.specs.Fields.{one};
+    ghost use Rattle.etcs_bits.specs.RowLemmas.{alone_rows};
+    ghost use Rattle.etcs_bits.specs.Variables.{q_updown, transmission_number, transmission_of};
+    ghost use Rattle.etcs_bits.specs.VariableLemmas.{transmission_back};
+
+    ghost rows = { λ v. alone q_updown (transmission_number v) };
+
+    ghost fields = { one q_updown };
+
+    ghost record_of = { λ rows. transmission_of (number_at 0 rows) };
+
+    ghost are_rows = { λ v. alone_rows q_updown (transmission_number v) };
+
+    ghost is_record = { transmission_back };
+
+    fn is_allowed(&self) -> bool {
+        true
+    }
+
+    fn width(&self) -> u64 {
+        1
+    }
+
+    fn put(&self, out: &mut Bits) -> Result<(), Memory> {
+        out.push_num(1, u64::from(self.number()))
+    }
+
+    #[inline]
+    fn scan(_alloc: Global, cur: &mut Cursor<'_>) -> Result<Self, DecodeError> {
+        let at = cur.at();
+        let n = cur.take(1)?;
+        match Transmission::new(n as u32) {
+            Some(transmission) => Ok(transmission),
+            None => Err(refused(at, cur, FaultKind::Downlink)),
+        }
+    }
+}
+
+/// Q_MEDIA, 1 bit: what sends a telegram. Only a balise (0) is read; the other number is a Loop
+/// fault. SUBSET-026, 7.5.1.
+#[derive(Clone, Copy, Debug, PartialEq, Eq)]
+pub enum Medium {
+    /// 0: a balise.
+    Balise,
+}
+
+impl Medium {
+    ghost use Rattle.etcs_bits.specs.Variables.{q_media, medium_number};
+
+    /// The value of a number; None for every number but 0.
+    #[inline]
+    pub fn new(n: u32) -> Option<Medium>
+        ensures some { IfSome result (λ v. medium_number v ≡ n) }
+        ensures allowed { IsSome result ↔ IsTrue (q_media.allows n) }
+    {
+        match n {
+            0 => Some(Medium::Balise),
+            _ => None,
+        }
+    }
+
+    /// The number of a value.
+    #[inline]
+    pub fn number(self) -> u32
+        ensures { result ≡ medium_number self }
+    {
+        match self {
+            Medium::Balise => 0,
+        }
+    }
+}
+
+#[tactic(auto, unfolding(crate::specs::Rows::alone))]
+impl Layout for Medium {
+    ghost use Rattle.etcs_bits.specs.Rows.{alone, number_at};
+    ghost use Rattle.etcs_bits.specs.Fields.{one};
+    ghost use Rattle.etcs_bits.specs.RowLemmas.{alone_rows};
+    ghost use Rattle.etcs_bits.specs.Variables.{q_media, medium_number, medium_of};
+    ghost use Rattle.etcs_bits.specs.VariableLemmas.{medium_back};
+
+    ghost rows = { λ v. alone q_media (medium_number v) };
+
+    ghost fields = { one q_media };
+
+    ghost record_of = { λ rows. medium_of (number_at 0 rows) };
+
+    ghost are_rows = { λ v. alone_rows q_media (medium_number v) };
+
+    ghost is_record = { medium_back };
+
+    fn is_allowed(&self) -> bool {
+        true
+    }
+
+    fn width(&self) -> u64 {
+        1
+    }
+
+    fn put(&self, out: &mut Bits) -> Result<(), Memory> {
+        out.push_num(1, u64::from(self.number()))
+    }
+
+    #[inline]
+    fn scan(_alloc: Global, cur: &mut Cursor<'_>) -> Result<Self, DecodeError> {
+        let at = cur.at();
+        let n = cur.take(1)?;
+        match Medium::new(n as u32) {
+            Some(medium) => Ok(medium),
+            None => Err(refused(at, cur, FaultKind::Loop)),
+        }
+    }
+}

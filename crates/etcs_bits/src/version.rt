@@ -1,0 +1,89 @@
+//! The system version of a telegram.
+
+ghost use Rattle.std.specs.Prelude.{◌≡◌, ◌↔◌, IsTrue, IsSome, IfSome};
+
+use crate::bits::Bits;
+use crate::cursor::Cursor;
+use crate::fault::{DecodeError, FaultKind, refused};
+use crate::layout::Layout;
+use crate::memory::Memory;
+use std::alloc::Global;
+
+/// M_VERSION, 7 bits: the system version that a telegram is written for. Only 2.0 (32) and 2.1 (33)
+/// are read; another number is a Version fault. SUBSET-026, 7.5.1.
+#[derive(Clone, Copy, Debug, PartialEq, Eq)]
+pub enum Version {
+    /// 32: system version 2.0.
+    V2_0,
+    /// 33: system version 2.1.
+    V2_1,
+}
+
+impl Version {
+    ghost use Rattle.etcs_bits.specs.Variables.{m_version, version_number};
+
+    /// The version of a number; None for every number but 32 and 33.
+    #[inline]
+    pub fn new(n: u32) -> Option<Version>
+        ensures some { IfSome result (λ v. version_number v ≡ n) }
+        ensures allowed { IsSome result ↔ IsTrue (m_version.allows n) }
+    {
+        match n {
+            32 => Some(Version::V2_0),
+            33 => Some(Version::V2_1),
+            _ => None,
+        }
+    }
+
+    /// The number of a version.
+    #[inline]
+    pub fn number(self) -> u32
+        ensures { result ≡ version_number self }
+    {
+        match self {
+            Version::V2_0 => 32,
+            Version::V2_1 => 33,
+        }
+    }
+}
+
+#[tactic(auto, unfolding(crate::specs::Rows::alone))]
+impl Layout for Version {
+    ghost use Rattle.etcs_bits.specs.Rows.{alone, number_at};
+    ghost use Rattle.etcs_bits.specs.Fields.{one};
+    ghost use Rattle.etcs_bits.specs.RowLemmas.{alone_rows};
+    ghost use Rattle.etcs_bits.specs.Variables.{m_version, version_number, version_of};
+    ghost use Rattle.etcs_bits.specs.VariableLemmas.{version_record};
+
+    ghost rows = { λ v. alone m_version (version_number v) };
+
+    ghost fields = { one m_version };
+
+    ghost record_of = { λ rows. version_of (number_at 0 rows) };
+
+    ghost are_rows = { λ v. alone_rows m_version (version_number v) };
+
+    ghost is_record = { version_record };
+
+    fn is_allowed(&self) -> bool {
+        true
+    }
+
+    fn width(&self) -> u64 {
+        7
+    }
+
+    fn put(&self, out: &mut Bits) -> Result<(), Memory> {
+        out.push_num(7, u64::from(self.number()))
+    }
+
+    #[inline]
+    fn scan(_alloc: Global, cur: &mut Cursor<'_>) -> Result<Self, DecodeError> {
+        let at = cur.at();
+        let n = cur.take(7)?;
+        match Version::new(n as u32) {
+            Some(version) => Ok(version),
+            None => Err(refused(at, cur, FaultKind::Version)),
+        }
+    }
+}
