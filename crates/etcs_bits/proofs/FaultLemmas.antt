@@ -143,7 +143,7 @@ one_told fields p f g within t u =
     err_is f g (let same : failing f ≡ failing g = sym a ∙ b in same)
 
 -- Where two lists of rows are spelled at the front of one list of bits, they are one.
-spelled_at_front : (rows : List Row) (x : List Bool) → AreAllowed rows → IsSpelled rows (place_in (join rows ++ x) 0) (place_in (join rows ++ x) (length (join rows)))
+pub spelled_at_front : (rows : List Row) (x : List Bool) → AreAllowed rows → IsSpelled rows (place_in (join rows ++ x) 0) (place_in (join rows ++ x) (length (join rows)))
 spelled_at_front rows x allowed = record { allowed = allowed; stands = record { same = refl; here = ap (λ (bits : List Bool). join rows ++ bits) (sym (drop_at (join rows) x (length (join rows)) refl)); past = omega arith } }
 
 pub no_front : (fields : Fields) (xs ys : List Row) (x y : List Bool) → AreRowsOf fields xs → AreRowsOf fields ys → AreAllowed xs → AreAllowed ys → join xs ++ x ≡ join ys ++ y → (xs ≡ ys) × (x ≡ y)

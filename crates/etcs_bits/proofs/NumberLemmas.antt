@@ -22,7 +22,7 @@ worth_of_digit (suc (suc x)) h = omega arith
 
 -- ---- the number of a list of bits
 
-num_of_bits-cons : (x : Bool) (xs : List Bool) → num_of_bits (x ∷ xs) ≡ worth x * 2 ^ length xs + num_of_bits xs
+pub num_of_bits-cons : (x : Bool) (xs : List Bool) → num_of_bits (x ∷ xs) ≡ worth x * 2 ^ length xs + num_of_bits xs
 unfolding num_of_bits
 num_of_bits-cons x xs = refl
 

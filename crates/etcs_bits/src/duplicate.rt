@@ -53,6 +53,8 @@ impl Dup {
 
 #[tactic(auto, unfolding(crate::specs::Rows::alone))]
 impl Layout for Dup {
+    ghost use Rattle.std.specs.Prelude.{◌≡◌, ◌↔◌, true, IsTrue};
+    ghost use Rattle.etcs_bits.specs.Rows.{AreAllowed};
     ghost use Rattle.etcs_bits.specs.Rows.{alone, number_at};
     ghost use Rattle.etcs_bits.specs.Fields.{one};
     ghost use Rattle.etcs_bits.specs.RowLemmas.{alone_rows};
@@ -69,7 +71,12 @@ impl Layout for Dup {
 
     ghost is_record = { dup_record };
 
-    fn is_allowed(&self) -> bool {
+    fn is_allowed(&self) -> bool
+        ensures allowed { IsTrue result ↔ AreAllowed (alone m_dup (dup_number self.now)) }
+
+        // The type keeps its numbers in range.
+        ensures always { result ≡ true }
+    {
         true
     }
 

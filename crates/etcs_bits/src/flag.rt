@@ -10,6 +10,8 @@ use std::alloc::Global;
 /// A flag of one bit, as Q_LINK: 1 is true.
 #[tactic(auto, unfolding(crate::specs::Rows::alone))]
 impl Layout for bool {
+    ghost use Rattle.std.specs.Prelude.{◌≡◌, ◌↔◌, true, IsTrue};
+    ghost use Rattle.etcs_bits.specs.Rows.{AreAllowed};
     ghost use Rattle.etcs_bits.specs.Number.{worth};
     ghost use Rattle.etcs_bits.specs.Rows.{alone, number_at};
     ghost use Rattle.etcs_bits.specs.Fields.{one};
@@ -27,7 +29,12 @@ impl Layout for bool {
 
     ghost is_record = { flag_record };
 
-    fn is_allowed(&self) -> bool {
+    fn is_allowed(&self) -> bool
+        ensures allowed { IsTrue result ↔ AreAllowed (alone (plain 1) (worth self.now)) }
+
+        // The type keeps its numbers in range.
+        ensures always { result ≡ true }
+    {
         true
     }
 

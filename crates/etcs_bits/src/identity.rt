@@ -19,6 +19,8 @@ pub struct Identity {
 }
 
 impl Layout for Identity {
+    ghost use Rattle.std.specs.Prelude.{◌≡◌, ◌↔◌, true, IsTrue};
+    ghost use Rattle.etcs_bits.specs.Rows.{AreAllowed};
     ghost use Rattle.etcs_bits.specs.Identity.{identity_rows, identity_fields, identity_of, identity_are_rows, identity_record};
 
     ghost rows = { identity_rows };
@@ -32,7 +34,12 @@ impl Layout for Identity {
     ghost is_record = { identity_record };
 
     #[tactic(auto, using(crate::proofs::PutLemmas::allowed_both))]
-    fn is_allowed(&self) -> bool {
+    fn is_allowed(&self) -> bool
+        ensures allowed { IsTrue result ↔ AreAllowed (identity_rows self.now) }
+
+        // The type keeps its numbers in range.
+        ensures always { result ≡ true }
+    {
         self.country.is_allowed() && self.group.is_allowed()
     }
 

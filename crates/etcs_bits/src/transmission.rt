@@ -45,6 +45,8 @@ impl Transmission {
 
 #[tactic(auto, unfolding(crate::specs::Rows::alone))]
 impl Layout for Transmission {
+    ghost use Rattle.std.specs.Prelude.{◌≡◌, ◌↔◌, true, IsTrue};
+    ghost use Rattle.etcs_bits.specs.Rows.{AreAllowed};
     ghost use Rattle.etcs_bits.specs.Rows.{alone, number_at};
     ghost use Rattle.etcs_bits.specs.Fields.{one};
     ghost use Rattle.etcs_bits.specs.RowLemmas.{alone_rows};
@@ -61,7 +63,12 @@ impl Layout for Transmission {
 
     ghost is_record = { transmission_back };
 
-    fn is_allowed(&self) -> bool {
+    fn is_allowed(&self) -> bool
+        ensures allowed { IsTrue result ↔ AreAllowed (alone q_updown (transmission_number self.now)) }
+
+        // The type keeps its numbers in range.
+        ensures always { result ≡ true }
+    {
         true
     }
 
@@ -120,6 +127,8 @@ impl Medium {
 
 #[tactic(auto, unfolding(crate::specs::Rows::alone))]
 impl Layout for Medium {
+    ghost use Rattle.std.specs.Prelude.{◌≡◌, ◌↔◌, true, IsTrue};
+    ghost use Rattle.etcs_bits.specs.Rows.{AreAllowed};
     ghost use Rattle.etcs_bits.specs.Rows.{alone, number_at};
     ghost use Rattle.etcs_bits.specs.Fields.{one};
     ghost use Rattle.etcs_bits.specs.RowLemmas.{alone_rows};
@@ -136,7 +145,12 @@ impl Layout for Medium {
 
     ghost is_record = { medium_back };
 
-    fn is_allowed(&self) -> bool {
+    fn is_allowed(&self) -> bool
+        ensures allowed { IsTrue result ↔ AreAllowed (alone q_media (medium_number self.now)) }
+
+        // The type keeps its numbers in range.
+        ensures always { result ≡ true }
+    {
         true
     }
 

@@ -49,6 +49,8 @@ impl Version {
 
 #[tactic(auto, unfolding(crate::specs::Rows::alone))]
 impl Layout for Version {
+    ghost use Rattle.std.specs.Prelude.{◌≡◌, ◌↔◌, true, IsTrue};
+    ghost use Rattle.etcs_bits.specs.Rows.{AreAllowed};
     ghost use Rattle.etcs_bits.specs.Rows.{alone, number_at};
     ghost use Rattle.etcs_bits.specs.Fields.{one};
     ghost use Rattle.etcs_bits.specs.RowLemmas.{alone_rows};
@@ -65,7 +67,12 @@ impl Layout for Version {
 
     ghost is_record = { version_record };
 
-    fn is_allowed(&self) -> bool {
+    fn is_allowed(&self) -> bool
+        ensures allowed { IsTrue result ↔ AreAllowed (alone m_version (version_number self.now)) }
+
+        // The type keeps its numbers in range.
+        ensures always { result ≡ true }
+    {
         true
     }
 

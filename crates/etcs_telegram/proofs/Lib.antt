@@ -1,0 +1,4 @@
+pub mod TelegramLemmas
+pub mod FillLemmas
+pub mod TextLemmas
+pub mod LawLemmas

@@ -1,0 +1,4 @@
+pub mod Header
+pub mod Telegram
+pub mod Text
+pub mod Laws

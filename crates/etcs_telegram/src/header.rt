@@ -1,0 +1,98 @@
+//! The header of a telegram.
+
+use etcs_bits::{
+    Bits, Counter, Cursor, DecodeError, Dup, Identity, Layout, Medium, Memory, Position, Total,
+    Transmission, Version,
+};
+use std::alloc::Global;
+
+/// What a telegram begins with: 50 bits (SUBSET-026, 8.4.2). Q_UPDOWN (1, track to train) and
+/// Q_MEDIA (0, a balise) stand in it too, but have one number each and are not kept.
+#[derive(Clone, Copy, Debug, PartialEq, Eq)]
+pub struct Header {
+    /// M_VERSION, 7 bits at place 1: the system version.
+    pub version: Version,
+    /// N_PIG, 3 bits at place 9: the position of the balise in its group, from 0 on.
+    pub position: Position,
+    /// N_TOTAL, 3 bits at place 12: how many balises the group has, less one.
+    pub total: Total,
+    /// M_DUP, 2 bits at place 15: whether the balise is a duplicate of a neighbour.
+    pub dup: Dup,
+    /// M_MCOUNT, 8 bits at place 17: the message counter.
+    pub counter: Counter,
+    /// NID_C, 10 bits at place 25, and NID_BG, 14 bits at place 35: which balise group it is.
+    pub identity: Identity,
+    /// Q_LINK, 1 bit at place 49: whether the group is linked.
+    pub linked: bool,
+}
+
+impl Layout for Header {
+    ghost use Rattle.etcs_bits.specs.Rows.{AreAllowed};
+    ghost use Rattle.std.specs.Prelude.{◌≡◌, ◌↔◌, true, IsTrue};
+    ghost use Rattle.etcs_telegram.specs.Header.{header_rows, header_fields, header_of, header_are_rows, header_record};
+
+    ghost rows = { header_rows };
+
+    ghost fields = { header_fields };
+
+    ghost record_of = { header_of };
+
+    ghost are_rows = { header_are_rows };
+
+    ghost is_record = { header_record };
+
+    #[tactic(auto, using(etcs_bits::proofs::PutLemmas::allowed_both))]
+    fn is_allowed(&self) -> bool
+        ensures allowed { IsTrue result ↔ AreAllowed (header_rows self.now) }
+
+        // The types keep the numbers in range.
+        ensures always { result ≡ true }
+    {
+        self.version.is_allowed()
+            & self.position.is_allowed()
+            & self.total.is_allowed()
+            & self.dup.is_allowed()
+            & self.counter.is_allowed()
+            & self.identity.is_allowed()
+            & self.linked.is_allowed()
+    }
+
+    #[tactic(auto, unfolding(etcs_bits::specs::Rows::alone))]
+    fn width(&self) -> u64 {
+        50
+    }
+
+    #[tactic(auto, using(etcs_bits::proofs::PutLemmas::puts_then, etcs_bits::proofs::PutLemmas::keeps_front, etcs_bits::proofs::PutLemmas::allowed_both))]
+    fn put(&self, out: &mut Bits) -> Result<(), Memory> {
+        Transmission::TrackToTrain.put(out)?;
+        self.version.put(out)?;
+        Medium::Balise.put(out)?;
+        self.position.put(out)?;
+        self.total.put(out)?;
+        self.dup.put(out)?;
+        self.counter.put(out)?;
+        self.identity.put(out)?;
+        self.linked.put(out)
+    }
+
+    fn scan(alloc: Global, cur: &mut Cursor<'_>) -> Result<Self, DecodeError> {
+        let Transmission::TrackToTrain = Transmission::scan(alloc, cur)?;
+        let version = Version::scan(alloc, cur)?;
+        let Medium::Balise = Medium::scan(alloc, cur)?;
+        let position = Position::scan(alloc, cur)?;
+        let total = Total::scan(alloc, cur)?;
+        let dup = Dup::scan(alloc, cur)?;
+        let counter = Counter::scan(alloc, cur)?;
+        let identity = Identity::scan(alloc, cur)?;
+        let linked = bool::scan(alloc, cur)?;
+        Ok(Header {
+            version,
+            position,
+            total,
+            dup,
+            counter,
+            identity,
+            linked,
+        })
+    }
+}
