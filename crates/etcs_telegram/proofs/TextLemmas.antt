@@ -7,7 +7,7 @@ use Rattle.std.specs.Prelude.{IfOk, OnOk}
 use Rattle.etcs_telegram.specs.declared.error.EncodeError.{EncodeError}
 use Rattle.hex.specs.Hex.{decode_of, encode_lower, is_hex_digit, IsBytes}
 use Rattle.hex.specs.declared.error.FromHexError.{FromHexError}
-use Rattle.hex.proofs.HexLemmas.{decode_of-digits}
+use Rattle.hex.proofs.HexLemmas.{decode_of-digits, decode_of-ok}
 use Rattle.etcs_bits.specs.Number.{num, num_of_bits, bits_of_bytes}
 use Rattle.etcs_bits.proofs.NumberLemmas.{length-num, num_of_bits-small, num_of_bits-drop, same_from_num, drop-bits_of_bytes, bits_of_one, length-bits_of_bytes}
 use Rattle.etcs_telegram.specs.declared.telegram.Telegram.{Telegram}
@@ -57,7 +57,7 @@ a_pad_is_set bytes count small set zeros = set (pads_divide bytes count small ze
 pub failed_reason : (e : TextError) (text : List ℕ) → FailsDecoded e (decode_of text) → IsReason e text
 failed_reason errors.Memory text fails = tt
 failed_reason errors.NotHex text fails = λ h. let d = decode_of-digits text h.even h.digits in let f = fails.1 in let g = d.1 in cc (f, g)
-failed_reason errors.WrongSize text fails = absurd fails
+failed_reason errors.WrongSize text fails = record { bytes = fails.0; decoded = fails.1; reason = fails.2 }
 failed_reason errors.PadBits text fails = absurd fails
 failed_reason (errors.Fault f) text fails = absurd fails
 
@@ -98,3 +98,7 @@ pub written_text : (r : Result (String Global) EncodeError) (t : Telegram) (bits
     → IfOk r (λ s. string_bytes s ≡ encode_lower bytes) → OnOk r (IsBytes bytes) → IfOk r (λ s. IsCanonicalText t (string_bytes s))
 written_text (Ok s) t bits bytes encoding holds few written in_range = canonical_text t bits bytes (string_bytes s) encoding holds few in_range written
 written_text (Err e) t bits bytes encoding holds few written in_range = tt
+
+-- a text of another size has another count of bytes
+pub other_count : (text bytes : List ℕ) → decode_of text ≡ Ok bytes → (length text ≡ 54 → ⊥) → length bytes ≡ 27 → ⊥
+other_count text bytes decoded other count = other (let twice = (decode_of-ok text bytes decoded).2 in omega (arith, twice, count))

@@ -105,8 +105,9 @@ abbrev pub IsTextMeaning : Result Telegram TextError → Result Telegram TextErr
 IsTextMeaning (Ok t) meaning = meaning ≡ Ok t
 IsTextMeaning (Err e) meaning = TextFails e meaning
 
--- the error is want of memory, or the text is not hexadecimal
+-- the error is want of memory; or the text is not hexadecimal; or it is, of another size
 abbrev pub FailsDecoded : TextError → Result (List ℕ) FromHexError → Type 0
 FailsDecoded errors.Memory decoded = Unit {0}
 FailsDecoded errors.NotHex decoded = (e : FromHexError) × (decoded ≡ Err e)
+FailsDecoded errors.WrongSize decoded = (bytes : List ℕ) × (decoded ≡ Ok bytes) × (length bytes ≢ 27)
 FailsDecoded _ decoded = ⊥

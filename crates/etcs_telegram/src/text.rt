@@ -1,6 +1,6 @@
 //! Telegrams as hexadecimal text.
 
-ghost use Rattle.std.specs.Prelude.{◌≡◌, IfOk, IfErr, OnOk, string_bytes};
+ghost use Rattle.std.specs.Prelude.{◌≡◌, ◌≢◌, length, IfOk, IfErr, OnOk, string_bytes};
 ghost use Rattle.hex.specs.Hex.{decode_of, encode_lower, IsBytes};
 ghost use Rattle.etcs_telegram.specs.Text.{ArePadded, FailsDecoded, IsCanonicalText, IsReason, IsReasonIn, IsTelegramText, IsTextMeaning, of_bytes, telegram_of_text, user_bits_in};
 ghost use Rattle.etcs_telegram.specs.Telegram.{IsTelegram};
@@ -19,27 +19,42 @@ const BYTES: usize = 27;
 // How many user bits they begin with.
 const USER_BITS: usize = 210;
 
-// The bytes of a text.
-fn bytes_of(alloc: Global, text: &[u8]) -> Result<Vec<u8>, TextError>
-    ensures ok { IfOk result (λ v. decode_of text.now ≡ Ok v.items) }
+// The bytes of a text of the right size.
+#[inline]
+fn bytes_of(alloc: Global, text: &[u8]) -> Result<[u8; BYTES], TextError>
+    ensures ok { IfOk result (λ bytes. decode_of text.now ≡ Ok bytes) }
     ensures err { IfErr result (λ e. FailsDecoded e (decode_of text.now)) }
 {
-    match hex::decode(alloc, text) {
-        Ok(bytes) => Ok(bytes),
-        Err(FromHexError::OutOfMemory) => Err(TextError::Memory),
+    if text.len() != 2 * BYTES {
+        return Err(other_size(alloc, text));
+    }
+    let mut bytes = [0; BYTES];
+    match hex::decode_to_slice(text, &mut bytes) {
+        Ok(()) => Ok(bytes),
         Err(_) => Err(TextError::NotHex),
+    }
+}
+
+// Why a text of another size is none: its digits are looked at first.
+#[cold]
+fn other_size(alloc: Global, text: &[u8]) -> TextError
+    requires { length text.now ≢ 54 }
+    ensures { FailsDecoded result (decode_of text.now) }
+{
+    match hex::decode(alloc, text) {
+        Ok(_bytes) => TextError::WrongSize,
+        Err(FromHexError::OutOfMemory) => TextError::Memory,
+        Err(_) => TextError::NotHex,
     }
 }
 
 // The telegram of bytes.
 fn telegram_in(alloc: Global, bytes: &[u8]) -> Result<Telegram, TextError>
+    requires { length bytes.now ≡ 27 }
     ensures ok { IfOk result (λ t. ArePadded bytes.now × IsTelegram t (user_bits_in bytes.now)) }
     ensures reason { IfErr result (λ e. IsReasonIn e bytes.now) }
     ensures exact { IsTextMeaning result (of_bytes bytes.now) }
 {
-    if bytes.len() != BYTES {
-        return Err(TextError::WrongSize);
-    }
     if bytes[BYTES - 1] % 64 != 0 {
         return Err(TextError::PadBits);
     }
@@ -67,7 +82,7 @@ pub fn from_hex(alloc: Global, text: &[u8]) -> Result<Telegram, TextError>
     ensures exact { IsTextMeaning result (telegram_of_text text.now) }
 {
     let bytes = bytes_of(alloc, text)?;
-    telegram_in(alloc, bytes.as_slice())
+    telegram_in(alloc, &bytes)
 }
 
 // The lower-case digits of bytes.

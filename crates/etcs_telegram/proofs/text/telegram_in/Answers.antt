@@ -8,13 +8,13 @@ use Rattle.etcs_telegram.proofs.text.telegram_in.Goals as goal
 pub returns-then-bytes-ne0-clause-reason : goal.returns-then-bytes-ne0-clause-reason
 returns-then-bytes-ne0-clause-reason c =
     let small : get_or c.args.bytes.now 26 0 < 256 = omega (arith, c.type_inv.bytes 26) in
-    (c.if-bytes-ne-BYTES.false, a_pad_is_set c.args.bytes.now c.if-bytes-ne-BYTES.false small c.if-bytes-ne0.true)
+    (c.requires, a_pad_is_set c.args.bytes.now c.requires small c.if-bytes-ne0.true)
 
 -- what it divides has none
 pub returns-in-Ok-decode-clause-ok : goal.returns-in-Ok-decode-clause-ok
 returns-in-Ok-decode-clause-ok c =
     let small : get_or c.args.bytes.now 26 0 < 256 = omega (arith, c.type_inv.bytes 26) in
-    let count = c.if-bytes-ne-BYTES.false in (
+    let count = c.requires in (
       record { count = count; padding = pads_are_zeros c.args.bytes.now count small c.if-bytes-ne0.false },
       subst (λ (bits : List Bool). IsTelegram c.in-Ok-decode.telegram bits) c.in-Ok.ensures.bits c.in-Ok-decode.ensures.ok,
     )
@@ -23,7 +23,7 @@ returns-in-Ok-decode-clause-ok c =
 pub returns-clause-reason : goal.returns-clause-reason
 returns-clause-reason c =
     let small : get_or c.args.bytes.now 26 0 < 256 = omega (arith, c.type_inv.bytes 26) in
-    let count = c.if-bytes-ne-BYTES.false in
+    let count = c.requires in
     let f = c.in-Err-Fault.fault in
     let fault = rw c.in-Err-Fault.field-0-is at c.in-Err-Fault.ensures.fault in
     let none = rw c.in-Err-Fault.field-0-is at c.in-Err-Fault.ensures.none in (
