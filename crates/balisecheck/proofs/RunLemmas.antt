@@ -1,0 +1,223 @@
+-- How a run over lines goes on, and how it ends. `output` is what it is to write for an input, and
+-- `left` what is left of that.
+use Rattle.std.proofs.Common.{◌≡◌, ◌+◌, ◌++◌, ℕ, Bool, true, false, List, [], Option, Result, Ok, Err, refl, sym, ap, ◌∙◌, append_assoc, take, drop, subst, arith}
+use Rattle.std.proofs.lemmas.List.{append-nil, take_all, take-append-drop}
+use Rattle.std.specs.Io.KnownBytes.{Appends, Consumes, Keeps}
+use Rattle.balisecheck.specs.LineReading.{MayFollow, Reads}
+use Rattle.balisecheck.specs.Lines.{lines_of, trimmed}
+use Rattle.balisecheck.specs.Output.{Output, after_line, answers, decode_output, prepend}
+use Rattle.balisecheck.specs.Ran.{Puts, Ran, Tells, Turns}
+use Rattle.balisecheck.specs.declared.error.RunError.{RunError}
+use Rattle.balisecheck.specs.declared.status.Status.{Status}
+use Rattle.balisecheck.specs.declared.status.Status.TheVariants.{Done}
+use Rattle.balisecheck.specs.declared.turn.Turn.TheVariants.{Next, Stop}
+use Rattle.balisecheck.proofs.StreamLemmas.{Appends-kept, Appends-none, Appends-then, Consumes-none, Consumes-then}
+
+-- While lines are read: what was read and written so far, and what is left to tell of what is held
+-- and of what follows.
+pub record Running (remaining_old remaining_new contents_old contents_new : Option (List ℕ))
+    (has_ended : Bool) (output : List ℕ → Output) (left : List ℕ → Output) : Type 0 where
+  pub bytes : List ℕ
+  pub consumed : Consumes remaining_old remaining_new bytes
+  pub text : List ℕ
+  pub appended : Appends contents_old contents_new text
+  pub says : (rest : List ℕ) → MayFollow has_ended rest
+      → output (bytes ++ rest) ≡ prepend text (left rest)
+
+-- what is left to tell after n lines
+abbrev pub left_of : ℕ → List ℕ → List ℕ → Output
+left_of n held rest = answers (n + 1) (lines_of (held ++ rest))
+
+-- nothing is read yet, and all is left
+pub Running-start : {r c : Option (List ℕ)} {ended : Bool} {held : List ℕ} → held ≡ []
+    → Running r r c c ended decode_output (left_of 0 held)
+unfolding decode_output
+Running-start {r} {c} none = record {
+  bytes = [];
+  consumed = Consumes-none r;
+  text = [];
+  appended = Appends-none c;
+  says = λ rest may. rw none refl;
+}
+
+-- what may follow after a read may follow the bytes that it read
+may_before : {before after : Bool} (bytes rest : List ℕ) → (before ≡ true → bytes ≡ [])
+    → (before ≡ true → after ≡ true) → MayFollow after rest → MayFollow before (bytes ++ rest)
+may_before bytes rest quiet stays may ended = rw (quiet ended, may (stays ended)) refl
+
+regroup : (output : List ℕ → Output) (a b rest : List ℕ)
+    → output ((a ++ b) ++ rest) ≡ output (a ++ (b ++ rest))
+regroup output a b rest = ap output (append_assoc a b rest)
+
+module _ {r0 r r1 c0 c : Option (List ℕ)} {before after : Bool} {output : List ℕ → Output}
+    {held line now : List ℕ} where
+  -- a line was found, and is to be told
+  pub Running-line : (n : ℕ) → Running r0 r c0 c before output (left_of n held)
+      → Reads r r1 before held line now after (Ok true) → (before ≡ true → after ≡ true)
+      → Running r0 r1 c0 c after output
+      (λ rest. after_line (n + 1) (trimmed line) (left_of (n + 1) now rest))
+  unfolding answers
+  Running-line n run read stays = record {
+    bytes = run.bytes ++ read.bytes;
+    consumed = Consumes-then r0 r r1 _ _ run.consumed read.consumed;
+    text = run.text;
+    appended = run.appended;
+    says = λ rest may.
+        let first = run.says (read.bytes ++ rest) (may_before _ rest read.quiet stays may) in
+        let lines = sym (ap lines_of (append_assoc held read.bytes rest)) ∙ read.gives rest may in
+        regroup output run.bytes read.bytes rest ∙ first
+        ∙ ap (λ ls. prepend run.text (answers (n + 1) ls)) lines;
+  }
+
+  -- nothing is left
+  pub Running-end : (n : ℕ) → Running r0 r c0 c before output (left_of n held)
+      → Reads r r1 before held line now after (Ok false) → (before ≡ true → after ≡ true)
+      → Ran r0 r1 c0 c after output (Ok Done)
+  unfolding answers lines_of
+  Running-end n run read stays = record {
+    bytes = run.bytes ++ read.bytes;
+    consumed = Consumes-then r0 r r1 _ _ run.consumed read.consumed;
+    text = run.text;
+    appended = run.appended;
+    says = λ rest may.
+        let first = run.says (read.bytes ++ rest) (may_before _ rest read.quiet stays may) in
+        let nothing : (held ++ read.bytes) ++ rest ≡ [] = rw (read.gives.1, may read.gives.0) refl in
+        let nothing_left = sym (append_assoc held read.bytes rest) ∙ nothing in
+        regroup output run.bytes read.bytes rest ∙ first
+        ∙ ap (λ s. prepend run.text (answers (n + 1) (lines_of s))) nothing_left
+        ∙ ap (λ s. (s, Done)) (append-nil run.text);
+  }
+
+  -- a read failed, or the line was longer than memory
+  pub Running-failed : {left : List ℕ → Output} {e : RunError} (x : RunError)
+      → Running r0 r c0 c before output left → Reads r r1 before held line now after (Err e)
+      → (before ≡ true → after ≡ true) → Ran r0 r1 c0 c after output (Err x)
+  Running-failed {left} x run read stays = record {
+    bytes = run.bytes ++ read.bytes;
+    consumed = Consumes-then r0 r r1 _ _ run.consumed read.consumed;
+    text = run.text;
+    appended = run.appended;
+    says = λ rest may.
+        let first = run.says (read.bytes ++ rest) (may_before _ rest read.quiet stays may) in (
+          (left (read.bytes ++ rest)).0,
+          ap (λ o. o.0) (regroup output run.bytes read.bytes rest ∙ first),
+        );
+  }
+
+module _ {r0 r c0 c c1 : Option (List ℕ)} {ended : Bool} {output : List ℕ → Output}
+    {after : Output → Output} (left : List ℕ → Output)
+    (run : Running r0 r c0 c ended output (λ rest. after (left rest))) where
+  -- a line was told
+  pub Running-told : Turns c c1 after (Ok Next) → Running r0 r c0 c1 ended output left
+  Running-told turn = record {
+    bytes = run.bytes;
+    consumed = run.consumed;
+    text = run.text ++ turn.text;
+    appended = Appends-then c0 c c1 _ _ run.appended turn.appended;
+    says = λ rest may.
+        run.says rest may ∙ ap (prepend run.text) (turn.says (left rest))
+        ∙ ap (λ s. (s, (left rest).1)) (sym (append_assoc run.text turn.text (left rest).0));
+  }
+
+  -- the run stops at a line
+  pub Running-stopped : {status : Status} → Turns c c1 after (Ok (Stop status))
+      → Ran r0 r c0 c1 ended output (Ok status)
+  Running-stopped turn = record {
+    bytes = run.bytes;
+    consumed = run.consumed;
+    text = run.text ++ turn.text;
+    appended = Appends-then c0 c c1 _ _ run.appended turn.appended;
+    says = λ rest may. run.says rest may ∙ ap (prepend run.text) (turn.says (left rest));
+  }
+
+  -- a write failed, or memory ran out
+  pub Running-cut : {e : RunError} (x : RunError) → Turns c c1 after (Err e)
+      → Ran r0 r c0 c1 ended output (Err x)
+  Running-cut x turn = record {
+    bytes = run.bytes;
+    consumed = run.consumed;
+    text = run.text ++ turn.text;
+    appended = Appends-then c0 c c1 _ _ run.appended turn.appended;
+    says = λ rest may.
+        let cut = turn.says (left rest) in (
+          cut.0,
+          ap (λ o. o.0) (run.says rest may) ∙ ap (λ s. run.text ++ s) cut.1
+              ∙ sym (append_assoc run.text turn.text cut.0),
+        );
+  }
+
+-- nothing was written since
+pub Ran-kept : {r0 r c0 c c1 : Option (List ℕ)} {ended : Bool} {output : List ℕ → Output}
+    {result : Result Status RunError} → Ran r0 r c0 c ended output result → Keeps c c1
+    → Ran r0 r c0 c1 ended output result
+Ran-kept {c0} {c} {c1} ran keeps = record {
+  bytes = ran.bytes;
+  consumed = ran.consumed;
+  text = ran.text ++ [];
+  appended = Appends-then c0 c c1 _ _ ran.appended (Appends-kept c c1 keeps);
+  says = λ rest may. rw (append-nil ran.text) (ran.says rest may);
+}
+
+-- what is a whole output is a beginning of it too
+pub Ran-failed : {r0 r c0 c : Option (List ℕ)} {ended : Bool} {output : List ℕ → Output}
+    {status : Status} (e : RunError) → Ran r0 r c0 c ended output (Ok status)
+    → Ran r0 r c0 c ended output (Err e)
+Ran-failed e ran = record {
+  bytes = ran.bytes;
+  consumed = ran.consumed;
+  text = ran.text;
+  appended = ran.appended;
+  says = λ rest may. ([], ap (λ o. o.0) (ran.says rest may) ∙ sym (append-nil ran.text));
+}
+
+-- nothing was read or written
+pub Ran-nothing : {r c : Option (List ℕ)} {ended : Bool} {output : List ℕ → Output} (e : RunError)
+    → Ran r r c c ended output (Err e)
+Ran-nothing {r} {c} {output} e = record {
+  bytes = [];
+  consumed = Consumes-none r;
+  text = [];
+  appended = Appends-none c;
+  says = λ rest may. ((output rest).0, refl);
+}
+
+-- one line was written, whatever the input
+pub Ran-fixed : {r c c1 c2 : Option (List ℕ)} {ended : Bool} {bytes line : List ℕ} {status : Status}
+    {u : Unit {0}} → Puts c c1 bytes (Ok u) → bytes ≡ line → Keeps c1 c2
+    → Ran r r c c2 ended (λ _. (line, status)) (Ok status)
+Ran-fixed {r} {c} {c1} {c2} {bytes} {line} {status} puts is keeps = record {
+  bytes = [];
+  consumed = Consumes-none r;
+  text = take puts.count bytes ++ [];
+  appended = Appends-then c c1 c2 _ _ puts.appended (Appends-kept c1 c2 keeps);
+  says = λ rest may.
+      let whole : take puts.count bytes ≡ line =
+      take_all puts.count bytes (omega (arith, puts.whole)) ∙ is in
+      ap (λ s. (s, status)) (sym (append-nil _ ∙ whole));
+}
+
+-- a beginning of that line was written
+pub Ran-begun : {r c c1 : Option (List ℕ)} {ended : Bool} {bytes line : List ℕ} {status : Status}
+    {result : Result (Unit {0}) RunError} (e : RunError) → Puts c c1 bytes result → bytes ≡ line
+    → Ran r r c c1 ended (λ _. (line, status)) (Err e)
+Ran-begun {r} {bytes} e puts is = record {
+  bytes = [];
+  consumed = Consumes-none r;
+  text = take puts.count bytes;
+  appended = puts.appended;
+  says = λ rest may. (drop puts.count bytes, sym (take-append-drop puts.count bytes ∙ is));
+}
+
+-- the same for an output that is the same
+pub Ran-as : {r0 r c0 c : Option (List ℕ)} {ended : Bool} {output other : List ℕ → Output}
+    {result : Result Status RunError} → ((s : List ℕ) → other s ≡ output s)
+    → Ran r0 r c0 c ended output result → Ran r0 r c0 c ended other result
+Ran-as {result} same ran = record {
+  bytes = ran.bytes;
+  consumed = ran.consumed;
+  text = ran.text;
+  appended = ran.appended;
+  says = λ rest may.
+      let P : Output → Type 0 = Tells result ran.text in
+      subst P (sym (same (ran.bytes ++ rest))) (ran.says rest may);
+}

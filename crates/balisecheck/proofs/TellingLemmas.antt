@@ -1,0 +1,35 @@
+-- What was told of a line where a write failed.
+use Rattle.std.proofs.Common.{◌≡◌, ◌++◌, ℕ, List, [], take, drop, Option, Result, Ok, Err, sym, ap, ◌∙◌, append_assoc, refl}
+use Rattle.std.proofs.lemmas.List.{append-nil, take-append-drop}
+use Rattle.etcs_telegram.specs.declared.error.TextError.{TextError}
+use Rattle.balisecheck.specs.Output.{Output, told}
+use Rattle.balisecheck.specs.Ran.{Puts, Turns}
+use Rattle.balisecheck.specs.TelegramLines.{refusal_of}
+use Rattle.balisecheck.specs.declared.error.RunError.{RunError}
+
+-- the text that was to be written begins what is told, so the part of it that was written does
+pub put_failed : {old new : Option (List ℕ)} {bytes : List ℕ} {after : Output → Output}
+    {result : Result (Unit {0}) RunError} (e : RunError) → Puts old new bytes result
+    → ((rest : Output) → (more : List ℕ) × ((after rest).0 ≡ bytes ++ more))
+    → Turns old new after (Err e)
+put_failed {bytes} e puts begins = record {
+  text = take puts.count bytes;
+  appended = puts.appended;
+  says = λ rest.
+      let whole = begins rest in (
+        drop puts.count bytes ++ whole.0,
+        whole.1 ∙ ap (λ x. x ++ whole.0) (sym (take-append-drop puts.count bytes))
+            ∙ append_assoc (take puts.count bytes) (drop puts.count bytes) whole.0,
+      );
+}
+
+-- a line's text begins what is told of the line
+pub begins_told : (n : ℕ) {meaning : Result (List ℕ) TextError} {bytes : List ℕ}
+    → meaning ≡ Ok bytes → (rest : Output)
+    → (more : List ℕ) × ((told n meaning rest).0 ≡ bytes ++ more)
+begins_told n is rest = (rest.0, rw is refl)
+
+-- and so does its refusal
+pub begins_refused : (n : ℕ) (why : TextError) {bytes : List ℕ} → bytes ≡ refusal_of n why
+    → (rest : Output) → (more : List ℕ) × ((told n (Err why) rest).0 ≡ bytes ++ more)
+begins_refused n why {bytes} is rest = ([], sym is ∙ sym (append-nil bytes))

@@ -1,0 +1,47 @@
+-- A reader or writer whose failed calls are counted: what it shows, and what each call does to its
+-- count and to its budget. A read for which the budget does not suffice counts as failed, and so
+-- does a write that takes none of what it was handed.
+use Rattle.std.specs.Prelude.{◌≡◌, ◌<◌, ◌+◌, ◌-◌, ◌^◌, ◌==◌, ◌&&◌, ◌||◌, ℕ, Bool, not, max, min, Result, Ok, Err, MatchResult}
+use Rattle.balisecheck.specs.declared.counted.Counted.{Counted}
+
+-- how many calls have failed
+abbrev pub failures_of : {T : Type 0} → Counted T → ℕ
+failures_of counted = counted.failures
+
+-- how many bytes of room may still be offered to reads
+abbrev pub budget_of : {T : Type 0} → Counted T → ℕ
+budget_of counted = counted.budget
+
+-- a read has met the end of the input
+abbrev pub has_ended : {T : Type 0} → Counted T → Bool
+has_ended counted = counted.has_ended
+
+-- the reader or writer that is counted
+abbrev pub inner_of : {T : Type 0} → Counted T → T
+inner_of counted = counted.inner
+
+-- one more failure can still be counted
+abbrev pub CanCount : {T : Type 0} → Counted T → Type 0
+CanCount counted = failures_of counted < 2 ^ 64 - 1
+
+-- no call has failed in between
+abbrev pub CountsNone : {T : Type 0} → Counted T → Counted T → Type 0
+CountsNone old new = failures_of new ≡ failures_of old
+
+-- one call has failed in between
+abbrev pub CountsOne : {T : Type 0} → Counted T → Counted T → Type 0
+CountsOne old new = failures_of new ≡ failures_of old + 1
+
+-- a failed call adds one, up to the type's greatest value, and no other call adds any
+abbrev pub CountsFailure : {X E : Type 0} → ℕ → ℕ → Result X E → Type 0
+CountsFailure old new result =
+    MatchResult result (λ _. new ≡ old) (λ _. new ≡ min (old + 1) (2 ^ 64 - 1))
+
+-- what a read with this much room takes of the budget
+abbrev pub cost_of : ℕ → ℕ
+cost_of room = max room 1
+
+-- a read that gave nothing although there was room has met the end
+abbrev pub ended_after : {E : Type 0} → Bool → ℕ → Result ℕ E → Bool
+ended_after before room (Ok count) = before || (count == 0 && not (room == 0))
+ended_after before room (Err _) = before

@@ -1,0 +1,7 @@
+pub mod Counted
+pub mod Command
+pub mod Lines
+pub mod LineReading
+pub mod TelegramLines
+pub mod Output
+pub mod Ran

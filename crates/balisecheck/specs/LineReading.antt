@@ -1,0 +1,80 @@
+-- Reading line by line. Bytes come from the reader in blocks that are cut anywhere; some are held
+-- until their line is whole. Once the end of the input was met nothing more is read.
+use Rattle.std.specs.Prelude.{◌≡◌, ◌++◌, ◌<◌, ◌≤◌, ◌+◌, ◌-◌, ℕ, Bool, true, false, List, [], ◌∷◌, length, take, drop, Option, Result, Ok, Err, IfOk}
+use Rattle.std.specs.Io.KnownBytes.{Consumes}
+use Rattle.balisecheck.specs.Counted.{CountsNone, CountsOne, budget_of, has_ended, inner_of}
+use Rattle.balisecheck.specs.Lines.{IsLine, lines_of}
+use Rattle.balisecheck.specs.declared.counted.Counted.{Counted}
+use Rattle.balisecheck.specs.declared.error.RunError.{RunError}
+use Rattle.balisecheck.specs.declared.error.RunError.TheVariants.{Memory, Device}
+use Rattle.balisecheck.specs.declared.lines.Lines.{Lines}
+
+-- the bytes that were read and stand in no line yet
+abbrev pub held_of : Lines → List ℕ
+held_of lines = take (lines.to - lines.from) (drop lines.from lines.block.items)
+
+-- the line that was found last
+abbrev pub line_of : Lines → List ℕ
+line_of lines = lines.line.items
+
+-- the rest may follow what was read: anything may, but nothing once the end was met
+abbrev pub MayFollow : Bool → List ℕ → Type 0
+MayFollow has_ended rest = has_ended ≡ true → rest ≡ []
+
+-- an end that was met stays met
+abbrev pub StaysEnded : {R : Type 0} → Counted R → Counted R → Type 0
+StaysEnded old new = has_ended old ≡ true → has_ended new ≡ true
+
+-- a device that failed is counted once, and nothing else is
+abbrev pub CountsDevice : {X T : Type 0} → Result X RunError → Counted T → Counted T → Type 0
+CountsDevice (Ok _) old new = CountsNone old new
+CountsDevice (Err Memory) old new = CountsNone old new
+CountsDevice (Err Device) old new = CountsOne old new
+
+-- so many bytes of the budget are spent, if not more, and some where any were read
+abbrev pub SpendsAtLeast : {R : Type 0} → ℕ → Counted R → Counted R → Type 0
+SpendsAtLeast count old new =
+    (count + budget_of new ≤ budget_of old) × (0 < count → budget_of new < budget_of old)
+
+-- the line has grown by these bytes, of which none is a `\n`
+pub record Grows (old new : Lines) (front : List ℕ) : Type 0 where
+  pub line : line_of new ≡ line_of old ++ front
+  pub plain : IsLine front
+
+-- the line has grown by the held bytes up to a `\n`, or by all of them
+abbrev pub MovesTo : Result Bool RunError → Lines → Lines → Type 0
+MovesTo (Err _) old new = Unit {0}
+MovesTo (Ok true) old new =
+    (front : List ℕ) × Grows old new front × (held_of old ≡ front ++ 10 ∷ held_of new)
+MovesTo (Ok false) old new = Grows old new (held_of old) × (held_of new ≡ [])
+
+-- the line is the first of what was held and read, whatever may follow; or there is no line, and
+-- the end was met
+abbrev pub GivesLine : Result Bool RunError → List ℕ → List ℕ → List ℕ → Bool → Type 0
+GivesLine (Err _) bytes line held has_ended = Unit {0}
+GivesLine (Ok true) bytes line held has_ended =
+    (rest : List ℕ) → MayFollow has_ended rest
+    → lines_of (bytes ++ rest) ≡ line ∷ lines_of (held ++ rest)
+GivesLine (Ok false) bytes line held has_ended = (has_ended ≡ true) × (bytes ≡ []) × (held ≡ [])
+
+-- these bytes were read, none if the end was met before, and with those held they give a line
+pub record Reads (remaining_old remaining_new : Option (List ℕ)) (had_ended : Bool)
+    (held line now : List ℕ) (has_ended : Bool) (result : Result Bool RunError) : Type 0 where
+  pub bytes : List ℕ
+  pub quiet : had_ended ≡ true → bytes ≡ []
+  pub consumed : Consumes remaining_old remaining_new bytes
+  pub gives : GivesLine result (held ++ bytes) line now has_ended
+
+-- a line was looked for
+abbrev pub ReadsLine : {R : Type 0} → (R → Option (List ℕ)) → Counted R → Counted R → Lines → Lines
+    → Result Bool RunError → Type 0
+ReadsLine remaining reader_old reader_new old new result =
+    Reads (remaining (inner_of reader_old)) (remaining (inner_of reader_new)) (has_ended reader_old)
+    (held_of old) (line_of new) (held_of new) (has_ended reader_new) result
+
+-- a line that is found is paid for, by bytes that were held or by the budget
+abbrev pub SpendsLine : {R : Type 0} → Result Bool RunError → Counted R → Counted R → Lines → Lines
+    → Type 0
+SpendsLine result reader_old reader_new old new = IfOk result (λ found. found ≡ true
+    → 1 + (length (held_of new) + budget_of reader_new)
+    ≤ length (held_of old) + budget_of reader_old)

@@ -1,0 +1,58 @@
+-- What a run writes, and with which status it ends. Lines are told in order up to the first that is
+-- refused; that one is told by its refusal, and ends the run. Lines count from 1; an empty line is
+-- skipped, but counted.
+use Rattle.std.specs.Prelude.{◌+◌, ◌++◌, ℕ, List, [], ◌∷◌, codes, Option, Some, None, Result, Ok, Err}
+use Rattle.etcs_telegram.specs.declared.error.TextError.{TextError}
+use Rattle.balisecheck.specs.Command.{command_of}
+use Rattle.balisecheck.specs.Lines.{lines_of, trimmed}
+use Rattle.balisecheck.specs.TelegramLines.{meaning_of, refusal_of}
+use Rattle.balisecheck.specs.declared.command.Command.{Command}
+use Rattle.balisecheck.specs.declared.command.Command.TheVariants.{Decode}
+use Rattle.balisecheck.specs.declared.status.Status.{Status}
+use Rattle.balisecheck.specs.declared.status.Status.TheVariants.{Done, Findings, Refused}
+
+-- the exit status of a program that ended so; 3 is kept for a run that stopped without one
+abbrev pub exit_code : Status → ℕ
+exit_code Done = 0
+exit_code Findings = 1
+exit_code Refused = 2
+
+-- a text and a status
+abbrev pub Output : Type 0
+Output = List ℕ × Status
+
+-- a text, and then an output
+abbrev pub prepend : List ℕ → Output → Output
+prepend text rest = (text ++ rest.0, rest.1)
+
+-- what a line means, and then the rest; or its refusal, and nothing after it
+abbrev pub told : ℕ → Result (List ℕ) TextError → Output → Output
+told number (Ok text) rest = prepend text rest
+told number (Err why) rest = (refusal_of number why, Refused)
+
+-- a line, and then the rest; an empty line is skipped
+abbrev pub after_line : ℕ → List ℕ → Output → Output
+after_line number [] rest = rest
+after_line number (byte ∷ line) rest = told number (meaning_of (byte ∷ line)) rest
+
+-- the lines, of which the first has this number
+unfoldable pub answers : ℕ → List (List ℕ) → Output
+answers number [] = ([], Done)
+answers number (line ∷ lines) = after_line number (trimmed line) (answers (number + 1) lines)
+
+-- what `decode` writes for an input
+unfoldable pub decode_output : List ℕ → Output
+decode_output input = answers 1 (lines_of input)
+
+-- the line that is written where the words are no command
+unfoldable pub usage_line : List ℕ
+usage_line = codes "refused: usage is balisecheck check, decode [--radio] or encode [--radio]\n"
+
+-- what a command writes for an input, or no command
+abbrev pub of_command : Option Command → List ℕ → Output
+of_command (Some Decode) input = decode_output input
+of_command None input = (usage_line, Refused)
+
+-- what the words write for an input
+unfoldable pub output_of : List (List ℕ) → List ℕ → Output
+output_of words input = of_command (command_of words) input

@@ -1,0 +1,71 @@
+-- What a run promises. With a status, what was written and the status are the output for every
+-- input that begins with what was read. Without one, what was written begins the text of each such
+-- output. The end of the input, once met, counts as read. Nothing is said of a reader that does not
+-- tell its bytes, or of a writer that does not tell its contents.
+use Rattle.std.specs.Prelude.{◌≡◌, ◌≤◌, ◌++◌, ◌⊎◌, ℕ, Bool, List, take, length, Option, Result, Ok, Err, OnOk}
+use Rattle.std.specs.Io.KnownBytes.{Appends, Consumes}
+use Rattle.balisecheck.specs.Counted.{CountsNone, CountsOne, has_ended, inner_of}
+use Rattle.balisecheck.specs.LineReading.{MayFollow}
+use Rattle.balisecheck.specs.Output.{Output, prepend}
+use Rattle.balisecheck.specs.declared.counted.Counted.{Counted}
+use Rattle.balisecheck.specs.declared.error.RunError.{RunError}
+use Rattle.balisecheck.specs.declared.error.RunError.TheVariants.{Memory, Device}
+use Rattle.balisecheck.specs.declared.status.Status.{Status}
+use Rattle.balisecheck.specs.declared.turn.Turn.{Turn}
+use Rattle.balisecheck.specs.declared.turn.Turn.TheVariants.{Next, Stop}
+
+-- the text is the whole output, with this status; or a beginning of it
+abbrev pub Tells : Result Status RunError → List ℕ → Output → Type 0
+Tells (Ok status) text output = output ≡ (text, status)
+Tells (Err _) text output = (more : List ℕ) × (output.0 ≡ text ++ more)
+
+-- these bytes were read, and this text was written: it tells the output for each input that begins
+-- with them
+pub record Ran (remaining_old remaining_new contents_old contents_new : Option (List ℕ))
+    (has_ended : Bool) (output : List ℕ → Output) (result : Result Status RunError) : Type 0 where
+  pub bytes : List ℕ
+  pub consumed : Consumes remaining_old remaining_new bytes
+  pub text : List ℕ
+  pub appended : Appends contents_old contents_new text
+  pub says : (rest : List ℕ) → MayFollow has_ended rest → Tells result text (output (bytes ++ rest))
+
+-- the run, from its reader to its writer
+abbrev pub Runs : {R W : Type 0} → (R → Option (List ℕ)) → (W → Option (List ℕ)) → Counted R
+    → Counted R → Counted W → Counted W → (List ℕ → Output) → Result Status RunError → Type 0
+Runs remaining contents reader_old reader_new writer_old writer_new output result =
+    Ran (remaining (inner_of reader_old)) (remaining (inner_of reader_new))
+    (contents (inner_of writer_old)) (contents (inner_of writer_new))
+    (has_ended reader_new) output result
+
+-- a device that failed is counted once, at the reader or at the writer, and nothing else is
+abbrev pub CountsOneDevice : {R W X : Type 0} → Result X RunError → Counted R → Counted R
+    → Counted W → Counted W → Type 0
+CountsOneDevice (Ok _) reader_old reader_new writer_old writer_new =
+    CountsNone reader_old reader_new × CountsNone writer_old writer_new
+CountsOneDevice (Err Memory) reader_old reader_new writer_old writer_new =
+    CountsNone reader_old reader_new × CountsNone writer_old writer_new
+CountsOneDevice (Err Device) reader_old reader_new writer_old writer_new =
+    (CountsOne reader_old reader_new × CountsNone writer_old writer_new)
+    ⊎ (CountsNone reader_old reader_new × CountsOne writer_old writer_new)
+
+-- the first of these bytes were written, and with Ok all of them
+pub record Puts (old new : Option (List ℕ)) (bytes : List ℕ)
+    (result : Result (Unit {0}) RunError) : Type 0 where
+  pub count : ℕ
+  pub within : count ≤ length bytes
+  pub appended : Appends old new (take count bytes)
+  pub whole : OnOk result (count ≡ length bytes)
+
+-- what a line makes of the output after it: this text and then the rest, this text and the end, or
+-- more than this text
+abbrev pub TellsTurn : Result Turn RunError → List ℕ → (Output → Output) → Type 0
+TellsTurn (Ok Next) text after = (rest : Output) → after rest ≡ prepend text rest
+TellsTurn (Ok (Stop status)) text after = (rest : Output) → after rest ≡ (text, status)
+TellsTurn (Err _) text after = (rest : Output) → (more : List ℕ) × ((after rest).0 ≡ text ++ more)
+
+-- this text was written, and it is what the line tells
+pub record Turns (old new : Option (List ℕ)) (after : Output → Output)
+    (result : Result Turn RunError) : Type 0 where
+  pub text : List ℕ
+  pub appended : Appends old new text
+  pub says : TellsTurn result text after

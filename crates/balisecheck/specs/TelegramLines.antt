@@ -1,0 +1,98 @@
+-- A telegram as a line of text. What is accepted becomes one JSON object, its keys in byte order
+-- and without blanks; what is refused becomes the reason, in words and numbers. The keys and the
+-- words are this project's.
+use Rattle.std.specs.Prelude.{◌≡◌, ◌++◌, ℕ, List, [], ◌∷◌, codes, decimal, Result, Ok, Err}
+use Rattle.etcs_bits.specs.Number.{worth}
+use Rattle.etcs_bits.specs.Variables.{dup_number, version_number}
+use Rattle.etcs_bits.specs.declared.fault.Fault.{Fault}
+use Rattle.etcs_bits.specs.declared.fault.FaultKind.{FaultKind}
+use Rattle.etcs_bits.specs.declared.fault.FaultKind.TheVariants as kinds
+use Rattle.etcs_telegram.specs.Telegram.{user_bits}
+use Rattle.etcs_telegram.specs.Text.{telegram_of_text}
+use Rattle.etcs_telegram.specs.declared.telegram.Telegram.{Telegram}
+use Rattle.etcs_telegram.specs.declared.error.TextError.{TextError}
+use Rattle.etcs_telegram.specs.declared.error.TextError.TheVariants as errors
+use Rattle.serde.specs.Event.{Log, Logs, field_key, unsigned as sent_number}
+use Rattle.serde.specs.declared.name.Case.TheVariants.{AsIs}
+use Rattle.serde_json.specs.Data.{Data, Members, array, member, no_items, no_members, number, object, unsigned}
+use Rattle.serde_json.specs.Written.{compact_text}
+
+-- a whole number
+abbrev pub whole : ℕ → Data
+whole n = number (unsigned n)
+
+-- these keys with these values, in this order
+abbrev pub members_of : List (List ℕ × Data) → Members
+members_of [] = no_members
+members_of (entry ∷ entries) = member entry.0 entry.1 (members_of entries)
+
+-- the telegram as a JSON object; none of its packets is read yet
+abbrev pub telegram_form : Telegram → Data
+telegram_form telegram = object (members_of (
+    (codes "m_dup", whole (dup_number telegram.header.dup))
+    ∷ (codes "m_mcount", whole telegram.header.counter)
+    ∷ (codes "m_version", whole (version_number telegram.header.version))
+    ∷ (codes "n_pig", whole telegram.header.position)
+    ∷ (codes "n_total", whole telegram.header.total)
+    ∷ (codes "nid_bg", whole telegram.header.identity.group)
+    ∷ (codes "nid_c", whole telegram.header.identity.country)
+    ∷ (codes "packets", array no_items)
+    ∷ (codes "q_link", whole (worth telegram.header.linked))
+    ∷ (codes "user_bits", whole (user_bits telegram.size))
+    ∷ []))
+
+-- a key and a number were sent, one after the other, as a member of an object
+pub record SendsNumber (key : List ℕ) (n : ℕ) (old new : Log) : Type 0 where
+  pub named : Log
+  pub key_sent : Logs old named (field_key key AsIs)
+  pub number_sent : Logs named new (sent_number n)
+
+-- the telegram's JSON line
+unfoldable pub json_line_of : Telegram → List ℕ
+json_line_of telegram = compact_text (telegram_form telegram) ++ codes "\n"
+
+-- what is wrong at a fault
+abbrev pub kind_words : FaultKind → List ℕ
+kind_words kinds.Short = codes "short"
+kind_words kinds.Spare = codes "spare"
+kind_words kinds.Length = codes "length"
+kind_words kinds.NoEnd = codes "no end"
+kind_words kinds.Version = codes "version"
+kind_words kinds.Loop = codes "loop"
+kind_words kinds.Downlink = codes "down-link"
+kind_words kinds.MessageKind = codes "message kind"
+kind_words kinds.NoAuthority = codes "no authority"
+kind_words kinds.NoReport = codes "no report"
+kind_words kinds.Unsupported = codes "unsupported"
+
+-- what is wrong, where its field begins, and by which bit it is decided
+abbrev pub fault_words : Fault → List ℕ
+fault_words fault = kind_words fault.why
+    ++ (codes " at " ++ (decimal fault.at ++ (codes " end " ++ decimal fault.end)))
+
+-- why a text is no telegram; want of memory is no such reason
+unfoldable pub reason_of : TextError → List ℕ
+reason_of errors.Memory = []
+reason_of errors.NotHex = codes "not hexadecimal"
+reason_of errors.WrongSize = codes "wrong size"
+reason_of errors.PadBits = codes "pad bits set"
+reason_of (errors.Fault fault) = fault_words fault
+
+-- the refusal of a line, by its number
+unfoldable pub refusal_of : ℕ → TextError → List ℕ
+refusal_of line_number why =
+    codes "refused: line " ++ (decimal line_number ++ (codes ": " ++ (reason_of why ++ codes "\n")))
+
+-- the line that is written for a telegram that was read
+abbrev pub line_for : Result Telegram TextError → Result (List ℕ) TextError
+line_for (Ok telegram) = Ok (json_line_of telegram)
+line_for (Err why) = Err why
+
+-- what a line of hexadecimal text means: a JSON line, or the reason why it is refused
+unfoldable pub meaning_of : List ℕ → Result (List ℕ) TextError
+meaning_of text = line_for (telegram_of_text text)
+
+-- why there is no JSON line: for want of memory, or for the line's own reason
+abbrev pub Refuses : TextError → Result (List ℕ) TextError → Type 0
+Refuses errors.Memory meaning = Unit {0}
+Refuses why meaning = meaning ≡ Err why

@@ -1,0 +1,142 @@
+//! `decode`: lines of hexadecimal text, each a telegram, to JSON lines.
+
+ghost use Rattle.std.specs.Prelude.{◌≡◌, []};
+ghost use Rattle.balisecheck.specs.Counted.{CanCount, inner_of};
+ghost use Rattle.balisecheck.specs.LineReading.{CountsDevice, held_of, line_of};
+ghost use Rattle.balisecheck.specs.Lines.{trimmed};
+ghost use Rattle.balisecheck.specs.Output.{after_line, decode_output, told};
+ghost use Rattle.balisecheck.specs.Ran.{CountsOneDevice, Runs, Turns};
+ghost use Rattle.balisecheck.specs.TelegramLines.{meaning_of};
+
+use crate::counted::Counted;
+use crate::error::RunError;
+use crate::lines::Lines;
+use crate::output::{finish, put};
+use crate::status::Status;
+use crate::telegram_lines::{answer, refusal};
+use crate::turn::Turn;
+use etcs_telegram::TextError;
+use std::alloc::Global;
+use std::io::{Read, Write};
+
+// The line without one `\r` at its end.
+#[inline]
+fn trim(line: &[u8]) -> &[u8]
+    ensures { result.now ≡ trimmed line.now }
+{
+    match line {
+        [rest @ .., b'\r'] => rest,
+        _ => line,
+    }
+}
+
+// Writes why the line of this number is refused.
+fn refuse_line<W: Write>(
+    alloc: Global,
+    number: u64,
+    why: &TextError,
+    writer: &mut Counted<W>,
+) -> Result<Turn, RunError>
+    requires { CanCount writer.old }
+    ensures turns { Turns (W.contents (inner_of writer.old)) (W.contents (inner_of writer.new))
+        (told number (Err why.now)) result }
+    ensures counts { CountsDevice result writer.old writer.new }
+{
+    match refusal(alloc, number, why) {
+        Ok(text) => {
+            put(writer, text.as_bytes())?;
+            Ok(Turn::Stop(Status::Refused))
+        }
+        Err(_) => Err(RunError::Memory),
+    }
+}
+
+// Writes what a line means, or why it is refused.
+fn tell_line<W: Write>(
+    alloc: Global,
+    number: u64,
+    line: &[u8],
+    writer: &mut Counted<W>,
+) -> Result<Turn, RunError>
+    requires { CanCount writer.old }
+    ensures turns { Turns (W.contents (inner_of writer.old)) (W.contents (inner_of writer.new))
+        (told number (meaning_of line.now)) result }
+    ensures counts { CountsDevice result writer.old writer.new }
+{
+    match answer(alloc, line) {
+        Ok(text) => {
+            put(writer, text.as_bytes())?;
+            Ok(Turn::Next)
+        }
+        Err(TextError::Memory) => Err(RunError::Memory),
+        Err(why) => refuse_line(alloc, number, &why, writer),
+    }
+}
+
+// Tells the line that was found last. An empty line is skipped.
+fn take_turn<W: Write>(
+    alloc: Global,
+    number: u64,
+    lines: &Lines,
+    writer: &mut Counted<W>,
+) -> Result<Turn, RunError>
+    requires { CanCount writer.old }
+    ensures turns { Turns (W.contents (inner_of writer.old)) (W.contents (inner_of writer.new))
+        (after_line number (trimmed (line_of lines.now))) result }
+    ensures counts { CountsDevice result writer.old writer.new }
+{
+    let line = trim(lines.line());
+    if line.is_empty() {
+        Ok(Turn::Next)
+    } else {
+        tell_line(alloc, number, line, writer)
+    }
+}
+
+// Tells each line, up to the first that is refused.
+fn tell_lines<R: Read, W: Write>(
+    alloc: Global,
+    lines: &mut Lines,
+    reader: &mut Counted<R>,
+    writer: &mut Counted<W>,
+) -> Result<Status, RunError>
+    requires fresh { held_of lines.old ≡ [] }
+    requires reads { CanCount reader.old }
+    requires writes { CanCount writer.old }
+    ensures ran { Runs R.remaining W.contents reader.old reader.new writer.old writer.new
+        decode_output result }
+    ensures counts { CountsOneDevice result reader.old reader.new writer.old writer.new }
+{
+    // The budget bounds the number of lines; this call tells the proof the budget's own range.
+    let _ = reader.budget();
+    let mut number = 0;
+    'lines: while lines.next(reader)? {
+        number += 1;
+        if let Turn::Stop(status) = take_turn(alloc, number, lines, writer)? {
+            return Ok(status);
+        }
+    }
+    Ok(Status::Done)
+}
+
+/// Writes the JSON line of each line of hexadecimal text, up to the first that is no telegram, for
+/// which it writes the refusal; then it flushes the writer.
+pub fn decode<R: Read, W: Write>(
+    alloc: Global,
+    reader: &mut Counted<R>,
+    writer: &mut Counted<W>,
+) -> Result<Status, RunError>
+    requires reads { CanCount reader.old }
+    requires writes { CanCount writer.old }
+    ensures ran { Runs R.remaining W.contents reader.old reader.new writer.old writer.new
+        decode_output result }
+    ensures counts { CountsOneDevice result reader.old reader.new writer.old writer.new }
+{
+    let mut lines = match Lines::new(alloc) {
+        Ok(lines) => lines,
+        Err(_) => return Err(RunError::Memory),
+    };
+    let status = tell_lines(alloc, &mut lines, reader, writer)?;
+    finish(writer)?;
+    Ok(status)
+}

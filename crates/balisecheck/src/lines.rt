@@ -1,0 +1,133 @@
+//! `Lines`: the lines of a reader, read by the block.
+
+ghost use Rattle.std.specs.Prelude.{◌≤◌, ◌<◌, vec_len};
+
+use crate::counted::Counted;
+use crate::error::RunError;
+use std::alloc::{AllocError, Global};
+use std::io::Read;
+
+/// How many bytes one read may give.
+const ROOM: usize = 65_536;
+
+/// The line that was found last, and the bytes that were read and stand in no line yet.
+///
+/// A line ends at a `\n`, which is no part of it, or at the end of the input. Its length has no
+/// limit but memory's.
+#[derive(Drop)]
+pub struct Lines {
+    // What the last read gave, of which `from..to` stands in no line yet.
+    block: Vec<u8>,
+    from: usize,
+    to: usize,
+    line: Vec<u8>,
+    ghost ordered: { from ≤ to },
+    ghost within: { to ≤ vec_len block },
+    ghost room: { 0 < vec_len block },
+}
+
+impl Lines {
+    ghost use Rattle.std.specs.Prelude.{◌≡◌, true, [], length, IfOk, OnErr, IfErr};
+    ghost use Rattle.std.specs.Io.KnownBytes.{Consumes, Keeps};
+    ghost use Rattle.balisecheck.specs.Counted.{CanCount, has_ended, inner_of};
+    ghost use Rattle.balisecheck.specs.LineReading.{CountsDevice, MovesTo, ReadsLine};
+    ghost use Rattle.balisecheck.specs.LineReading.{SpendsAtLeast, SpendsLine, StaysEnded};
+    ghost use Rattle.balisecheck.specs.LineReading.{held_of, line_of};
+
+    /// Nothing is read yet.
+    pub fn new(alloc: Global) -> Result<Lines, AllocError>
+        ensures { IfOk result (λ l. held_of l ≡ []) }
+    {
+        Ok(Lines {
+            block: vec![in alloc; 0; ROOM]?,
+            from: 0,
+            to: 0,
+            line: Vec::new(alloc),
+        })
+    }
+
+    /// The line that was found last, without its `\n`.
+    #[inline]
+    pub fn line(&self) -> &[u8]
+        ensures { result.now ≡ line_of self.now }
+    {
+        self.line.as_slice()
+    }
+
+    // Moves the held bytes up to the first `\n` to the line, and says whether there is one.
+    fn move_line(&mut self) -> Result<bool, RunError>
+        ensures moves { MovesTo result self.old self.new }
+        ensures memory { IfErr result (λ e. e ≡ RunError.Memory) }
+    {
+        let held = &self.block[self.from..self.to];
+        match memchr::memchr(b'\n', held) {
+            Some(end) => {
+                if self.line.extend_from_slice(&held[..end]).is_err() {
+                    return Err(RunError::Memory);
+                }
+                self.from += end + 1;
+                Ok(true)
+            }
+            None => {
+                if self.line.extend_from_slice(held).is_err() {
+                    return Err(RunError::Memory);
+                }
+                self.from = self.to;
+                Ok(false)
+            }
+        }
+    }
+
+    // Reads more bytes in place of the held ones. Once the end was met nothing is read any more.
+    fn refill<R: Read>(&mut self, reader: &mut Counted<R>) -> Result<usize, RunError>
+        requires { CanCount reader.old }
+        ensures line { line_of self.new ≡ line_of self.old }
+        ensures read { IfOk result (λ n. Consumes (R.remaining (inner_of reader.old))
+            (R.remaining (inner_of reader.new)) (held_of self.new)
+            × (length (held_of self.new) ≡ n) × (n ≡ 0 → has_ended reader.new ≡ true)) }
+        ensures spends { IfOk result (λ n. SpendsAtLeast n reader.old reader.new) }
+
+        // Nothing is lost by a read that failed.
+        ensures kept { OnErr result (Keeps (R.remaining (inner_of reader.old))
+            (R.remaining (inner_of reader.new))) }
+        ensures device { IfErr result (λ e. e ≡ RunError.Device) }
+        ensures counts { CountsDevice result reader.old reader.new }
+
+        ensures quiet { has_ended reader.old ≡ true → IfOk result (λ n. n ≡ 0) }
+        ensures ended { StaysEnded reader.old reader.new }
+    {
+        if reader.has_ended() {
+            self.from = 0;
+            self.to = 0;
+            return Ok(0);
+        }
+        match reader.read(self.block.as_mut_slice()) {
+            Ok(count) => {
+                self.from = 0;
+                self.to = count;
+                Ok(count)
+            }
+            Err(_) => Err(RunError::Device),
+        }
+    }
+
+    /// Looks for the next line, and says whether there is one.
+    ///
+    /// `Memory`: the line is longer than memory. `Device`: a read failed. Nothing is read once the
+    /// end of the input was met.
+    pub fn next<R: Read>(&mut self, reader: &mut Counted<R>) -> Result<bool, RunError>
+        requires { CanCount reader.old }
+        ensures reads { ReadsLine R.remaining reader.old reader.new self.old self.new result }
+        ensures counts { CountsDevice result reader.old reader.new }
+        ensures ended { StaysEnded reader.old reader.new }
+        ensures spends { SpendsLine result reader.old reader.new self.old self.new }
+    {
+        self.line.clear();
+        'filling: while !self.move_line()? {
+            if self.refill(reader)? == 0 {
+                return Ok(!self.line.is_empty());
+            }
+        }
+        Ok(true)
+    }
+}

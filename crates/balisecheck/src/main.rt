@@ -1,0 +1,92 @@
+//! `balisecheck decode`: lines of hexadecimal text, each a Eurobalise telegram, to lines of JSON.
+//!
+//! `program::run` is the whole program, from words and a counted reader to a counted writer and a
+//! status. Its contract says what is written for every input; `specs/Output.antt` defines that text
+//! and `specs/Ran.antt` what is promised of it. `main` adds the arguments and standard input and
+//! output, of which no contract can speak. Read `program.rt` first, then `decoding.rt`, `lines.rt`
+//! and `telegram_lines.rt`. The commands `check` and `encode` are left out so far.
+#![tactic(auto)]
+
+mod command;
+mod counted;
+mod decoding;
+mod error;
+mod lines;
+mod output;
+mod program;
+mod status;
+mod telegram_form;
+mod telegram_lines;
+#[cfg(test)]
+mod tests;
+mod turn;
+
+use crate::counted::Counted;
+use crate::error::RunError;
+use crate::program::run;
+use crate::status::Status;
+use std::io::{self, BufWriter, Write};
+use std::process::ExitCode;
+
+/// How many bytes of output are gathered before they are written.
+const ROOM: usize = 65_536;
+
+/// The exit status of a run that stopped without a status.
+const STOPPED: u8 = 3;
+
+// The words of the command line, the program's name first.
+fn arguments(rt: &HostRuntime) -> Result<Vec<String>, RunError> {
+    let words = match std::env::args(rt) {
+        Ok(words) => words,
+        Err(error) => return Err(run_error(&error)),
+    };
+    match words.collect(rt.alloc()) {
+        Ok(words) => Ok(words),
+        Err(_) => Err(RunError::Memory),
+    }
+}
+
+// Why the arguments cannot be had: for want of memory, or because one is no text.
+fn run_error(error: &io::Error) -> RunError {
+    match error.kind() {
+        io::ErrorKind::OutOfMemory => RunError::Memory,
+        _ => RunError::Device,
+    }
+}
+
+// Runs the words from standard input to standard output.
+fn run_words(rt: &HostRuntime, words: &[String]) -> Result<Status, RunError> {
+    let alloc = rt.alloc();
+    let words: Vec<&str> = match words.iter().map(|word| word.as_str()).collect(alloc) {
+        Ok(words) => words,
+        Err(_) => return Err(RunError::Memory),
+    };
+    let buffered = match BufWriter::with_capacity(alloc, ROOM, io::writer(rt)) {
+        Ok(buffered) => buffered,
+        Err(_) => return Err(RunError::Memory),
+    };
+    let mut reader = Counted::new(rt.reader());
+    let mut writer = Counted::new(buffered);
+    let answer = run(alloc, words.as_slice(), &mut reader, &mut writer);
+    if answer.is_err() {
+        // A run flushes only before a status, but what was written is to reach the output anyway.
+        let _ = writer.flush();
+    }
+    answer
+}
+
+/// Exit status 0 for done, 1 for findings, 2 for refused words or input, and 3, with a line on
+/// standard error, where memory was refused or a device failed.
+fn main(rt: HostRuntime) -> ExitCode {
+    let answer = match arguments(&rt) {
+        Ok(words) => run_words(&rt, words.as_slice()),
+        Err(error) => Err(error),
+    };
+    match answer {
+        Ok(status) => ExitCode::from(status.code()),
+        Err(error) => {
+            let _ = eprintln!(rt; "balisecheck: {error}");
+            ExitCode::from(STOPPED)
+        }
+    }
+}

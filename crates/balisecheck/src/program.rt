@@ -1,0 +1,83 @@
+//! `run`: the whole program, from words and a reader to a writer and a status.
+
+ghost use Rattle.std.specs.Prelude.{◌≡◌, map};
+ghost use Rattle.balisecheck.specs.Counted.{CanCount};
+ghost use Rattle.balisecheck.specs.Output.{of_command, output_of, usage_line};
+ghost use Rattle.balisecheck.specs.Ran.{CountsOneDevice, Runs};
+
+use crate::command::{Command, read_command};
+use crate::counted::Counted;
+use crate::decoding::decode;
+use crate::error::RunError;
+use crate::output::{finish, put};
+use crate::status::Status;
+use std::alloc::Global;
+use std::io::{Read, Write};
+
+const USAGE: &str = "refused: usage is balisecheck check, decode [--radio] or encode [--radio]\n";
+
+// Writes the usage line, and flushes the writer. Nothing is read.
+fn refuse_words<R: Read, W: Write>(
+    reader: &mut Counted<R>,
+    writer: &mut Counted<W>,
+) -> Result<Status, RunError>
+    requires { CanCount writer.old }
+    ensures ran { Runs R.remaining W.contents reader.old reader.new writer.old writer.new
+        (λ _. (usage_line, Status.Refused)) result }
+    ensures counts { CountsOneDevice result reader.old reader.new writer.old writer.new }
+{
+    put(writer, USAGE.as_bytes())?;
+    finish(writer)?;
+    Ok(Status::Refused)
+}
+
+// Does what the command says, or writes the usage line where there is none.
+fn obey<R: Read, W: Write>(
+    alloc: Global,
+    command: Option<Command>,
+    reader: &mut Counted<R>,
+    writer: &mut Counted<W>,
+) -> Result<Status, RunError>
+    requires reads { CanCount reader.old }
+    requires writes { CanCount writer.old }
+    ensures ran { Runs R.remaining W.contents reader.old reader.new writer.old writer.new
+        (of_command command) result }
+    ensures counts { CountsOneDevice result reader.old reader.new writer.old writer.new }
+{
+    match command {
+        Some(Command::Decode) => decode(alloc, reader, writer),
+        None => refuse_words(reader, writer),
+    }
+}
+
+/// Runs the command that the words are, from the reader to the writer. The first word is the
+/// program's name; words that are no command give the usage line.
+///
+/// With a status, what is written and the status are the output for every input that begins with
+/// what was read, where the end of the input, once met, counts as read. The writer is flushed once,
+/// just before a status is answered.
+///
+/// `Memory`: a request for memory was refused. `Device`: a read, a write or a flush failed, and the
+/// count of that one has risen by 1; nothing was called after it. In both cases what was written is
+/// a beginning of the output for each such input.
+pub fn run<'a, R: Read, W: Write>(
+    alloc: Global,
+    words: &'a [&'a str],
+    reader: &mut Counted<R>,
+    writer: &mut Counted<W>,
+) -> Result<Status, RunError>
+    // A failure can still be counted.
+    requires reads { CanCount reader.old }
+    requires writes { CanCount writer.old }
+
+    ensures ran { Runs R.remaining W.contents reader.old reader.new writer.old writer.new
+        (output_of (map (λ w. w.now) words.entry.now)) result }
+
+    // Only a device that failed is counted, and `Device` is never answered for anything else.
+    ensures counts { CountsOneDevice result reader.old reader.new writer.old writer.new }
+{
+    match read_command(alloc, words) {
+        Ok(command) => obey(alloc, command, reader, writer),
+        Err(_) => Err(RunError::Memory),
+    }
+}

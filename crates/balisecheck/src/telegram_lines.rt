@@ -1,0 +1,83 @@
+//! A telegram as a line of JSON, and the refusal of a line that is none.
+
+ghost use Rattle.std.specs.Prelude.{◌≡◌, Ok, IfOk, MatchResult, string_bytes};
+ghost use Rattle.balisecheck.specs.TelegramLines.{Refuses, json_line_of};
+ghost use Rattle.balisecheck.specs.TelegramLines.{kind_words, meaning_of, reason_of, refusal_of};
+
+use crate::telegram_form::TelegramForm;
+use etcs_bits::{Fault, FaultKind};
+use etcs_telegram::{Telegram, TextError, from_hex};
+use std::alloc::{AllocError, Global};
+
+// The telegram's JSON line.
+fn json_line(alloc: Global, telegram: &Telegram) -> Result<String, AllocError>
+    ensures { IfOk result (λ s. string_bytes s ≡ json_line_of telegram.now) }
+{
+    // Of numbers and lists every text can be made, so that only memory can be wanting.
+    let Ok(mut line) = serde_json::to_string(alloc, &TelegramForm(*telegram)) else {
+        return Err(AllocError);
+    };
+    line.push('\n')?;
+    Ok(line)
+}
+
+/// The JSON line of the telegram that the hexadecimal text is, with its `\n`.
+///
+/// Each error but `Memory` is the text's own: it is the reason to be told by `refusal`.
+#[tactic(auto, unfolding(crate::specs::TelegramLines::meaning_of))]
+pub fn answer(alloc: Global, text: &[u8]) -> Result<String, TextError>
+    ensures { MatchResult result (λ s. meaning_of text.now ≡ Ok (string_bytes s))
+        (λ e. Refuses e (meaning_of text.now)) }
+{
+    let telegram = from_hex(alloc, text)?;
+    match json_line(alloc, &telegram) {
+        Ok(line) => Ok(line),
+        Err(_) => Err(TextError::Memory),
+    }
+}
+
+// What is wrong at a fault, in words.
+fn kind_text(kind: FaultKind) -> &'static str
+    ensures { result.now ≡ kind_words kind }
+{
+    match kind {
+        FaultKind::Short => "short",
+        FaultKind::Spare => "spare",
+        FaultKind::Length => "length",
+        FaultKind::NoEnd => "no end",
+        FaultKind::Version => "version",
+        FaultKind::Loop => "loop",
+        FaultKind::Downlink => "down-link",
+        FaultKind::MessageKind => "message kind",
+        FaultKind::NoAuthority => "no authority",
+        FaultKind::NoReport => "no report",
+        FaultKind::Unsupported => "unsupported",
+    }
+}
+
+// Why a text is no telegram, in words. Of `Memory` nothing is said but that there is none.
+#[tactic(auto, unfolding(crate::specs::TelegramLines::reason_of))]
+fn reason(alloc: Global, why: &TextError) -> Result<String, AllocError>
+    ensures { IfOk result (λ s. string_bytes s ≡ reason_of why.now) }
+{
+    match why {
+        TextError::Memory => Err(AllocError),
+        TextError::NotHex => format!(in alloc; "not hexadecimal"),
+        TextError::WrongSize => format!(in alloc; "wrong size"),
+        TextError::PadBits => format!(in alloc; "pad bits set"),
+        TextError::Fault(fault) => {
+            let Fault { at, end, why } = *fault;
+            let kind = kind_text(why);
+            format!(in alloc; "{kind} at {at} end {end}")
+        }
+    }
+}
+
+/// The refusal of the line of this number, with its `\n`. Lines count from 1.
+#[tactic(auto, unfolding(crate::specs::TelegramLines::refusal_of))]
+pub fn refusal(alloc: Global, number: u64, why: &TextError) -> Result<String, AllocError>
+    ensures { IfOk result (λ s. string_bytes s ≡ refusal_of number why.now) }
+{
+    let reason = reason(alloc, why)?;
+    format!(in alloc; "refused: line {number}: {reason}\n")
+}

@@ -1,0 +1,250 @@
+//! What no clause says: worked lines from outside, and devices that fail at each call in turn.
+
+mod devices;
+
+use crate::counted::Counted;
+use crate::error::RunError;
+use crate::status::Status;
+use crate::tests::devices::{Device, Failure, Outcome, Sink, Source, run_between};
+use std::alloc::Global;
+use std::io::{Read, Write};
+use std::process::Abort;
+use std::test::Fail;
+
+/// A header, the end mark and fill: a lone linked balise of country 1.
+const TELEGRAM: &str = "a1007f802000ffffffffffffffffffffffffffffffffffffffffc0";
+
+const JSON: &str = "{\"m_dup\":0,\"m_mcount\":255,\"m_version\":33,\"n_pig\":0,\"n_total\":0,\
+\"nid_bg\":1,\"nid_c\":1,\"packets\":[],\"q_link\":1,\"user_bits\":210}\n";
+
+const USAGE: &str = "refused: usage is balisecheck check, decode [--radio] or encode [--radio]\n";
+
+/// The telegram, an empty line, and the telegram with a pad bit set.
+const LINES: &str = "a1007f802000ffffffffffffffffffffffffffffffffffffffffc0\n\n\
+a1007f802000ffffffffffffffffffffffffffffffffffffffffc1\n";
+
+const ANSWERS: &str = "{\"m_dup\":0,\"m_mcount\":255,\"m_version\":33,\"n_pig\":0,\"n_total\":0,\
+\"nid_bg\":1,\"nid_c\":1,\"packets\":[],\"q_link\":1,\"user_bits\":210}\n\
+refused: line 3: pad bits set\n";
+
+fn decode_between(alloc: Global, input: &str, from: Device, to: Device) -> Outcome {
+    run_between(
+        alloc,
+        &["balisecheck", "decode"],
+        input.as_bytes(),
+        from,
+        to,
+    )
+}
+
+fn decode(alloc: Global, input: &str) -> Outcome {
+    decode_between(alloc, input, Device::sound(), Device::sound())
+}
+
+fn expect(rt: &impl Abort, outcome: &Outcome, status: Status, text: &str) {
+    assert_eq!(rt; outcome.answer, Ok(status), "{text}");
+    assert!(rt; outcome.text.as_slice() == text.as_bytes(), "{text}");
+    assert_eq!(rt; outcome.failed_reads, 0);
+    assert_eq!(rt; outcome.failed_writes, 0);
+}
+
+#[test]
+fn telegrams_become_json_lines(rt: HostRuntime) {
+    for input in [
+        TELEGRAM,
+        "A1007F802000FFFFFFFFFFFFFFFFFFFFFFFFFFFFFFFFFFFFFFFFC0\n",
+        "a1007f802000ffffffffffffffffffffffffffffffffffffffffc0\r\n",
+        // The fill behind the end mark says nothing.
+        "a1007f802000ffc000000000000000000000000000000000000000\n",
+    ] {
+        expect(&rt, &decode(rt.alloc(), input), Status::Done, JSON);
+    }
+}
+
+#[test]
+fn no_lines_become_nothing(rt: HostRuntime) {
+    for input in ["", "\n", "\n\r\n"] {
+        expect(&rt, &decode(rt.alloc(), input), Status::Done, "");
+    }
+}
+
+#[test]
+fn the_first_refused_line_ends_the_run(rt: HostRuntime) -> Result<(), Fail> {
+    for (input, text) in [
+        (
+            "a1007f802000ffffffffffffffffffffffffffffffffffffffffc1",
+            "pad bits set",
+        ),
+        (
+            "a1007f802000ffffffffffffffffffffffffffffffffffffffffc000",
+            "wrong size",
+        ),
+        (
+            "a1007f802000ffffffffffffffffffffffffffffffffffffffffc",
+            "not hexadecimal",
+        ),
+        ("    ", "not hexadecimal"),
+        ("\r\r", "not hexadecimal"),
+        (
+            "90007f802000ffffffffffffffffffffffffffffffffffffffffc0",
+            "version at 1 end 8",
+        ),
+        (
+            "a1807f802000ffffffffffffffffffffffffffffffffffffffffc0",
+            "loop at 8 end 9",
+        ),
+        (
+            "21007f802000ffffffffffffffffffffffffffffffffffffffffc0",
+            "down-link at 0 end 1",
+        ),
+        (
+            "a101ff802000ffffffffffffffffffffffffffffffffffffffffc0",
+            "spare at 15 end 17",
+        ),
+        (
+            "a1007f802000c5501b40001fe0ffffffffffffffffffffffffffc0",
+            "unsupported at 50 end 58",
+        ),
+    ] {
+        let refusal = format!(in rt.alloc(); "refused: line 1: {text}\n")?;
+        let outcome = decode(rt.alloc(), input);
+        expect(&rt, &outcome, Status::Refused, refusal.as_str());
+        let lines = format!(in rt.alloc(); "{TELEGRAM}\n{input}\n{TELEGRAM}\n")?;
+        let answers = format!(in rt.alloc(); "{JSON}refused: line 2: {text}\n")?;
+        let outcome = decode(rt.alloc(), lines.as_str());
+        expect(&rt, &outcome, Status::Refused, answers.as_str());
+    }
+    Ok(())
+}
+
+#[test]
+fn empty_lines_are_counted(rt: HostRuntime) {
+    expect(&rt, &decode(rt.alloc(), LINES), Status::Refused, ANSWERS);
+}
+
+#[test]
+fn a_very_long_line_is_refused(rt: HostRuntime) -> Result<(), Fail> {
+    let digits = vec![in rt.alloc(); b'f'; 100_000]?;
+    let outcome = run_between(
+        rt.alloc(),
+        &["balisecheck", "decode"],
+        digits.as_slice(),
+        Device::sound(),
+        Device::sound(),
+    );
+    expect(
+        &rt,
+        &outcome,
+        Status::Refused,
+        "refused: line 1: wrong size\n",
+    );
+    Ok(())
+}
+
+#[test]
+fn other_words_give_the_usage_line(rt: HostRuntime) {
+    let name = "balisecheck";
+    let others: [&[&str]; 10] = [
+        &[],
+        &[name],
+        &[name, "check"],
+        &[name, "encode"],
+        &[name, "decode", "--radio"],
+        &[name, "decode", "more"],
+        &[name, "help"],
+        &[name, "--help"],
+        &[name, "decode", "--help"],
+        &[name, "--version"],
+    ];
+    for words in others {
+        let from = Device::sound();
+        let outcome = run_between(rt.alloc(), words, LINES.as_bytes(), from, Device::sound());
+        expect(&rt, &outcome, Status::Refused, USAGE);
+        assert_eq!(rt; outcome.reads, 0);
+    }
+}
+
+#[test]
+fn bytes_come_and_go_in_any_pieces(rt: HostRuntime) {
+    for piece in [1, 2, 7, 55] {
+        let from = Device::new(piece, Failure::Never);
+        let to = Device::new(piece, Failure::Never);
+        let outcome = decode_between(rt.alloc(), LINES, from, to);
+        expect(&rt, &outcome, Status::Refused, ANSWERS);
+    }
+}
+
+fn expect_device(rt: &impl Abort, outcome: &Outcome, failed_reads: u64, failed_writes: u64) {
+    assert_eq!(rt; outcome.answer, Err(RunError::Device));
+    assert!(rt; ANSWERS.as_bytes().starts_with(outcome.text.as_slice()));
+    assert_eq!(rt; outcome.failed_reads, failed_reads);
+    assert_eq!(rt; outcome.failed_writes, failed_writes);
+}
+
+#[test]
+fn each_call_that_fails_ends_the_run(rt: HostRuntime) {
+    let from = Device::new(20, Failure::Never);
+    let whole = decode_between(rt.alloc(), LINES, from, Device::new(9, Failure::Never));
+    assert!(rt; 1 < whole.reads && 1 < whole.writes);
+    for call in 0..whole.reads {
+        let from = Device::new(20, Failure::Error(call));
+        let outcome = decode_between(rt.alloc(), LINES, from, Device::sound());
+        expect_device(&rt, &outcome, 1, 0);
+        assert_eq!(rt; outcome.reads, call.saturating_add(1));
+    }
+    for call in 0..whole.writes {
+        let to = Device::new(9, Failure::Error(call));
+        let outcome = decode_between(rt.alloc(), LINES, Device::sound(), to);
+        expect_device(&rt, &outcome, 0, 1);
+        assert_eq!(rt; outcome.writes, call.saturating_add(1));
+    }
+}
+
+#[test]
+fn a_write_that_takes_nothing_has_failed(rt: HostRuntime) {
+    let to = Device::new(9, Failure::Never);
+    let whole = decode_between(rt.alloc(), LINES, Device::sound(), to);
+    // The last call is the flush, which has nothing to take.
+    for call in 0..whole.writes.saturating_sub(1) {
+        let to = Device::new(9, Failure::MovesNothing(call));
+        let outcome = decode_between(rt.alloc(), LINES, Device::sound(), to);
+        expect_device(&rt, &outcome, 0, 1);
+    }
+}
+
+#[test]
+fn nothing_is_read_after_the_end(rt: HostRuntime) {
+    // The third read gives nothing, though a fourth would give more.
+    let from = Device::new(27, Failure::MovesNothing(2));
+    let outcome = decode_between(rt.alloc(), LINES, from, Device::sound());
+    expect(&rt, &outcome, Status::Done, JSON);
+    assert_eq!(rt; outcome.reads, 3);
+}
+
+#[test]
+fn the_writer_is_flushed_once_before_a_status(rt: HostRuntime) {
+    // One write and one flush each.
+    assert_eq!(rt; decode(rt.alloc(), TELEGRAM).writes, 2);
+    let words: &[&str] = &["balisecheck"];
+    let outcome = run_between(rt.alloc(), words, b"", Device::sound(), Device::sound());
+    assert_eq!(rt; outcome.writes, 2);
+}
+
+#[test]
+fn a_counted_device_is_asked(rt: HostRuntime) {
+    let mut reader = Counted::new(Source {
+        rest: b"abc",
+        device: Device::sound(),
+    });
+    let mut block = [0u8; 2];
+    assert_eq!(rt; reader.read(&mut block).ok(), Some(2));
+    assert!(rt; block == *b"ab");
+    let mut writer = Counted::new(Sink {
+        taken: Vec::new(rt.alloc()),
+        device: Device::new(usize::MAX, Failure::Error(1)),
+    });
+    assert_eq!(rt; writer.write(b"abc").ok(), Some(3));
+    assert!(rt; writer.flush().is_err());
+    assert_eq!(rt; writer.failures(), 1);
+    assert!(rt; writer.into_inner().taken.as_slice() == b"abc".as_slice());
+}

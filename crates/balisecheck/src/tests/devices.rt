@@ -1,0 +1,132 @@
+//! Readers and writers over memory, which move few bytes a call or fail at one.
+
+ghost use Rattle.std.specs.Prelude.{◌≤◌, IfOk};
+
+use crate::counted::Counted;
+use crate::error::RunError;
+use crate::program::run;
+use crate::status::Status;
+use std::alloc::Global;
+use std::io::{self, Read, Write};
+
+/// What a device does wrong, and at which call. Calls count from 0.
+#[derive(Clone, Copy, Debug, PartialEq, Eq)]
+pub enum Failure {
+    Never,
+    Error(u64),
+    MovesNothing(u64),
+}
+
+/// Moves at most `piece` bytes a call.
+#[derive(Drop)]
+pub struct Device {
+    piece: usize,
+    failure: Failure,
+    calls: u64,
+}
+
+impl Device {
+    pub fn new(piece: usize, failure: Failure) -> Device {
+        Device {
+            piece,
+            failure,
+            calls: 0,
+        }
+    }
+
+    /// Moves all that it is asked to.
+    pub fn sound() -> Device {
+        Device::new(usize::MAX, Failure::Never)
+    }
+
+    // How many of so many bytes the next call moves.
+    fn call(&mut self, len: usize) -> io::Result<usize>
+        ensures { IfOk result (λ n. n ≤ len) }
+    {
+        let call = self.calls;
+        self.calls = call.saturating_add(1);
+        match self.failure {
+            Failure::Error(at) if at == call => Err(io::Error::other("broken")),
+            Failure::MovesNothing(at) if at == call => Ok(0),
+            _ => Ok(self.piece.min(len)),
+        }
+    }
+}
+
+/// A reader of bytes.
+#[derive(Drop)]
+pub struct Source<'a> {
+    pub rest: &'a [u8],
+    pub device: Device,
+}
+
+impl Read for Source<'_> {
+    fn read(&mut self, buf: &mut [u8]) -> io::Result<usize> {
+        let count = self.device.call(buf.len().min(self.rest.len()))?;
+        buf[..count].copy_from_slice(&self.rest[..count]);
+        self.rest = &self.rest[count..];
+        Ok(count)
+    }
+}
+
+/// A writer that keeps what it takes.
+#[derive(Drop)]
+pub struct Sink {
+    pub taken: Vec<u8>,
+    pub device: Device,
+}
+
+impl Write for Sink {
+    fn write(&mut self, buf: &[u8]) -> io::Result<usize> {
+        let count = self.device.call(buf.len())?;
+        self.taken.extend_from_slice(&buf[..count])?;
+        Ok(count)
+    }
+
+    fn flush(&mut self) -> io::Result<()> {
+        self.device.call(0)?;
+        Ok(())
+    }
+}
+
+/// How a run went: its answer, what was written, and the calls on either side, all and failed.
+#[derive(Drop)]
+pub struct Outcome {
+    pub answer: Result<Status, RunError>,
+    pub text: Vec<u8>,
+    pub reads: u64,
+    pub writes: u64,
+    pub failed_reads: u64,
+    pub failed_writes: u64,
+}
+
+/// Runs the words on the input, between the two devices.
+pub fn run_between(
+    alloc: Global,
+    words: &[&str],
+    input: &[u8],
+    from: Device,
+    to: Device,
+) -> Outcome {
+    let mut reader = Counted::new(Source {
+        rest: input,
+        device: from,
+    });
+    let mut writer = Counted::new(Sink {
+        taken: Vec::new(alloc),
+        device: to,
+    });
+    let answer = run(alloc, words, &mut reader, &mut writer);
+    let failed_reads = reader.failures();
+    let failed_writes = writer.failures();
+    let source = reader.into_inner();
+    let sink = writer.into_inner();
+    Outcome {
+        answer,
+        reads: source.device.calls,
+        writes: sink.device.calls,
+        text: sink.taken,
+        failed_reads,
+        failed_writes,
+    }
+}
