@@ -1,14 +1,14 @@
 -- A fault that an open list tells is the one that reading gives, and then no record stands there.
-use Rattle.std.proofs.Common.{◌≡◌, ℕ, zero, suc, ◌+◌, ◌-◌, ◌^◌, ◌<◌, ◌≤◌, Bool, true, false, cond, ltb, eqb, List, [], ◌∷◌, ◌++◌, length, take, drop, Result, Ok, Err, refl, sym, ap, subst, ◌∙◌, append_assoc, arith, inl, inr, ◌⊎◌}
-use Rattle.std.proofs.lemmas.Bool.{lt-ltb, ne_eqb}
-use Rattle.std.proofs.lemmas.List.{length-append, drop_at, append_cancel_left}
+use Rattle.std.proofs.Common.{◌≡◌, ℕ, ◌+◌, ◌-◌, ◌≤◌, Bool, true, false, eqb, List, ◌++◌, length, take, Result, Ok, Err, refl, sym, ap, subst, ◌∙◌, arith, inl, inr}
+use Rattle.std.proofs.lemmas.Bool.{ne_eqb}
+use Rattle.std.proofs.lemmas.List.{drop_at, append_cancel_left}
 use Rattle.etcs_bits.specs.declared.fault.Fault.{Fault}
 use Rattle.etcs_bits.specs.declared.fault.FaultKind.TheVariants.{Short}
-use Rattle.etcs_bits.specs.Number.{num, num_of_bits}
+use Rattle.etcs_bits.specs.Number.{num}
 use Rattle.etcs_bits.specs.Rows.{Variable, Row, Place, Stands, IsSpelled, AreAllowed, join, width}
 use Rattle.etcs_bits.specs.Fields.{Fields, nothing, field, ◌▹◌, sized, l_packet, AreRowsOf, Due, due, differs, IsOpen}
-use Rattle.etcs_bits.specs.Fault.{short, lack, refused, Tells, IsFault, NoneBegins}
-use Rattle.etcs_bits.specs.Reading.{◌>>=◌, forward, taken, field_at, rows_at}
+use Rattle.etcs_bits.specs.Fault.{lack, Tells, IsFault}
+use Rattle.etcs_bits.specs.Reading.{forward, field_at, rows_at}
 use Rattle.etcs_bits.proofs.NumberLemmas.{length-num}
 use Rattle.etcs_bits.proofs.BindLemmas.{ok_is, err_is}
 use Rattle.etcs_bits.proofs.StandLemmas.{place_in, join-append, length-join, allowed_first, allowed_second, same_position, stands_parts, stands_within, stands_moved}

@@ -1,14 +1,10 @@
 -- Laws of the bits of numbers and of bytes.
-use Rattle.std.proofs.Common.{◌≡◌, ℕ, zero, suc, ◌+◌, ◌-◌, ◌*◌, ◌/◌, ◌%◌, ◌^◌, ◌<◌, ◌≤◌, Bool, true, false, List, [], ◌∷◌, ◌++◌, length, take, drop, refl, sym, ap, ap₂, ◌∙◌, arith, length-append, length-drop, append_assoc, eqb}
+use Rattle.std.proofs.Common.{◌≡◌, ℕ, zero, suc, ◌+◌, ◌*◌, ◌/◌, ◌%◌, ◌^◌, ◌<◌, ◌≤◌, Bool, true, false, List, [], ◌∷◌, ◌++◌, length, take, drop, refl, sym, ap, ap₂, ◌∙◌, arith, length-append, length-drop, append_assoc, eqb}
 use Rattle.std.proofs.Common.{mod-eq_of_lt}
 use Rattle.std.proofs.lemmas.Nat.{pow-add, mod-pow-add, field_of, shr_high, mod_low}
-use Rattle.std.proofs.lemmas.List.{take-append-drop, drop-drop, drop-take, take-take, drop_at, append-nil}
+use Rattle.std.proofs.lemmas.List.{take-append-drop, drop-drop, drop_at, append-nil}
 use Rattle.std.proofs.Math.Seq.{drop-nil, take-nil, take-append-add}
 use Rattle.etcs_bits.specs.Number.{worth, num_of_bits, num, bits_of_bytes}
-
-worth-lt : (b : Bool) → worth b < 2
-worth-lt true = omega arith
-worth-lt false = omega arith
 
 worth_times : (b : Bool) (n : ℕ) → worth b * n ≤ n
 worth_times true n = omega arith

@@ -1,5 +1,5 @@
 -- Numbers and bytes, one truth value for each bit.
-use Rattle.std.proofs.Common.{◌≡◌, ℕ, zero, suc, ◌+◌, ◌-◌, ◌*◌, ◌/◌, ◌%◌, ◌^◌, ◌<◌, ◌≤◌, Bool, true, false, List, [], ◌∷◌, ◌++◌, length, get_or, take, drop, replicate, set, refl, sym, ap, ap₂, ◌∙◌, arith, rules, append_assoc, length-append, length-take, length-drop, subst, length-take-le, bit_and, bit_or, eqb, mod-eq_of_lt}
+use Rattle.std.proofs.Common.{◌≡◌, ℕ, zero, suc, ◌+◌, ◌-◌, ◌*◌, ◌/◌, ◌%◌, ◌^◌, ◌<◌, ◌≤◌, Bool, true, false, List, [], ◌∷◌, ◌++◌, length, get_or, take, drop, replicate, set, refl, sym, ap, ap₂, ◌∙◌, arith, append_assoc, length-append, length-take, length-drop, subst, length-take-le, bit_and, bit_or, eqb, mod-eq_of_lt}
 use mir.Val.{bool_byte}
 use Rattle.std.proofs.Math.Nat.{pow-le-pow_right}
 use Rattle.std.proofs.lemmas.Nat.{or_shifted, pow_pos, mod-pow-add, shr_high, mod_low, shl_below}
@@ -7,7 +7,7 @@ use Rattle.std.proofs.lemmas.Nat.Bits.{shr_and_one}
 use Rattle.std.proofs.lemmas.List.{take_more, take_more_set, take_at, take_all, take-append-drop, drop_more, append-nil}
 use Rattle.std.proofs.Math.Seq.{take-add}
 use Rattle.etcs_bits.specs.Number.{worth, num, num_of_bits, bits_of_bytes}
-use Rattle.etcs_bits.proofs.NumberLemmas.{length-num, num_of_bits-append, num_of_bits-lt, num_of_bits-num, num-num_of_bits, same_from_num, bits_of_one, bits_of_bytes-append, bits_of_bytes-cons, take-bits_of_bytes, drop-bits_of_bytes, length-bits_of_bytes}
+use Rattle.etcs_bits.proofs.NumberLemmas.{length-num, num_of_bits-append, num_of_bits-lt, num_of_bits-num, num-num_of_bits, same_from_num, bits_of_one, bits_of_bytes-append, bits_of_bytes-cons, take-bits_of_bytes, length-bits_of_bytes}
 
 -- ---- a number's bits
 

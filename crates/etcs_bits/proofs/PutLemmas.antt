@@ -1,11 +1,9 @@
 -- One spelling added after the other.
-use Rattle.std.proofs.Common.{◌≡◌, ℕ, ◌≤◌, Bool, List, [], ◌∷◌, ◌++◌, length, take, Option, Some, None, Result, Ok, Err, refl, sym, ap, ◌∙◌, append_assoc, arith}
+use Rattle.std.proofs.Common.{◌≡◌, Bool, List, ◌++◌, length, take, Result, Ok, Err, refl, sym, ap, ◌∙◌, append_assoc, arith}
 use Rattle.std.specs.Prelude.{◌↔◌}
 use Rattle.std.proofs.lemmas.List.{length-append, take_at, take-take}
-use Rattle.etcs_bits.specs.Number.{num}
-use Rattle.etcs_bits.specs.Rows.{Row, AreAllowed, IsAllowed, join}
+use Rattle.etcs_bits.specs.Rows.{Row, AreAllowed, join}
 use Rattle.etcs_bits.specs.Layout.{Puts}
-
 use Rattle.etcs_bits.proofs.StandLemmas.{join-append, allowed-append, allowed_first, allowed_second}
 
 -- bits after bits
@@ -20,11 +18,10 @@ pub keeps_front : (y old mid new : List Bool) → mid ≡ old ++ y → take (len
 keeps_front y old mid new before kept =
     sym (take-take (length old) (length mid) new (omega (arith, ap length before, length-append old y))) ∙ ap (take (length old)) (kept ∙ before) ∙ take_at old y (length old) refl
 
+-- a spelling put after another
 pub puts_then : {X E : Type 0} (a b : List Row) (r : Result X E) (old mid new : List Bool) → mid ≡ old ++ join a → Puts (join b) r mid new → Puts (join (a ++ b)) r old new
 puts_then a b r old mid new e p = rw join-append (puts_bits (join a) (join b) r old mid new e p)
 
-pub puts_row : {X E : Type 0} (x : Row) (b : List Row) (r : Result X E) (old mid new : List Bool) → mid ≡ old ++ num x.variable.width x.number → Puts (join b) r mid new → Puts (join (x ∷ b)) r old new
-puts_row x b r old mid new e p = puts_bits (num x.variable.width x.number) (join b) r old mid new e p
-
+-- rows are allowed where both parts are
 pub allowed_both : (a b : List Row) → AreAllowed (a ++ b) ↔ (AreAllowed a × AreAllowed b)
 allowed_both a b = (λ h. (allowed_first a b h, allowed_second a b h), λ h. allowed-append a b h.0 h.1)

@@ -1,12 +1,12 @@
 -- What is read is spelled so, and what is spelled so is read.
-use Rattle.std.proofs.Common.{◌≡◌, ℕ, zero, suc, ◌+◌, ◌-◌, ◌^◌, ◌<◌, ◌≤◌, Bool, true, false, cond, ltb, eqb, List, [], ◌∷◌, ◌++◌, length, take, drop, Result, Ok, Err, refl, sym, ap, subst, ◌∙◌, append_assoc, arith, inl, inr, ◌⊎◌}
-use Rattle.std.proofs.lemmas.Bool.{cases_lt, ltb-false, ltb-true, le-ltb, lt-ltb, eqb-true, eqb-false, eq-eqb, ne_eqb}
-use Rattle.std.proofs.lemmas.List.{length-append, length-take, length-drop, append-nil}
+use Rattle.std.proofs.Common.{◌≡◌, ℕ, ◌+◌, ◌-◌, ◌^◌, ◌<◌, ◌≤◌, Bool, true, false, cond, ltb, eqb, List, [], ◌∷◌, ◌++◌, length, take, drop, Result, Ok, Err, refl, sym, ap, subst, ◌∙◌, arith, inl, inr}
+use Rattle.std.proofs.lemmas.Bool.{ltb-false, ltb-true, le-ltb, lt-ltb, eqb-true, eqb-false, eq-eqb}
+use Rattle.std.proofs.lemmas.List.{length-take, length-drop}
 use Rattle.etcs_bits.specs.declared.fault.Fault.{Fault}
-use Rattle.etcs_bits.specs.declared.fault.FaultKind.TheVariants.{Short, Length}
+use Rattle.etcs_bits.specs.declared.fault.FaultKind.TheVariants.{Length}
 use Rattle.etcs_bits.specs.Number.{num, num_of_bits}
-use Rattle.etcs_bits.specs.Rows.{Variable, Row, Place, Stands, IsSpelled, IsAllowed, AreAllowed, join, width}
-use Rattle.etcs_bits.specs.Fields.{Fields, nothing, field, ◌▹◌, sized, l_packet, AreRowsOf, Due, due, differs, IsOpen}
+use Rattle.etcs_bits.specs.Rows.{Variable, Row, Place, Stands, IsSpelled, join, width}
+use Rattle.etcs_bits.specs.Fields.{Fields, nothing, field, ◌▹◌, sized, l_packet, AreRowsOf, due, differs}
 use Rattle.etcs_bits.specs.Fault.{short, lack, refused, Tells, IsFault}
 use Rattle.etcs_bits.specs.Reading.{◌>>=◌, forward, taken, taken_or_closed, field_at, rows_at}
 use Rattle.etcs_bits.proofs.NumberLemmas.{length-num, num_of_bits-lt}

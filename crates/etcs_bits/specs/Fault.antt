@@ -11,8 +11,8 @@ use Rattle.etcs_bits.specs.Fields.{Fields, Due, due, differs, IsOpen}
 abbrev pub short : Place → Fault
 short p = record { at = p.at; end = length p.bits; why = Short }
 
--- Fewer bits are left than a field has. Where a telegram's packets may end, any input with the same
--- front has as few, so that no bit past this place decides it.
+-- Fewer bits are left than a field has. Where a telegram's packets may end, no end is met, and any
+-- input of the same length has as few there, so that no bit past this place decides it.
 abbrev pub lack : Bool → Place → Fault
 lack true p = record { at = p.at; end = p.at; why = NoEnd }
 lack false p = short p
@@ -21,7 +21,8 @@ lack false p = short p
 abbrev pub refused : Variable → Place → Fault
 refused x p = record { at = p.at; end = p.at + x.width; why = x.refusal }
 
--- What an open list that ends here tells.
+-- What an open list that ends here tells: the field that is due does not fit, or it fits and its
+-- number is not allowed; or the L_PACKET of a whole packet, so many bits back, is not its width.
 abbrev pub Tells : Due → Place → Fault → Type 0
 Tells (due x) e fault =
     ((length e.bits < e.at + x.width) × (fault ≡ lack x.closes e))

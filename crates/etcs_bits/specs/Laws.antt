@@ -26,7 +26,8 @@ FaultMeansNone fields rows =
 -- A place tells at most one fault.
 abbrev pub TellsOneFault : Fields → Type 0
 TellsOneFault fields =
-    (p : Place) (f g : Fault) → p.at ≤ length p.bits → IsFault fields p f → IsFault fields p g → f ≡ g
+    (p : Place) (f g : Fault) → p.at ≤ length p.bits
+    → IsFault fields p f → IsFault fields p g → f ≡ g
 
 -- A number that fits in w bits is the one that its w bits spell, and bits are those of the number
 -- that they spell.

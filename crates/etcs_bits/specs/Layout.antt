@@ -5,14 +5,15 @@ use Rattle.etcs_bits.specs.declared.fault.DecodeError.{DecodeError}
 use Rattle.etcs_bits.specs.declared.fault.DecodeError.TheVariants as errors
 use Rattle.etcs_bits.specs.Rows.{Place}
 
--- the error is want of memory, or the fault that reading gives
+-- the error is that memory ran out, or the fault that reading gives
 abbrev pub Fails : {Y : Type 0} → DecodeError → Result Y Fault → Type 0
 Fails errors.Memory read = Unit {0}
 Fails (errors.Fault f) read = read ≡ Err f
 
 -- What a function returned, seen by `view`, and the place behind it are what reading gives, unless
 -- memory ran out.
-abbrev pub Gives : {X Y : Type 0} → (X → Y) → Result X DecodeError → Result (Y × Place) Fault → Place → Type 0
+abbrev pub Gives : {X Y : Type 0}
+    → (X → Y) → Result X DecodeError → Result (Y × Place) Fault → Place → Type 0
 Gives view (Ok x) read after = read ≡ Ok (view x, after)
 Gives view (Err e) read after = Fails e read
 

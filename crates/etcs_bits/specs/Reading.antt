@@ -24,13 +24,13 @@ taken w p =
     if nat_lt (length p.bits) (p.at + w) then Err (short p)
     else Ok (num_of_bits (take w (drop p.at p.bits)), forward p w)
 
--- the same, where want of room may have a name of its own
+-- the same; where packets may end, too few bits mean that no end is met
 abbrev pub taken_or_closed : Bool → ℕ → Place → Result (ℕ × Place) Fault
 taken_or_closed true w p =
     if nat_lt (length p.bits) (p.at + w) then Err (lack true p) else taken w p
 taken_or_closed false w p = taken w p
 
--- the number of a variable
+-- the number of a variable, which has to be allowed
 abbrev pub field_at : Variable → Place → Result (ℕ × Place) Fault
 field_at x p = do
   n ← taken_or_closed x.closes x.width p

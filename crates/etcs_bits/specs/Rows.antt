@@ -5,12 +5,12 @@ use Rattle.std.specs.List.{AllByRecursion}
 use Rattle.etcs_bits.specs.declared.fault.FaultKind.{FaultKind}
 use Rattle.etcs_bits.specs.Number.{num}
 
--- a variable: how many bits it has, which numbers are not spare, and what a spare one is called
+-- a variable: how many bits it has, which numbers are allowed, and the fault of one that is not
 pub record Variable : Type 0 where
   pub width : ℕ
   pub allows : ℕ → Bool
   pub refusal : FaultKind
-  -- whether a telegram's packets may end in its place, so that want of room has a name of its own
+  -- whether a telegram's packets may end where it is due: then too few bits mean that no end is met
   pub closes : Bool
 
 -- one variable of a record, with its number
@@ -18,6 +18,7 @@ pub record Row : Type 0 where
   pub variable : Variable
   pub number : ℕ
 
+-- a variable with a number
 abbrev pub row : Variable → ℕ → Row
 row x n = record { variable = x; number = n }
 
@@ -25,7 +26,7 @@ row x n = record { variable = x; number = n }
 unfoldable pub alone : Variable → ℕ → List Row
 alone x n = row x n ∷ []
 
--- the number is one of its variable, and is not spare
+-- the number fits in the bits of its variable, and the variable allows it
 abbrev pub IsAllowed : Row → Type 0
 IsAllowed r = (r.number < 2 ^ r.variable.width) × IsTrue (r.variable.allows r.number)
 
@@ -54,7 +55,8 @@ pub record Place : Type 0 where
   pub bits : List Bool
   pub at : ℕ
 
--- the bits stand from one place up to the other
+-- The bits stand from one place up to the other: in one list, these bits follow the first place,
+-- then comes what follows the second, and the second is as many bits further on.
 pub record Stands (bits : List Bool) (from to : Place) : Type 0 where
   pub same : to.bits ≡ from.bits
   pub here : drop from.at from.bits ≡ bits ++ drop to.at from.bits

@@ -1,6 +1,6 @@
 -- Proofs of the laws of `Layout` that the variable types give. A trait's laws may cite only specs.
-use Rattle.std.specs.Prelude.{◌≡◌, ℕ, Bool, true, false, List, [], ◌∷◌, refl}
-use Rattle.std.proofs.Common.{ap, ap₂, ◌∙◌}
+use Rattle.std.specs.Prelude.{◌≡◌, ℕ, Bool, true, false, refl}
+use Rattle.std.proofs.Common.{ap, ◌∙◌}
 use Rattle.etcs_bits.specs.declared.transmission.Transmission.{Transmission}
 use Rattle.etcs_bits.specs.declared.transmission.Transmission.TheVariants as transmissions
 use Rattle.etcs_bits.specs.declared.transmission.Medium.{Medium}
@@ -10,7 +10,7 @@ use Rattle.etcs_bits.specs.declared.version.Version.TheVariants as versions
 use Rattle.etcs_bits.specs.declared.duplicate.Dup.{Dup}
 use Rattle.etcs_bits.specs.declared.duplicate.Dup.TheVariants as dups
 use Rattle.etcs_bits.specs.Number.{worth}
-use Rattle.etcs_bits.specs.Rows.{Variable, Row, alone, number_at}
+use Rattle.etcs_bits.specs.Rows.{Variable, alone, number_at}
 use Rattle.etcs_bits.specs.Variables.{transmission_number, transmission_of, medium_number, medium_of, m_version, version_number, version_of, m_dup, dup_number, dup_of, plain, flag_of}
 
 -- the number of the only row
@@ -39,7 +39,8 @@ flag_back false = refl
 
 -- ---- and so each is the one of its row
 
-pub version_record : (v : Version) → version_of (number_at 0 (alone m_version (version_number v))) ≡ v
+pub version_record : (v : Version)
+    → version_of (number_at 0 (alone m_version (version_number v))) ≡ v
 version_record v = ap version_of (number_alone m_version (version_number v)) ∙ version_back v
 
 pub dup_record : (v : Dup) → dup_of (number_at 0 (alone m_dup (dup_number v))) ≡ v

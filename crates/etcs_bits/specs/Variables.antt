@@ -1,5 +1,6 @@
 -- The variables of a telegram's header, by the standard's table (SUBSET-026, 7.5.1): the width of
--- each, its numbers, and which of them are spare.
+-- each, its numbers, and which of them are spare. That one number alone of Q_UPDOWN and Q_MEDIA is
+-- read, and two of M_VERSION, is this project's rule.
 use Rattle.std.specs.Prelude.{ℕ, Bool, ◌==◌, ◌||◌, ◌&&◌, nat_le, nat_lt, if◌then◌else◌, false}
 use Rattle.etcs_bits.specs.declared.fault.FaultKind.{FaultKind}
 use Rattle.etcs_bits.specs.declared.fault.FaultKind.TheVariants.{Spare, Version as WrongVersion, Loop, Downlink}
@@ -15,36 +16,49 @@ use Rattle.etcs_bits.specs.Rows.{Variable}
 
 -- a variable of w bits without a spare number, for w from 1 to 32; no other w has any number
 abbrev pub plain : ℕ → Variable
-plain w = record { width = w; allows = λ _. nat_le 1 w && nat_le w 32; refusal = Spare; closes = false }
+plain w = record {
+  width = w;
+  allows = λ _. nat_le 1 w && nat_le w 32;
+  refusal = Spare;
+  closes = false;
+}
 
--- a variable of which one number alone is allowed
+-- a variable of w bits of which the number k alone is read; another has the fault `why`
 abbrev pub only : ℕ → ℕ → FaultKind → Variable
 only w k why = record { width = w; allows = λ n. n == k; refusal = why; closes = false }
 
--- Q_UPDOWN, 1 bit: 1 is track to train
+-- Q_UPDOWN, 1 bit: 1 is track to train; 0, train to track, is not read
 abbrev pub q_updown : Variable
 q_updown = only 1 1 Downlink
 
+-- the number of a direction, and the direction of a number that is allowed
 abbrev pub transmission_number : Transmission → ℕ
 transmission_number transmissions.TrackToTrain = 1
 
 abbrev pub transmission_of : ℕ → Transmission
 transmission_of n = transmissions.TrackToTrain
 
--- Q_MEDIA, 1 bit: 0 is a balise
+-- Q_MEDIA, 1 bit: 0 is a balise; 1, a loop, is not read
 abbrev pub q_media : Variable
 q_media = only 1 0 Loop
 
+-- the number of a medium, and the medium of a number that is allowed
 abbrev pub medium_number : Medium → ℕ
 medium_number media.Balise = 0
 
 abbrev pub medium_of : ℕ → Medium
 medium_of n = media.Balise
 
--- M_VERSION, 7 bits: 32 is 2.0, 33 is 2.1
+-- M_VERSION, 7 bits: 32 is 2.0, 33 is 2.1; no other is read
 abbrev pub m_version : Variable
-m_version = record { width = 7; allows = λ n. (n == 32) || (n == 33); refusal = WrongVersion; closes = false }
+m_version = record {
+  width = 7;
+  allows = λ n. (n == 32) || (n == 33);
+  refusal = WrongVersion;
+  closes = false;
+}
 
+-- the number of a version, and the version of a number that is allowed
 abbrev pub version_number : Version → ℕ
 version_number versions.V2_0 = 32
 version_number versions.V2_1 = 33
@@ -64,6 +78,7 @@ n_total = plain 3
 abbrev pub m_dup : Variable
 m_dup = record { width = 2; allows = λ n. nat_lt n 3; refusal = Spare; closes = false }
 
+-- the number of a mark, and the mark of a number that is allowed
 abbrev pub dup_number : Dup → ℕ
 dup_number dups.Single = 0
 dup_number dups.Next = 1

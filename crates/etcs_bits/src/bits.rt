@@ -8,10 +8,9 @@ use crate::numerals::{bits_of_byte, bits_of_num, bytes_of};
 use std::alloc::Global;
 use std::marker::Model;
 
-/// A list of bits, as the user bits of a telegram (SUBSET-036, 4.3).
+/// A list of bits, such as the user bits of a telegram (SUBSET-036, 4.3).
 ///
-/// Contracts see it as a list of truth values. A list that grows keeps the allocator that it was
-/// made with.
+/// Contracts see it as a list of truth values. It grows in the allocator that it was made with.
 #[derive(Debug, Drop)]
 pub struct Bits {
     items: Vec<bool>,
@@ -43,7 +42,7 @@ impl Bits {
         self.items.len()
     }
 
-    /// The bit at place `i`, counted from 0.
+    /// The bit at place `i`, counted from 0 and below the length: 1 is true.
     #[inline]
     pub fn bit(&self, i: usize) -> bool
         requires { i < length self.now }
@@ -52,8 +51,8 @@ impl Bits {
         self.items[i]
     }
 
-    /// Appends the `width` bits of `n`, most significant first. On want of memory nothing is
-    /// appended.
+    /// Appends the `width` bits of `n`, most significant first: 1 to 32 bits, into which `n` fits
+    /// (SUBSET-026, 7.5). If memory runs out, nothing is appended.
     pub fn push_num(&mut self, width: u32, n: u64) -> Result<(), Memory>
         requires low { 1 ≤ width }
         requires high { width ≤ 32 }
@@ -66,7 +65,8 @@ impl Bits {
         Ok(())
     }
 
-    /// The first `len` bits of the bytes, eight for each, most significant first.
+    /// The first `len` bits of the bytes, eight for each, most significant first. The bytes must
+    /// have as many. Fails only if memory runs out.
     pub fn from_bytes(alloc: Global, bytes: &[u8], len: usize) -> Result<Bits, Memory>
         requires { len ≤ 8 * length bytes.now }
         ensures bits { IfOk result (λ b. b ≡ take len (bits_of_bytes bytes.now)) }
@@ -83,7 +83,8 @@ impl Bits {
         Ok(Bits { items })
     }
 
-    /// The bits as bytes, with zeros up to a whole byte.
+    /// The bits as bytes, eight in each, most significant first, with zeros up to a whole byte.
+    /// Fails only if memory runs out.
     pub fn to_bytes(&self, alloc: Global) -> Result<Vec<u8>, Memory>
         ensures bits { IfOk result (λ v. bits_of_bytes v.items
             ≡ self.now ++ replicate (8 * length v.items - length self.now) false) }

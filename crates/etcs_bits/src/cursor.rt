@@ -9,8 +9,8 @@ use crate::fault::{Fault, FaultKind};
 use crate::numerals::num_of;
 use std::marker::Model;
 
-/// Where a reader stands: lent bits, and the place of the next of them. Contracts see it as such a
-/// place. It takes no memory.
+/// Where a reader stands: borrowed bits, and the place of the next one. Contracts see it as such a
+/// place. None of its calls takes memory.
 #[derive(Drop)]
 pub struct Cursor<'a> {
     bits: &'a [bool],
@@ -58,6 +58,7 @@ impl<'a> Cursor<'a> {
         ensures place { result ≡ self.now.at }
         ensures inside { result ≤ length self.now.bits }
     {
+        // The type keeps it inside.
         self.at
     }
 
@@ -69,9 +70,11 @@ impl<'a> Cursor<'a> {
         self.bits.len() - self.at
     }
 
-    /// The number of the next `width` bits, most significant first, and the cursor then stands
-    /// behind them. Where fewer are left: a Short fault at the cursor, whose `end` is the length of
-    /// the bits, and the cursor stays.
+    /// The number of the next `width` bits, 1 to 32, most significant first (SUBSET-026, 7.5); the
+    /// cursor then stands behind them.
+    ///
+    /// Where fewer are left: a Short fault at the cursor, whose `end` is the length of the bits.
+    /// The cursor then stays.
     #[inline(always)]
     pub fn take(&mut self, width: u32) -> Result<u64, Fault>
         requires low { 1 ≤ width }
@@ -90,12 +93,16 @@ impl<'a> Cursor<'a> {
         Ok(n)
     }
 
-    // The fault of a field of `width` bits that no number may stand in.
+    // The fault of a field of `width` bits that allows no number.
     #[cold]
     pub(crate) fn refusal(&self, width: u32) -> Fault
         ensures short { length self.now.bits < self.now.at + width → result ≡ short self.now }
         ensures spare { self.now.at + width ≤ length self.now.bits
-            → result ≡ record { at = self.now.at; end = self.now.at + width; why = FaultKind.Spare } }
+            → result ≡ record {
+              at = self.now.at;
+              end = self.now.at + width;
+              why = FaultKind.Spare;
+            } }
     {
         let len = self.bits.len();
         if len - self.at < width as usize {

@@ -10,7 +10,7 @@ use crate::memory::Memory;
 use std::alloc::Global;
 
 /// M_DUP, 2 bits: whether a balise says the same as a neighbour in its group, so that a train may
-/// miss one of the two (SUBSET-026, 3.16.2 and 7.5.1). 3 is spare.
+/// miss one of the two (SUBSET-026, 3.16.2 and 7.5.1). 3 is spare: a Spare fault.
 #[derive(Clone, Copy, Debug, PartialEq, Eq)]
 pub enum Dup {
     /// 0: no duplicate.

@@ -7,7 +7,7 @@ use crate::cursor::Cursor;
 use crate::memory::Memory;
 use thiserror::Error;
 
-/// What is wrong in the place of a field. The texts are those that the program prints.
+/// What is wrong in the place of a field. The text of each is what the program prints.
 #[derive(Clone, Copy, Debug, PartialEq, Eq, Error)]
 pub enum FaultKind {
     /// The field does not fit in the bits that are left.
@@ -19,10 +19,10 @@ pub enum FaultKind {
     /// L_PACKET is not the width of its packet, or L_MESSAGE not the count of bytes.
     #[error("length")]
     Length,
-    /// Fewer than eight bits are left, and no end mark (packet 255) was met.
+    /// Fewer than eight bits are left where the next packet or the end mark (packet 255) is due.
     #[error("no end")]
     NoEnd,
-    /// M_VERSION is neither 32 nor 33: a system version other than 2.0 and 2.1.
+    /// M_VERSION is neither 32 nor 33: it is a system version other than 2.0 and 2.1.
     #[error("version")]
     Version,
     /// Q_MEDIA is 1: the telegram is for a loop.
@@ -40,12 +40,12 @@ pub enum FaultKind {
     /// A position report message holds neither packet 0 nor packet 1.
     #[error("no report")]
     NoReport,
-    /// A packet other than the end mark (packet 255), which this stage of the product does not read.
+    /// A packet other than the end mark (packet 255); this stage of the product reads none.
     #[error("unsupported")]
     Unsupported,
 }
 
-/// The first fault of an input.
+/// The first fault of an input, printed as `spare at 15 end 17`.
 ///
 /// No input of the same length that begins with the same first `end` bits is accepted. Places count
 /// bits from 0 at the start of the input.
@@ -54,7 +54,7 @@ pub enum FaultKind {
 pub struct Fault {
     /// The first bit of the field in whose place the fault was found.
     pub at: usize,
-    /// How many bits decide it.
+    /// How many bits of the input, from its start, decide it.
     pub end: usize,
     /// What is wrong there.
     pub why: FaultKind,

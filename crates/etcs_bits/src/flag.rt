@@ -7,7 +7,7 @@ use crate::layout::Layout;
 use crate::memory::Memory;
 use std::alloc::Global;
 
-/// A flag of one bit, as Q_LINK: 1 is true.
+/// A flag of one bit, such as Q_LINK: 1 is true (SUBSET-026, 7.5.1).
 #[tactic(auto, unfolding(crate::specs::Rows::alone))]
 impl Layout for bool {
     ghost use Rattle.std.specs.Prelude.{◌≡◌, ◌↔◌, true, IsTrue};

@@ -8,8 +8,8 @@ use crate::memory::Memory;
 use crate::plain::{Country, GroupNumber};
 use std::alloc::Global;
 
-/// Which balise group it is: 24 bits, NID_C and NID_BG. Both numbers are in range. SUBSET-026,
-/// 7.5.1.
+/// Which balise group it is: 24 bits, NID_C and then NID_BG (SUBSET-026, 7.5.1). Every number of
+/// their widths is allowed, so its only fault is Short.
 #[derive(Clone, Copy, Debug, PartialEq, Eq)]
 pub struct Identity {
     /// NID_C, 10 bits: the country or region.

@@ -13,7 +13,7 @@ use crate::fault::DecodeError;
 use crate::memory::Memory;
 use std::alloc::Global;
 
-/// A record that is spelled field after field, without a gap (SUBSET-026, 7.4).
+/// A record of variables that is spelled field after field, without a gap (SUBSET-026, 7.4).
 ///
 /// Users call [`is_allowed`](Layout::is_allowed), [`write`](Layout::write) and
 /// [`read`](Layout::read). A record gives the rest: its rows, its table of fields, and the plain
@@ -28,7 +28,7 @@ pub trait Layout: Drop {
     /// The record that has these rows.
     ghost record_of: { List Row → Self };
 
-    /// Whether each variable has a number of its width that is not spare. Takes no memory.
+    /// Whether each variable has a number that fits in its bits and is allowed. Takes no memory.
     fn is_allowed(&self) -> bool
         ensures { IsTrue result ↔ AreAllowed (rows self.now) };
 
@@ -36,7 +36,7 @@ pub trait Layout: Drop {
     fn width(&self) -> u64
         ensures { result ≡ min (width (rows self.now)) u64.MAX };
 
-    /// Appends the spelling. After want of memory a part of it may stand there: users call `write`.
+    /// Appends the spelling. If memory runs out, a part of it may stand there: users call `write`.
     fn put(&self, out: &mut Bits) -> Result<(), Memory>
         requires { AreAllowed (rows self.now) }
         ensures { Puts (join (rows self.now)) result out.old out.new };
@@ -45,7 +45,7 @@ pub trait Layout: Drop {
     fn scan(alloc: Global, cur: &mut Cursor<'_>) -> Result<Self, DecodeError>
         ensures { Gives rows result (rows_at fields cur.old) cur.new };
 
-    /// Appends the spelling. On want of memory nothing is appended.
+    /// Appends the spelling of a record that is allowed. If memory runs out, nothing is appended.
     final fn write(&self, out: &mut Bits) -> Result<(), Memory>
         requires { AreAllowed (rows self.now) }
         ensures ok { OnOk result (out.new ≡ out.old ++ join (rows self.now)) }
@@ -62,8 +62,8 @@ pub trait Layout: Drop {
     /// Reads the record whose spelling stands at the cursor, which then stands behind it.
     ///
     /// A fault is the first one of the fields that stand there, and then no record is spelled
-    /// there, in any input of the same length with the same first `end` bits. After an error the
-    /// cursor stands where it stood.
+    /// there, in any input of the same length with the same first `end` bits. If memory runs out, a
+    /// fault may go unseen. After an error the cursor stands where it stood.
     final fn read(alloc: Global, cur: &mut Cursor<'_>) -> Result<Self, DecodeError>
         ensures ok { IfOk result (λ v. IsSpelled (rows v) cur.old cur.new) }
 

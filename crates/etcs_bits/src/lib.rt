@@ -1,4 +1,12 @@
-//! Lists of bits and the records that they spell: the ground under every layer of Balisecheck.
+//! The bits of balise telegrams, and the records of variables that they spell (SUBSET-026, 7.4 and
+//! 7.5).
+//!
+//! [`Bits`] is a list of bits, [`Cursor`] a place in one, [`Layout`] a record of variables, such as
+//! [`Version`] or [`Identity`]. Layers above stand on the contract of [`Layout::scan`]: it reads
+//! the record that stands at the cursor, and where none does it tells the first [`Fault`]. Read
+//! `layout.rt` first, with `specs/Rows.antt`, `Fields.antt` and `Fault.antt`; what holds of every
+//! record is in [`laws`]. Left out: packets, whole telegrams and their text, and the channel coding
+//! of the user bits (SUBSET-036, 4.3).
 #![tactic(auto)]
 
 mod bits;
@@ -12,6 +20,8 @@ mod layout;
 mod memory;
 mod numerals;
 mod plain;
+#[cfg(test)]
+mod tests;
 mod transmission;
 mod version;
 

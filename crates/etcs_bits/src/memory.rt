@@ -1,12 +1,10 @@
-//! Want of memory.
-
-ghost use Rattle.std.specs.Prelude.{◌≡◌, ⊤};
+//! The refusal of memory.
 
 use std::alloc::{AllocError, AllocFailed};
 use thiserror::Error;
 
-/// Memory ran out: a growth was really refused. A list of bits that would pass `usize::MAX` bits
-/// counts as one.
+/// Memory ran out: the allocator refused to let a list grow. A list that would have more than
+/// `usize::MAX` bits is refused in the same way.
 #[derive(Clone, Copy, Debug, PartialEq, Eq, Error)]
 #[error("out of memory")]
 pub struct Memory;

@@ -5,7 +5,7 @@ ghost use Rattle.etcs_bits.specs.Number.{num, num_of_bits, bits_of_bytes};
 
 use std::alloc::{AllocError, Global};
 
-// The `width` bits of `n`, most significant first, and others behind them.
+// The `width` bits of `n`, most significant first, and then bits that mean nothing.
 pub fn bits_of_num(width: u32, n: u64) -> [bool; 32]
     requires { width ≤ 32 }
     ensures { take width result ≡ num width n }

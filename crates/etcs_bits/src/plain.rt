@@ -49,7 +49,7 @@ impl<const W: u32> Plain<W> {
     ghost use Rattle.etcs_bits.specs.Variables.{plain};
 
     /// The variable with this number; None exactly where the number does not fit in `W` bits, and
-    /// for a `W` outside 1 to 32 always.
+    /// always for a `W` outside 1 to 32.
     #[inline]
     pub fn new(n: u32) -> Option<Self>
         ensures some { IfSome result (λ p. p ≡ n) }
@@ -68,6 +68,7 @@ impl<const W: u32> Plain<W> {
         ensures small { result < 2 ^ W }
         ensures allowed { IsTrue ((plain W).allows result) }
     {
+        // The type keeps it in range.
         self.number
     }
 }

@@ -9,8 +9,8 @@ use crate::layout::Layout;
 use crate::memory::Memory;
 use std::alloc::Global;
 
-/// Q_UPDOWN, 1 bit: in which direction a telegram goes. Only track to train (1) is read; the other
-/// number is a Downlink fault. SUBSET-026, 7.5.1.
+/// Q_UPDOWN, 1 bit: in which direction a telegram goes (SUBSET-026, 7.5.1). Only track to train (1)
+/// is read, by this project's rule; the other number is a Downlink fault.
 #[derive(Clone, Copy, Debug, PartialEq, Eq)]
 pub enum Transmission {
     /// 1: from the track to the train.
@@ -64,7 +64,8 @@ impl Layout for Transmission {
     ghost is_record = { transmission_back };
 
     fn is_allowed(&self) -> bool
-        ensures allowed { IsTrue result ↔ AreAllowed (alone q_updown (transmission_number self.now)) }
+        ensures allowed { IsTrue result
+            ↔ AreAllowed (alone q_updown (transmission_number self.now)) }
 
         // The type keeps its numbers in range.
         ensures always { result ≡ true }
@@ -91,8 +92,8 @@ impl Layout for Transmission {
     }
 }
 
-/// Q_MEDIA, 1 bit: what sends a telegram. Only a balise (0) is read; the other number is a Loop
-/// fault. SUBSET-026, 7.5.1.
+/// Q_MEDIA, 1 bit: what sends a telegram (SUBSET-026, 7.5.1). Only a balise (0) is read, by this
+/// project's rule; the other number is a Loop fault.
 #[derive(Clone, Copy, Debug, PartialEq, Eq)]
 pub enum Medium {
     /// 0: a balise.

@@ -9,8 +9,8 @@ use crate::layout::Layout;
 use crate::memory::Memory;
 use std::alloc::Global;
 
-/// M_VERSION, 7 bits: the system version that a telegram is written for. Only 2.0 (32) and 2.1 (33)
-/// are read; another number is a Version fault. SUBSET-026, 7.5.1.
+/// M_VERSION, 7 bits: the system version that a telegram is written for (SUBSET-026, 7.5.1). Only
+/// 2.0 (32) and 2.1 (33) are read, by this project's rule; another number is a Version fault.
 #[derive(Clone, Copy, Debug, PartialEq, Eq)]
 pub enum Version {
     /// 32: system version 2.0.

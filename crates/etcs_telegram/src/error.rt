@@ -1,6 +1,5 @@
 //! Why a telegram is not read or written.
 
-
 use etcs_bits::{DecodeError, Fault, Memory};
 use thiserror::Error;
 

@@ -1,14 +1,14 @@
 //! Eurobalise telegrams: from hexadecimal text to bits to a record, and back.
 #![tactic(auto)]
 
-mod error;
-mod header;
-mod size;
-mod telegram;
 mod decoding;
 mod encoding;
-mod text;
+mod error;
+mod header;
 pub mod laws;
+mod size;
+mod telegram;
+mod text;
 
 pub use decoding::decode;
 pub use encoding::encode;

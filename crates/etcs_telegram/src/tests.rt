@@ -157,6 +157,9 @@ fn errors_say_what_is_wrong(rt: HostRuntime) -> Result<(), Fail> {
         why: FaultKind::Spare,
     });
     assert_eq!(rt; fault.to_string(rt.alloc())?.as_str(), "spare at 15 end 17");
-    assert_eq!(rt; EncodeError::Memory.to_string(rt.alloc())?.as_str(), "out of memory");
+    assert_eq!(rt;
+        EncodeError::Memory.to_string(rt.alloc())?.as_str(),
+        "out of memory"
+    );
     Ok(())
 }

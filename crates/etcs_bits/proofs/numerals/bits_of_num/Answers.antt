@@ -1,4 +1,4 @@
-use Rattle.std.proofs.Common.{◌≡◌, ◌∙◌, ap, sym, length-set, ◌≤◌, take, length, arith}
+use Rattle.std.proofs.Common.{◌≡◌, ◌∙◌, ap, sym, length-set, take, arith}
 use Rattle.std.proofs.lemmas.List.{take_all}
 use Rattle.etcs_bits.specs.Number.{num}
 use Rattle.etcs_bits.proofs.NumberLemmas.{length-num}

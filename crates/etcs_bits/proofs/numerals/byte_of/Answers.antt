@@ -1,4 +1,4 @@
-use Rattle.std.proofs.Common.{◌≡◌, ◌<◌, ◌+◌, ◌-◌, ◌*◌, ◌%◌, ◌^◌, ◌∙◌, ap, length, arith}
+use Rattle.std.proofs.Common.{◌≡◌, ◌-◌, ◌*◌, ◌%◌, ◌^◌, ◌∙◌, ap, length, arith}
 use Rattle.std.proofs.Common.{mod-eq_of_lt}
 use Rattle.etcs_bits.specs.Number.{num}
 use Rattle.etcs_bits.proofs.NumeralLemmas.{byte_filled, shifted_small}

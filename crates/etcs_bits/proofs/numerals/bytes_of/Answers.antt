@@ -1,4 +1,4 @@
-use Rattle.std.proofs.Common.{◌≡◌, ℕ, ◌+◌, ◌-◌, ◌*◌, ◌/◌, ◌<◌, ◌≤◌, ◌∙◌, ◌++◌, ◌∷◌, false, List, Bool, [], length, take, drop, replicate, sym, ap, arith, subst, rules, vec_len, Vec, Global}
+use Rattle.std.proofs.Common.{◌≡◌, ℕ, ◌+◌, ◌-◌, ◌*◌, ◌/◌, ◌∙◌, ◌++◌, ◌∷◌, false, List, Bool, [], length, take, replicate, sym, ap, arith, subst, rules, vec_len, Vec, Global}
 use Rattle.etcs_bits.specs.Number.{bits_of_bytes}
 use Rattle.etcs_bits.proofs.NumeralLemmas.{bits_of_none, next_byte, last_byte, no_last_byte}
 use Rattle.etcs_bits.proofs.numerals.bytes_of.Goals as goal

@@ -1,4 +1,4 @@
-use Rattle.std.proofs.Common.{sym, arith, rules}
+use Rattle.std.proofs.Common.{sym, arith}
 use Rattle.std.proofs.lemmas.List.{take_all}
 use Rattle.etcs_bits.proofs.NumberLemmas.{num_of_bits-lt}
 use Rattle.etcs_bits.proofs.NumeralLemmas.{num_of_none, number_more}
