@@ -70,7 +70,7 @@ abbrev pub fault_words : Fault → List ℕ
 fault_words fault = kind_words fault.why
     ++ (codes " at " ++ (decimal fault.at ++ (codes " end " ++ decimal fault.end)))
 
--- why a text is no telegram; want of memory is no such reason
+-- why a text is no telegram; that memory ran out is no such reason
 unfoldable pub reason_of : TextError → List ℕ
 reason_of errors.Memory = []
 reason_of errors.NotHex = codes "not hexadecimal"
@@ -92,7 +92,7 @@ line_for (Err why) = Err why
 unfoldable pub meaning_of : List ℕ → Result (List ℕ) TextError
 meaning_of text = line_for (telegram_of_text text)
 
--- why there is no JSON line: for want of memory, or for the line's own reason
+-- why there is no JSON line: as memory ran out, or for the line's own reason
 abbrev pub Refuses : TextError → Result (List ℕ) TextError → Type 0
 Refuses errors.Memory meaning = Unit {0}
 Refuses why meaning = meaning ≡ Err why

@@ -46,7 +46,7 @@ fn arguments(rt: &HostRuntime) -> Result<Vec<String>, RunError> {
     }
 }
 
-// Why the arguments cannot be had: for want of memory, or because one is no text.
+// Why the arguments cannot be had: memory ran out, or one is no text.
 fn run_error(error: &io::Error) -> RunError {
     match error.kind() {
         io::ErrorKind::OutOfMemory => RunError::Memory,

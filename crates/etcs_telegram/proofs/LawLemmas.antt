@@ -1,18 +1,18 @@
 -- Telegrams, their bits and their texts belong to one another.
-use Rattle.std.proofs.Common.{◌≡◌, ℕ, suc, ◌+◌, ◌*◌, ◌-◌, ◌%◌, ◌<◌, ◌≤◌, Bool, true, false, List, [], ◌∷◌, ◌++◌, length, get_or, take, drop, replicate, Ok, refl, sym, ap, ap₂, subst, ◌∙◌, arith, length-append}
+use Rattle.std.proofs.Common.{◌≡◌, ℕ, suc, ◌+◌, ◌*◌, ◌-◌, Bool, true, false, List, [], ◌∷◌, ◌++◌, length, take, drop, replicate, Ok, refl, sym, ap, ap₂, subst, ◌∙◌, arith, length-append}
 use Rattle.std.proofs.lemmas.Bool.{eq-eqb}
 use Rattle.std.proofs.lemmas.List.{take_at, drop_at}
 use Rattle.hex.specs.Hex.{decode_of, encode_lower, IsBytes}
 use Rattle.hex.proofs.HexLemmas.{decode_of-ok, decode_of-encode_lower}
 use Rattle.etcs_bits.specs.Number.{num, num_of_bits, bits_of_bytes}
-use Rattle.etcs_bits.specs.Rows.{Place, IsSpelled, join}
+use Rattle.etcs_bits.specs.Rows.{IsSpelled, join}
 use Rattle.etcs_bits.proofs.NumberLemmas.{length-num, num_of_bits-small, bits_of_bytes-cons, length-bits_of_bytes}
 use Rattle.etcs_bits.proofs.StandLemmas.{place_in}
 use Rattle.etcs_bits.proofs.ReadingLemmas.{spelled_is_read}
 use Rattle.etcs_bits.proofs.FaultLemmas.{spelled_at_front}
 use Rattle.etcs_telegram.specs.declared.telegram.Telegram.{Telegram}
-use Rattle.etcs_telegram.specs.Telegram.{user_bits, telegram_fields, telegram_rows, start, IsTelegram, IsEncoding, canonical_bits, telegram_of}
-use Rattle.etcs_telegram.specs.Text.{ArePadded, IsTelegramText, IsCanonicalText, telegram_of_text, pads_with_zeros, user_bits_in}
+use Rattle.etcs_telegram.specs.Telegram.{user_bits, telegram_fields, telegram_rows, start, IsTelegram, IsEncoding, telegram_of}
+use Rattle.etcs_telegram.specs.Text.{IsTelegramText, IsCanonicalText, telegram_of_text, pads_with_zeros, user_bits_in}
 use Rattle.etcs_telegram.proofs.TelegramLemmas.{telegram_are_rows, read_meaning, short_size}
 use Rattle.etcs_telegram.proofs.TextLemmas.{canonical_length, pads_divide}
 

@@ -1,5 +1,5 @@
 -- What is read is a telegram, and where a fault is told there is none.
-use Rattle.std.proofs.Common.{◌≡◌, ℕ, ◌+◌, ◌-◌, ◌≤◌, true, Bool, List, ◌∷◌, [], ◌++◌, length, replicate, Result, Ok, Err, refl, sym, ap, ap₂, ◌∙◌, append_assoc, arith}
+use Rattle.std.proofs.Common.{◌≡◌, ◌-◌, ◌≤◌, true, Bool, List, [], ◌++◌, length, replicate, Result, Ok, Err, refl, sym, ap, ap₂, ◌∙◌, arith}
 use Rattle.std.specs.Prelude.{IfOk}
 use Rattle.std.proofs.Common.{lit<}
 use Rattle.std.proofs.lemmas.List.{append-nil, length-append}
@@ -7,11 +7,11 @@ use Rattle.etcs_bits.proofs.NumberLemmas.{length-num}
 use Rattle.etcs_bits.specs.declared.fault.DecodeError.{DecodeError}
 use Rattle.etcs_bits.specs.declared.fault.DecodeError.TheVariants as errors
 use Rattle.etcs_bits.specs.Number.{num}
-use Rattle.etcs_bits.specs.Rows.{Row, alone, AreAllowed, join, Place, IsSpelled}
-use Rattle.etcs_bits.specs.Fields.{AreRowsOf, one}
+use Rattle.etcs_bits.specs.Rows.{alone, AreAllowed, join, Place}
+use Rattle.etcs_bits.specs.Fields.{AreRowsOf}
 use Rattle.etcs_bits.specs.Fault.{IsFault, NoneBegins}
 use Rattle.etcs_bits.specs.Reading.{rows_at}
-use Rattle.etcs_bits.specs.Layout.{Fails, Gives, OfFault, IfFault, IsMeaning}
+use Rattle.etcs_bits.specs.Layout.{Fails, Gives, IfFault, IsMeaning}
 use Rattle.etcs_bits.specs.RowLemmas.{alone_rows}
 use Rattle.etcs_bits.proofs.StandLemmas.{join-append, length-join, allowed-append}
 use Rattle.etcs_bits.proofs.LayoutLemmas.{is_spelled, is_fault, none_begins}
@@ -19,8 +19,8 @@ use Rattle.etcs_telegram.specs.declared.header.Header.{Header}
 use Rattle.etcs_telegram.specs.declared.size.Size.{Size}
 use Rattle.etcs_telegram.specs.declared.size.Size.TheVariants.{Short}
 use Rattle.etcs_telegram.specs.declared.telegram.Telegram.{Telegram}
-use Rattle.etcs_telegram.specs.Header.{header_fields, header_rows, header_are_rows, header_front}
-use Rattle.etcs_telegram.specs.Telegram.{user_bits, end_mark, telegram_fields, telegram_rows, start, IsTelegram, canonical_bits, IsEncoding, telegram_with, telegram_of}
+use Rattle.etcs_telegram.specs.Header.{header_rows, header_are_rows, header_front}
+use Rattle.etcs_telegram.specs.Telegram.{user_bits, end_mark, telegram_fields, telegram_rows, start, IsTelegram, IsEncoding, telegram_with, telegram_of}
 
 -- ---- records and rows
 

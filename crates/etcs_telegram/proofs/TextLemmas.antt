@@ -1,12 +1,10 @@
 -- Pad bits, digits, and what a text is refused for.
-use Rattle.std.proofs.Common.{◌≡◌, ℕ, ◌+◌, ◌-◌, ◌*◌, ◌%◌, ◌^◌, ◌<◌, ◌≤◌, Bool, true, false, List, [], ◌∷◌, ◌++◌, length, get_or, take, drop, replicate, Result, Ok, Err, refl, sym, ap, ap₂, ◌∙◌, arith, length-append, length-drop, length-take-le, mod-eq_of_lt}
+use Rattle.std.proofs.Common.{◌≡◌, ℕ, ◌+◌, ◌-◌, ◌*◌, ◌%◌, ◌^◌, ◌<◌, ◌≤◌, Bool, true, false, List, [], ◌∷◌, ◌++◌, length, get_or, drop, replicate, Result, Ok, Err, refl, sym, ap, ap₂, ◌∙◌, arith, length-append, length-drop}
 use Rattle.std.proofs.lemmas.List.{drop-drop, drop_more, drop_all, length-replicate}
-use Rattle.std.specs.List.{AllPass}
 use Rattle.std.proofs.Common.{String, Global, string_bytes}
 use Rattle.std.specs.Prelude.{IfOk, OnOk}
 use Rattle.etcs_telegram.specs.declared.error.EncodeError.{EncodeError}
-use Rattle.hex.specs.Hex.{decode_of, encode_lower, is_hex_digit, IsBytes}
-use Rattle.hex.specs.declared.error.FromHexError.{FromHexError}
+use Rattle.hex.specs.Hex.{decode_of, encode_lower, IsBytes}
 use Rattle.hex.proofs.HexLemmas.{decode_of-digits, decode_of-ok}
 use Rattle.etcs_bits.specs.Number.{num, num_of_bits, bits_of_bytes}
 use Rattle.etcs_bits.proofs.NumberLemmas.{length-num, num_of_bits-small, num_of_bits-drop, same_from_num, drop-bits_of_bytes, bits_of_one, length-bits_of_bytes}
@@ -15,7 +13,7 @@ use Rattle.etcs_telegram.specs.declared.error.TextError.{TextError}
 use Rattle.etcs_telegram.specs.declared.error.TextError.TheVariants as errors
 use Rattle.etcs_telegram.specs.Telegram.{user_bits, canonical_bits, IsEncoding, telegram_rows}
 use Rattle.etcs_bits.specs.Rows.{join}
-use Rattle.etcs_telegram.specs.Text.{IsHexadecimal, IsReason, FailsDecoded, IsCanonicalText}
+use Rattle.etcs_telegram.specs.Text.{IsReason, FailsDecoded, IsCanonicalText}
 use Rattle.etcs_telegram.proofs.FillLemmas.{length-ones}
 use Rattle.etcs_telegram.proofs.TelegramLemmas.{front_bits, header_and_mark, short_size}
 

@@ -1,14 +1,13 @@
 -- The header of a telegram: 50 bits (SUBSET-026, 8.4.2).
-use Rattle.std.specs.Prelude.{◌≡◌, ℕ, Bool, List, ◌++◌, refl}
+use Rattle.std.specs.Prelude.{◌≡◌, Bool, List, ◌++◌}
 use Rattle.std.proofs.Common.{ap, ap₂, ◌∙◌}
 use Rattle.etcs_bits.specs.declared.version.Version.{Version}
 use Rattle.etcs_bits.specs.declared.duplicate.Dup.{Dup}
-use Rattle.etcs_bits.specs.declared.identity.Identity.{Identity}
 use Rattle.etcs_bits.specs.Number.{worth}
 use Rattle.etcs_bits.specs.Rows.{Row, alone, number_at}
 use Rattle.etcs_bits.specs.Fields.{Fields, one, ◌▹◌, AreRowsOf}
 use Rattle.etcs_bits.specs.RowLemmas.{HasRows, then_has, alone_has}
-use Rattle.etcs_bits.specs.Variables.{q_updown, m_version, version_number, version_of, q_media, n_pig, n_total, m_dup, dup_number, dup_of, m_mcount, nid_c, nid_bg, q_link, flag_of}
+use Rattle.etcs_bits.specs.Variables.{q_updown, m_version, version_number, version_of, q_media, n_pig, n_total, m_dup, dup_number, dup_of, m_mcount, q_link, flag_of}
 use Rattle.etcs_bits.specs.VariableLemmas.{version_back, dup_back, flag_back}
 use Rattle.etcs_bits.specs.Identity.{identity_fields, identity_rows, identity_are_rows}
 use Rattle.etcs_telegram.specs.declared.header.Header.{Header}
@@ -57,7 +56,8 @@ has_rows : (h : Header) → HasRows header_fields (header_rows h)
 has_rows h =
     then_has (alone_has _ _) (then_has (alone_has _ _) (then_has (alone_has _ _)
     (then_has (alone_has _ _) (then_has (alone_has _ _) (then_has (alone_has _ _)
-    (then_has (alone_has _ _) (then_has (record { whole = identity_are_rows h.identity }) (alone_has _ _))))))))
+    (then_has (alone_has _ _)
+    (then_has (record { whole = identity_are_rows h.identity }) (alone_has _ _))))))))
 
 pub header_are_rows : (h : Header) → AreRowsOf header_fields (header_rows h)
 header_are_rows h = (has_rows h).whole
@@ -75,9 +75,12 @@ changed h v d l = record {
 }
 
 same_header : (h : Header)
-    → changed h (version_of (version_number h.version)) (dup_of (dup_number h.dup)) (flag_of (worth h.linked)) ≡ h
+    → changed h (version_of (version_number h.version)) (dup_of (dup_number h.dup))
+    (flag_of (worth h.linked))
+    ≡ h
 same_header h =
-    ap₂ (λ (v : Version) (d : Dup). changed h v d (flag_of (worth h.linked))) (version_back h.version) (dup_back h.dup)
+    ap₂ (λ (v : Version) (d : Dup). changed h v d (flag_of (worth h.linked)))
+    (version_back h.version) (dup_back h.dup)
     ∙ ap (λ (l : Bool). changed h h.version h.dup l) (flag_back h.linked)
 
 -- the header again, whatever rows follow

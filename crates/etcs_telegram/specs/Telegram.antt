@@ -1,6 +1,6 @@
 -- A telegram of a balise (SUBSET-026, 8.4.2; SUBSET-036, 4.3): its header, the end mark (packet 255,
 -- eight ones), and then bits that say nothing, up to the size of a telegram.
-use Rattle.std.specs.Prelude.{◌≡◌, ℕ, ◌+◌, ◌-◌, ◌==◌, true, List, Bool, ◌++◌, length, replicate, Result, Ok, Err}
+use Rattle.std.specs.Prelude.{◌≡◌, ℕ, ◌-◌, ◌==◌, true, List, Bool, ◌++◌, length, replicate, Result, Ok}
 use Rattle.etcs_bits.specs.declared.fault.Fault.{Fault}
 use Rattle.etcs_bits.specs.declared.fault.FaultKind.TheVariants.{Unsupported}
 use Rattle.etcs_bits.specs.Rows.{Variable, Row, alone, AreAllowed, join, Place, IsSpelled}

@@ -1,6 +1,6 @@
 -- Telegrams as text: the hexadecimal digits of their bytes, 210 user bits and six zeros, the pad
 -- bits, in 27 bytes. Digits of either case are read, lower-case ones are written.
-use Rattle.std.specs.Prelude.{◌≡◌, ◌≢◌, ℕ, ◌*◌, ◌%◌, ◌==◌, Bool, true, false, if◌then◌else◌, List, ◌++◌, length, take, drop, replicate, slice_index, Result, Ok, Err}
+use Rattle.std.specs.Prelude.{◌≡◌, ◌≢◌, ℕ, ◌%◌, ◌==◌, Bool, false, if◌then◌else◌, List, ◌++◌, length, take, drop, replicate, slice_index, Result, Ok, Err}
 use Rattle.std.specs.List.{AllPass}
 use Rattle.hex.specs.Hex.{decode_of, encode_lower, is_hex_digit, IsBytes}
 use Rattle.hex.specs.declared.error.FromHexError.{FromHexError}
@@ -12,7 +12,7 @@ use Rattle.etcs_telegram.specs.declared.error.TextError.{TextError}
 use Rattle.etcs_telegram.specs.declared.error.TextError.TheVariants as errors
 use Rattle.etcs_telegram.specs.Telegram.{IsTelegram, IsEncoding, telegram_fields, telegram_rows, telegram_of, start}
 
--- The text is an even number of hexadecimal digits, of either case
+-- The text is an even number of hexadecimal digits, of either case.
 pub record IsHexadecimal (text : List ℕ) : Type 0 where
   pub even : length text % 2 ≡ 0
   pub digits : AllPass is_hex_digit text
@@ -78,11 +78,12 @@ abbrev pub of_bits : Result Telegram Fault → Result Telegram TextError
 of_bits (Ok t) = Ok t
 of_bits (Err f) = Err (errors.Fault f)
 
+abbrev pub of_27_bytes : List ℕ → Result Telegram TextError
+of_27_bytes bytes =
+    if pads_with_zeros bytes then of_bits (telegram_of (user_bits_in bytes)) else Err errors.PadBits
+
 abbrev pub of_bytes : List ℕ → Result Telegram TextError
-of_bytes bytes =
-    if length bytes == 27
-    then (if pads_with_zeros bytes then of_bits (telegram_of (user_bits_in bytes)) else Err errors.PadBits)
-    else Err errors.WrongSize
+of_bytes bytes = if length bytes == 27 then of_27_bytes bytes else Err errors.WrongSize
 
 abbrev pub of_decoded : Result (List ℕ) FromHexError → Result Telegram TextError
 of_decoded (Ok bytes) = of_bytes bytes
@@ -92,7 +93,7 @@ of_decoded (Err e) = Err errors.NotHex
 unfoldable pub telegram_of_text : List ℕ → Result Telegram TextError
 telegram_of_text text = of_decoded (decode_of text)
 
--- the error is want of memory, or the one that the text means
+-- the error is that memory ran out, or the one that the text means
 abbrev pub TextFails : TextError → Result Telegram TextError → Type 0
 TextFails errors.Memory meaning = Unit {0}
 TextFails errors.NotHex meaning = meaning ≡ Err errors.NotHex
@@ -105,9 +106,10 @@ abbrev pub IsTextMeaning : Result Telegram TextError → Result Telegram TextErr
 IsTextMeaning (Ok t) meaning = meaning ≡ Ok t
 IsTextMeaning (Err e) meaning = TextFails e meaning
 
--- the error is want of memory; or the text is not hexadecimal; or it is, of another size
+-- memory ran out; or the text is not hexadecimal; or it is, and of another size
 abbrev pub FailsDecoded : TextError → Result (List ℕ) FromHexError → Type 0
 FailsDecoded errors.Memory decoded = Unit {0}
 FailsDecoded errors.NotHex decoded = (e : FromHexError) × (decoded ≡ Err e)
-FailsDecoded errors.WrongSize decoded = (bytes : List ℕ) × (decoded ≡ Ok bytes) × (length bytes ≢ 27)
+FailsDecoded errors.WrongSize decoded =
+    (bytes : List ℕ) × (decoded ≡ Ok bytes) × (length bytes ≢ 27)
 FailsDecoded _ decoded = ⊥

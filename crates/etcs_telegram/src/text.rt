@@ -72,7 +72,7 @@ fn telegram_in(alloc: Global, bytes: &[u8]) -> Result<Telegram, TextError>
 /// zeros (pad bits).
 ///
 /// NotHex, WrongSize, PadBits and the first fault of the user bits are looked for in this order, and
-/// each is answered exactly where it stands; want of memory may come before any of them.
+/// each is answered exactly where it stands. If memory runs out, that may be told instead.
 #[tactic(auto, unfolding(crate::specs::Text::telegram_of_text))]
 pub fn from_hex(alloc: Global, text: &[u8]) -> Result<Telegram, TextError>
     ensures ok { IfOk result (λ t. IsTelegramText t text.now) }
@@ -97,7 +97,7 @@ fn digits_of(alloc: Global, bytes: &[u8]) -> Result<String, EncodeError>
 }
 
 /// The telegram's canonical text: its user bits, filled up with ones, and zeros as pad bits, in 54
-/// lower-case hexadecimal digits. In this stage want of memory is the only refusal.
+/// lower-case hexadecimal digits. In this stage it fails only if memory runs out.
 pub fn to_hex(alloc: Global, telegram: &Telegram) -> Result<String, EncodeError>
     ensures { IfOk result (λ s. IsCanonicalText telegram.now (string_bytes s)) }
 {

@@ -1,5 +1,4 @@
 use Rattle.std.proofs.Common.{refl, ◌∙◌, ◌++◌, ◌-◌, length, ap, ap₂, ℕ, arith, List, Bool, replicate, true}
-use Rattle.etcs_telegram.specs.Telegram.{user_bits}
 use Rattle.etcs_telegram.proofs.TelegramLemmas.{is_encoding, header_and_mark, written_front}
 use Rattle.etcs_telegram.proofs.encoding.encode.Goals as goal
 

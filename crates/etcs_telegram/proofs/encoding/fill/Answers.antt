@@ -1,4 +1,4 @@
-use Rattle.std.proofs.Common.{◌≡◌, ◌+◌, ◌-◌, ◌*◌, ◌%◌, ◌^◌, ◌∙◌, ◌++◌, true, length, replicate, ap, arith}
+use Rattle.std.proofs.Common.{◌≡◌, ◌-◌, ◌*◌, ◌%◌, ◌^◌, ◌∙◌, ◌++◌, true, replicate, ap, arith}
 use Rattle.std.proofs.lemmas.Nat.{one_shl}
 use Rattle.etcs_bits.specs.Number.{num}
 use Rattle.etcs_telegram.proofs.FillLemmas.{ones_are, more_ones, grown}

@@ -1,4 +1,4 @@
-use Rattle.std.proofs.Common.{◌≡◌, ◌<◌, get_or, subst, List, Bool, arith}
+use Rattle.std.proofs.Common.{◌<◌, get_or, subst, List, Bool, arith}
 use Rattle.etcs_bits.specs.Fault.{IsFault, NoneBegins}
 use Rattle.etcs_telegram.specs.Telegram.{IsTelegram, telegram_fields, telegram_rows, start}
 use Rattle.etcs_telegram.proofs.TextLemmas.{pads_are_zeros, a_pad_is_set}

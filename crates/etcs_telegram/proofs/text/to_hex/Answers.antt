@@ -1,6 +1,3 @@
-use Rattle.std.proofs.Common.{List, ℕ, ap}
-use Rattle.std.specs.Prelude.{IfOk, OnOk, string_bytes, ◌≡◌}
-use Rattle.hex.specs.Hex.{encode_lower, IsBytes}
 use Rattle.etcs_telegram.proofs.TextLemmas.{written_text}
 use Rattle.etcs_telegram.proofs.text.to_hex.Goals as goal
 

@@ -1,7 +1,5 @@
-use Rattle.std.proofs.Common.{◌≡◌, true, refl, lit<}
-use Rattle.std.specs.Prelude.{IsTrue, ◌&&◌}
-use Rattle.etcs_bits.specs.Rows.{alone, AreAllowed}
-use Rattle.etcs_telegram.specs.Header.{header_rows}
+use Rattle.std.proofs.Common.{refl, lit<}
+use Rattle.etcs_bits.specs.Rows.{alone}
 use Rattle.etcs_telegram.proofs.header.HeaderLayout.is_allowed.Goals as goal
 
 -- each part says that its numbers are in range
