@@ -3,9 +3,9 @@ use Rattle.std.proofs.Common.{◌≡◌, ◌++◌, ◌==◌, ℕ, Bool, true, fa
 use Rattle.std.proofs.lemmas.List.{append-nil}
 use Rattle.std.proofs.lemmas.Bool.Decides.{nat_tests}
 use Rattle.std.specs.Io.KnownBytes.{Consumes}
-use Rattle.balisecheck.specs.Lines.{IsLine, lines_of}
+use Rattle.balisecheck.specs.TextLines.{IsLine, lines_of}
 use Rattle.balisecheck.specs.LineReading.{GivesLine, Grows, MovesTo, Reads, held_of}
-use Rattle.balisecheck.specs.declared.lines.Lines.{Lines}
+use Rattle.balisecheck.specs.declared.text_lines.TextLines.{TextLines}
 use Rattle.balisecheck.proofs.LineLemmas.{IsLine-append, lines_of-last, lines_of-line}
 use Rattle.balisecheck.proofs.StreamLemmas.{Consumes-then}
 
@@ -86,13 +86,13 @@ Filling-end {line} {ended} {found} filling none end is =
     }
 
 -- what was moved where there was no `\n`
-pub moved_on : {b : Bool} {old new : Lines} → b ≡ false → MovesTo (Ok b) old new
+pub moved_on : {b : Bool} {old new : TextLines} → b ≡ false → MovesTo (Ok b) old new
     → Grows old new (held_of old) × (held_of new ≡ [])
 moved_on {b = true} is moved = cc
 moved_on {b = false} is moved = moved
 
 -- what was moved where there was one
-pub moved_cut : {b : Bool} {old new : Lines} → b ≡ true → MovesTo (Ok b) old new
+pub moved_cut : {b : Bool} {old new : TextLines} → b ≡ true → MovesTo (Ok b) old new
     → (front : List ℕ) × Grows old new front × (held_of old ≡ front ++ 10 ∷ held_of new)
 moved_cut {b = true} is moved = moved
 moved_cut {b = false} is moved = cc

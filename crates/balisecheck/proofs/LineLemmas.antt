@@ -3,7 +3,7 @@ use Rattle.std.proofs.Common.{◌≡◌, ◌<◌, ◌≤◌, ◌+◌, ◌-◌, �
 use Rattle.std.proofs.lemmas.List.{drop-take, drop-drop}
 use Rattle.std.proofs.Math.Seq.{take-length}
 use Rattle.memchr.specs.Find.{NoneBefore}
-use Rattle.balisecheck.specs.Lines.{IsLine, lines_of, onto_first}
+use Rattle.balisecheck.specs.TextLines.{IsLine, lines_of, onto_first}
 
 false_unless_true : (b : Bool) → (b ≡ true → ⊥) → b ≡ false
 false_unless_true true not_true = absurd (not_true refl)

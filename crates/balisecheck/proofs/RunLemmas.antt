@@ -4,7 +4,7 @@ use Rattle.std.proofs.Common.{◌≡◌, ◌+◌, ◌++◌, ℕ, Bool, true, fal
 use Rattle.std.proofs.lemmas.List.{append-nil, take_all, take-append-drop}
 use Rattle.std.specs.Io.KnownBytes.{Appends, Consumes, Keeps}
 use Rattle.balisecheck.specs.LineReading.{MayFollow, Reads}
-use Rattle.balisecheck.specs.Lines.{lines_of, trimmed}
+use Rattle.balisecheck.specs.TextLines.{lines_of, trimmed}
 use Rattle.balisecheck.specs.Output.{Output, after_line, answers, decode_output, prepend}
 use Rattle.balisecheck.specs.Ran.{Puts, Ran, Tells, Turns}
 use Rattle.balisecheck.specs.declared.error.RunError.{RunError}

@@ -1,6 +1,6 @@
 pub mod Counted
 pub mod Command
-pub mod Lines
+pub mod TextLines
 pub mod LineReading
 pub mod TelegramLines
 pub mod Output

@@ -3,18 +3,18 @@
 use Rattle.std.specs.Prelude.{◌≡◌, ◌++◌, ◌<◌, ◌≤◌, ◌+◌, ◌-◌, ℕ, Bool, true, false, List, [], ◌∷◌, length, take, drop, Option, Result, Ok, Err, IfOk}
 use Rattle.std.specs.Io.KnownBytes.{Consumes}
 use Rattle.balisecheck.specs.Counted.{CountsNone, CountsOne, budget_of, has_ended, inner_of}
-use Rattle.balisecheck.specs.Lines.{IsLine, lines_of}
+use Rattle.balisecheck.specs.TextLines.{IsLine, lines_of}
 use Rattle.balisecheck.specs.declared.counted.Counted.{Counted}
 use Rattle.balisecheck.specs.declared.error.RunError.{RunError}
 use Rattle.balisecheck.specs.declared.error.RunError.TheVariants.{Memory, Device}
-use Rattle.balisecheck.specs.declared.lines.Lines.{Lines}
+use Rattle.balisecheck.specs.declared.text_lines.TextLines.{TextLines}
 
 -- the bytes that were read and stand in no line yet
-abbrev pub held_of : Lines → List ℕ
+abbrev pub held_of : TextLines → List ℕ
 held_of lines = take (lines.to - lines.from) (drop lines.from lines.block.items)
 
 -- the line that was found last
-abbrev pub line_of : Lines → List ℕ
+abbrev pub line_of : TextLines → List ℕ
 line_of lines = lines.line.items
 
 -- the rest may follow what was read: anything may, but nothing once the end was met
@@ -37,12 +37,12 @@ SpendsAtLeast count old new =
     (count + budget_of new ≤ budget_of old) × (0 < count → budget_of new < budget_of old)
 
 -- the line has grown by these bytes, of which none is a `\n`
-pub record Grows (old new : Lines) (front : List ℕ) : Type 0 where
+pub record Grows (old new : TextLines) (front : List ℕ) : Type 0 where
   pub line : line_of new ≡ line_of old ++ front
   pub plain : IsLine front
 
 -- the line has grown by the held bytes up to a `\n`, or by all of them
-abbrev pub MovesTo : Result Bool RunError → Lines → Lines → Type 0
+abbrev pub MovesTo : Result Bool RunError → TextLines → TextLines → Type 0
 MovesTo (Err _) old new = Unit {0}
 MovesTo (Ok true) old new =
     (front : List ℕ) × Grows old new front × (held_of old ≡ front ++ 10 ∷ held_of new)
@@ -66,14 +66,14 @@ pub record Reads (remaining_old remaining_new : Option (List ℕ)) (had_ended : 
   pub gives : GivesLine result (held ++ bytes) line now has_ended
 
 -- a line was looked for
-abbrev pub ReadsLine : {R : Type 0} → (R → Option (List ℕ)) → Counted R → Counted R → Lines → Lines
+abbrev pub ReadsLine : {R : Type 0} → (R → Option (List ℕ)) → Counted R → Counted R → TextLines → TextLines
     → Result Bool RunError → Type 0
 ReadsLine remaining reader_old reader_new old new result =
     Reads (remaining (inner_of reader_old)) (remaining (inner_of reader_new)) (has_ended reader_old)
     (held_of old) (line_of new) (held_of new) (has_ended reader_new) result
 
 -- a line that is found is paid for, by bytes that were held or by the budget
-abbrev pub SpendsLine : {R : Type 0} → Result Bool RunError → Counted R → Counted R → Lines → Lines
+abbrev pub SpendsLine : {R : Type 0} → Result Bool RunError → Counted R → Counted R → TextLines → TextLines
     → Type 0
 SpendsLine result reader_old reader_new old new = IfOk result (λ found. found ≡ true
     → 1 + (length (held_of new) + budget_of reader_new)

@@ -4,7 +4,7 @@
 use Rattle.std.specs.Prelude.{◌+◌, ◌++◌, ℕ, List, [], ◌∷◌, codes, Option, Some, None, Result, Ok, Err}
 use Rattle.etcs_telegram.specs.declared.error.TextError.{TextError}
 use Rattle.balisecheck.specs.Command.{command_of}
-use Rattle.balisecheck.specs.Lines.{lines_of, trimmed}
+use Rattle.balisecheck.specs.TextLines.{lines_of, trimmed}
 use Rattle.balisecheck.specs.TelegramLines.{meaning_of, refusal_of}
 use Rattle.balisecheck.specs.declared.command.Command.{Command}
 use Rattle.balisecheck.specs.declared.command.Command.TheVariants.{Decode}

@@ -25,6 +25,7 @@ fn grammar<'a>(alloc: Global) -> Result<CommandLine<'a>, AllocError>
     Ok(whole)
 }
 
+// The command that the library found among the words.
 fn entered_command(matches: &ArgMatches<'_>) -> Option<Command>
     ensures { result ≡ entered (subcommand_rows_of matches.now) }
 {

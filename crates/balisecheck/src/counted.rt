@@ -43,6 +43,7 @@ impl<T> Counted<T> {
     pub fn failures(&self) -> u64
         ensures { result ≡ failures_of self.now }
     {
+        // Reads, writes and flushes alike.
         self.failures
     }
 

@@ -3,17 +3,17 @@
 ghost use Rattle.std.specs.Prelude.{◌≡◌, []};
 ghost use Rattle.balisecheck.specs.Counted.{CanCount, inner_of};
 ghost use Rattle.balisecheck.specs.LineReading.{CountsDevice, held_of, line_of};
-ghost use Rattle.balisecheck.specs.Lines.{trimmed};
+ghost use Rattle.balisecheck.specs.TextLines.{trimmed};
 ghost use Rattle.balisecheck.specs.Output.{after_line, decode_output, told};
 ghost use Rattle.balisecheck.specs.Ran.{CountsOneDevice, Runs, Turns};
 ghost use Rattle.balisecheck.specs.TelegramLines.{meaning_of};
 
 use crate::counted::Counted;
 use crate::error::RunError;
-use crate::lines::Lines;
 use crate::output::{finish, put};
 use crate::status::Status;
 use crate::telegram_lines::{answer, refusal};
+use crate::text_lines::TextLines;
 use crate::turn::Turn;
 use etcs_telegram::TextError;
 use std::alloc::Global;
@@ -77,7 +77,7 @@ fn tell_line<W: Write>(
 fn take_turn<W: Write>(
     alloc: Global,
     number: u64,
-    lines: &Lines,
+    lines: &TextLines,
     writer: &mut Counted<W>,
 ) -> Result<Turn, RunError>
     requires { CanCount writer.old }
@@ -96,7 +96,7 @@ fn take_turn<W: Write>(
 // Tells each line, up to the first that is refused.
 fn tell_lines<R: Read, W: Write>(
     alloc: Global,
-    lines: &mut Lines,
+    lines: &mut TextLines,
     reader: &mut Counted<R>,
     writer: &mut Counted<W>,
 ) -> Result<Status, RunError>
@@ -132,7 +132,7 @@ pub fn decode<R: Read, W: Write>(
         decode_output result }
     ensures counts { CountsOneDevice result reader.old reader.new writer.old writer.new }
 {
-    let mut lines = match Lines::new(alloc) {
+    let mut lines = match TextLines::new(alloc) {
         Ok(lines) => lines,
         Err(_) => return Err(RunError::Memory),
     };

@@ -3,15 +3,14 @@
 //! `program::run` is the whole program, from words and a counted reader to a counted writer and a
 //! status. Its contract says what is written for every input; `specs/Output.antt` defines that text
 //! and `specs/Ran.antt` what is promised of it. `main` adds the arguments and standard input and
-//! output, of which no contract can speak. Read `program.rt` first, then `decoding.rt`, `lines.rt`
-//! and `telegram_lines.rt`. The commands `check` and `encode` are left out so far.
+//! output, of which no contract can speak. Read `program.rt` first, then `decoding.rt`,
+//! `text_lines.rt` and `telegram_lines.rt`. The commands `check` and `encode` are left out so far.
 #![tactic(auto)]
 
 mod command;
 mod counted;
 mod decoding;
 mod error;
-mod lines;
 mod output;
 mod program;
 mod status;
@@ -19,6 +18,7 @@ mod telegram_form;
 mod telegram_lines;
 #[cfg(test)]
 mod tests;
+mod text_lines;
 mod turn;
 
 use crate::counted::Counted;

@@ -46,6 +46,8 @@ fn expect(rt: &impl Abort, outcome: &Outcome, status: Status, text: &str) {
     assert!(rt; outcome.text.as_slice() == text.as_bytes(), "{text}");
     assert_eq!(rt; outcome.failed_reads, 0);
     assert_eq!(rt; outcome.failed_writes, 0);
+    assert_eq!(rt; outcome.flushes, 1);
+    assert!(rt; outcome.ends_flushed);
 }
 
 #[test]
@@ -118,6 +120,17 @@ fn the_first_refused_line_ends_the_run(rt: HostRuntime) -> Result<(), Fail> {
 }
 
 #[test]
+fn nothing_is_read_after_a_refusal(rt: HostRuntime) -> Result<(), Fail> {
+    let lines = format!(in rt.alloc(); "zz\n{TELEGRAM}\n")?;
+    let from = Device::new(3, Failure::Never);
+    let outcome = decode_between(rt.alloc(), lines.as_str(), from, Device::sound());
+    let refusal = "refused: line 1: not hexadecimal\n";
+    expect(&rt, &outcome, Status::Refused, refusal);
+    assert_eq!(rt; outcome.reads, 1);
+    Ok(())
+}
+
+#[test]
 fn empty_lines_are_counted(rt: HostRuntime) {
     expect(&rt, &decode(rt.alloc(), LINES), Status::Refused, ANSWERS);
 }
@@ -144,7 +157,7 @@ fn a_very_long_line_is_refused(rt: HostRuntime) -> Result<(), Fail> {
 #[test]
 fn other_words_give_the_usage_line(rt: HostRuntime) {
     let name = "balisecheck";
-    let others: [&[&str]; 10] = [
+    let others: [&[&str]; 16] = [
         &[],
         &[name],
         &[name, "check"],
@@ -155,6 +168,12 @@ fn other_words_give_the_usage_line(rt: HostRuntime) {
         &[name, "--help"],
         &[name, "decode", "--help"],
         &[name, "--version"],
+        &[name, "--radio"],
+        &[name, "--radio="],
+        &[name, "check", "--radio"],
+        &[name, "decode", "--radio="],
+        &[name, "decode", "--", "--radio"],
+        &[name, "--", "decode"],
     ];
     for words in others {
         let from = Device::sound();
@@ -162,6 +181,14 @@ fn other_words_give_the_usage_line(rt: HostRuntime) {
         expect(&rt, &outcome, Status::Refused, USAGE);
         assert_eq!(rt; outcome.reads, 0);
     }
+}
+
+#[test]
+fn words_may_end_with_two_dashes(rt: HostRuntime) {
+    let words: &[&str] = &["balisecheck", "decode", "--"];
+    let from = Device::sound();
+    let outcome = run_between(rt.alloc(), words, LINES.as_bytes(), from, Device::sound());
+    expect(&rt, &outcome, Status::Refused, ANSWERS);
 }
 
 #[test]
@@ -174,30 +201,36 @@ fn bytes_come_and_go_in_any_pieces(rt: HostRuntime) {
     }
 }
 
-fn expect_device(rt: &impl Abort, outcome: &Outcome, failed_reads: u64, failed_writes: u64) {
+fn expect_device(rt: &impl Abort, outcome: &Outcome, text: &str, failed: (u64, u64)) {
     assert_eq!(rt; outcome.answer, Err(RunError::Device));
-    assert!(rt; ANSWERS.as_bytes().starts_with(outcome.text.as_slice()));
-    assert_eq!(rt; outcome.failed_reads, failed_reads);
-    assert_eq!(rt; outcome.failed_writes, failed_writes);
+    assert!(rt; text.as_bytes().starts_with(outcome.text.as_slice()));
+    assert_eq!(rt; (outcome.failed_reads, outcome.failed_writes), failed);
+}
+
+// Runs on the input as often as a run of it calls the devices; each time another call fails.
+fn expect_each_failure(alloc: Global, rt: &impl Abort, input: &str, text: &str) {
+    let from = Device::new(20, Failure::Never);
+    let whole = decode_between(alloc, input, from, Device::new(9, Failure::Never));
+    assert!(rt; 1 < whole.reads && 1 < whole.writes);
+    for call in 0..whole.reads {
+        let from = Device::new(20, Failure::Error(call));
+        let outcome = decode_between(alloc, input, from, Device::sound());
+        expect_device(rt, &outcome, text, (1, 0));
+        assert_eq!(rt; outcome.reads, call.saturating_add(1));
+        assert_eq!(rt; outcome.flushes, 0);
+    }
+    for call in 0..whole.writes {
+        let to = Device::new(9, Failure::Error(call));
+        let outcome = decode_between(alloc, input, Device::sound(), to);
+        expect_device(rt, &outcome, text, (0, 1));
+        assert_eq!(rt; outcome.writes, call.saturating_add(1));
+    }
 }
 
 #[test]
 fn each_call_that_fails_ends_the_run(rt: HostRuntime) {
-    let from = Device::new(20, Failure::Never);
-    let whole = decode_between(rt.alloc(), LINES, from, Device::new(9, Failure::Never));
-    assert!(rt; 1 < whole.reads && 1 < whole.writes);
-    for call in 0..whole.reads {
-        let from = Device::new(20, Failure::Error(call));
-        let outcome = decode_between(rt.alloc(), LINES, from, Device::sound());
-        expect_device(&rt, &outcome, 1, 0);
-        assert_eq!(rt; outcome.reads, call.saturating_add(1));
-    }
-    for call in 0..whole.writes {
-        let to = Device::new(9, Failure::Error(call));
-        let outcome = decode_between(rt.alloc(), LINES, Device::sound(), to);
-        expect_device(&rt, &outcome, 0, 1);
-        assert_eq!(rt; outcome.writes, call.saturating_add(1));
-    }
+    expect_each_failure(rt.alloc(), &rt, LINES, ANSWERS);
+    expect_each_failure(rt.alloc(), &rt, TELEGRAM, JSON);
 }
 
 #[test]
@@ -208,7 +241,7 @@ fn a_write_that_takes_nothing_has_failed(rt: HostRuntime) {
     for call in 0..whole.writes.saturating_sub(1) {
         let to = Device::new(9, Failure::MovesNothing(call));
         let outcome = decode_between(rt.alloc(), LINES, Device::sound(), to);
-        expect_device(&rt, &outcome, 0, 1);
+        expect_device(&rt, &outcome, ANSWERS, (0, 1));
     }
 }
 
@@ -222,12 +255,18 @@ fn nothing_is_read_after_the_end(rt: HostRuntime) {
 }
 
 #[test]
-fn the_writer_is_flushed_once_before_a_status(rt: HostRuntime) {
-    // One write and one flush each.
+fn a_line_is_written_and_then_flushed(rt: HostRuntime) {
     assert_eq!(rt; decode(rt.alloc(), TELEGRAM).writes, 2);
     let words: &[&str] = &["balisecheck"];
     let outcome = run_between(rt.alloc(), words, b"", Device::sound(), Device::sound());
     assert_eq!(rt; outcome.writes, 2);
+}
+
+#[test]
+fn errors_say_what_is_wrong(rt: HostRuntime) -> Result<(), Fail> {
+    assert_eq!(rt; RunError::Memory.to_string(rt.alloc())?.as_str(), "memory");
+    assert_eq!(rt; RunError::Device.to_string(rt.alloc())?.as_str(), "device");
+    Ok(())
 }
 
 #[test]
@@ -239,12 +278,10 @@ fn a_counted_device_is_asked(rt: HostRuntime) {
     let mut block = [0u8; 2];
     assert_eq!(rt; reader.read(&mut block).ok(), Some(2));
     assert!(rt; block == *b"ab");
-    let mut writer = Counted::new(Sink {
-        taken: Vec::new(rt.alloc()),
-        device: Device::new(usize::MAX, Failure::Error(1)),
-    });
+    let to = Device::new(usize::MAX, Failure::Error(1));
+    let mut writer = Counted::new(Sink::new(rt.alloc(), to));
     assert_eq!(rt; writer.write(b"abc").ok(), Some(3));
     assert!(rt; writer.flush().is_err());
     assert_eq!(rt; writer.failures(), 1);
-    assert!(rt; writer.into_inner().taken.as_slice() == b"abc".as_slice());
+    assert!(rt; writer.into_inner().taken() == b"abc".as_slice());
 }

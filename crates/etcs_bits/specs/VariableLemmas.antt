@@ -3,8 +3,8 @@ use Rattle.std.specs.Prelude.{◌≡◌, ℕ, Bool, true, false, refl}
 use Rattle.std.proofs.Common.{ap, ◌∙◌}
 use Rattle.etcs_bits.specs.declared.transmission.Transmission.{Transmission}
 use Rattle.etcs_bits.specs.declared.transmission.Transmission.TheVariants as transmissions
-use Rattle.etcs_bits.specs.declared.transmission.Medium.{Medium}
-use Rattle.etcs_bits.specs.declared.transmission.Medium.TheVariants as media
+use Rattle.etcs_bits.specs.declared.medium.Medium.{Medium}
+use Rattle.etcs_bits.specs.declared.medium.Medium.TheVariants as media
 use Rattle.etcs_bits.specs.declared.version.Version.{Version}
 use Rattle.etcs_bits.specs.declared.version.Version.TheVariants as versions
 use Rattle.etcs_bits.specs.declared.duplicate.Dup.{Dup}

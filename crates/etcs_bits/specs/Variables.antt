@@ -6,8 +6,8 @@ use Rattle.etcs_bits.specs.declared.fault.FaultKind.{FaultKind}
 use Rattle.etcs_bits.specs.declared.fault.FaultKind.TheVariants.{Spare, Version as WrongVersion, Loop, Downlink}
 use Rattle.etcs_bits.specs.declared.transmission.Transmission.{Transmission}
 use Rattle.etcs_bits.specs.declared.transmission.Transmission.TheVariants as transmissions
-use Rattle.etcs_bits.specs.declared.transmission.Medium.{Medium}
-use Rattle.etcs_bits.specs.declared.transmission.Medium.TheVariants as media
+use Rattle.etcs_bits.specs.declared.medium.Medium.{Medium}
+use Rattle.etcs_bits.specs.declared.medium.Medium.TheVariants as media
 use Rattle.etcs_bits.specs.declared.version.Version.{Version}
 use Rattle.etcs_bits.specs.declared.version.Version.TheVariants as versions
 use Rattle.etcs_bits.specs.declared.duplicate.Dup.{Dup}

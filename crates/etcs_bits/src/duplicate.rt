@@ -73,10 +73,9 @@ impl Layout for Dup {
 
     fn is_allowed(&self) -> bool
         ensures allowed { IsTrue result ↔ AreAllowed (alone m_dup (dup_number self.now)) }
-
-        // The type keeps its numbers in range.
         ensures always { result ≡ true }
     {
+        // Each value of the type has a number that is allowed.
         true
     }
 

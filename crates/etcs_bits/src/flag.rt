@@ -31,10 +31,9 @@ impl Layout for bool {
 
     fn is_allowed(&self) -> bool
         ensures allowed { IsTrue result ↔ AreAllowed (alone (plain 1) (worth self.now)) }
-
-        // The type keeps its numbers in range.
         ensures always { result ≡ true }
     {
+        // Each value of the type has a number that is allowed.
         true
     }
 

@@ -69,10 +69,9 @@ impl Layout for Version {
 
     fn is_allowed(&self) -> bool
         ensures allowed { IsTrue result ↔ AreAllowed (alone m_version (version_number self.now)) }
-
-        // The type keeps its numbers in range.
         ensures always { result ≡ true }
     {
+        // Each value of the type has a number that is allowed.
         true
     }
 

@@ -74,17 +74,21 @@ IsReason (errors.Fault f) text = IsReasonDecoded (errors.Fault f) text
 abbrev pub pads_with_zeros : List ℕ → Bool
 pads_with_zeros bytes = slice_index bytes 26 % 64 == 0
 
+-- what the bits mean
 abbrev pub of_bits : Result Telegram Fault → Result Telegram TextError
 of_bits (Ok t) = Ok t
 of_bits (Err f) = Err (errors.Fault f)
 
+-- what 27 bytes mean: pad bits are looked at first
 abbrev pub of_27_bytes : List ℕ → Result Telegram TextError
 of_27_bytes bytes =
     if pads_with_zeros bytes then of_bits (telegram_of (user_bits_in bytes)) else Err errors.PadBits
 
+-- what bytes mean: their number is looked at first
 abbrev pub of_bytes : List ℕ → Result Telegram TextError
 of_bytes bytes = if length bytes == 27 then of_27_bytes bytes else Err errors.WrongSize
 
+-- what digits mean, seen as the bytes that they spell
 abbrev pub of_decoded : Result (List ℕ) FromHexError → Result Telegram TextError
 of_decoded (Ok bytes) = of_bytes bytes
 of_decoded (Err e) = Err errors.NotHex

@@ -21,7 +21,7 @@ fn fill(bits: &mut Bits, len: usize) -> Result<(), Memory>
 }
 
 /// The telegram's user bits: 210, filled up with ones (this project's rule) behind the end mark. In
-/// this stage want of memory is the only refusal.
+/// this stage it fails only if memory runs out.
 pub fn encode(alloc: Global, telegram: &Telegram) -> Result<Bits, EncodeError>
     ensures ok { IfOk result (λ b. IsEncoding telegram.now b) }
 {

@@ -2,7 +2,8 @@
 
 use crate::{EncodeError, Header, Size, Telegram, TextError, decode, encode, from_hex, to_hex};
 use etcs_bits::{
-    Bits, Counter, Country, Dup, Fault, FaultKind, GroupNumber, Identity, Position, Total, Version,
+    Bits, Counter, Country, Cursor, Dup, Fault, FaultKind, GroupNumber, Identity, Layout, Position,
+    Total, Version,
 };
 use std::alloc::{AllocError, Global};
 use std::test::Fail;
@@ -102,6 +103,44 @@ fn texts_that_are_no_telegram_are_refused_in_order(rt: HostRuntime) -> Result<()
     let pads = "a1007f802000ffffffffffffffffffffffffffffffffffffffffc1";
     let pads = from_hex(rt.alloc(), pads.as_bytes());
     assert_eq!(rt; pads, Err(TextError::PadBits));
+    let both = "21007f802000ffffffffffffffffffffffffffffffffffffffffc1";
+    let both = from_hex(rt.alloc(), both.as_bytes());
+    assert_eq!(rt; both, Err(TextError::PadBits));
+    Ok(())
+}
+
+#[test]
+fn long_telegrams_are_not_read_yet(rt: HostRuntime) -> Result<(), Fail> {
+    let text = vec![in rt.alloc(); b'f'; 208]?;
+    let long = from_hex(rt.alloc(), text.as_slice());
+    assert_eq!(rt; long, Err(TextError::WrongSize));
+    Ok(())
+}
+
+// The record at the start of the bits, the place behind it, and its bytes.
+fn read_and_write<T: Layout>(alloc: Global, bits: &Bits) -> Result<(T, usize, Vec<u8>), Fail> {
+    let mut cur = Cursor::new(bits);
+    let record = T::read(alloc, &mut cur)?;
+    let mut again = Bits::new(alloc);
+    if record.is_allowed() {
+        record.write(&mut again)?;
+    }
+    Ok((record, cur.at(), again.to_bytes(alloc)?))
+}
+
+#[test]
+fn a_header_is_a_layout(rt: HostRuntime) -> Result<(), Fail> {
+    let bytes = [0xa1, 0x00, 0x7f, 0x80, 0x20, 0x00, 0x7f];
+    let bits = Bits::from_bytes(rt.alloc(), &bytes, 56)?;
+    let (header, end, again) = read_and_write::<Header>(rt.alloc(), &bits)?;
+    assert_eq!(rt; header.total.number(), 0);
+    assert_eq!(rt; header.counter.number(), 255);
+    assert!(rt; header.linked);
+    assert_eq!(rt; end, 50);
+    assert_eq!(rt;
+        again.as_slice(),
+        [0xa1, 0x00, 0x7f, 0x80, 0x20, 0x00, 0x40].as_slice()
+    );
     Ok(())
 }
 
@@ -113,6 +152,11 @@ fn headers_fail_at_their_first_bad_field(rt: HostRuntime) -> Result<(), Fail> {
         ("21007f802000ff", fault(0, 1, FaultKind::Downlink)),
         ("a101ff802000ff", fault(15, 17, FaultKind::Spare)),
         ("a1007f802000c5", fault(50, 58, FaultKind::Unsupported)),
+        // All of these at once.
+        ("7fffffffffffc5", fault(0, 1, FaultKind::Downlink)),
+        ("ffffffffffffc5", fault(1, 8, FaultKind::Version)),
+        ("a1ffffffffffc5", fault(8, 9, FaultKind::Loop)),
+        ("a17fffffffffc5", fault(15, 17, FaultKind::Spare)),
     ];
     for (digits, expected) in cases {
         let text = filled(rt.alloc(), digits)?;

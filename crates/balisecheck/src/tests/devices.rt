@@ -72,18 +72,41 @@ impl Read for Source<'_> {
 /// A writer that keeps what it takes.
 #[derive(Drop)]
 pub struct Sink {
-    pub taken: Vec<u8>,
-    pub device: Device,
+    taken: Vec<u8>,
+    device: Device,
+    flushes: u64,
+    // Whether the last call was a flush.
+    ends_flushed: bool,
+}
+
+impl Sink {
+    /// Nothing is taken yet.
+    pub fn new(alloc: Global, device: Device) -> Sink {
+        Sink {
+            taken: Vec::new(alloc),
+            device,
+            flushes: 0,
+            ends_flushed: false,
+        }
+    }
+
+    /// The bytes that were taken.
+    pub fn taken(&self) -> &[u8] {
+        self.taken.as_slice()
+    }
 }
 
 impl Write for Sink {
     fn write(&mut self, buf: &[u8]) -> io::Result<usize> {
+        self.ends_flushed = false;
         let count = self.device.call(buf.len())?;
         self.taken.extend_from_slice(&buf[..count])?;
         Ok(count)
     }
 
     fn flush(&mut self) -> io::Result<()> {
+        self.ends_flushed = true;
+        self.flushes = self.flushes.saturating_add(1);
         self.device.call(0)?;
         Ok(())
     }
@@ -95,7 +118,11 @@ pub struct Outcome {
     pub answer: Result<Status, RunError>,
     pub text: Vec<u8>,
     pub reads: u64,
+    /// Writes and flushes.
     pub writes: u64,
+    pub flushes: u64,
+    /// Whether the last of these calls was a flush.
+    pub ends_flushed: bool,
     pub failed_reads: u64,
     pub failed_writes: u64,
 }
@@ -112,10 +139,7 @@ pub fn run_between(
         rest: input,
         device: from,
     });
-    let mut writer = Counted::new(Sink {
-        taken: Vec::new(alloc),
-        device: to,
-    });
+    let mut writer = Counted::new(Sink::new(alloc, to));
     let answer = run(alloc, words, &mut reader, &mut writer);
     let failed_reads = reader.failures();
     let failed_writes = writer.failures();
@@ -125,6 +149,8 @@ pub fn run_between(
         answer,
         reads: source.device.calls,
         writes: sink.device.calls,
+        flushes: sink.flushes,
+        ends_flushed: sink.ends_flushed,
         text: sink.taken,
         failed_reads,
         failed_writes,

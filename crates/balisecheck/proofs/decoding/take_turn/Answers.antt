@@ -2,7 +2,7 @@ use Rattle.std.proofs.Common.{◌≡◌, ◌∙◌, ap, sym, arith, [], refl, le
 use Rattle.std.proofs.lemmas.Grind.{common_steps}
 use Rattle.std.proofs.lemmas.List.{nil_from_length}
 use Rattle.balisecheck.specs.LineReading.{line_of}
-use Rattle.balisecheck.specs.Lines.{trimmed}
+use Rattle.balisecheck.specs.TextLines.{trimmed}
 use Rattle.balisecheck.proofs.StreamLemmas.{Appends-none}
 use Rattle.balisecheck.proofs.decoding.take_turn.Goals as goal
 

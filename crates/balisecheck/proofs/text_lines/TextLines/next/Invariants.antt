@@ -2,7 +2,7 @@ use Rattle.std.proofs.Common.{◌≤◌, ◌≡◌, ◌+◌, true, length}
 use Rattle.balisecheck.specs.Counted.{budget_of, failures_of, has_ended, inner_of}
 use Rattle.balisecheck.specs.LineReading.{held_of, line_of}
 use Rattle.balisecheck.proofs.FillLemmas.{Filling}
-use Rattle.balisecheck.proofs.lines.Lines.next.Given as goal
+use Rattle.balisecheck.proofs.text_lines.TextLines.next.Given as goal
 
 abbrev pub invariant-filling : goal.invariant-filling
 invariant-filling g l = record {

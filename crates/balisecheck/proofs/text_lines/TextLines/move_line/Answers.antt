@@ -1,7 +1,7 @@
 use Rattle.std.proofs.Common.{arith, ap, rules, take, drop, ◌-◌, ℕ, List}
 use Rattle.std.proofs.lemmas.Grind.{common_steps}
 use Rattle.balisecheck.proofs.LineLemmas.{found, not_found}
-use Rattle.balisecheck.proofs.lines.Lines.move_line.Goals as goal
+use Rattle.balisecheck.proofs.text_lines.TextLines.move_line.Goals as goal
 
 -- the line grew up to the first `\n`
 pub returns-else-is_err-clause-moves : goal.returns-else-is_err-clause-moves

@@ -2,7 +2,7 @@ use Rattle.std.proofs.Common.{rules, arith, ap, ◌≡◌, ◌∙◌, ◌==◌, 
 use Rattle.balisecheck.specs.Counted.{has_ended}
 use Rattle.balisecheck.specs.LineReading.{held_of, line_of}
 use Rattle.balisecheck.proofs.FillLemmas.{Filling-cut, Filling-end, Filling-filled, Filling-moved, moved_cut, moved_on, nil_from_none}
-use Rattle.balisecheck.proofs.lines.Lines.next.Goals as goal
+use Rattle.balisecheck.proofs.text_lines.TextLines.next.Goals as goal
 
 -- all that was held went to the line, and what was read is held now
 pub filling-preserved : goal.filling-preserved

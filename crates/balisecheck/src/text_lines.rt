@@ -1,4 +1,4 @@
-//! `Lines`: the lines of a reader, read by the block.
+//! `TextLines`: the lines of a reader, read by the block.
 
 ghost use Rattle.std.specs.Prelude.{◌≤◌, ◌<◌, vec_len};
 
@@ -15,7 +15,7 @@ const ROOM: usize = 65_536;
 /// A line ends at a `\n`, which is no part of it, or at the end of the input. Its length has no
 /// limit but memory's.
 #[derive(Drop)]
-pub struct Lines {
+pub struct TextLines {
     // What the last read gave, of which `from..to` stands in no line yet.
     block: Vec<u8>,
     from: usize,
@@ -26,7 +26,7 @@ pub struct Lines {
     ghost room: { 0 < vec_len block },
 }
 
-impl Lines {
+impl TextLines {
     ghost use Rattle.std.specs.Prelude.{◌≡◌, true, [], length, IfOk, OnErr, IfErr};
     ghost use Rattle.std.specs.Io.KnownBytes.{Consumes, Keeps};
     ghost use Rattle.balisecheck.specs.Counted.{CanCount, has_ended, inner_of};
@@ -35,10 +35,10 @@ impl Lines {
     ghost use Rattle.balisecheck.specs.LineReading.{held_of, line_of};
 
     /// Nothing is read yet.
-    pub fn new(alloc: Global) -> Result<Lines, AllocError>
+    pub fn new(alloc: Global) -> Result<TextLines, AllocError>
         ensures { IfOk result (λ l. held_of l ≡ []) }
     {
-        Ok(Lines {
+        Ok(TextLines {
             block: vec![in alloc; 0; ROOM]?,
             from: 0,
             to: 0,

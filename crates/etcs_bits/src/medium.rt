@@ -1,0 +1,91 @@
+//! What sends a telegram.
+
+ghost use Rattle.std.specs.Prelude.{◌≡◌, ◌↔◌, IsTrue, IsSome, IfSome};
+
+use crate::bits::Bits;
+use crate::cursor::Cursor;
+use crate::fault::{DecodeError, FaultKind, refused};
+use crate::layout::Layout;
+use crate::memory::Memory;
+use std::alloc::Global;
+
+/// Q_MEDIA, 1 bit: what sends a telegram (SUBSET-026, 7.5.1). Only a balise (0) is read, by this
+/// project's rule; the other number is a Loop fault.
+#[derive(Clone, Copy, Debug, PartialEq, Eq)]
+pub enum Medium {
+    /// 0: a balise.
+    Balise,
+}
+
+impl Medium {
+    ghost use Rattle.etcs_bits.specs.Variables.{q_media, medium_number};
+
+    /// The value of a number; None for every number but 0.
+    #[inline]
+    pub fn new(n: u32) -> Option<Medium>
+        ensures some { IfSome result (λ v. medium_number v ≡ n) }
+        ensures allowed { IsSome result ↔ IsTrue (q_media.allows n) }
+    {
+        match n {
+            0 => Some(Medium::Balise),
+            _ => None,
+        }
+    }
+
+    /// The number of a value.
+    #[inline]
+    pub fn number(self) -> u32
+        ensures { result ≡ medium_number self }
+    {
+        match self {
+            Medium::Balise => 0,
+        }
+    }
+}
+
+#[tactic(auto, unfolding(crate::specs::Rows::alone))]
+impl Layout for Medium {
+    ghost use Rattle.std.specs.Prelude.{◌≡◌, ◌↔◌, true, IsTrue};
+    ghost use Rattle.etcs_bits.specs.Rows.{AreAllowed};
+    ghost use Rattle.etcs_bits.specs.Rows.{alone, number_at};
+    ghost use Rattle.etcs_bits.specs.Fields.{one};
+    ghost use Rattle.etcs_bits.specs.RowLemmas.{alone_rows};
+    ghost use Rattle.etcs_bits.specs.Variables.{q_media, medium_number, medium_of};
+    ghost use Rattle.etcs_bits.specs.VariableLemmas.{medium_back};
+
+    ghost rows = { λ v. alone q_media (medium_number v) };
+
+    ghost fields = { one q_media };
+
+    ghost record_of = { λ rows. medium_of (number_at 0 rows) };
+
+    ghost are_rows = { λ v. alone_rows q_media (medium_number v) };
+
+    ghost is_record = { medium_back };
+
+    fn is_allowed(&self) -> bool
+        ensures allowed { IsTrue result ↔ AreAllowed (alone q_media (medium_number self.now)) }
+        ensures always { result ≡ true }
+    {
+        // Each value of the type has a number that is allowed.
+        true
+    }
+
+    fn width(&self) -> u64 {
+        1
+    }
+
+    fn put(&self, out: &mut Bits) -> Result<(), Memory> {
+        out.push_num(1, u64::from(self.number()))
+    }
+
+    #[inline]
+    fn scan(_alloc: Global, cur: &mut Cursor<'_>) -> Result<Self, DecodeError> {
+        let at = cur.at();
+        let n = cur.take(1)?;
+        match Medium::new(n as u32) {
+            Some(medium) => Ok(medium),
+            None => Err(refused(at, cur, FaultKind::Loop)),
+        }
+    }
+}
