@@ -7,8 +7,9 @@ use crate::cursor::Cursor;
 use crate::memory::Memory;
 use thiserror::Error;
 
-/// What is wrong in the place of a field, by the standard's tables of variables, packets and messages
-/// (SUBSET-026, 7.4, 7.5 and 8.4 to 8.7) and this project's rules. The program prints the same words.
+/// What is wrong in the place of a field, by the standard's tables of variables, packets and
+/// messages (SUBSET-026, 7.4, 7.5 and 8.4 to 8.7) and this project's rules. The program prints the
+/// same words.
 #[derive(Clone, Copy, Debug, PartialEq, Eq, Error)]
 pub enum FaultKind {
     /// The field does not fit in the bits that are left.
