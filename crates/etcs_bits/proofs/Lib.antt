@@ -7,3 +7,5 @@ pub mod LayoutLemmas
 pub mod PutLemmas
 pub mod WidthLemmas
 pub mod NumeralLemmas
+pub mod ListLemmas
+pub mod SizedLemmas

@@ -4,8 +4,12 @@ pub mod Fields
 pub mod Fault
 pub mod Reading
 pub mod Layout
+pub mod Cut
+pub mod CutLemmas
 pub mod Variables
 pub mod RowLemmas
 pub mod VariableLemmas
+pub mod Combined
+pub mod CombinedLemmas
 pub mod Identity
 pub mod Laws

@@ -1,4 +1,4 @@
--- The variables of a telegram's header, by the standard's table (SUBSET-026, 7.5.1): the width of
+-- The variables of telegrams and packets, by the standard's table (SUBSET-026, 7.5.1): the width of
 -- each, its numbers, and which of them are spare. That one number alone of Q_UPDOWN and Q_MEDIA is
 -- read, and two of M_VERSION, is this project's rule.
 use Rattle.std.specs.Prelude.{ℕ, Bool, ◌==◌, ◌||◌, ◌&&◌, nat_le, nat_lt, if◌then◌else◌, false}
@@ -10,6 +10,10 @@ use Rattle.etcs_bits.specs.declared.medium.Medium.{Medium}
 use Rattle.etcs_bits.specs.declared.medium.Medium.TheVariants as media
 use Rattle.etcs_bits.specs.declared.version.Version.{Version}
 use Rattle.etcs_bits.specs.declared.version.Version.TheVariants as versions
+use Rattle.etcs_bits.specs.declared.scale.Scale.{Scale}
+use Rattle.etcs_bits.specs.declared.scale.Scale.TheVariants as scales
+use Rattle.etcs_bits.specs.declared.direction.Dir.{Dir}
+use Rattle.etcs_bits.specs.declared.direction.Dir.TheVariants as dirs
 use Rattle.etcs_bits.specs.declared.duplicate.Dup.{Dup}
 use Rattle.etcs_bits.specs.declared.duplicate.Dup.TheVariants as dups
 use Rattle.etcs_bits.specs.Rows.{Variable}
@@ -106,3 +110,38 @@ q_link = plain 1
 -- a flag of one bit: 1 is true
 abbrev pub flag_of : ℕ → Bool
 flag_of n = n == 1
+
+-- a variable of w bits, 1 to 32, whose numbers are those up to `last` and those from `from` on
+abbrev pub ranged : ℕ → ℕ → ℕ → Variable
+ranged w last from = record {
+  width = w;
+  allows = λ n. (nat_le 1 w && nat_le w 32) && (nat_le n last || nat_le from n);
+  refusal = Spare;
+  closes = false;
+}
+
+-- Q_SCALE, 2 bits: 0 is 10 cm, 1 is 1 m, 2 is 10 m, 3 is spare
+abbrev pub q_scale : Variable
+q_scale = record { width = 2; allows = λ n. nat_lt n 3; refusal = Spare; closes = false }
+
+-- the number of a scale, and the scale of a number that is allowed
+abbrev pub scale_number : Scale → ℕ
+scale_number scales.TenCentimetres = 0
+scale_number scales.Metre = 1
+scale_number scales.TenMetres = 2
+
+abbrev pub scale_of : ℕ → Scale
+scale_of n = if n == 0 then scales.TenCentimetres else (if n == 1 then scales.Metre else scales.TenMetres)
+
+-- Q_DIR, 2 bits: 0 is reverse, 1 is nominal, 2 is both, 3 is spare
+abbrev pub q_dir : Variable
+q_dir = record { width = 2; allows = λ n. nat_lt n 3; refusal = Spare; closes = false }
+
+-- the number of a direction, and the direction of a number that is allowed
+abbrev pub dir_number : Dir → ℕ
+dir_number dirs.Reverse = 0
+dir_number dirs.Nominal = 1
+dir_number dirs.Both = 2
+
+abbrev pub dir_of : ℕ → Dir
+dir_of n = if n == 0 then dirs.Reverse else (if n == 1 then dirs.Nominal else dirs.Both)

@@ -5,6 +5,7 @@ ghost use Rattle.etcs_bits.specs.declared.fault.DecodeError.TheVariants as error
 
 use crate::cursor::Cursor;
 use crate::memory::Memory;
+use std::alloc::AllocFailed;
 use thiserror::Error;
 
 /// What is wrong in the place of a field, by the standard's tables of variables, packets and
@@ -85,6 +86,14 @@ impl From<Memory> for DecodeError {
     ghost from_gives = { λ _ error. error ≡ errors.Memory };
 
     fn from(_memory: Memory) -> DecodeError {
+        DecodeError::Memory
+    }
+}
+
+impl<T: Drop> From<AllocFailed<T>> for DecodeError {
+    ghost from_gives = { λ _ error. error ≡ errors.Memory };
+
+    fn from(_failed: AllocFailed<T>) -> DecodeError {
         DecodeError::Memory
     }
 }

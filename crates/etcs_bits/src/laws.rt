@@ -1,4 +1,5 @@
 //! What holds of every record, as contracts of calls that do nothing: laws for users.
+//! Pairs, options, lists and bodies of records are records too, so the laws hold of them as well.
 
 ghost use Rattle.etcs_bits.specs.Laws.{SpellsOneRecord, NoSpellingBegins, FaultMeansNone, TellsOneFault, NumbersAreBits};
 

@@ -2,7 +2,8 @@
 //! 7.5).
 //!
 //! [`Bits`] is a list of bits, [`Cursor`] a place in one, [`Layout`] a record of variables, such as
-//! [`Version`] or [`Identity`]. Layers above stand on the contract of [`Layout::scan`]: it reads
+//! [`Version`] or [`Identity`]. Pairs, options, [`Items`] and [`Body`] make records of others
+//! (`specs/Combined.antt`). Layers above stand on the contract of [`Layout::scan`]: it reads
 //! the record that stands at the cursor, and where none does it tells the first [`Fault`]. Read
 //! `layout.rt` first, with `specs/Rows.antt`, `Fields.antt` and `Fault.antt`; what holds of every
 //! record is in [`laws`]. Left out: packets, whole telegrams and their text, and the channel coding
@@ -10,30 +11,42 @@
 #![tactic(auto)]
 
 mod bits;
+mod body;
 mod cursor;
+mod direction;
 mod duplicate;
 mod fault;
 mod flag;
 mod identity;
+mod items;
 pub mod laws;
 mod layout;
 mod medium;
 mod memory;
 mod numerals;
+mod option;
+mod pair;
 mod plain;
+mod ranged;
+mod scale;
 #[cfg(test)]
 mod tests;
 mod transmission;
 mod version;
 
 pub use bits::Bits;
+pub use body::Body;
 pub use cursor::Cursor;
+pub use direction::Dir;
 pub use duplicate::Dup;
 pub use fault::{DecodeError, Fault, FaultKind};
 pub use identity::Identity;
+pub use items::Items;
 pub use layout::Layout;
 pub use medium::Medium;
 pub use memory::Memory;
-pub use plain::{Counter, Country, GroupNumber, Plain, Position, Total};
+pub use plain::{Counter, Country, Distance, GroupNumber, Plain, Position, Time, Total};
+pub use ranged::{Ranged, ReleaseSpeed, Speed, StaticSpeed};
+pub use scale::Scale;
 pub use transmission::Transmission;
 pub use version::Version;

@@ -32,6 +32,14 @@ pub type Country = Plain<10>;
 /// NID_BG, 14 bits: the number of a balise group in its country or region.
 pub type GroupNumber = Plain<14>;
 
+/// Distances and lengths in packets, 15 bits: in the packet's scale, so up to 327,670 metres
+/// (SUBSET-026, 7.5.1).
+pub type Distance = Plain<15>;
+
+/// Times in packets 12 and 15, 10 bits: in seconds; 1023 means that there is no time-out
+/// (SUBSET-026, 7.5.1).
+pub type Time = Plain<10>;
+
 impl<const W: u32> Model for Plain<W> {
     ghost use Rattle.std.specs.Prelude.{ℕ, ◌<◌, ◌^◌, IsTrue};
     ghost use Rattle.etcs_bits.specs.Variables.{plain};

@@ -1,0 +1,19 @@
+use Rattle.std.proofs.Common.{◌≤◌, length, arith}
+use Rattle.etcs_bits.specs.Rows.{alone}
+use Rattle.etcs_bits.proofs.SizedLemmas.{AreSized, sized_place, sized_ok}
+use Rattle.etcs_bits.proofs.body.BodyLayout.scan.Goals as goal
+
+pub overflow_sub-end : goal.overflow_sub-end
+overflow_sub-end g c =
+    let within : c.args.cur.now.at ≤ length c.args.cur.now.bits = omega (arith, c.at-at.ensures.place, c.at-at.ensures.inside) in
+    let place = sized_place g.T.Layout.fields c.args.cur.now c.in_ok-length.length c.take.new.self (g.T.Layout.rows c.in_ok-content.content) c.scan.new.cur
+    (record { within = within; length_read = c.in_ok-length.ensures.exact; body_read = c.in_ok-content.ensures }) in
+    omega (arith, place, c.at-at.ensures.place, c.at-end.ensures.place)
+
+pub returns : goal.returns
+unfolding alone
+returns g c =
+    let within : c.args.cur.now.at ≤ length c.args.cur.now.bits = omega (arith, c.at-at.ensures.place, c.at-at.ensures.inside) in
+    let made : AreSized g.T.Layout.fields c.args.cur.now c.in_ok-length.length c.take.new.self (g.T.Layout.rows c.in_ok-content.content) c.scan.new.cur =
+    record { within = within; length_read = c.in_ok-length.ensures.exact; body_read = c.in_ok-content.ensures } in
+    sized_ok g.row.BEFORE g.T.Layout.fields c.args.cur.now c.in_ok-length.length c.take.new.self (g.T.Layout.rows c.in_ok-content.content) c.scan.new.cur made (omega arith)

@@ -1,0 +1,88 @@
+-- Proofs of the laws of `Layout` for records that are made of others.
+use Rattle.std.specs.Prelude.{◌≡◌, ℕ, List, [], ◌∷◌, length, refl, Some, None}
+use Rattle.std.specs.List.{flat_map}
+use Rattle.std.proofs.Common.{ap, ap₂}
+use Rattle.etcs_bits.specs.Rows.{Row, alone}
+use Rattle.etcs_bits.specs.Fields.{Fields, ◌▹◌, sized, option, times, counted, AreRowsOf}
+use Rattle.etcs_bits.specs.CutLemmas.{cut_whole}
+use Rattle.etcs_bits.specs.Combined.{qualifier, n_iter, pair_rows, pair_of, option_rows, option_of, counted_rows, items_of, counted_of, body_rows, body_of}
+
+-- the rows of each record are a whole list of its fields
+abbrev pub HaveFields : {X : Type 0} → Fields → (X → List Row) → Type 0
+HaveFields {X} fields rows = (x : X) → AreRowsOf fields (rows x)
+
+-- each record is the one of its rows
+abbrev pub AreOf : {X : Type 0} → (List Row → X) → (X → List Row) → Type 0
+AreOf {X} of rows = (x : X) → of (rows x) ≡ x
+
+-- ---- a pair
+
+abbrev pair : {A B : Type 0} → A → B → A × B
+pair a b = (a, b)
+
+pub pair_are_rows : {A B : Type 0} (a b : Fields) (rows_a : A → List Row) (rows_b : B → List Row)
+    → HaveFields a rows_a → HaveFields b rows_b → HaveFields (a ▹ b) (pair_rows rows_a rows_b)
+pair_are_rows a b rows_a rows_b have_a have_b p =
+    (rows_a p.0, rows_b p.1, refl, have_a p.0, have_b p.1)
+
+pub pair_record : {A B : Type 0} (a : Fields) (rows_a : A → List Row) (rows_b : B → List Row)
+    (of_a : List Row → A) (of_b : List Row → B)
+    → HaveFields a rows_a → AreOf of_a rows_a → AreOf of_b rows_b
+    → AreOf (pair_of a of_a of_b) (pair_rows rows_a rows_b)
+pair_record {A = A} {B = B} a rows_a rows_b of_a of_b have is_a is_b p =
+    rw (cut_whole a (rows_a p.0) (rows_b p.1) (have p.0))
+    (ap₂ (λ (x : A) (y : B). pair x y) (is_a p.0) (is_b p.1))
+
+-- ---- an option
+
+pub option_are_rows : {X : Type 0} (fields : Fields) (rows : X → List Row)
+    → HaveFields fields rows → HaveFields (option qualifier fields) (option_rows rows)
+unfolding alone
+option_are_rows fields rows have None = (0, [], refl, refl)
+option_are_rows fields rows have (Some x) = (1, rows x, refl, have x)
+
+pub option_record : {X : Type 0} (rows : X → List Row) (of : List Row → X)
+    → AreOf of rows → AreOf (option_of of) (option_rows rows)
+unfolding alone
+option_record rows of is None = refl
+option_record rows of is (Some x) = ap Some (is x)
+
+-- ---- a counted list
+
+times_rows : {X : Type 0} (fields : Fields) (rows : X → List Row)
+    → HaveFields fields rows → (xs : List X) → AreRowsOf (times (length xs) fields) (flat_map rows xs)
+times_rows fields rows have [] = refl
+times_rows fields rows have (x ∷ xs) =
+    (rows x, flat_map rows xs, refl, have x, times_rows fields rows have xs)
+
+pub counted_are_rows : {X : Type 0} (fields : Fields) (rows : X → List Row)
+    → HaveFields fields rows → HaveFields (counted n_iter fields) (counted_rows rows)
+unfolding alone
+counted_are_rows fields rows have xs =
+    (length xs, flat_map rows xs, refl, times_rows fields rows have xs)
+
+items_are : {X : Type 0} (fields : Fields) (rows : X → List Row) (of : List Row → X)
+    → HaveFields fields rows → AreOf of rows
+    → (xs : List X) → items_of fields of (length xs) (flat_map rows xs) ≡ xs
+unfolding items_of
+items_are fields rows of have is [] = refl
+items_are {X = X} fields rows of have is (x ∷ xs) =
+    rw (cut_whole fields (rows x) (flat_map rows xs) (have x))
+    (ap₂ (λ (y : X) (ys : List X). y ∷ ys) (is x) (items_are fields rows of have is xs))
+
+pub counted_record : {X : Type 0} (fields : Fields) (rows : X → List Row) (of : List Row → X)
+    → HaveFields fields rows → AreOf of rows → AreOf (counted_of fields of) (counted_rows rows)
+unfolding alone
+counted_record fields rows of have is xs = items_are fields rows of have is xs
+
+-- ---- a packet's body
+
+pub body_are_rows : {X : Type 0} (before : ℕ) (fields : Fields) (rows : X → List Row)
+    → HaveFields fields rows → HaveFields (sized before fields) (body_rows before rows)
+unfolding alone
+body_are_rows before fields rows have x = (rows x, refl, have x)
+
+pub body_record : {X : Type 0} (before : ℕ) (rows : X → List Row) (of : List Row → X)
+    → AreOf of rows → AreOf (body_of of) (body_rows before rows)
+unfolding alone
+body_record before rows of is x = is x

@@ -1,0 +1,18 @@
+-- The record that rows begin with, found by its table of fields alone: where a whole list of the
+-- fields ends, other rows may follow.
+use Rattle.std.specs.Prelude.{List, [], ◌∷◌, ◌++◌}
+use Rattle.etcs_bits.specs.Rows.{Row}
+use Rattle.etcs_bits.specs.Fields.{Fields, nothing, field, ◌▹◌, sized}
+
+-- the rows of these fields at the front, and the rows behind them
+unfoldable pub cut : Fields → List Row → List Row × List Row
+cut nothing rows = ([], rows)
+cut (field x next) [] = ([], [])
+cut (field x next) (r ∷ rows) =
+    let more = cut (next r.number) rows in (r ∷ more.0, more.1)
+cut (a ▹ b) rows =
+    let first = cut a rows in
+    let second = cut b first.1 in
+    (first.0 ++ second.0, second.1)
+cut (sized before body) [] = ([], [])
+cut (sized before body) (r ∷ rows) = let more = cut body rows in (r ∷ more.0, more.1)

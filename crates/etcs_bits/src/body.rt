@@ -1,0 +1,91 @@
+//! A packet's body, behind the length that the packet says of itself.
+
+use crate::bits::Bits;
+use crate::cursor::Cursor;
+use crate::fault::{DecodeError, Fault, FaultKind};
+use crate::layout::Layout;
+use crate::memory::Memory;
+use std::alloc::Global;
+use std::marker::Model;
+
+/// L_PACKET, 13 bits, and the record behind it. L_PACKET counts all bits of the packet: the `BEFORE`
+/// that stand before it, its own and the record's (SUBSET-026, 7.4 and 7.5.1); another number is a
+/// Length fault at L_PACKET, told behind the record's last field. A packet of more than 8,191 bits
+/// is not allowed. Contracts see the record.
+#[derive(Debug, Drop)]
+pub struct Body<const BEFORE: u32, T> {
+    content: T,
+}
+
+impl<const BEFORE: u32, T> Model for Body<BEFORE, T> {
+    ghost Value = { T };
+
+    ghost view = { λ b. b.content };
+}
+
+impl<const BEFORE: u32, T> Body<BEFORE, T> {
+    ghost use Rattle.std.specs.Prelude.{◌≡◌};
+
+    /// The body that is this record; where the packet has more than 8,191 bits, it is not allowed.
+    #[inline]
+    pub fn new(content: T) -> Self
+        ensures { result ≡ content }
+    {
+        // A record that is too long makes a body too: `is_allowed` refuses it.
+        Body { content }
+    }
+
+    /// The record behind L_PACKET.
+    #[inline]
+    pub fn content(&self) -> &T
+        ensures { result.now ≡ self.now }
+    {
+        &self.content
+    }
+}
+
+#[tactic(auto, using(crate::proofs::PutLemmas::puts_bits), unfolding(crate::specs::Rows::alone))]
+impl<const BEFORE: u32, T: Layout> Layout for Body<BEFORE, T> {
+    ghost use Rattle.etcs_bits.specs.Fields.{sized};
+    ghost use Rattle.etcs_bits.specs.Combined.{body_rows, body_of};
+    ghost use Rattle.etcs_bits.specs.CombinedLemmas.{body_are_rows, body_record};
+
+    ghost rows = { body_rows BEFORE T.rows };
+
+    ghost fields = { sized BEFORE T.fields };
+
+    ghost record_of = { body_of T.record_of };
+
+    ghost are_rows = { body_are_rows BEFORE T.fields T.rows T.are_rows };
+
+    ghost is_record = { body_record BEFORE T.rows T.record_of T.is_record };
+
+    fn is_allowed(&self) -> bool {
+        self.width().saturating_add(u64::from(BEFORE)) < 8192 && self.content.is_allowed()
+    }
+
+    fn width(&self) -> u64 {
+        self.content.width().saturating_add(13)
+    }
+
+    fn put(&self, out: &mut Bits) -> Result<(), Memory> {
+        out.push_num(13, self.width() + u64::from(BEFORE))?;
+        self.content.put(out)
+    }
+
+    fn scan(alloc: Global, cur: &mut Cursor<'_>) -> Result<Self, DecodeError> {
+        let at = cur.at();
+        let length = cur.take(13)?;
+        let content = T::scan(alloc, cur)?;
+        let end = cur.at();
+        let before = u64::from(BEFORE);
+        if length < before || length - before != (end - at) as u64 {
+            return Err(DecodeError::Fault(Fault {
+                at,
+                end,
+                why: FaultKind::Length,
+            }));
+        }
+        Ok(Body { content })
+    }
+}

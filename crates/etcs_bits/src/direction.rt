@@ -1,0 +1,99 @@
+//! For which running direction a packet is.
+
+ghost use Rattle.std.specs.Prelude.{◌≡◌, ◌↔◌, IsTrue, IsSome, IfSome};
+
+use crate::bits::Bits;
+use crate::cursor::Cursor;
+use crate::fault::{DecodeError, FaultKind, refused};
+use crate::layout::Layout;
+use crate::memory::Memory;
+use std::alloc::Global;
+
+/// Q_DIR, 2 bits: for which running directions a packet is, seen from the group that sends it
+/// (SUBSET-026, 7.5.1). 3 is spare: a Spare fault.
+#[derive(Clone, Copy, Debug, PartialEq, Eq)]
+pub enum Dir {
+    /// 0: for trains that pass the group in reverse direction.
+    Reverse,
+    /// 1: for trains that pass it in nominal direction.
+    Nominal,
+    /// 2: for both.
+    Both,
+}
+
+impl Dir {
+    ghost use Rattle.etcs_bits.specs.Variables.{q_dir, dir_number};
+
+    /// The direction of a number; None from 3 on.
+    #[inline]
+    pub fn new(n: u32) -> Option<Dir>
+        ensures some { IfSome result (λ v. dir_number v ≡ n) }
+        ensures allowed { IsSome result ↔ IsTrue (q_dir.allows n) }
+    {
+        match n {
+            0 => Some(Dir::Reverse),
+            1 => Some(Dir::Nominal),
+            2 => Some(Dir::Both),
+            _ => None,
+        }
+    }
+
+    /// The number of a direction.
+    #[inline]
+    pub fn number(self) -> u32
+        ensures { result ≡ dir_number self }
+    {
+        match self {
+            Dir::Reverse => 0,
+            Dir::Nominal => 1,
+            Dir::Both => 2,
+        }
+    }
+}
+
+#[tactic(auto, unfolding(crate::specs::Rows::alone))]
+impl Layout for Dir {
+    ghost use Rattle.std.specs.Prelude.{◌≡◌, ◌↔◌, true, IsTrue};
+    ghost use Rattle.etcs_bits.specs.Rows.{AreAllowed};
+    ghost use Rattle.etcs_bits.specs.Rows.{alone, number_at};
+    ghost use Rattle.etcs_bits.specs.Fields.{one};
+    ghost use Rattle.etcs_bits.specs.RowLemmas.{alone_rows};
+    ghost use Rattle.etcs_bits.specs.Variables.{q_dir, dir_number, dir_of};
+    ghost use Rattle.etcs_bits.specs.VariableLemmas.{dir_record};
+
+    ghost rows = { λ v. alone q_dir (dir_number v) };
+
+    ghost fields = { one q_dir };
+
+    ghost record_of = { λ rows. dir_of (number_at 0 rows) };
+
+    ghost are_rows = { λ v. alone_rows q_dir (dir_number v) };
+
+    ghost is_record = { dir_record };
+
+    fn is_allowed(&self) -> bool
+        ensures allowed { IsTrue result ↔ AreAllowed (alone q_dir (dir_number self.now)) }
+        ensures always { result ≡ true }
+    {
+        // Each value of the type has a number that is allowed.
+        true
+    }
+
+    fn width(&self) -> u64 {
+        2
+    }
+
+    fn put(&self, out: &mut Bits) -> Result<(), Memory> {
+        out.push_num(2, u64::from(self.number()))
+    }
+
+    #[inline]
+    fn scan(_alloc: Global, cur: &mut Cursor<'_>) -> Result<Self, DecodeError> {
+        let at = cur.at();
+        let n = cur.take(2)?;
+        match Dir::new(n as u32) {
+            Some(dir) => Ok(dir),
+            None => Err(refused(at, cur, FaultKind::Spare)),
+        }
+    }
+}

@@ -1,0 +1,148 @@
+//! A list behind its count.
+
+ghost use Rattle.std.specs.Prelude.{◌≡◌, ◌↔◌, min, length, IsTrue, IfOk};
+ghost use Rattle.std.specs.List.{flat_map};
+ghost use Rattle.etcs_bits.specs.Rows.{AreAllowed, join, width};
+ghost use Rattle.etcs_bits.specs.Fields.{times};
+ghost use Rattle.etcs_bits.specs.Reading.{rows_at};
+ghost use Rattle.etcs_bits.specs.Layout.{Gives, Puts};
+
+use crate::bits::Bits;
+use crate::cursor::Cursor;
+use crate::fault::DecodeError;
+use crate::layout::Layout;
+use crate::memory::Memory;
+use std::alloc::Global;
+use std::marker::Model;
+
+/// The items behind N_ITER, 5 bits, which says how many they are, such as the sections of a packet
+/// (SUBSET-026, 7.4 and 7.5.1). A list of more than 31 is not allowed. Contracts see it as a list.
+#[derive(Debug, Drop)]
+pub struct Items<T> {
+    items: Vec<T>,
+}
+
+impl<T> Model for Items<T> {
+    ghost use Rattle.std.specs.Prelude.{List};
+
+    ghost Value = { List T };
+
+    ghost view = { λ l. l.items.items };
+}
+
+impl<T> Items<T> {
+    /// The list of these items, in this order; with more than 31 it is not allowed.
+    #[inline]
+    pub fn new(items: Vec<T>) -> Items<T>
+        ensures { result ≡ items.items }
+    {
+        // More than 31 make a list too: `is_allowed` refuses it.
+        Items { items }
+    }
+
+    /// The items, in order, without their count.
+    #[inline]
+    pub fn as_slice(&self) -> &[T]
+        ensures { result.now ≡ self.now }
+    {
+        // Their count, N_ITER, is not one of them.
+        self.items.as_slice()
+    }
+}
+
+// Whether each item is allowed.
+fn are_allowed<T: Layout>(items: &[T]) -> bool
+    ensures { IsTrue result ↔ AreAllowed (flat_map T.rows items.now) }
+{
+    'items: for item in items {
+        if !item.is_allowed() {
+            return false;
+        }
+    }
+    true
+}
+
+// How many bits the items have.
+fn width_of<T: Layout>(items: &[T]) -> u64
+    ensures { result ≡ min (width (flat_map T.rows items.now)) u64.MAX }
+{
+    let mut sum = 0u64;
+    'items: for item in items {
+        sum = sum.saturating_add(item.width());
+    }
+    sum
+}
+
+// Appends the spelling of each item.
+fn put_items<T: Layout>(items: &[T], out: &mut Bits) -> Result<(), Memory>
+    requires { AreAllowed (flat_map T.rows items.now) }
+    ensures { Puts (join (flat_map T.rows items.now)) result out.old out.new }
+{
+    'items: for item in items {
+        item.put(out)?;
+    }
+    Ok(())
+}
+
+// Reads so many items.
+fn scan_items<T: Layout>(
+    alloc: Global,
+    count: u64,
+    cur: &mut Cursor<'_>,
+) -> Result<Vec<T>, DecodeError>
+    ensures gives { Gives (λ v. flat_map T.rows v.items) result
+        (rows_at (times count T.fields) cur.old) cur.new }
+    ensures count { IfOk result (λ v. length v.items ≡ count) }
+{
+    let mut items = Vec::new(alloc);
+    'items: for _ in 0..count {
+        let item = T::scan(alloc, cur)?;
+        items.push(item)?;
+    }
+    Ok(items)
+}
+
+#[tactic(auto, using(crate::proofs::PutLemmas::puts_bits), unfolding(crate::specs::Rows::alone))]
+impl<T: Layout> Layout for Items<T> {
+    ghost use Rattle.std.specs.Prelude.{◌<◌, length, IfOk};
+    ghost use Rattle.etcs_bits.specs.Fields.{counted};
+    ghost use Rattle.etcs_bits.specs.Reading.{rows_at};
+    ghost use Rattle.etcs_bits.specs.Layout.{Gives};
+    ghost use Rattle.etcs_bits.specs.Combined.{n_iter, counted_rows, counted_of};
+    ghost use Rattle.etcs_bits.specs.CombinedLemmas.{counted_are_rows, counted_record};
+
+    ghost rows = { counted_rows T.rows };
+
+    ghost fields = { counted n_iter T.fields };
+
+    ghost record_of = { counted_of T.fields T.record_of };
+
+    ghost are_rows = { counted_are_rows T.fields T.rows T.are_rows };
+
+    ghost is_record = { counted_record T.fields T.rows T.record_of T.are_rows T.is_record };
+
+    fn is_allowed(&self) -> bool {
+        self.items.len() < 32 && are_allowed(self.items.as_slice())
+    }
+
+    fn width(&self) -> u64 {
+        width_of(self.items.as_slice()).saturating_add(5)
+    }
+
+    fn put(&self, out: &mut Bits) -> Result<(), Memory> {
+        out.push_num(5, self.items.len() as u64)?;
+        put_items(self.items.as_slice(), out)
+    }
+
+    fn scan(alloc: Global, cur: &mut Cursor<'_>) -> Result<Self, DecodeError>
+        ensures gives { Gives (counted_rows T.rows) result
+            (rows_at (counted n_iter T.fields) cur.old) cur.new }
+
+        // The count has five bits.
+        ensures few { IfOk result (λ l. length l < 32) }
+    {
+        let count = cur.take(5)?;
+        let items = scan_items(alloc, count, cur)?;
+        Ok(Items { items })
+    }
+}

@@ -1,0 +1,61 @@
+//! A record that is there only where the qualifier before it says so.
+
+use crate::bits::Bits;
+use crate::cursor::Cursor;
+use crate::fault::DecodeError;
+use crate::layout::Layout;
+use crate::memory::Memory;
+use std::alloc::Global;
+
+/// A record behind a qualifier of one bit, such as Q_OVERLAP: 1 where the record follows, 0 where
+/// it does not (SUBSET-026, 7.4). Its faults are Short at the qualifier, and those of the record.
+#[tactic(auto, using(crate::proofs::PutLemmas::puts_bits), unfolding(crate::specs::Rows::alone))]
+impl<T: Layout> Layout for Option<T> {
+    ghost use Rattle.etcs_bits.specs.Fields.{option};
+    ghost use Rattle.etcs_bits.specs.Combined.{qualifier, option_rows, option_of};
+    ghost use Rattle.etcs_bits.specs.CombinedLemmas.{option_are_rows, option_record};
+
+    ghost rows = { option_rows T.rows };
+
+    ghost fields = { option qualifier T.fields };
+
+    ghost record_of = { option_of T.record_of };
+
+    ghost are_rows = { option_are_rows T.fields T.rows T.are_rows };
+
+    ghost is_record = { option_record T.rows T.record_of T.is_record };
+
+    fn is_allowed(&self) -> bool {
+        match self {
+            None => true,
+            Some(record) => record.is_allowed(),
+        }
+    }
+
+    fn width(&self) -> u64 {
+        match self {
+            None => 1,
+            Some(record) => record.width().saturating_add(1),
+        }
+    }
+
+    fn put(&self, out: &mut Bits) -> Result<(), Memory> {
+        match self {
+            None => out.push_num(1, 0),
+            Some(record) => {
+                out.push_num(1, 1)?;
+                record.put(out)
+            }
+        }
+    }
+
+    #[inline]
+    fn scan(alloc: Global, cur: &mut Cursor<'_>) -> Result<Self, DecodeError> {
+        if cur.take(1)? == 1 {
+            let record = T::scan(alloc, cur)?;
+            Ok(Some(record))
+        } else {
+            Ok(None)
+        }
+    }
+}

@@ -1,0 +1,49 @@
+//! Two records, one after the other.
+
+use crate::bits::Bits;
+use crate::cursor::Cursor;
+use crate::fault::DecodeError;
+use crate::layout::Layout;
+use crate::memory::Memory;
+use std::alloc::Global;
+
+/// Two records, one after the other without a gap (SUBSET-026, 7.4). The fault of the first comes
+/// first.
+#[tactic(auto, using(crate::proofs::PutLemmas::puts_then, crate::proofs::PutLemmas::allowed_both))]
+impl<A: Layout, B: Layout> Layout for (A, B) {
+    ghost use Rattle.etcs_bits.specs.Fields.{◌▹◌};
+    ghost use Rattle.etcs_bits.specs.Combined.{pair_rows, pair_of};
+    ghost use Rattle.etcs_bits.specs.CombinedLemmas.{pair_are_rows, pair_record};
+
+    ghost rows = { pair_rows A.rows B.rows };
+
+    ghost fields = { A.fields ▹ B.fields };
+
+    ghost record_of = { pair_of A.fields A.record_of B.record_of };
+
+    ghost are_rows = { pair_are_rows A.fields B.fields A.rows B.rows A.are_rows B.are_rows };
+
+    ghost is_record = { pair_record A.fields A.rows B.rows A.record_of B.record_of A.are_rows
+        A.is_record B.is_record };
+
+    fn is_allowed(&self) -> bool {
+        self.0.is_allowed() && self.1.is_allowed()
+    }
+
+    #[tactic(auto, using(crate::proofs::WidthLemmas::width_both))]
+    fn width(&self) -> u64 {
+        self.0.width().saturating_add(self.1.width())
+    }
+
+    fn put(&self, out: &mut Bits) -> Result<(), Memory> {
+        self.0.put(out)?;
+        self.1.put(out)
+    }
+
+    #[inline]
+    fn scan(alloc: Global, cur: &mut Cursor<'_>) -> Result<Self, DecodeError> {
+        let first = A::scan(alloc, cur)?;
+        let second = B::scan(alloc, cur)?;
+        Ok((first, second))
+    }
+}

@@ -1,0 +1,99 @@
+//! In which unit a packet gives its distances.
+
+ghost use Rattle.std.specs.Prelude.{◌≡◌, ◌↔◌, IsTrue, IsSome, IfSome};
+
+use crate::bits::Bits;
+use crate::cursor::Cursor;
+use crate::fault::{DecodeError, FaultKind, refused};
+use crate::layout::Layout;
+use crate::memory::Memory;
+use std::alloc::Global;
+
+/// Q_SCALE, 2 bits: the unit of all distances in a packet (SUBSET-026, 7.5.1). 3 is spare: a Spare
+/// fault.
+#[derive(Clone, Copy, Debug, PartialEq, Eq)]
+pub enum Scale {
+    /// 0: 10 centimetres.
+    TenCentimetres,
+    /// 1: 1 metre.
+    Metre,
+    /// 2: 10 metres.
+    TenMetres,
+}
+
+impl Scale {
+    ghost use Rattle.etcs_bits.specs.Variables.{q_scale, scale_number};
+
+    /// The unit of a number; None from 3 on.
+    #[inline]
+    pub fn new(n: u32) -> Option<Scale>
+        ensures some { IfSome result (λ v. scale_number v ≡ n) }
+        ensures allowed { IsSome result ↔ IsTrue (q_scale.allows n) }
+    {
+        match n {
+            0 => Some(Scale::TenCentimetres),
+            1 => Some(Scale::Metre),
+            2 => Some(Scale::TenMetres),
+            _ => None,
+        }
+    }
+
+    /// The number of a unit.
+    #[inline]
+    pub fn number(self) -> u32
+        ensures { result ≡ scale_number self }
+    {
+        match self {
+            Scale::TenCentimetres => 0,
+            Scale::Metre => 1,
+            Scale::TenMetres => 2,
+        }
+    }
+}
+
+#[tactic(auto, unfolding(crate::specs::Rows::alone))]
+impl Layout for Scale {
+    ghost use Rattle.std.specs.Prelude.{◌≡◌, ◌↔◌, true, IsTrue};
+    ghost use Rattle.etcs_bits.specs.Rows.{AreAllowed};
+    ghost use Rattle.etcs_bits.specs.Rows.{alone, number_at};
+    ghost use Rattle.etcs_bits.specs.Fields.{one};
+    ghost use Rattle.etcs_bits.specs.RowLemmas.{alone_rows};
+    ghost use Rattle.etcs_bits.specs.Variables.{q_scale, scale_number, scale_of};
+    ghost use Rattle.etcs_bits.specs.VariableLemmas.{scale_record};
+
+    ghost rows = { λ v. alone q_scale (scale_number v) };
+
+    ghost fields = { one q_scale };
+
+    ghost record_of = { λ rows. scale_of (number_at 0 rows) };
+
+    ghost are_rows = { λ v. alone_rows q_scale (scale_number v) };
+
+    ghost is_record = { scale_record };
+
+    fn is_allowed(&self) -> bool
+        ensures allowed { IsTrue result ↔ AreAllowed (alone q_scale (scale_number self.now)) }
+        ensures always { result ≡ true }
+    {
+        // Each value of the type has a number that is allowed.
+        true
+    }
+
+    fn width(&self) -> u64 {
+        2
+    }
+
+    fn put(&self, out: &mut Bits) -> Result<(), Memory> {
+        out.push_num(2, u64::from(self.number()))
+    }
+
+    #[inline]
+    fn scan(_alloc: Global, cur: &mut Cursor<'_>) -> Result<Self, DecodeError> {
+        let at = cur.at();
+        let n = cur.take(2)?;
+        match Scale::new(n as u32) {
+            Some(scale) => Ok(scale),
+            None => Err(refused(at, cur, FaultKind::Spare)),
+        }
+    }
+}
