@@ -1,0 +1,24 @@
+-- What a constructor answers.
+use Rattle.std.specs.Prelude.{◌≡◌, ℕ, ◌<◌, List, Result, Ok, Err}
+use Rattle.etcs_bits.specs.declared.direction.Dir.{Dir}
+use Rattle.etcs_bits.specs.Rows.{Row, width}
+use Rattle.etcs_profile.specs.declared.error.BuildError.{BuildError}
+use Rattle.etcs_profile.specs.declared.error.BuildError.TheVariants as errors
+use Rattle.etcs_profile.specs.Packet.{packet_rows}
+use Rattle.etcs_profile.specs.Profile.{Profile}
+use Rattle.etcs_profile.specs.Elements.{elements_rows}
+
+-- why a packet is refused is so, and what is looked for before is not
+abbrev pub IsReason : BuildError → Type 0 → Type 0 → Type 0
+IsReason errors.TooMany many long = many
+IsReason errors.TooLong many long = (many → ⊥) × long
+
+-- The packet is the one that was given, and neither has too many items nor too many bits; or why it
+-- is refused is so.
+abbrev pub IsBuilt : {X : Type 0} → Result X BuildError → X → Type 0 → Type 0 → Type 0
+IsBuilt (Ok x) given many long = (x ≡ given) × (many → ⊥) × (long → ⊥)
+IsBuilt (Err e) given many long = IsReason e many long
+
+-- the packet has more bits than L_PACKET, 13 bits, can count
+abbrev pub IsTooLong : {X : Type 0} → ℕ → (X → List Row) → Dir × Profile X → Type 0
+IsTooLong k rows p = 8191 < width (packet_rows k (elements_rows rows) p)

@@ -1,0 +1,94 @@
+-- Packet 27, static speed profile (SUBSET-026, 7.4.2): from each place on how fast trains may go.
+use Rattle.std.specs.Prelude.{◌≡◌, ◌≤◌, ℕ, Bool, List, ◌∷◌, ◌++◌, length, drop, refl}
+use Rattle.std.proofs.Common.{ap, ap₂}
+use Rattle.etcs_bits.specs.Number.{worth}
+use Rattle.etcs_bits.specs.Rows.{Variable, Row, alone, number_at}
+use Rattle.etcs_bits.specs.Fields.{Fields, one, ◌▹◌, counted, AreRowsOf}
+use Rattle.etcs_bits.specs.RowLemmas.{HasRows, then_has, alone_has}
+use Rattle.etcs_bits.specs.Combined.{n_iter, counted_rows, counted_of}
+use Rattle.etcs_bits.specs.CombinedLemmas.{counted_are_rows, counted_record}
+use Rattle.etcs_bits.specs.Variables.{plain, ranged, flag_of}
+use Rattle.etcs_bits.specs.VariableLemmas.{flag_back}
+use Rattle.etcs_profile.specs.declared.speed.Difference.{Difference}
+use Rattle.etcs_profile.specs.declared.speed.SpeedElement.{SpeedElement}
+
+-- D_STATIC, 15 bits: the distance from the element before
+abbrev pub d_static : Variable
+d_static = plain 15
+
+-- V_STATIC, 7 bits: the speed in steps of 5 km/h, 0 to 120; 127 is the end mark
+abbrev pub v_static : Variable
+v_static = ranged 7 120 127
+
+-- Q_FRONT, 1 bit: 1 where a rise of the speed is for the front of the train already
+abbrev pub q_front : Variable
+q_front = plain 1
+
+-- Q_DIFF, 2 bits: 0, 1 and 2 say for which trains a difference is; 3 is spare
+abbrev pub q_diff : Variable
+q_diff = ranged 2 2 4
+
+-- NC_CDDIFF where Q_DIFF is 0, NC_DIFF where it is 1 or 2: 4 bits either way, the category of train
+abbrev pub nc_diff : Variable
+nc_diff = plain 4
+
+-- V_DIFF, 7 bits: the speed in steps of 5 km/h, 0 to 120
+abbrev pub v_diff : Variable
+v_diff = ranged 7 120 128
+
+-- the fields and the rows of a difference, and the difference of three rows
+abbrev pub difference_fields : Fields
+difference_fields = one q_diff ▹ one nc_diff ▹ one v_diff
+
+abbrev pub difference_rows : Difference → List Row
+difference_rows d = alone q_diff d.kind ++ (alone nc_diff d.category ++ alone v_diff d.speed)
+
+abbrev pub difference_of : List Row → Difference
+difference_of rows = record {
+  kind = number_at 0 rows;
+  category = number_at 1 rows;
+  speed = number_at 2 rows;
+}
+
+-- the fields and the rows of an element
+abbrev pub speed_element_fields : Fields
+speed_element_fields = one d_static ▹ one v_static ▹ one q_front ▹ counted n_iter difference_fields
+
+abbrev pub speed_element_rows : SpeedElement → List Row
+speed_element_rows e =
+    alone d_static e.distance
+    ++ (alone v_static e.speed
+    ++ (alone q_front (worth e.front)
+    ++ counted_rows difference_rows e.differences))
+
+-- the element of rows
+abbrev pub speed_element_of : List Row → SpeedElement
+speed_element_of rows = record {
+  distance = number_at 0 rows;
+  speed = number_at 1 rows;
+  front = flag_of (number_at 2 rows);
+  differences = counted_of difference_fields difference_of (drop 3 rows);
+}
+
+-- ---- proofs of the laws of `Layout`
+
+pub difference_are_rows : (d : Difference) → AreRowsOf difference_fields (difference_rows d)
+difference_are_rows d = (then_has (alone_has _ _) (then_has (alone_has _ _) (alone_has _ _))).whole
+
+pub difference_record : (d : Difference) → difference_of (difference_rows d) ≡ d
+unfolding alone
+difference_record d = refl
+
+differences_have : (ds : List Difference) → HasRows (counted n_iter difference_fields) (counted_rows difference_rows ds)
+differences_have ds = record { whole = counted_are_rows difference_fields difference_rows difference_are_rows ds }
+
+pub speed_element_are_rows : (e : SpeedElement)
+    → AreRowsOf speed_element_fields (speed_element_rows e)
+speed_element_are_rows e =
+    (then_has (alone_has _ _) (then_has (alone_has _ _) (then_has (alone_has _ _) (differences_have e.differences)))).whole
+
+pub speed_element_record : (e : SpeedElement) → speed_element_of (speed_element_rows e) ≡ e
+unfolding alone
+speed_element_record e =
+    ap₂ (λ (f : Bool) (ds : List Difference). record { distance = e.distance; speed = e.speed; front = f; differences = ds })
+    (flag_back e.front) (counted_record difference_fields difference_rows difference_of difference_are_rows difference_record e.differences)

@@ -1,0 +1,23 @@
+//! An element of a profile.
+
+ghost use Rattle.std.specs.Prelude.{◌≡◌, ◌<◌, ℕ, Bool};
+
+use etcs_bits::Layout;
+
+/// An element of a profile: something that is told from a place on (SUBSET-026, 7.4.2).
+pub trait Element: Layout {
+    /// The number of its distance.
+    ghost distance_of: { Self → ℕ };
+
+    /// Whether it is marked as the end.
+    ghost marked: { Self → Bool };
+
+    /// How far it is from the element before, in the packet's scale.
+    fn distance(&self) -> u32
+        ensures number { result ≡ distance_of self.now }
+        ensures small { result < 32768 };
+
+    /// Whether it marks the end of the profile.
+    fn is_end(&self) -> bool
+        ensures { result ≡ marked self.now };
+}

@@ -1,0 +1,156 @@
+//! What a packet tells along the track.
+
+ghost use Rattle.std.specs.Prelude.{◌≡◌, ◌<◌, ◌≤◌, ◌*◌, length, IfSome};
+ghost use Rattle.etcs_profile.specs.Reach.{way_to_mark};
+
+use crate::element::Element;
+use crate::error::BuildError;
+use crate::factor::factor;
+use crate::reach::Reach;
+use etcs_bits::{Bits, Cursor, DecodeError, Items, Layout, Memory, Scale};
+use std::alloc::Global;
+use std::marker::Model;
+
+/// A scale, a first element and further ones: the body of the packets that tell something along the
+/// track (SUBSET-026, 7.4.2). Each element's distance is from the one before it, the first one's
+/// from the group that sends the packet.
+#[derive(Debug, Drop)]
+pub struct Elements<T> {
+    scale: Scale,
+    first: T,
+    further: Items<T>,
+}
+
+impl<T> Model for Elements<T> {
+    ghost use Rattle.std.specs.Prelude.{◌<◌, length};
+    ghost use Rattle.etcs_profile.specs.Profile.{Profile};
+
+    ghost Value = { Profile T };
+
+    ghost view = { λ e. record { scale = e.scale; first = e.first; further = e.further } };
+
+    ghost invariant = { λ e. length e.further < 32 };
+}
+
+impl<T: Drop> Elements<T> {
+    ghost use Rattle.std.specs.Prelude.{IfOk, IfErr, IsErr, ◌↔◌, ◌≤◌};
+
+    /// These elements. TooMany: more than 31 behind the first.
+    pub fn new(scale: Scale, first: T, further: Vec<T>) -> Result<Elements<T>, BuildError>
+        ensures ok { IfOk result (λ e. (e.scale ≡ scale) × (e.first ≡ first)
+            × (e.further ≡ further.items)) }
+        ensures many { IsErr result ↔ (32 ≤ length further.items) }
+        ensures err { IfErr result (λ e. e ≡ BuildError.TooMany) }
+    {
+        if 32 <= further.len() {
+            return Err(BuildError::TooMany);
+        }
+        Ok(Elements {
+            scale,
+            first,
+            further: Items::new(further),
+        })
+    }
+
+    /// Q_SCALE: the unit of all distances.
+    pub fn scale(&self) -> Scale
+        ensures { result ≡ self.now.scale }
+    {
+        self.scale
+    }
+
+    /// The first element.
+    pub fn first(&self) -> &T
+        ensures { result.now ≡ self.now.first }
+    {
+        &self.first
+    }
+
+    /// The elements behind the first, in order.
+    pub fn further(&self) -> &[T]
+        ensures elements { result.now ≡ self.now.further }
+        ensures few { length result.now < 32 }
+    {
+        self.further.as_slice()
+    }
+}
+
+// The sum of the distances up to and with the first element that is marked as the end.
+fn way_to_end<T: Element>(elements: &[T]) -> Option<u64>
+    requires { length elements.now < 32 }
+    ensures way { result ≡ way_to_mark T.distance_of T.marked elements.now }
+    ensures small { IfSome result (λ n. n ≤ 32 * 32767) }
+{
+    let mut sum = 0;
+    'elements: for element in elements {
+        sum += u64::from(element.distance());
+        if element.is_end() {
+            return Some(sum);
+        }
+    }
+    None
+}
+
+impl<T: Element> Elements<T> {
+    ghost use Rattle.etcs_profile.specs.Elements.{elements_reach};
+
+    /// How far the elements tell the track: the sum of the distances up to and with the first that
+    /// is marked as the end, in decimetres; open where none is marked.
+    pub fn reach(&self) -> Reach
+        ensures { result ≡ elements_reach T.distance_of T.marked self.now }
+    {
+        let first = u64::from(self.first.distance());
+        let factor = factor(self.scale);
+        if self.first.is_end() {
+            return Reach::Ends(factor * first);
+        }
+        match way_to_end(self.further()) {
+            Some(way) => Reach::Ends(factor * (first + way)),
+            None => Reach::Open,
+        }
+    }
+}
+
+#[tactic(auto, using(etcs_bits::proofs::PutLemmas::puts_then, etcs_bits::proofs::PutLemmas::keeps_front, etcs_bits::proofs::PutLemmas::allowed_both))]
+impl<T: Layout> Layout for Elements<T> {
+    ghost use Rattle.etcs_profile.specs.Elements.{elements_rows, elements_fields, elements_of, elements_are_rows, elements_record};
+
+    ghost rows = { elements_rows T.rows };
+
+    ghost fields = { elements_fields T.fields };
+
+    ghost record_of = { elements_of T.fields T.record_of };
+
+    ghost are_rows = { elements_are_rows T.fields T.rows T.are_rows };
+
+    ghost is_record = { elements_record T.fields T.rows T.record_of T.are_rows T.is_record };
+
+    fn is_allowed(&self) -> bool {
+        self.scale.is_allowed() && self.first.is_allowed() && self.further.is_allowed()
+    }
+
+    #[tactic(auto, using(etcs_bits::proofs::WidthLemmas::width_both), unfolding(etcs_bits::specs::Rows::alone))]
+    fn width(&self) -> u64 {
+        self.first
+            .width()
+            .saturating_add(self.further.width())
+            .saturating_add(2)
+    }
+
+    fn put(&self, out: &mut Bits) -> Result<(), Memory> {
+        self.scale.put(out)?;
+        self.first.put(out)?;
+        self.further.put(out)
+    }
+
+    fn scan(alloc: Global, cur: &mut Cursor<'_>) -> Result<Self, DecodeError> {
+        let scale = Scale::scan(alloc, cur)?;
+        let first = T::scan(alloc, cur)?;
+        let further = Items::scan(alloc, cur)?;
+        Ok(Elements {
+            scale,
+            first,
+            further,
+        })
+    }
+}

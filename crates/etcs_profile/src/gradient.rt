@@ -1,0 +1,108 @@
+//! The gradient profile, packet 21.
+
+ghost use Rattle.std.specs.Prelude.{◌≡◌, ◌<◌, ◌==◌};
+
+use crate::element::Element;
+use crate::elements::Elements;
+use crate::error::BuildError;
+use crate::packet::Packet;
+use etcs_bits::{Bits, Cursor, DecodeError, Dir, Distance, Layout, Memory, Plain, Scale};
+use std::alloc::Global;
+
+/// Packet 21, the gradient profile: how steep the track is, from each place on (SUBSET-026, 7.4.2).
+pub type Gradient = Packet<21, Elements<GradientElement>>;
+
+impl Packet<21, Elements<GradientElement>> {
+    ghost use Rattle.std.specs.Prelude.{length};
+    ghost use Rattle.etcs_profile.specs.Elements.{profile};
+    ghost use Rattle.etcs_profile.specs.Built.{IsBuilt, IsTooLong};
+    ghost use Rattle.etcs_profile.specs.Gradient.{gradient_element_rows};
+
+    /// The gradient profile of these elements. Takes no memory; after a refusal the elements are
+    /// gone.
+    ///
+    /// `TooMany`: more than 31 elements behind the first. `TooLong`: more than 8,191 bits, which no
+    /// list of 32 elements has.
+    pub fn new(
+        dir: Dir,
+        scale: Scale,
+        first: GradientElement,
+        further: Vec<GradientElement>,
+    ) -> Result<Gradient, BuildError>
+        ensures { IsBuilt result (dir, profile scale first further.items)
+            (31 < length further.items)
+            (IsTooLong 21 gradient_element_rows (dir, profile scale first further.items)) }
+    {
+        Packet::build(dir, scale, first, further)
+    }
+}
+
+/// From one place on, how steep the track is: 24 bits (SUBSET-026, 7.4.2).
+#[derive(Clone, Copy, Debug, PartialEq, Eq)]
+pub struct GradientElement {
+    /// D_GRADIENT, 15 bits: the distance from the element before, in the packet's scale.
+    pub distance: Distance,
+    /// Q_GDIR, 1 bit: whether the track rises.
+    pub uphill: bool,
+    /// G_A, 8 bits: metres of height per 1,000 metres; 255 is the end mark: from here on nothing is
+    /// told.
+    pub gradient: Plain<8>,
+}
+
+impl Layout for GradientElement {
+    ghost use Rattle.etcs_profile.specs.Gradient.{gradient_element_rows, gradient_element_fields, gradient_element_of, gradient_element_are_rows, gradient_element_record};
+
+    ghost rows = { gradient_element_rows };
+
+    ghost fields = { gradient_element_fields };
+
+    ghost record_of = { gradient_element_of };
+
+    ghost are_rows = { gradient_element_are_rows };
+
+    ghost is_record = { gradient_element_record };
+
+    #[tactic(auto, using(etcs_bits::proofs::PutLemmas::allowed_both))]
+    fn is_allowed(&self) -> bool {
+        self.distance.is_allowed() && self.uphill.is_allowed() && self.gradient.is_allowed()
+    }
+
+    #[tactic(auto, using(etcs_bits::proofs::WidthLemmas::width_both), unfolding(etcs_bits::specs::Rows::alone))]
+    fn width(&self) -> u64 {
+        24
+    }
+
+    #[tactic(auto, using(etcs_bits::proofs::PutLemmas::puts_then, etcs_bits::proofs::PutLemmas::keeps_front, etcs_bits::proofs::PutLemmas::allowed_both))]
+    fn put(&self, out: &mut Bits) -> Result<(), Memory> {
+        self.distance.put(out)?;
+        self.uphill.put(out)?;
+        self.gradient.put(out)
+    }
+
+    fn scan(alloc: Global, cur: &mut Cursor<'_>) -> Result<Self, DecodeError> {
+        let distance = Distance::scan(alloc, cur)?;
+        let uphill = bool::scan(alloc, cur)?;
+        let gradient = Plain::scan(alloc, cur)?;
+        Ok(GradientElement {
+            distance,
+            uphill,
+            gradient,
+        })
+    }
+}
+
+impl Element for GradientElement {
+    ghost distance_of = { λ e. e.distance };
+
+    ghost marked = { λ e. e.gradient == 255 };
+
+    #[inline]
+    fn distance(&self) -> u32 {
+        self.distance.number()
+    }
+
+    #[inline]
+    fn is_end(&self) -> bool {
+        self.gradient.number() == 255
+    }
+}

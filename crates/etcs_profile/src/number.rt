@@ -1,0 +1,63 @@
+//! The number of a packet that is known.
+
+ghost use Rattle.std.specs.Prelude.{◌≡◌};
+
+use etcs_bits::{Bits, Cursor, DecodeError, Fault, FaultKind, Layout, Memory};
+use std::alloc::Global;
+
+/// NID_PACKET, 8 bits, where it has to be `N` (SUBSET-026, 7.5.1); another number is a Spare fault.
+#[derive(Clone, Copy, Debug, PartialEq, Eq)]
+pub struct Number<const N: u32>;
+
+// The fault of a number that is another packet's.
+#[cold]
+fn other_packet(at: usize, end: usize) -> DecodeError
+    ensures { result ≡ DecodeError.Fault (record { at = at; end = end; why = FaultKind.Spare }) }
+{
+    DecodeError::Fault(Fault {
+        at,
+        end,
+        why: FaultKind::Spare,
+    })
+}
+
+#[tactic(auto, unfolding(etcs_bits::specs::Rows::alone))]
+impl<const N: u32> Layout for Number<N> {
+    ghost use Rattle.std.specs.Prelude.{refl};
+    ghost use Rattle.etcs_bits.specs.Rows.{alone};
+    ghost use Rattle.etcs_bits.specs.Fields.{one};
+    ghost use Rattle.etcs_bits.specs.RowLemmas.{alone_rows};
+    ghost use Rattle.etcs_profile.specs.Packet.{nid_packet};
+
+    ghost rows = { λ _. alone (nid_packet N) N };
+
+    ghost fields = { one (nid_packet N) };
+
+    ghost record_of = { λ _. record {} };
+
+    ghost are_rows = { λ _. alone_rows (nid_packet N) N };
+
+    ghost is_record = { λ _. refl };
+
+    fn is_allowed(&self) -> bool {
+        N < 256
+    }
+
+    fn width(&self) -> u64 {
+        8
+    }
+
+    fn put(&self, out: &mut Bits) -> Result<(), Memory> {
+        out.push_num(8, u64::from(N))
+    }
+
+    #[inline]
+    fn scan(_alloc: Global, cur: &mut Cursor<'_>) -> Result<Self, DecodeError> {
+        let at = cur.at();
+        if cur.take(8)? == u64::from(N) {
+            Ok(Number)
+        } else {
+            Err(other_packet(at, cur.at()))
+        }
+    }
+}

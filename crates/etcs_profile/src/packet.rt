@@ -1,0 +1,92 @@
+//! A packet: its number, its direction and its body.
+
+ghost use Rattle.std.specs.Prelude.{◌≡◌};
+
+use crate::number::Number;
+use etcs_bits::{Bits, Body, Cursor, DecodeError, Dir, Layout, Memory};
+use std::alloc::Global;
+use std::marker::Model;
+
+/// Packet number `N`: NID_PACKET, 8 bits, Q_DIR, 2 bits, L_PACKET, 13 bits, and a record
+/// (SUBSET-026, 7.4). Contracts see the direction and the record.
+#[derive(Debug, Drop)]
+pub struct Packet<const N: u32, T> {
+    dir: Dir,
+    body: Body<10, T>,
+}
+
+impl<const N: u32, T> Model for Packet<N, T> {
+    ghost use Rattle.etcs_bits.specs.declared.direction.Dir.{Dir};
+
+    ghost Value = { Dir × T };
+
+    ghost view = { λ p. (p.dir, p.body) };
+}
+
+impl<const N: u32, T> Packet<N, T> {
+    /// The packet that is this record, for this direction.
+    #[inline]
+    pub(crate) fn of(dir: Dir, body: T) -> Self
+        ensures { result ≡ (dir, body) }
+    {
+        Packet {
+            dir,
+            body: Body::new(body),
+        }
+    }
+
+    /// Q_DIR: for which running directions the packet is.
+    #[inline]
+    pub fn dir(&self) -> Dir
+        ensures { result ≡ self.now.0 }
+    {
+        self.dir
+    }
+
+    /// What comes behind L_PACKET.
+    #[inline]
+    pub(crate) fn body(&self) -> &T
+        ensures { result.now ≡ self.now.1 }
+    {
+        self.body.content()
+    }
+}
+
+#[tactic(auto, using(etcs_bits::proofs::PutLemmas::puts_then, etcs_bits::proofs::PutLemmas::keeps_front, etcs_bits::proofs::PutLemmas::allowed_both))]
+impl<const N: u32, T: Layout> Layout for Packet<N, T> {
+    ghost use Rattle.etcs_profile.specs.Packet.{packet_rows, packet_fields, packet_of, packet_are_rows, packet_record};
+
+    ghost rows = { packet_rows N T.rows };
+
+    ghost fields = { packet_fields N T.fields };
+
+    ghost record_of = { packet_of T.record_of };
+
+    ghost are_rows = { packet_are_rows N T.fields T.rows T.are_rows };
+
+    ghost is_record = { packet_record N T.rows T.record_of T.is_record };
+
+    fn is_allowed(&self) -> bool {
+        let number = Number::<N>;
+        number.is_allowed() && self.dir.is_allowed() && self.body.is_allowed()
+    }
+
+    #[tactic(auto, using(etcs_bits::proofs::WidthLemmas::width_both), unfolding(etcs_bits::specs::Rows::alone))]
+    fn width(&self) -> u64 {
+        self.body.width().saturating_add(10)
+    }
+
+    fn put(&self, out: &mut Bits) -> Result<(), Memory> {
+        let number = Number::<N>;
+        number.put(out)?;
+        self.dir.put(out)?;
+        self.body.put(out)
+    }
+
+    fn scan(alloc: Global, cur: &mut Cursor<'_>) -> Result<Self, DecodeError> {
+        let _number = Number::<N>::scan(alloc, cur)?;
+        let dir = Dir::scan(alloc, cur)?;
+        let body = Body::scan(alloc, cur)?;
+        Ok(Packet { dir, body })
+    }
+}

@@ -1,0 +1,64 @@
+//! A packet that tells a profile of the track.
+
+use crate::element::Element;
+use crate::elements::Elements;
+use crate::error::BuildError;
+use crate::packet::Packet;
+use crate::reach::Reach;
+use etcs_bits::{Dir, Layout, Scale};
+
+// How many bits a packet may have.
+const MOST_BITS: u64 = 8191;
+
+impl<const N: u32, T: Element> Packet<N, Elements<T>> {
+    ghost use Rattle.std.specs.Prelude.{◌≡◌, ◌<◌, length};
+    ghost use Rattle.etcs_profile.specs.Elements.{elements_reach, profile};
+    ghost use Rattle.etcs_profile.specs.Built.{IsBuilt, IsTooLong};
+
+    // The packet of these elements.
+    pub(crate) fn build(
+        dir: Dir,
+        scale: Scale,
+        first: T,
+        further: Vec<T>,
+    ) -> Result<Self, BuildError>
+        ensures { IsBuilt result (dir, profile scale first further.items)
+            (31 < length further.items)
+            (IsTooLong N T.rows (dir, profile scale first further.items)) }
+    {
+        let packet: Packet<N, Elements<T>> = Packet::of(dir, Elements::new(scale, first, further)?);
+        if MOST_BITS < packet.width() {
+            return Err(BuildError::TooLong);
+        }
+        Ok(packet)
+    }
+
+    /// Q_SCALE: the unit of all distances.
+    pub fn scale(&self) -> Scale
+        ensures { result ≡ self.now.1.scale }
+    {
+        self.body().scale()
+    }
+
+    /// The first element.
+    pub fn first(&self) -> &T
+        ensures { result.now ≡ self.now.1.first }
+    {
+        self.body().first()
+    }
+
+    /// The elements behind the first, in order; at most 31.
+    pub fn further(&self) -> &[T]
+        ensures { result.now ≡ self.now.1.further }
+    {
+        self.body().further()
+    }
+
+    /// How far the profile tells the track: the sum of the distances up to and with the first
+    /// element that is marked as the end, in decimetres; open where none is marked.
+    pub fn reach(&self) -> Reach
+        ensures { result ≡ elements_reach T.distance_of T.marked self.now.1 }
+    {
+        self.body().reach()
+    }
+}

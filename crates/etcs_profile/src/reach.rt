@@ -1,0 +1,10 @@
+//! How far a profile tells the track.
+
+/// How far a profile tells the track, from the group that sends it on.
+#[derive(Clone, Copy, Debug, PartialEq, Eq)]
+pub enum Reach {
+    /// So many decimetres: up to the first element that is marked as the end.
+    Ends(u64),
+    /// No element is marked: the profile has no end.
+    Open,
+}

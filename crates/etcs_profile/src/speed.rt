@@ -1,0 +1,193 @@
+//! The static speed profile, packet 27.
+
+ghost use Rattle.std.specs.Prelude.{◌≡◌, ◌==◌, ◌↔◌, ◌≤◌, length, IsTrue};
+ghost use Rattle.std.specs.List.{AllByRecursion};
+ghost use Rattle.etcs_profile.specs.Few.{HaveFew};
+
+use crate::element::Element;
+use crate::elements::Elements;
+use crate::error::BuildError;
+use crate::packet::Packet;
+use etcs_bits::{
+    Bits, Cursor, DecodeError, Dir, Distance, Items, Layout, Memory, Plain, Ranged, Scale, Speed,
+    StaticSpeed,
+};
+use std::alloc::Global;
+
+/// Packet 27, the static speed profile: how fast trains may go, from each place on (SUBSET-026,
+/// 7.4.2).
+pub type SpeedProfile = Packet<27, Elements<SpeedElement>>;
+
+impl Packet<27, Elements<SpeedElement>> {
+    ghost use Rattle.etcs_profile.specs.Elements.{profile};
+    ghost use Rattle.etcs_profile.specs.Built.{IsBuilt, IsTooLong};
+    ghost use Rattle.etcs_profile.specs.Speed.{speed_element_rows};
+    ghost use Rattle.etcs_profile.specs.Few.{HasMany};
+
+    /// The static speed profile of these elements. Takes no memory; after a refusal the elements
+    /// are gone.
+    ///
+    /// `TooMany`: more than 31 elements behind the first, or more than 31 differences in one of them
+    /// all. `TooLong`: more than 8,191 bits.
+    #[tactic(auto, using(crate::proofs::BuiltLemmas::built_too))]
+    pub fn new(
+        dir: Dir,
+        scale: Scale,
+        first: SpeedElement,
+        further: Vec<SpeedElement>,
+    ) -> Result<SpeedProfile, BuildError>
+        ensures { IsBuilt result (dir, profile scale first further.items)
+            (HasMany first further.items)
+            (IsTooLong 27 speed_element_rows (dir, profile scale first further.items)) }
+    {
+        if 31 < first.differences.as_slice().len() || !have_few(further.as_slice()) {
+            return Err(BuildError::TooMany);
+        }
+        Packet::build(dir, scale, first, further)
+    }
+}
+
+// Whether no element has more than 31 differences.
+fn have_few(elements: &[SpeedElement]) -> bool
+    ensures { IsTrue result ↔ HaveFew elements.now }
+{
+    'elements: for element in elements {
+        if 31 < element.differences.as_slice().len() {
+            return false;
+        }
+    }
+    true
+}
+
+/// Another speed for some trains: 13 bits (SUBSET-026, 7.4.2).
+#[derive(Clone, Copy, Debug, PartialEq, Eq)]
+pub struct Difference {
+    /// Q_DIFF, 2 bits: 0 by cant deficiency, 1 and 2 by another category of train (SUBSET-026,
+    /// 7.5.1); 3 is spare.
+    pub kind: Ranged<2, 2, 4>,
+    /// NC_CDDIFF where Q_DIFF is 0, NC_DIFF where it is 1 or 2, 4 bits: the category of train.
+    pub category: Plain<4>,
+    /// V_DIFF, 7 bits: the speed for it.
+    pub speed: Speed,
+}
+
+impl Layout for Difference {
+    ghost use Rattle.etcs_profile.specs.Speed.{difference_rows, difference_fields, difference_of, difference_are_rows, difference_record};
+
+    ghost rows = { difference_rows };
+
+    ghost fields = { difference_fields };
+
+    ghost record_of = { difference_of };
+
+    ghost are_rows = { difference_are_rows };
+
+    ghost is_record = { difference_record };
+
+    #[tactic(auto, using(etcs_bits::proofs::PutLemmas::allowed_both))]
+    fn is_allowed(&self) -> bool {
+        self.kind.is_allowed() && self.category.is_allowed() && self.speed.is_allowed()
+    }
+
+    #[tactic(auto, using(etcs_bits::proofs::WidthLemmas::width_both), unfolding(etcs_bits::specs::Rows::alone))]
+    fn width(&self) -> u64 {
+        13
+    }
+
+    #[tactic(auto, using(etcs_bits::proofs::PutLemmas::puts_then, etcs_bits::proofs::PutLemmas::keeps_front, etcs_bits::proofs::PutLemmas::allowed_both))]
+    fn put(&self, out: &mut Bits) -> Result<(), Memory> {
+        self.kind.put(out)?;
+        self.category.put(out)?;
+        self.speed.put(out)
+    }
+
+    fn scan(alloc: Global, cur: &mut Cursor<'_>) -> Result<Self, DecodeError> {
+        let kind = Ranged::scan(alloc, cur)?;
+        let category = Plain::scan(alloc, cur)?;
+        let speed = Speed::scan(alloc, cur)?;
+        Ok(Difference {
+            kind,
+            category,
+            speed,
+        })
+    }
+}
+
+/// From one place on, how fast trains may go (SUBSET-026, 7.4.2): 28 bits, and 13 for each
+/// difference.
+#[derive(Debug, Drop)]
+pub struct SpeedElement {
+    /// D_STATIC, 15 bits: the distance from the element before, in the packet's scale.
+    pub distance: Distance,
+    /// V_STATIC, 7 bits: the speed; 127 is the end mark: from here on nothing is told.
+    pub speed: StaticSpeed,
+    /// Q_FRONT, 1 bit: whether the speed is in force only until the front of the train passes its
+    /// end; else until the rear does.
+    pub front: bool,
+    /// N_ITER and the other speeds for some trains, at most 31.
+    pub differences: Items<Difference>,
+}
+
+impl Layout for SpeedElement {
+    ghost use Rattle.etcs_profile.specs.Speed.{speed_element_rows, speed_element_fields, speed_element_of, speed_element_are_rows, speed_element_record};
+
+    ghost rows = { speed_element_rows };
+
+    ghost fields = { speed_element_fields };
+
+    ghost record_of = { speed_element_of };
+
+    ghost are_rows = { speed_element_are_rows };
+
+    ghost is_record = { speed_element_record };
+
+    #[tactic(auto, using(etcs_bits::proofs::PutLemmas::allowed_both))]
+    fn is_allowed(&self) -> bool {
+        self.distance.is_allowed()
+            && self.speed.is_allowed()
+            && self.front.is_allowed()
+            && self.differences.is_allowed()
+    }
+
+    #[tactic(auto, using(etcs_bits::proofs::WidthLemmas::width_both), unfolding(etcs_bits::specs::Rows::alone))]
+    fn width(&self) -> u64 {
+        self.differences.width().saturating_add(23)
+    }
+
+    #[tactic(auto, using(etcs_bits::proofs::PutLemmas::puts_then, etcs_bits::proofs::PutLemmas::keeps_front, etcs_bits::proofs::PutLemmas::allowed_both))]
+    fn put(&self, out: &mut Bits) -> Result<(), Memory> {
+        self.distance.put(out)?;
+        self.speed.put(out)?;
+        self.front.put(out)?;
+        self.differences.put(out)
+    }
+
+    fn scan(alloc: Global, cur: &mut Cursor<'_>) -> Result<Self, DecodeError> {
+        let distance = Distance::scan(alloc, cur)?;
+        let speed = StaticSpeed::scan(alloc, cur)?;
+        let front = bool::scan(alloc, cur)?;
+        let differences = Items::scan(alloc, cur)?;
+        Ok(SpeedElement {
+            distance,
+            speed,
+            front,
+            differences,
+        })
+    }
+}
+
+impl Element for SpeedElement {
+    ghost distance_of = { λ e. e.distance };
+
+    ghost marked = { λ e. e.speed == 127 };
+
+    #[inline]
+    fn distance(&self) -> u32 {
+        self.distance.number()
+    }
+
+    #[inline]
+    fn is_end(&self) -> bool {
+        self.speed.number() == 127
+    }
+}
