@@ -13,3 +13,4 @@ pub mod Combined
 pub mod CombinedLemmas
 pub mod Identity
 pub mod Laws
+pub mod LaidLemmas

@@ -1,6 +1,5 @@
 -- What is built under one test is built under another that says the same.
-use Rattle.std.specs.Prelude.{◌≤◌, ◌<◌, ◌⊎◌, ℕ, List, ◌∷◌, length, Result, Ok, Err}
-use Rattle.std.proofs.Common.{inl, inr}
+use Rattle.std.specs.Prelude.{Result, Ok, Err}
 use Rattle.etcs_profile.specs.declared.error.BuildError.{BuildError}
 use Rattle.etcs_profile.specs.declared.error.BuildError.TheVariants as errors
 use Rattle.etcs_profile.specs.Built.{IsBuilt}

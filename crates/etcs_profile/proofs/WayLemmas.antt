@@ -1,5 +1,5 @@
 -- The way to the mark, as a loop goes along it.
-use Rattle.std.proofs.Common.{◌≡◌, ℕ, ◌+◌, Bool, true, false, List, ◌∷◌, drop, Option, Some, None, refl, ap, ◌∙◌, arith}
+use Rattle.std.proofs.Common.{◌≡◌, ℕ, ◌+◌, Bool, true, false, List, ◌∷◌, drop, Option, Some, None, refl, ap, arith}
 use Rattle.std.proofs.lemmas.List.{drop_more}
 use Rattle.etcs_bits.proofs.ListLemmas.{IsItem}
 use Rattle.etcs_profile.specs.Reach.{further_on, way_to_mark}

@@ -1,12 +1,12 @@
 -- A scale, a first element and further ones: the body of the packets that tell something along the
 -- track, each element from its distance on (SUBSET-026, 7.4.2).
-use Rattle.std.specs.Prelude.{◌≡◌, ℕ, Bool, List, ◌∷◌}
+use Rattle.std.specs.Prelude.{ℕ, Bool, List, ◌∷◌}
 use Rattle.std.proofs.Common.{ap}
 use Rattle.etcs_bits.specs.declared.scale.Scale.{Scale}
 use Rattle.etcs_bits.specs.Rows.{Row, alone, number_at}
 use Rattle.etcs_bits.specs.Fields.{Fields, one, ◌▹◌, counted}
 use Rattle.etcs_bits.specs.Combined.{n_iter, pair_rows, pair_of, counted_rows, counted_of}
-use Rattle.etcs_bits.specs.CombinedLemmas.{HaveFields, AreOf, pair_are_rows, pair_record, counted_are_rows, counted_record}
+use Rattle.etcs_bits.specs.LaidLemmas.{IsLaid, pair_laid, counted_laid}
 use Rattle.etcs_bits.specs.RowLemmas.{alone_rows}
 use Rattle.etcs_bits.specs.Variables.{q_scale, scale_number, scale_of}
 use Rattle.etcs_bits.specs.VariableLemmas.{scale_record}
@@ -59,19 +59,15 @@ elements_reach distance marked e =
 
 -- ---- proofs of the laws of `Layout`
 
-pub elements_are_rows : {X : Type 0} (element : Fields) (rows : X → List Row)
-    → HaveFields element rows → HaveFields (elements_fields element) (elements_rows rows)
-elements_are_rows element rows have e =
-    pair_are_rows (one q_scale) (several_fields element) scale_rows (several_rows rows)
-    (λ (s : Scale). alone_rows q_scale (scale_number s))
-    (pair_are_rows element (counted n_iter element) rows (counted_rows rows) have (counted_are_rows element rows have))
-    (e.scale, (e.first, e.further))
+pub scale_laid : IsLaid (one q_scale) scale_rows scale_at
+scale_laid = record { have = λ (s : Scale). alone_rows q_scale (scale_number s); is = scale_record }
 
-pub elements_record : {X : Type 0} (element : Fields) (rows : X → List Row) (of : List Row → X)
-    → HaveFields element rows → AreOf of rows → AreOf (elements_of element of) (elements_rows rows)
-elements_record {X = X} element rows of have is e =
-    ap (λ (p : Scale × (X × List X)). elements_with p)
-    (pair_record (one q_scale) scale_rows (several_rows rows) scale_at (pair_of element of (counted_of element of))
-    (λ (s : Scale). alone_rows q_scale (scale_number s)) scale_record
-    (pair_record element rows (counted_rows rows) of (counted_of element of) have is (counted_record element rows of have is))
-    (e.scale, (e.first, e.further)))
+pub elements_laid : {X : Type 0} {element : Fields} {rows : X → List Row} {of : List Row → X}
+    → IsLaid element rows of
+    → IsLaid (elements_fields element) (elements_rows rows) (elements_of element of)
+elements_laid v =
+    let parts = pair_laid scale_laid (pair_laid v (counted_laid v)) in
+    record {
+      have = λ e. parts.have (e.scale, (e.first, e.further));
+      is = λ e. ap (λ p. elements_with p) (parts.is (e.scale, (e.first, e.further)));
+    }

@@ -1,5 +1,5 @@
 -- Speed profiles whose lists N_ITER, 5 bits, can count.
-use Rattle.std.specs.Prelude.{ℕ, ◌<◌, ◌≤◌, ◌⊎◌, List, ◌∷◌, length}
+use Rattle.std.specs.Prelude.{◌<◌, ◌≤◌, ◌⊎◌, List, ◌∷◌, length}
 use Rattle.std.specs.List.{AllByRecursion}
 use Rattle.etcs_profile.specs.declared.speed.SpeedElement.{SpeedElement}
 

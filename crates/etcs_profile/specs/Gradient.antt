@@ -1,5 +1,5 @@
 -- Packet 21, gradients (SUBSET-026, 7.4.2): from each place on how steep the track is.
-use Rattle.std.specs.Prelude.{◌≡◌, ◌==◌, List, ◌++◌, refl}
+use Rattle.std.specs.Prelude.{◌≡◌, List, ◌++◌}
 use Rattle.std.proofs.Common.{ap}
 use Rattle.etcs_bits.specs.Number.{worth}
 use Rattle.etcs_bits.specs.Rows.{Variable, Row, alone, number_at}

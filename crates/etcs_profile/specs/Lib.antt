@@ -6,3 +6,7 @@ pub mod Gradient
 pub mod Built
 pub mod Speed
 pub mod Few
+pub mod Parts
+pub mod Terms
+pub mod Authority
+pub mod Numbered

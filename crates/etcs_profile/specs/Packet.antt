@@ -1,11 +1,11 @@
 -- A packet: its number, its direction, its length and its body (SUBSET-026, 7.4).
-use Rattle.std.specs.Prelude.{◌≡◌, ℕ, List, ◌++◌, drop, refl}
+use Rattle.std.specs.Prelude.{ℕ, List, ◌++◌, drop, refl}
 use Rattle.etcs_bits.specs.declared.fault.FaultKind.TheVariants.{Spare}
 use Rattle.etcs_bits.specs.declared.direction.Dir.{Dir}
 use Rattle.etcs_bits.specs.Rows.{Variable, Row, alone, number_at}
 use Rattle.etcs_bits.specs.Fields.{Fields, one, ◌▹◌, sized}
 use Rattle.etcs_bits.specs.Combined.{pair_rows, pair_of, body_rows, body_of}
-use Rattle.etcs_bits.specs.CombinedLemmas.{HaveFields, AreOf, pair_are_rows, pair_record, body_are_rows, body_record}
+use Rattle.etcs_bits.specs.LaidLemmas.{IsLaid, pair_laid, body_laid}
 use Rattle.etcs_bits.specs.RowLemmas.{alone_rows}
 use Rattle.etcs_bits.specs.Variables.{only, q_dir, dir_number, dir_of}
 use Rattle.etcs_bits.specs.VariableLemmas.{dir_record}
@@ -38,26 +38,28 @@ packet_rows k rows p = alone (nid_packet k) k ++ rest_rows rows p
 abbrev pub dir_at : List Row → Dir
 dir_at rows = dir_of (number_at 0 rows)
 
+-- the direction and the record of the rows that follow NID_PACKET
+abbrev pub rest_of : {X : Type 0} → (List Row → X) → List Row → Dir × X
+rest_of of rows = pair_of (one q_dir) dir_at (body_of of) rows
+
 -- the direction and the record of rows
 abbrev pub packet_of : {X : Type 0} → (List Row → X) → List Row → Dir × X
-packet_of of rows = pair_of (one q_dir) dir_at (body_of of) (drop 1 rows)
+packet_of of rows = rest_of of (drop 1 rows)
 
 -- ---- proofs of the laws of `Layout`
 
-rest_are_rows : {X : Type 0} (fields : Fields) (rows : X → List Row)
-    → HaveFields fields rows → HaveFields (rest_fields fields) (rest_rows rows)
-rest_are_rows fields rows have =
-    pair_are_rows (one q_dir) (sized 10 fields) dir_rows (body_rows 10 rows)
-    (λ (d : Dir). alone_rows q_dir (dir_number d)) (body_are_rows 10 fields rows have)
+dir_laid : IsLaid (one q_dir) dir_rows dir_at
+dir_laid = record { have = λ (d : Dir). alone_rows q_dir (dir_number d); is = dir_record }
 
-pub packet_are_rows : {X : Type 0} (k : ℕ) (fields : Fields) (rows : X → List Row)
-    → HaveFields fields rows → HaveFields (packet_fields k fields) (packet_rows k rows)
-packet_are_rows k fields rows have p =
-    (alone (nid_packet k) k, rest_rows rows p, refl, alone_rows (nid_packet k) k, rest_are_rows fields rows have p)
+-- what follows NID_PACKET is laid out as the body is
+pub rest_laid : {X : Type 0} {fields : Fields} {rows : X → List Row} {of : List Row → X}
+    → IsLaid fields rows of → IsLaid (rest_fields fields) (rest_rows rows) (rest_of of)
+rest_laid v = pair_laid dir_laid (body_laid 10 v)
 
-pub packet_record : {X : Type 0} (k : ℕ) (rows : X → List Row) (of : List Row → X)
-    → AreOf of rows → AreOf (packet_of of) (packet_rows k rows)
+pub packet_laid : {X : Type 0} (k : ℕ) {fields : Fields} {rows : X → List Row} {of : List Row → X}
+    → IsLaid fields rows of → IsLaid (packet_fields k fields) (packet_rows k rows) (packet_of of)
 unfolding alone
-packet_record k rows of is p =
-    pair_record (one q_dir) dir_rows (body_rows 10 rows) dir_at (body_of of)
-    (λ (d : Dir). alone_rows q_dir (dir_number d)) dir_record (body_record 10 rows of is) p
+packet_laid k {rows = rows} v = record {
+  have = λ p. (alone (nid_packet k) k, rest_rows rows p, refl, alone_rows (nid_packet k) k, (rest_laid v).have p);
+  is = λ p. (rest_laid v).is p;
+}

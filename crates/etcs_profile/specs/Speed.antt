@@ -1,6 +1,6 @@
 -- Packet 27, static speed profile (SUBSET-026, 7.4.2): from each place on how fast trains may go.
-use Rattle.std.specs.Prelude.{◌≡◌, ◌≤◌, ℕ, Bool, List, ◌∷◌, ◌++◌, length, drop, refl}
-use Rattle.std.proofs.Common.{ap, ap₂}
+use Rattle.std.specs.Prelude.{◌≡◌, Bool, List, ◌++◌, drop, refl}
+use Rattle.std.proofs.Common.{ap₂}
 use Rattle.etcs_bits.specs.Number.{worth}
 use Rattle.etcs_bits.specs.Rows.{Variable, Row, alone, number_at}
 use Rattle.etcs_bits.specs.Fields.{Fields, one, ◌▹◌, counted, AreRowsOf}

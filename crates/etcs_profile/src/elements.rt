@@ -113,7 +113,8 @@ impl<T: Element> Elements<T> {
 
 #[tactic(auto, using(etcs_bits::proofs::PutLemmas::puts_then, etcs_bits::proofs::PutLemmas::keeps_front, etcs_bits::proofs::PutLemmas::allowed_both))]
 impl<T: Layout> Layout for Elements<T> {
-    ghost use Rattle.etcs_profile.specs.Elements.{elements_rows, elements_fields, elements_of, elements_are_rows, elements_record};
+    ghost use Rattle.etcs_bits.specs.LaidLemmas.{laid};
+    ghost use Rattle.etcs_profile.specs.Elements.{elements_rows, elements_fields, elements_of, elements_laid};
 
     ghost rows = { elements_rows T.rows };
 
@@ -121,9 +122,9 @@ impl<T: Layout> Layout for Elements<T> {
 
     ghost record_of = { elements_of T.fields T.record_of };
 
-    ghost are_rows = { elements_are_rows T.fields T.rows T.are_rows };
+    ghost are_rows = { (elements_laid (laid T.fields T.rows T.record_of T.are_rows T.is_record)).have };
 
-    ghost is_record = { elements_record T.fields T.rows T.record_of T.are_rows T.is_record };
+    ghost is_record = { (elements_laid (laid T.fields T.rows T.record_of T.are_rows T.is_record)).is };
 
     fn is_allowed(&self) -> bool {
         self.scale.is_allowed() && self.first.is_allowed() && self.further.is_allowed()

@@ -1,30 +1,41 @@
-//! The packets that say what is known of the track (SUBSET-026, 7.4.2); so far the gradient profile,
-//! packet 21.
+//! The packets that carry distances (SUBSET-026, 7.4.2): how far a train may run, and what is known
+//! of the track there.
 //!
-//! A packet is a [`Packet`] of its number and a record; [`Elements`] is the record of all packets
-//! that tell something along the track, and [`Elements::reach`] says how far they tell it. Read
-//! `packet.rt`, `elements.rt` and `gradient.rt` first, with the files of the same names in `specs/`.
-//! The crate stands on [`etcs_bits::Layout`]. Left out so far: movement authority (packets 12 and
-//! 15) and the static speed profile (packet 27).
+//! [`Authority`] is the movement authority, packets 12 and 15; [`Authority::end`] says how far the
+//! train may run. [`Gradient`], packet 21, and [`SpeedProfile`], packet 27, are each a [`Packet`] of
+//! [`Elements`]; [`Packet::reach`] says how far they tell the track. Read `packet.rt`, `elements.rt`
+//! and `gradient.rt` first, with the files of the same names in `specs/`, then `authority.rt`. The
+//! crate stands on [`etcs_bits::Layout`]. Left out: what the two have to do with one another.
 #![tactic(auto)]
 
+mod authority;
+mod danger_point;
 mod element;
 mod elements;
+mod end_timer;
 mod error;
 mod factor;
 mod gradient;
 mod number;
+mod overlap;
 mod packet;
 mod profile;
 mod reach;
+mod section;
 mod speed;
+mod terms;
 #[cfg(test)]
 mod tests;
 
+pub use authority::Authority;
+pub use danger_point::DangerPoint;
 pub use element::Element;
 pub use elements::Elements;
+pub use end_timer::EndTimer;
 pub use error::BuildError;
 pub use gradient::{Gradient, GradientElement};
+pub use overlap::Overlap;
 pub use packet::Packet;
 pub use reach::Reach;
+pub use section::{Section, SectionTimer};
 pub use speed::{Difference, SpeedElement, SpeedProfile};

@@ -9,9 +9,9 @@ use std::alloc::Global;
 #[derive(Clone, Copy, Debug, PartialEq, Eq)]
 pub struct Number<const N: u32>;
 
-// The fault of a number that is another packet's.
+/// The fault of a number that is another packet's.
 #[cold]
-fn other_packet(at: usize, end: usize) -> DecodeError
+pub(crate) fn other_packet(at: usize, end: usize) -> DecodeError
     ensures { result ≡ DecodeError.Fault (record { at = at; end = end; why = FaultKind.Spare }) }
 {
     DecodeError::Fault(Fault {

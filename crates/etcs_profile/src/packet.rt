@@ -7,6 +7,9 @@ use etcs_bits::{Bits, Body, Cursor, DecodeError, Dir, Layout, Memory};
 use std::alloc::Global;
 use std::marker::Model;
 
+/// How many bits a packet may have: L_PACKET has 13 bits.
+pub(crate) const MOST_BITS: u64 = 8191;
+
 /// Packet number `N`: NID_PACKET, 8 bits, Q_DIR, 2 bits, L_PACKET, 13 bits, and a record
 /// (SUBSET-026, 7.4). Contracts see the direction and the record.
 #[derive(Debug, Drop)]
@@ -54,7 +57,8 @@ impl<const N: u32, T> Packet<N, T> {
 
 #[tactic(auto, using(etcs_bits::proofs::PutLemmas::puts_then, etcs_bits::proofs::PutLemmas::keeps_front, etcs_bits::proofs::PutLemmas::allowed_both))]
 impl<const N: u32, T: Layout> Layout for Packet<N, T> {
-    ghost use Rattle.etcs_profile.specs.Packet.{packet_rows, packet_fields, packet_of, packet_are_rows, packet_record};
+    ghost use Rattle.etcs_bits.specs.LaidLemmas.{laid};
+    ghost use Rattle.etcs_profile.specs.Packet.{packet_rows, packet_fields, packet_of, packet_laid};
 
     ghost rows = { packet_rows N T.rows };
 
@@ -62,9 +66,9 @@ impl<const N: u32, T: Layout> Layout for Packet<N, T> {
 
     ghost record_of = { packet_of T.record_of };
 
-    ghost are_rows = { packet_are_rows N T.fields T.rows T.are_rows };
+    ghost are_rows = { (packet_laid N (laid T.fields T.rows T.record_of T.are_rows T.is_record)).have };
 
-    ghost is_record = { packet_record N T.rows T.record_of T.is_record };
+    ghost is_record = { (packet_laid N (laid T.fields T.rows T.record_of T.are_rows T.is_record)).is };
 
     fn is_allowed(&self) -> bool {
         let number = Number::<N>;

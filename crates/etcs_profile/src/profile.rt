@@ -3,12 +3,9 @@
 use crate::element::Element;
 use crate::elements::Elements;
 use crate::error::BuildError;
-use crate::packet::Packet;
+use crate::packet::{MOST_BITS, Packet};
 use crate::reach::Reach;
 use etcs_bits::{Dir, Layout, Scale};
-
-// How many bits a packet may have.
-const MOST_BITS: u64 = 8191;
 
 impl<const N: u32, T: Element> Packet<N, Elements<T>> {
     ghost use Rattle.std.specs.Prelude.{◌≡◌, ◌<◌, length};

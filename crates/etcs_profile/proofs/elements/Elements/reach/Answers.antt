@@ -1,5 +1,4 @@
-use Rattle.std.proofs.Common.{◌≡◌, ℕ, Option, refl, sym, ap, ◌∙◌}
-use Rattle.etcs_profile.specs.Reach.{way_to_mark, further_on}
+use Rattle.std.proofs.Common.{refl, sym, ◌∙◌}
 use Rattle.etcs_profile.proofs.WayLemmas.{way_first, way_further}
 use Rattle.etcs_profile.proofs.elements.Elements.reach.Goals as goal
 

@@ -1,0 +1,53 @@
+//! The danger point behind a movement authority's end.
+
+use etcs_bits::{Bits, Cursor, DecodeError, Distance, Layout, Memory, ReleaseSpeed};
+use std::alloc::Global;
+
+/// The first place behind the end of the authority that may be dangerous (SUBSET-026, 3.8 and 7.4.2):
+/// 22 bits.
+#[derive(Clone, Copy, Debug, PartialEq, Eq)]
+pub struct DangerPoint {
+    /// D_DP, 15 bits: from the end of the authority to the danger point, in the packet's scale.
+    pub distance: Distance,
+    /// V_RELEASEDP, 7 bits: how fast a train may come near.
+    pub release_speed: ReleaseSpeed,
+}
+
+impl Layout for DangerPoint {
+    ghost use Rattle.etcs_profile.specs.Parts.{danger_point_rows, danger_point_fields, danger_point_of, danger_point_are_rows, danger_point_record};
+
+    ghost rows = { danger_point_rows };
+
+    ghost fields = { danger_point_fields };
+
+    ghost record_of = { danger_point_of };
+
+    ghost are_rows = { danger_point_are_rows };
+
+    ghost is_record = { danger_point_record };
+
+    #[tactic(auto, using(etcs_bits::proofs::PutLemmas::allowed_both))]
+    fn is_allowed(&self) -> bool {
+        self.distance.is_allowed() && self.release_speed.is_allowed()
+    }
+
+    #[tactic(auto, using(etcs_bits::proofs::WidthLemmas::width_both), unfolding(etcs_bits::specs::Rows::alone))]
+    fn width(&self) -> u64 {
+        22
+    }
+
+    #[tactic(auto, using(etcs_bits::proofs::PutLemmas::puts_then, etcs_bits::proofs::PutLemmas::keeps_front, etcs_bits::proofs::PutLemmas::allowed_both))]
+    fn put(&self, out: &mut Bits) -> Result<(), Memory> {
+        self.distance.put(out)?;
+        self.release_speed.put(out)
+    }
+
+    fn scan(alloc: Global, cur: &mut Cursor<'_>) -> Result<Self, DecodeError> {
+        let distance = Distance::scan(alloc, cur)?;
+        let release_speed = ReleaseSpeed::scan(alloc, cur)?;
+        Ok(DangerPoint {
+            distance,
+            release_speed,
+        })
+    }
+}

@@ -1,0 +1,50 @@
+//! The timer of a movement authority's end section.
+
+use etcs_bits::{Bits, Cursor, DecodeError, Distance, Layout, Memory, Time};
+use std::alloc::Global;
+
+/// Until when the end section is given (SUBSET-026, 3.8 and 7.4.2): 25 bits.
+#[derive(Clone, Copy, Debug, PartialEq, Eq)]
+pub struct EndTimer {
+    /// T_ENDTIMER, 10 bits: for how long the end section is given, in seconds; 1023 is no time-out.
+    pub time: Time,
+    /// D_ENDTIMERSTARTLOC, 15 bits: where the timer is started, from there to the end of the end
+    /// section, in the packet's scale.
+    pub start: Distance,
+}
+
+impl Layout for EndTimer {
+    ghost use Rattle.etcs_profile.specs.Parts.{end_timer_rows, end_timer_fields, end_timer_of, end_timer_are_rows, end_timer_record};
+
+    ghost rows = { end_timer_rows };
+
+    ghost fields = { end_timer_fields };
+
+    ghost record_of = { end_timer_of };
+
+    ghost are_rows = { end_timer_are_rows };
+
+    ghost is_record = { end_timer_record };
+
+    #[tactic(auto, using(etcs_bits::proofs::PutLemmas::allowed_both))]
+    fn is_allowed(&self) -> bool {
+        self.time.is_allowed() && self.start.is_allowed()
+    }
+
+    #[tactic(auto, using(etcs_bits::proofs::WidthLemmas::width_both), unfolding(etcs_bits::specs::Rows::alone))]
+    fn width(&self) -> u64 {
+        25
+    }
+
+    #[tactic(auto, using(etcs_bits::proofs::PutLemmas::puts_then, etcs_bits::proofs::PutLemmas::keeps_front, etcs_bits::proofs::PutLemmas::allowed_both))]
+    fn put(&self, out: &mut Bits) -> Result<(), Memory> {
+        self.time.put(out)?;
+        self.start.put(out)
+    }
+
+    fn scan(alloc: Global, cur: &mut Cursor<'_>) -> Result<Self, DecodeError> {
+        let time = Time::scan(alloc, cur)?;
+        let start = Distance::scan(alloc, cur)?;
+        Ok(EndTimer { time, start })
+    }
+}

@@ -1,0 +1,67 @@
+//! The overlap behind a movement authority's end.
+
+use etcs_bits::{Bits, Cursor, DecodeError, Distance, Layout, Memory, ReleaseSpeed, Time};
+use std::alloc::Global;
+
+/// The track behind the end of the authority that is kept free for a while (SUBSET-026, 3.8 and
+/// 7.4.2): 47 bits.
+#[derive(Clone, Copy, Debug, PartialEq, Eq)]
+pub struct Overlap {
+    /// D_STARTOL, 15 bits: where the overlap's timer is started, from there to the end of the authority,
+    /// in the packet's scale.
+    pub start: Distance,
+    /// T_OL, 10 bits: for how long the overlap is kept, in seconds; 1023 is no time-out.
+    pub time: Time,
+    /// D_OL, 15 bits: how long the overlap is beyond the end of the authority, in the packet's scale.
+    pub length: Distance,
+    /// V_RELEASEOL, 7 bits: how fast a train may come near.
+    pub release_speed: ReleaseSpeed,
+}
+
+impl Layout for Overlap {
+    ghost use Rattle.etcs_profile.specs.Parts.{overlap_rows, overlap_fields, overlap_of, overlap_are_rows, overlap_record};
+
+    ghost rows = { overlap_rows };
+
+    ghost fields = { overlap_fields };
+
+    ghost record_of = { overlap_of };
+
+    ghost are_rows = { overlap_are_rows };
+
+    ghost is_record = { overlap_record };
+
+    #[tactic(auto, using(etcs_bits::proofs::PutLemmas::allowed_both))]
+    fn is_allowed(&self) -> bool {
+        self.start.is_allowed()
+            && self.time.is_allowed()
+            && self.length.is_allowed()
+            && self.release_speed.is_allowed()
+    }
+
+    #[tactic(auto, using(etcs_bits::proofs::WidthLemmas::width_both), unfolding(etcs_bits::specs::Rows::alone))]
+    fn width(&self) -> u64 {
+        47
+    }
+
+    #[tactic(auto, using(etcs_bits::proofs::PutLemmas::puts_then, etcs_bits::proofs::PutLemmas::keeps_front, etcs_bits::proofs::PutLemmas::allowed_both))]
+    fn put(&self, out: &mut Bits) -> Result<(), Memory> {
+        self.start.put(out)?;
+        self.time.put(out)?;
+        self.length.put(out)?;
+        self.release_speed.put(out)
+    }
+
+    fn scan(alloc: Global, cur: &mut Cursor<'_>) -> Result<Self, DecodeError> {
+        let start = Distance::scan(alloc, cur)?;
+        let time = Time::scan(alloc, cur)?;
+        let length = Distance::scan(alloc, cur)?;
+        let release_speed = ReleaseSpeed::scan(alloc, cur)?;
+        Ok(Overlap {
+            start,
+            time,
+            length,
+            release_speed,
+        })
+    }
+}

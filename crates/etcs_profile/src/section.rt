@@ -1,0 +1,96 @@
+//! A section of a movement authority.
+
+use etcs_bits::{Bits, Cursor, DecodeError, Distance, Layout, Memory, Time};
+use std::alloc::Global;
+
+/// A section of a movement authority: a stretch of track behind the one before it (SUBSET-026, 3.8
+/// and 7.4.2). 16 bits, and 25 for a timer.
+#[derive(Clone, Copy, Debug, PartialEq, Eq)]
+pub struct Section {
+    /// L_SECTION, 15 bits: how long it is, in the packet's scale.
+    pub length: Distance,
+    /// Q_SECTIONTIMER, 1 bit, and until when the section may be entered, if that is limited.
+    pub timer: Option<SectionTimer>,
+}
+
+impl Layout for Section {
+    ghost use Rattle.etcs_profile.specs.Parts.{section_rows, section_fields, section_of, section_are_rows, section_record};
+
+    ghost rows = { section_rows };
+
+    ghost fields = { section_fields };
+
+    ghost record_of = { section_of };
+
+    ghost are_rows = { section_are_rows };
+
+    ghost is_record = { section_record };
+
+    #[tactic(auto, using(etcs_bits::proofs::PutLemmas::allowed_both))]
+    fn is_allowed(&self) -> bool {
+        self.length.is_allowed() && self.timer.is_allowed()
+    }
+
+    #[tactic(auto, using(etcs_bits::proofs::WidthLemmas::width_both), unfolding(etcs_bits::specs::Rows::alone))]
+    fn width(&self) -> u64 {
+        self.timer.width().saturating_add(15)
+    }
+
+    #[tactic(auto, using(etcs_bits::proofs::PutLemmas::puts_then, etcs_bits::proofs::PutLemmas::keeps_front, etcs_bits::proofs::PutLemmas::allowed_both))]
+    fn put(&self, out: &mut Bits) -> Result<(), Memory> {
+        self.length.put(out)?;
+        self.timer.put(out)
+    }
+
+    fn scan(alloc: Global, cur: &mut Cursor<'_>) -> Result<Self, DecodeError> {
+        let length = Distance::scan(alloc, cur)?;
+        let timer = Option::scan(alloc, cur)?;
+        Ok(Section { length, timer })
+    }
+}
+
+/// Until when a section may be entered (SUBSET-026, 3.8 and 7.4.2): 25 bits.
+#[derive(Clone, Copy, Debug, PartialEq, Eq)]
+pub struct SectionTimer {
+    /// T_SECTIONTIMER, 10 bits: for how long the section is given, in seconds; 1023 is no time-out.
+    pub time: Time,
+    /// D_SECTIONTIMERSTOPLOC, 15 bits: where the timer is stopped, from the beginning of the section
+    /// on, in the packet's scale.
+    pub stop: Distance,
+}
+
+impl Layout for SectionTimer {
+    ghost use Rattle.etcs_profile.specs.Parts.{section_timer_rows, section_timer_fields, section_timer_of, section_timer_are_rows, section_timer_record};
+
+    ghost rows = { section_timer_rows };
+
+    ghost fields = { section_timer_fields };
+
+    ghost record_of = { section_timer_of };
+
+    ghost are_rows = { section_timer_are_rows };
+
+    ghost is_record = { section_timer_record };
+
+    #[tactic(auto, using(etcs_bits::proofs::PutLemmas::allowed_both))]
+    fn is_allowed(&self) -> bool {
+        self.time.is_allowed() && self.stop.is_allowed()
+    }
+
+    #[tactic(auto, using(etcs_bits::proofs::WidthLemmas::width_both), unfolding(etcs_bits::specs::Rows::alone))]
+    fn width(&self) -> u64 {
+        25
+    }
+
+    #[tactic(auto, using(etcs_bits::proofs::PutLemmas::puts_then, etcs_bits::proofs::PutLemmas::keeps_front, etcs_bits::proofs::PutLemmas::allowed_both))]
+    fn put(&self, out: &mut Bits) -> Result<(), Memory> {
+        self.time.put(out)?;
+        self.stop.put(out)
+    }
+
+    fn scan(alloc: Global, cur: &mut Cursor<'_>) -> Result<Self, DecodeError> {
+        let time = Time::scan(alloc, cur)?;
+        let stop = Distance::scan(alloc, cur)?;
+        Ok(SectionTimer { time, stop })
+    }
+}

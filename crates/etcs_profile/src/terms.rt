@@ -1,0 +1,105 @@
+//! What the two movement authorities have in common.
+
+use crate::danger_point::DangerPoint;
+use crate::end_timer::EndTimer;
+use crate::overlap::Overlap;
+use crate::section::{Section, SectionTimer};
+use etcs_bits::{Bits, Cursor, DecodeError, Distance, Items, Layout, Memory, Speed, Time};
+use std::alloc::Global;
+use std::marker::Model;
+
+/// How far and under which conditions a train may run: packets 12 and 15 behind Q_SCALE and V_MAIN
+/// (SUBSET-026, 3.8 and 7.4.2).
+#[derive(Debug, Drop)]
+pub(crate) struct Terms {
+    pub end_speed: Speed,
+    pub end_timeout: Time,
+    pub sections: Items<Section>,
+    pub l_endsection: Distance,
+    pub section_timer: Option<SectionTimer>,
+    pub end_timer: Option<EndTimer>,
+    pub danger_point: Option<DangerPoint>,
+    pub overlap: Option<Overlap>,
+}
+
+impl Model for Terms {
+    ghost use Rattle.std.specs.Prelude.{◌<◌, length};
+    ghost use Rattle.etcs_profile.specs.Terms.{Conditions, conditions};
+
+    ghost Value = { Conditions };
+
+    ghost view = { λ t. conditions t.end_speed t.end_timeout t.sections t.l_endsection
+        t.section_timer t.end_timer t.danger_point t.overlap };
+
+    ghost invariant = { λ t. length t.sections < 32 };
+}
+
+impl Layout for Terms {
+    ghost use Rattle.etcs_profile.specs.Terms.{terms_rows, terms_fields, terms_of, terms_are_rows, terms_record};
+
+    ghost rows = { terms_rows };
+
+    ghost fields = { terms_fields };
+
+    ghost record_of = { terms_of };
+
+    ghost are_rows = { terms_are_rows };
+
+    ghost is_record = { terms_record };
+
+    #[tactic(auto, using(etcs_bits::proofs::PutLemmas::allowed_both))]
+    fn is_allowed(&self) -> bool {
+        self.end_speed.is_allowed()
+            && self.end_timeout.is_allowed()
+            && self.sections.is_allowed()
+            && self.l_endsection.is_allowed()
+            && self.section_timer.is_allowed()
+            && self.end_timer.is_allowed()
+            && self.danger_point.is_allowed()
+            && self.overlap.is_allowed()
+    }
+
+    #[tactic(auto, using(etcs_bits::proofs::WidthLemmas::width_both), unfolding(etcs_bits::specs::Rows::alone))]
+    fn width(&self) -> u64 {
+        self.sections
+            .width()
+            .saturating_add(self.section_timer.width())
+            .saturating_add(self.end_timer.width())
+            .saturating_add(self.danger_point.width())
+            .saturating_add(self.overlap.width())
+            .saturating_add(32)
+    }
+
+    #[tactic(auto, using(etcs_bits::proofs::PutLemmas::puts_then, etcs_bits::proofs::PutLemmas::keeps_front, etcs_bits::proofs::PutLemmas::allowed_both))]
+    fn put(&self, out: &mut Bits) -> Result<(), Memory> {
+        self.end_speed.put(out)?;
+        self.end_timeout.put(out)?;
+        self.sections.put(out)?;
+        self.l_endsection.put(out)?;
+        self.section_timer.put(out)?;
+        self.end_timer.put(out)?;
+        self.danger_point.put(out)?;
+        self.overlap.put(out)
+    }
+
+    fn scan(alloc: Global, cur: &mut Cursor<'_>) -> Result<Self, DecodeError> {
+        let end_speed = Speed::scan(alloc, cur)?;
+        let end_timeout = Time::scan(alloc, cur)?;
+        let sections = Items::scan(alloc, cur)?;
+        let l_endsection = Distance::scan(alloc, cur)?;
+        let section_timer = Option::scan(alloc, cur)?;
+        let end_timer = Option::scan(alloc, cur)?;
+        let danger_point = Option::scan(alloc, cur)?;
+        let overlap = Option::scan(alloc, cur)?;
+        Ok(Terms {
+            end_speed,
+            end_timeout,
+            sections,
+            l_endsection,
+            section_timer,
+            end_timer,
+            danger_point,
+            overlap,
+        })
+    }
+}
