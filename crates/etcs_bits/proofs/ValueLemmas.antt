@@ -9,10 +9,13 @@ use Rattle.etcs_bits.specs.declared.scale.Scale.TheVariants as scales
 use Rattle.etcs_bits.specs.declared.direction.Dir.TheVariants as dirs
 use Rattle.etcs_bits.specs.declared.duplicate.Dup.TheVariants as dups
 use Rattle.etcs_bits.specs.Number.{worth}
-use Rattle.etcs_bits.specs.Rows.{row, IsAllowed}
-use Rattle.etcs_bits.specs.Variables.{plain, ranged, q_updown, transmission_number, transmission_of, q_media, medium_number, medium_of, m_version, version_number, version_of, m_dup, dup_number, dup_of, q_scale, scale_number, scale_of, q_dir, dir_number, dir_of, flag_of}
-use Rattle.etcs_bits.specs.VariableLemmas.{transmission_back, medium_back, version_back, dup_back, scale_back, dir_back, flag_back}
-use Rattle.etcs_bits.specs.Laws.{HasNumbers, IsNumberOf, HasValues}
+use Rattle.etcs_bits.specs.Rows.{row, alone, number_at, IsAllowed}
+use Rattle.etcs_bits.specs.Fields.{one}
+use Rattle.etcs_bits.specs.RowLemmas.{alone_rows}
+use Rattle.etcs_bits.proofs.LayoutLemmas.{laid_out}
+use Rattle.etcs_bits.specs.Variables.{plain, free, ranged, q_updown, transmission_number, transmission_of, q_media, medium_number, medium_of, m_version, version_number, version_of, m_dup, dup_number, dup_of, q_scale, scale_number, scale_of, q_dir, dir_number, dir_of, flag_of}
+use Rattle.etcs_bits.specs.VariableLemmas.{number_alone, transmission_back, medium_back, version_back, dup_back, scale_back, dir_back, flag_back}
+use Rattle.etcs_bits.specs.Laws.{AreLaidOut, HasNumbers, IsNumberOf, HasValues}
 
 either : (a b : Bool) → (a || b) ≡ true → (a ≡ true) ⊎ (b ≡ true)
 either true b e = inl refl
@@ -149,6 +152,12 @@ plain_has_numbers w = record {
     λ (low, high, small). (small, fitting w low high),
   );
 }
+
+pub free_has_numbers : (w : ℕ) → HasNumbers (free w) w (λ n. n < 2 ^ w)
+free_has_numbers w = record { width = refl; numbers = λ n. (λ allowed. allowed.0, λ small. (small, refl)) }
+
+pub free_laid_out : (w : ℕ) → AreLaidOut (one (free w)) (alone (free w))
+free_laid_out w = laid_out (one (free w)) (alone (free w)) (number_at 0) (alone_rows (free w)) (number_alone (free w))
 
 in_range : (n last from : ℕ) → (leb n last || leb from n) ≡ true → (n ≤ last) ⊎ (from ≤ n)
 in_range n last from e = elim (either (leb n last) (leb from n) e) [

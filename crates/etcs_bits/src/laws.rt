@@ -2,12 +2,12 @@
 //! users, over the definitions alone (`specs/Laws.antt`). Records of other crates have the laws of
 //! [`records_are_laid_out`].
 
-ghost use Rattle.std.specs.Prelude.{◌≤◌, ◌<◌, ◌^◌, ◌⊎◌};
+ghost use Rattle.std.specs.Prelude.{ℕ, ◌≤◌, ◌<◌, ◌^◌, ◌⊎◌};
 ghost use Rattle.etcs_bits.specs.Laws.{SpellsOneRecord, NoSpellingBegins, FaultMeansNone, TellsOneFault, NumbersAreBits, AreLaidOut, HasNumbers, HasValues};
 ghost use Rattle.etcs_bits.specs.Number.{worth};
 ghost use Rattle.etcs_bits.specs.Rows.{alone};
 ghost use Rattle.etcs_bits.specs.Fields.{◌▹◌, one, option, counted, sized};
-ghost use Rattle.etcs_bits.specs.Variables.{plain, ranged, q_updown, transmission_number, transmission_of, q_media, medium_number, medium_of, m_version, version_number, version_of, m_dup, dup_number, dup_of, q_scale, scale_number, scale_of, q_dir, dir_number, dir_of, flag_of};
+ghost use Rattle.etcs_bits.specs.Variables.{plain, free, ranged, q_updown, transmission_number, transmission_of, q_media, medium_number, medium_of, m_version, version_number, version_of, m_dup, dup_number, dup_of, q_scale, scale_number, scale_of, q_dir, dir_number, dir_of, flag_of};
 ghost use Rattle.etcs_bits.specs.Combined.{qualifier, n_iter, pair_rows, option_rows, counted_rows, body_rows};
 ghost use Rattle.etcs_bits.specs.Identity.{identity_fields, identity_rows};
 
@@ -118,6 +118,12 @@ pub fn ranged_variables_have_two_ranges<const W: u32, const LAST: u32, const FRO
 {
     records_are_laid_out::<Ranged<W, LAST, FROM>>();
 }
+
+/// Bits that are kept as they are have every number of their width.
+pub fn free_bits_have_all_numbers()
+    ensures numbers { (w : ℕ) → HasNumbers (free w) w (λ n. n < 2 ^ w) }
+    ensures laid_out { (w : ℕ) → AreLaidOut (one (free w)) (alone (free w)) }
+{}
 
 /// A flag has one bit, whose two numbers are its values.
 #[tactic(auto, using(crate::proofs::ValueLemmas::flags_have_values))]
