@@ -8,7 +8,8 @@ use Rattle.etcs_bits.specs.Fault.{IsFault, NoneBegins}
 use Rattle.etcs_bits.specs.Reading.{rows_at}
 use Rattle.etcs_bits.specs.Layout.{Fails, OfFault}
 use Rattle.etcs_bits.proofs.ReadingLemmas.{read_is_spelled, fault_is_told}
-use Rattle.etcs_bits.proofs.FaultLemmas.{none_stands}
+use Rattle.etcs_bits.specs.Laws.{AreLaidOut}
+use Rattle.etcs_bits.proofs.FaultLemmas.{none_stands, one_reading, no_front, one_told}
 
 pub is_spelled : (fields : Fields) (rows : List Row) (p q : Place) → p.at ≤ length p.bits → rows_at fields p ≡ Ok (rows, q) → IsSpelled rows p q
 is_spelled fields rows p q within e = (read_is_spelled fields p (rows, q) within e).spelled
@@ -25,3 +26,21 @@ none_begins rows (errors.Fault f) fields p within are_rows fails =
 -- records with the same rows are one
 pub same_record : {X : Type 0} (rows : X → List Row) (record_of : List Row → X) → ((x : X) → record_of (rows x) ≡ x) → (v w : X) → rows v ≡ rows w → v ≡ w
 same_record rows record_of is_record v w e = sym (is_record v) ∙ ap record_of e ∙ is_record w
+
+-- and so the laws hold of each layout
+pub laid_out : {X : Type 0} (fields : Fields) (rows : X → List Row) (record_of : List Row → X) → ((x : X) → AreRowsOf fields (rows x)) → ((x : X) → record_of (rows x) ≡ x) → AreLaidOut fields rows
+laid_out fields rows record_of are_rows is_record = record {
+  -- both lists of rows are what reading gives there
+  one_record = λ p q r v w within first second.
+      let same = one_reading fields (rows v) (rows w) p q r within (are_rows v) (are_rows w) first second in
+      (same_record rows record_of is_record v w same.0, same.1);
+  -- both stand at the front of one list of bits
+  no_front = λ v w x y a b e.
+      let same = no_front fields (rows v) (rows w) x y (are_rows v) (are_rows w) a b e in
+      (same_record rows record_of is_record v w same.0, same.1);
+  -- the fault stays in the other input, and reading gives one answer there
+  fault_or_record = λ p f within t bits len front v to spelled.
+      none_stands fields p f bits (rows v) to within len front t (are_rows v) spelled;
+  -- each is what reading gives
+  one_fault = λ p f h within t u. one_told fields p f h within t u;
+}

@@ -9,3 +9,4 @@ pub mod WidthLemmas
 pub mod NumeralLemmas
 pub mod ListLemmas
 pub mod SizedLemmas
+pub mod ValueLemmas

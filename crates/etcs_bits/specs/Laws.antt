@@ -1,8 +1,9 @@
--- What holds of every record that is laid out in fields, whatever reads or writes it.
-use Rattle.std.specs.Prelude.{◌≡◌, ℕ, ◌≤◌, ◌<◌, ◌^◌, List, Bool, ◌++◌, length}
+-- What holds of every record that is laid out in fields, whatever reads or writes it, and which
+-- numbers a variable has.
+use Rattle.std.specs.Prelude.{◌≡◌, ◌↔◌, ℕ, ◌≤◌, ◌<◌, ◌^◌, List, Bool, ◌++◌, length}
 use Rattle.etcs_bits.specs.declared.fault.Fault.{Fault}
 use Rattle.etcs_bits.specs.Number.{num, num_of_bits}
-use Rattle.etcs_bits.specs.Rows.{Row, Place, AreAllowed, join, IsSpelled}
+use Rattle.etcs_bits.specs.Rows.{Variable, Row, row, Place, IsAllowed, AreAllowed, join, IsSpelled}
 use Rattle.etcs_bits.specs.Fields.{Fields}
 use Rattle.etcs_bits.specs.Fault.{IsFault, NoneBegins}
 
@@ -28,6 +29,28 @@ abbrev pub TellsOneFault : Fields → Type 0
 TellsOneFault fields =
     (p : Place) (f g : Fault) → p.at ≤ length p.bits
     → IsFault fields p f → IsFault fields p g → f ≡ g
+
+-- The records with these rows are laid out in these fields: each of the four holds of them.
+pub record AreLaidOut {X : Type 0} (fields : Fields) (rows : X → List Row) : Type 0 where
+  pub one_record : SpellsOneRecord rows
+  pub no_front : NoSpellingBegins rows
+  pub fault_or_record : FaultMeansNone fields rows
+  pub one_fault : TellsOneFault fields
+
+-- The variable has w bits, and its numbers are those of which P holds: they fit, and are allowed.
+pub record HasNumbers (x : Variable) (w : ℕ) (P : ℕ → Type 0) : Type 0 where
+  pub width : x.width ≡ w
+  pub numbers : (n : ℕ) → IsAllowed (row x n) ↔ P n
+
+-- The value has this number.
+abbrev pub IsNumberOf : {X : Type 0} → (X → ℕ) → ℕ → Type 0
+IsNumberOf {X} number n = (v : X) × (number v ≡ n)
+
+-- The variable has w bits and a value for each of its numbers: the numbers of the values are those
+-- that it allows, and `of` finds the value again.
+pub record HasValues {X : Type 0} (x : Variable) (w : ℕ) (number : X → ℕ) (of : ℕ → X) : Type 0 where
+  pub numbers : HasNumbers x w (IsNumberOf number)
+  pub back : (v : X) → of (number v) ≡ v
 
 -- A number that fits in w bits is the one that its w bits spell, and bits are those of the number
 -- that they spell.

@@ -1,7 +1,7 @@
 -- The variables of telegrams and packets, by the standard's table (SUBSET-026, 7.5.1): the width of
 -- each, its numbers, and which of them are spare. That one number alone of Q_UPDOWN and Q_MEDIA is
 -- read, and two of M_VERSION, is this project's rule.
-use Rattle.std.specs.Prelude.{ℕ, Bool, ◌==◌, ◌||◌, ◌&&◌, nat_le, nat_lt, if◌then◌else◌, false}
+use Rattle.std.specs.Prelude.{ℕ, Bool, ◌==◌, ◌||◌, ◌&&◌, nat_le, nat_lt, if◌then◌else◌, true, false}
 use Rattle.etcs_bits.specs.declared.fault.FaultKind.{FaultKind}
 use Rattle.etcs_bits.specs.declared.fault.FaultKind.TheVariants.{Spare, Version as WrongVersion, Loop, Downlink}
 use Rattle.etcs_bits.specs.declared.transmission.Transmission.{Transmission}
@@ -26,6 +26,10 @@ plain w = record {
   refusal = Spare;
   closes = false;
 }
+
+-- w bits of any width that are kept as they are, such as the body of a packet that is not looked into
+abbrev pub free : ℕ → Variable
+free w = record { width = w; allows = λ _. true; refusal = Spare; closes = false }
 
 -- a variable of w bits of which the number k alone is read; another has the fault `why`
 abbrev pub only : ℕ → ℕ → FaultKind → Variable

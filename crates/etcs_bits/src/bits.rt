@@ -65,6 +65,16 @@ impl Bits {
         Ok(())
     }
 
+    /// Appends bits as they are, such as the body of a packet that is not looked into. If memory
+    /// runs out, nothing is appended.
+    pub fn push_bits(&mut self, bits: &Bits) -> Result<(), Memory>
+        ensures ok { OnOk result (self.new ≡ self.old ++ bits.now) }
+        ensures err { OnErr result (self.new ≡ self.old) }
+    {
+        self.items.extend_from_slice(bits.as_slice())?;
+        Ok(())
+    }
+
     /// The first `len` bits of the bytes, eight for each, most significant first. The bytes must
     /// have as many. Fails only if memory runs out.
     pub fn from_bytes(alloc: Global, bytes: &[u8], len: usize) -> Result<Bits, Memory>
@@ -91,6 +101,14 @@ impl Bits {
         ensures few { IfOk result (λ v. 8 * length v.items < length self.now + 8) }
     {
         Ok(bytes_of(alloc, self.items.as_slice())?)
+    }
+
+    // A copy of truth values. Fails only if memory runs out.
+    pub(crate) fn copied(alloc: Global, bits: &[bool]) -> Result<Bits, Memory>
+        ensures { IfOk result (λ b. b ≡ bits.now) }
+    {
+        let items = bits.to_vec(alloc)?;
+        Ok(Bits { items })
     }
 
     // The bits as truth values.

@@ -2,11 +2,14 @@
 
 ghost use Rattle.std.specs.Prelude.{◌≡◌, ◌+◌, ◌<◌, ◌≤◌, ◌^◌, length, Ok, Err, IfOk, MatchResult, OnErr};
 ghost use Rattle.etcs_bits.specs.Fault.{short};
-ghost use Rattle.etcs_bits.specs.Reading.{taken};
+ghost use Rattle.etcs_bits.specs.Number.{num_of_bits};
+ghost use Rattle.etcs_bits.specs.Reading.{taken, field_at};
+ghost use Rattle.etcs_bits.specs.Layout.{Gives};
 
 use crate::bits::Bits;
-use crate::fault::{Fault, FaultKind};
+use crate::fault::{DecodeError, Fault, FaultKind};
 use crate::numerals::num_of;
+use std::alloc::Global;
 use std::marker::Model;
 
 /// Where a reader stands: borrowed bits, and the place of the next one. Contracts see it as such a
@@ -41,6 +44,8 @@ fn no_room(at: usize, end: usize) -> Fault
 }
 
 impl<'a> Cursor<'a> {
+    ghost use Rattle.etcs_bits.specs.Variables.{free};
+
     /// The beginning of the bits.
     #[inline]
     pub fn new(bits: &'a Bits) -> Cursor<'a>
@@ -93,6 +98,29 @@ impl<'a> Cursor<'a> {
         Ok(n)
     }
 
+    /// A copy of the next `width` bits, as they are; the cursor then stands behind them.
+    ///
+    /// Where fewer are left: a Short fault at the cursor, whose `end` is the length of the bits.
+    /// After an error the cursor stays.
+    pub fn take_bits(&mut self, alloc: Global, width: usize) -> Result<Bits, DecodeError>
+        ensures gives { Gives num_of_bits result (field_at (free width) self.old) self.new }
+        ensures len { IfOk result (λ bits. length bits ≡ width) }
+        ensures err { OnErr result (self.new ≡ self.old) }
+
+        // No memory is asked for.
+        ensures short { length self.old.bits < self.old.at + width
+            → result ≡ Err (DecodeError.Fault (short self.old)) }
+    {
+        let len = self.bits.len();
+        if len - self.at < width {
+            return Err(DecodeError::Fault(no_room(self.at, len)));
+        }
+        let end = self.at + width;
+        let bits = Bits::copied(alloc, &self.bits[self.at..end])?;
+        self.at = end;
+        Ok(bits)
+    }
+
     // The fault of a field of `width` bits that allows no number.
     #[cold]
     pub(crate) fn refusal(&self, width: u32) -> Fault
@@ -115,9 +143,9 @@ impl<'a> Cursor<'a> {
         }
     }
 
-    // A second cursor at the same place.
+    /// A second cursor at the same place, which moves by itself.
     #[inline]
-    pub(crate) fn fork(&self) -> Cursor<'a>
+    pub fn fork(&self) -> Cursor<'a>
         ensures same { result ≡ self.now }
         ensures inside { result.at ≤ length result.bits }
     {

@@ -1,9 +1,30 @@
-//! What holds of every record, as contracts of calls that do nothing: laws for users.
-//! Pairs, options, lists and bodies of records are records too, so the laws hold of them as well.
+//! What holds of every record and of every variable, as contracts of calls that do nothing: laws for
+//! users, over the definitions alone (`specs/Laws.antt`). Records of other crates have the laws of
+//! [`records_are_laid_out`].
 
-ghost use Rattle.etcs_bits.specs.Laws.{SpellsOneRecord, NoSpellingBegins, FaultMeansNone, TellsOneFault, NumbersAreBits};
+ghost use Rattle.std.specs.Prelude.{ℕ, ◌≤◌, ◌<◌, ◌^◌, ◌⊎◌};
+ghost use Rattle.etcs_bits.specs.Laws.{SpellsOneRecord, NoSpellingBegins, FaultMeansNone, TellsOneFault, NumbersAreBits, AreLaidOut, HasNumbers, HasValues};
+ghost use Rattle.etcs_bits.specs.Number.{worth};
+ghost use Rattle.etcs_bits.specs.Rows.{alone};
+ghost use Rattle.etcs_bits.specs.Fields.{◌▹◌, one, option, counted, sized};
+ghost use Rattle.etcs_bits.specs.Variables.{plain, free, ranged, q_updown, transmission_number, transmission_of, q_media, medium_number, medium_of, m_version, version_number, version_of, m_dup, dup_number, dup_of, q_scale, scale_number, scale_of, q_dir, dir_number, dir_of, flag_of};
+ghost use Rattle.etcs_bits.specs.Combined.{qualifier, n_iter, pair_rows, option_rows, counted_rows, body_rows};
+ghost use Rattle.etcs_bits.specs.Identity.{identity_fields, identity_rows};
 
+use crate::body::Body;
+use crate::direction::Dir;
+use crate::duplicate::Dup;
+use crate::identity::Identity;
+use crate::items::Items;
 use crate::layout::Layout;
+use crate::medium::Medium;
+use crate::plain::Plain;
+use crate::ranged::Ranged;
+use crate::scale::Scale;
+use crate::transmission::Transmission;
+use crate::version::Version;
+
+// ---- every record
 
 /// A place spells at most one record, and it has one end.
 pub fn a_place_spells_one_record<T: Layout>()
@@ -26,7 +47,143 @@ pub fn a_place_tells_one_fault<T: Layout>()
     ensures { TellsOneFault T.fields }
 {}
 
+/// Records are laid out in their fields: all four laws hold of them.
+pub fn records_are_laid_out<T: Layout>()
+    ensures { AreLaidOut T.fields T.rows }
+{
+    a_place_spells_one_record::<T>();
+    no_spelling_begins_another::<T>();
+    a_fault_means_no_record::<T>();
+    a_place_tells_one_fault::<T>();
+}
+
+// ---- records that are made of others
+
+/// Two records, one after the other, are laid out in the fields of both.
+pub fn pairs_are_laid_out<A: Layout, B: Layout>()
+    ensures { AreLaidOut (A.fields ▹ B.fields) (pair_rows A.rows B.rows) }
+{
+    records_are_laid_out::<(A, B)>();
+}
+
+/// A record that may be there is laid out behind the qualifier that says whether it is.
+pub fn options_are_laid_out<T: Layout>()
+    ensures { AreLaidOut (option qualifier T.fields) (option_rows T.rows) }
+{
+    records_are_laid_out::<Option<T>>();
+}
+
+/// Items are laid out behind N_ITER, which counts them.
+pub fn lists_are_laid_out<T: Layout>()
+    ensures { AreLaidOut (counted n_iter T.fields) (counted_rows T.rows) }
+{
+    records_are_laid_out::<Items<T>>();
+}
+
+/// A packet's body is laid out behind L_PACKET, which counts the bits before it too.
+pub fn bodies_are_laid_out<const BEFORE: u32, T: Layout>()
+    ensures { AreLaidOut (sized BEFORE T.fields) (body_rows BEFORE T.rows) }
+{}
+
+/// The identity of a balise group is laid out as NID_C and then NID_BG.
+pub fn identities_are_laid_out()
+    ensures { AreLaidOut identity_fields identity_rows }
+{
+    records_are_laid_out::<Identity>();
+}
+
+// ---- variables
+
 /// Numbers and their bits agree in both directions.
 pub fn numbers_are_their_bits()
     ensures { NumbersAreBits }
 {}
+
+/// A variable of `W` bits without a spare number has all that fit, if `W` is 1 to 32.
+#[tactic(auto, using(crate::proofs::ValueLemmas::plain_has_numbers))]
+pub fn plain_variables_have_all_numbers<const W: u32>()
+    ensures numbers { HasNumbers (plain W) W (λ n. (1 ≤ W) × (W ≤ 32) × (n < 2 ^ W)) }
+    ensures laid_out { AreLaidOut (one (plain W)) (alone (plain W)) }
+{
+    records_are_laid_out::<Plain<W>>();
+}
+
+/// A variable with two ranges has the numbers up to `LAST` and those from `FROM` on that fit in its
+/// `W` bits, if `W` is 1 to 32.
+#[tactic(auto, using(crate::proofs::ValueLemmas::ranged_has_numbers))]
+pub fn ranged_variables_have_two_ranges<const W: u32, const LAST: u32, const FROM: u32>()
+    ensures numbers { HasNumbers (ranged W LAST FROM) W
+        (λ n. (1 ≤ W) × (W ≤ 32) × (n < 2 ^ W) × ((n ≤ LAST) ⊎ (FROM ≤ n))) }
+    ensures laid_out { AreLaidOut (one (ranged W LAST FROM)) (alone (ranged W LAST FROM)) }
+{
+    records_are_laid_out::<Ranged<W, LAST, FROM>>();
+}
+
+/// Bits that are kept as they are have every number of their width.
+pub fn free_bits_have_all_numbers()
+    ensures numbers { (w : ℕ) → HasNumbers (free w) w (λ n. n < 2 ^ w) }
+    ensures laid_out { (w : ℕ) → AreLaidOut (one (free w)) (alone (free w)) }
+{}
+
+/// A flag has one bit, whose two numbers are its values.
+#[tactic(auto, using(crate::proofs::ValueLemmas::flags_have_values))]
+pub fn flags_have_their_numbers()
+    ensures numbers { HasValues (plain 1) 1 worth flag_of }
+    ensures laid_out { AreLaidOut (one (plain 1)) (λ b. alone (plain 1) (worth b)) }
+{
+    records_are_laid_out::<bool>();
+}
+
+/// Q_UPDOWN has one bit; the direction that is read has its number.
+#[tactic(auto, using(crate::proofs::ValueLemmas::transmissions_have_values))]
+pub fn transmissions_have_their_numbers()
+    ensures numbers { HasValues q_updown 1 transmission_number transmission_of }
+    ensures laid_out { AreLaidOut (one q_updown) (λ v. alone q_updown (transmission_number v)) }
+{
+    records_are_laid_out::<Transmission>();
+}
+
+/// Q_MEDIA has one bit; the medium that is read has its number.
+#[tactic(auto, using(crate::proofs::ValueLemmas::media_have_values))]
+pub fn media_have_their_numbers()
+    ensures numbers { HasValues q_media 1 medium_number medium_of }
+    ensures laid_out { AreLaidOut (one q_media) (λ v. alone q_media (medium_number v)) }
+{
+    records_are_laid_out::<Medium>();
+}
+
+/// M_VERSION has seven bits; the versions that are read have their numbers.
+#[tactic(auto, using(crate::proofs::ValueLemmas::versions_have_values))]
+pub fn versions_have_their_numbers()
+    ensures numbers { HasValues m_version 7 version_number version_of }
+    ensures laid_out { AreLaidOut (one m_version) (λ v. alone m_version (version_number v)) }
+{
+    records_are_laid_out::<Version>();
+}
+
+/// M_DUP has two bits; each mark has its number, and no other is allowed.
+#[tactic(auto, using(crate::proofs::ValueLemmas::marks_have_values))]
+pub fn marks_have_their_numbers()
+    ensures numbers { HasValues m_dup 2 dup_number dup_of }
+    ensures laid_out { AreLaidOut (one m_dup) (λ v. alone m_dup (dup_number v)) }
+{
+    records_are_laid_out::<Dup>();
+}
+
+/// Q_SCALE has two bits; each unit has its number, and no other is allowed.
+#[tactic(auto, using(crate::proofs::ValueLemmas::scales_have_values))]
+pub fn scales_have_their_numbers()
+    ensures numbers { HasValues q_scale 2 scale_number scale_of }
+    ensures laid_out { AreLaidOut (one q_scale) (λ v. alone q_scale (scale_number v)) }
+{
+    records_are_laid_out::<Scale>();
+}
+
+/// Q_DIR has two bits; each direction has its number, and no other is allowed.
+#[tactic(auto, using(crate::proofs::ValueLemmas::directions_have_values))]
+pub fn directions_have_their_numbers()
+    ensures numbers { HasValues q_dir 2 dir_number dir_of }
+    ensures laid_out { AreLaidOut (one q_dir) (λ v. alone q_dir (dir_number v)) }
+{
+    records_are_laid_out::<Dir>();
+}

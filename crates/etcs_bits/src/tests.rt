@@ -1,6 +1,7 @@
 //! What no contract says: outside vectors, printed texts, and that memory that is there suffices.
 
 mod combined;
+mod raw;
 
 use crate::{
     Bits, Counter, Country, Cursor, DecodeError, Dup, Fault, FaultKind, GroupNumber, Identity,

@@ -1,6 +1,5 @@
-use Rattle.etcs_bits.proofs.FaultLemmas.{one_told}
+use Rattle.etcs_bits.proofs.LayoutLemmas.{laid_out}
 use Rattle.etcs_bits.proofs.laws.a_place_tells_one_fault.Goals as goal
 
--- each is what reading gives
 pub returns : goal.returns
-returns g c = λ p f h within t u. one_told g.T.Layout.fields p f h within t u
+returns g c = (laid_out g.T.Layout.fields g.T.Layout.rows g.T.Layout.record_of g.met.T.Layout.are_rows g.met.T.Layout.is_record).one_fault
