@@ -115,9 +115,9 @@ impl<'a> Cursor<'a> {
         }
     }
 
-    // A second cursor at the same place.
+    /// A second cursor at the same place, to look ahead with.
     #[inline]
-    pub(crate) fn fork(&self) -> Cursor<'a>
+    pub fn fork(&self) -> Cursor<'a>
         ensures same { result ≡ self.now }
         ensures inside { result.at ≤ length result.bits }
     {
