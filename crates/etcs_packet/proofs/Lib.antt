@@ -1,0 +1,4 @@
+pub mod EndLemmas
+pub mod FollowLemmas
+pub mod ItemLemmas
+pub mod ListLemmas
