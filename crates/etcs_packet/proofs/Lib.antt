@@ -2,3 +2,4 @@ pub mod EndLemmas
 pub mod FollowLemmas
 pub mod ItemLemmas
 pub mod ListLemmas
+pub mod WholeLemmas

@@ -3,6 +3,8 @@
 
 mod list;
 mod stop;
+mod whole;
 
 pub use list::{is_end, next_item, read_items, write_items};
 pub use stop::Stop;
+pub use whole::{next_whole, read_whole};
