@@ -119,8 +119,8 @@ impl Bits {
         self.items.as_slice()
     }
 
-    // Keeps the first `len` bits.
-    pub(crate) fn truncate(&mut self, len: usize)
+    /// Keeps the first `len` bits, or all where there are fewer.
+    pub fn truncate(&mut self, len: usize)
         ensures { self.new ≡ take len self.old }
     {
         self.items.truncate(len);

@@ -143,7 +143,7 @@ impl<'a> Cursor<'a> {
         }
     }
 
-    /// A second cursor at the same place, which moves by itself.
+    /// A second cursor at the same place, to look ahead with.
     #[inline]
     pub fn fork(&self) -> Cursor<'a>
         ensures same { result ≡ self.now }

@@ -1,0 +1,97 @@
+-- Eight bits settle whether a list ends, and what begins with NID_PACKET has as many.
+use Rattle.std.proofs.Common.{◌≡◌, ℕ, ◌+◌, ◌-◌, ◌<◌, ◌≤◌, Bool, true, false, List, length, take, drop, refl, sym, ap, subst, ◌∙◌, arith, inl, inr, ◌⊎◌}
+use Rattle.std.proofs.lemmas.Bool.{lt-ltb}
+use Rattle.std.proofs.lemmas.List.{take-take, drop-take}
+use Rattle.etcs_bits.specs.declared.fault.Fault.{Fault}
+use Rattle.etcs_bits.specs.Rows.{Variable, Row, Place, IsSpelled, join, width}
+use Rattle.etcs_bits.specs.Fields.{Fields, nothing, field, ◌▹◌, sized, AreRowsOf, Due, due, differs, IsOpen}
+use Rattle.etcs_bits.specs.Fault.{lack, Tells, IsFault}
+use Rattle.etcs_bits.proofs.StandLemmas.{place_in, length-join, stands_within}
+use Rattle.etcs_packet.specs.declared.stop.Stop.{Stop}
+use Rattle.etcs_packet.specs.Lists.{IsHeaded, ends}
+
+-- A list ends in one input where it ends in another that is as long, where their first bits are the
+-- same and hold the eight that count, or where both have fewer.
+pub settled : (stop : Stop) (p : Place) (bits : List Bool) (n : ℕ)
+    → length bits ≡ length p.bits → take n bits ≡ take n p.bits
+    → (p.at + 8 ≤ n) ⊎ (length p.bits < p.at + 8) → ends stop (place_in bits p.at) ≡ ends stop p
+settled stop p bits n len same (inl le) =
+    let front : take (p.at + 8) bits ≡ take (p.at + 8) p.bits =
+    sym (take-take (p.at + 8) n bits le) ∙ ap (take (p.at + 8)) same
+    ∙ take-take (p.at + 8) n p.bits le in
+    let eight : take 8 (drop p.at bits) ≡ take 8 (drop p.at p.bits) =
+    sym (drop-take p.at 8 bits) ∙ ap (drop p.at) front ∙ drop-take p.at 8 p.bits in
+    rw (len, eight) refl
+settled stop p bits n len same (inr lt) = rw (len, lt-ltb (length p.bits) (p.at + 8) lt) refl
+
+-- ---- a fault behind NID_PACKET's eight bits
+
+lack_past : (closes : Bool) (p : Place) → p.at ≤ length p.bits → p.at ≤ (lack closes p).end
+lack_past true p within = omega arith
+lack_past false p within = within
+
+tells_past : (d : Due) (e : Place) (f : Fault) → e.at ≤ length e.bits → Tells d e f → e.at ≤ f.end
+tells_past (due x) e f within (inl (lt, is)) =
+    subst (λ (g : Fault). e.at ≤ g.end) (sym is) (lack_past x.closes e within)
+tells_past (due x) e f within (inr (n, after, stands, small, spare, is)) =
+    omega (arith, ap (λ (g : Fault). g.end) is)
+tells_past (differs back) e f within is = omega (arith, ap (λ (g : Fault). g.end) is)
+
+-- The fault is decided by the eight bits here, or there are fewer.
+abbrev pub IsPast : Place → Fault → Type 0
+IsPast p f = (p.at ≤ f.end) × ((p.at + 8 ≤ f.end) ⊎ (length p.bits < p.at + 8))
+
+first_past : (x : Variable) (p e : Place) (f : Fault) → x.width ≡ 8 → e.at ≡ p.at
+    → length e.bits ≡ length p.bits → e.at ≤ length e.bits → Tells (due x) e f → IsPast p f
+first_past x p e f eight at len within (inl (lt, is)) =
+    let past = tells_past (due x) e f within (inl (lt, is)) in
+    (omega (arith, past, at), inr (omega (arith, lt, at, len, eight)))
+first_past x p e f eight at len within (inr (n, after, stands, small, spare, is)) =
+    let end = ap (λ (g : Fault). g.end) is in
+    (omega (arith, end, at), inl (omega (arith, end, at, eight)))
+
+open_past : (x : Variable) (next : ℕ → Fields) (rows : List Row) (d : Due) (p e : Place) (f : Fault)
+    → x.width ≡ 8 → p.at ≤ length p.bits → IsOpen (field x next) rows d
+    → IsSpelled rows p e → Tells d e f → IsPast p f
+open_past x next rows d p e f eight within (inl (empty, is)) spelled tells =
+    let len = ap length spelled.stands.same in
+    let inside = stands_within (join rows) p e within spelled.stands in
+    let at : e.at ≡ p.at = omega (arith, spelled.stands.past, length-join rows, ap width empty) in
+    first_past x p e f eight at len (omega (arith, inside, len))
+    (subst (λ (g : Due). Tells g e f) is tells)
+open_past x next rows d p e f eight within (inr (n, more, is, o)) spelled tells =
+    let len = ap length spelled.stands.same in
+    let inside = stands_within (join rows) p e within spelled.stands in
+    let past = tells_past d e f (omega (arith, inside, len)) tells in
+    let far : p.at + 8 ≤ f.end =
+    omega (arith, spelled.stands.past, length-join rows, ap width is, past, eight) in
+    (omega (arith, far), inl far)
+
+pub told_past : (fields : Fields) (p : Place) (f : Fault) → IsHeaded fields
+    → p.at ≤ length p.bits → IsFault fields p f → IsPast p f
+told_past (field x next) p f head within t =
+    open_past x next t.rows t.next p t.reached f head.0 within t.is_open t.spelled t.tells
+told_past nothing p f head within t = absurd head
+told_past (a ▹ b) p f head within t = absurd head
+told_past (sized before body) p f head within t = absurd head
+
+-- ---- a record that begins with NID_PACKET has eight bits
+
+pub headed_wide : (fields : Fields) (rows : List Row) → IsHeaded fields → AreRowsOf fields rows
+    → 8 ≤ width rows
+headed_wide (field x next) rows head (n, more, is, w) = omega (arith, ap width is, head.0)
+headed_wide nothing rows head w = absurd head
+headed_wide (a ▹ b) rows head w = absurd head
+headed_wide (sized before body) rows head w = absurd head
+
+pub next_within : (rows : List Row) (p q : Place) → p.at ≤ length p.bits → IsSpelled rows p q
+    → q.at ≤ length q.bits
+next_within rows p q within s =
+    omega (arith, stands_within (join rows) p q within s.stands, ap length s.stands.same)
+
+-- the bits that are left become fewer by a record
+pub less_left : (fields : Fields) (rows : List Row) (p q : Place) → IsHeaded fields
+    → p.at ≤ length p.bits → AreRowsOf fields rows → IsSpelled rows p q
+    → length q.bits - q.at < length p.bits - p.at
+less_left fields rows p q head within w s =
+    omega (arith, within, headed_wide fields rows head w, length-join rows, s.stands.past, stands_within (join rows) p q within s.stands, ap length s.stands.same)

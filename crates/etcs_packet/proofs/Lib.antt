@@ -1,0 +1,5 @@
+pub mod EndLemmas
+pub mod FollowLemmas
+pub mod ItemLemmas
+pub mod ListLemmas
+pub mod WholeLemmas

@@ -1,0 +1,138 @@
+-- A list of records, as a reader goes through it and as a user knows it.
+use Rattle.std.proofs.Common.{◌≡◌, ℕ, ◌≤◌, Bool, true, false, List, [], ◌∷◌, ◌++◌, map, length, take, Option, Some, None, Result, Ok, Err, refl, sym, ap, subst, ◌∙◌, arith}
+use Rattle.std.specs.Result.{is_err, OnOk}
+use Rattle.std.proofs.lemmas.List.{map-append}
+use Rattle.etcs_bits.specs.declared.fault.Fault.{Fault}
+use Rattle.etcs_bits.specs.declared.fault.DecodeError.{DecodeError}
+use Rattle.etcs_bits.specs.declared.fault.DecodeError.TheVariants as errors
+use Rattle.etcs_bits.specs.Rows.{Row, Place, IsSpelled}
+use Rattle.etcs_bits.specs.Fields.{Fields, AreRowsOf}
+use Rattle.etcs_bits.specs.Fault.{IsFault, NoneBegins}
+use Rattle.etcs_bits.specs.Layout.{Fails, OfFault}
+use Rattle.etcs_bits.proofs.StandLemmas.{place_in}
+use Rattle.etcs_packet.specs.declared.stop.Stop.{Stop}
+use Rattle.etcs_packet.specs.Lists.{IsHeaded, ends, Stand, IsStep, NoStep, NoneStand, Follow, IsListFault, items_at}
+use Rattle.etcs_packet.proofs.EndLemmas.{settled, told_past}
+use Rattle.etcs_packet.proofs.FollowLemmas.{follow_more, list_fault_stays}
+use Rattle.etcs_packet.proofs.ItemLemmas.{follow_is_read, list_fault_is_read}
+
+-- ---- one step
+
+no_step_here : {X : Type 0} (rows : X → List Row) (stop : Stop) (fields : Fields) (p : Place)
+    (f : Fault) (bits : List Bool) (o : Option X) (to : Place) → IsHeaded fields
+    → p.at ≤ length p.bits → ends stop p ≡ false → IsFault fields p f → NoneBegins rows p f
+    → length bits ≡ length p.bits → take f.end bits ≡ take f.end p.bits
+    → IsStep stop rows o (place_in bits p.at) to → ⊥
+no_step_here rows stop fields p f bits None to head within goes t none len same s =
+    let h = settled stop p bits f.end len same (told_past fields p f head within t).1 in
+    let e = s.0 in cc
+no_step_here rows stop fields p f bits (Some x) to head within goes t none len same s =
+    none bits len same x to s.1
+
+pub no_step : {X : Type 0} (rows : X → List Row) (e : DecodeError) (stop : Stop) (fields : Fields)
+    (p : Place) → IsHeaded fields → p.at ≤ length p.bits → ends stop p ≡ false
+    → OfFault e (λ f. IsFault fields p f) → OfFault e (λ f. NoneBegins rows p f)
+    → OfFault e (λ f. NoStep stop rows p f)
+no_step rows errors.Memory stop fields p head within goes t none = tt
+no_step rows (errors.Fault f) stop fields p head within goes t none =
+    λ bits len same o to s. no_step_here rows stop fields p f bits o to head within goes t none len same s
+
+-- ---- the loop
+
+-- one record more
+pub goes_on : {X : Type 0} (rows : X → List Row) (xs : List X) (x : X) (stop : Stop)
+    (fields : Fields) (p q r : Place) → Follow stop fields (map rows xs) p q → AreRowsOf fields (rows x)
+    → IsStep stop rows (Some x) q r → Follow stop fields (map rows (xs ++ x ∷ [])) p r
+goes_on rows xs x stop fields p q r follow w step =
+    subst (λ (ys : List (List Row)). Follow stop fields ys p r) (sym (map-append rows xs (x ∷ [])))
+    (follow_more stop fields (map rows xs) (rows x) p q r follow step.0 w step.1)
+
+-- none more: the records stand up to the end
+pub over : {X : Type 0} (rows : X → List Row) (xs : List X) (stop : Stop) (fields : Fields)
+    (p q r : Place) → Follow stop fields (map rows xs) p q → IsStep stop rows None q r
+    → Stand stop rows xs p r
+over rows [] stop fields p q r there step =
+    (subst (λ (z : Place). ends stop z ≡ true) there step.0, step.1 ∙ there)
+over rows (x ∷ xs) stop fields p q r (goes, (m, w, spelled, rest)) step =
+    (goes, (m, spelled, over rows xs stop fields m q r rest step))
+
+-- the next has a fault
+pub list_fault : {X : Type 0} (rows : X → List Row) (e : DecodeError) (xs : List X) (stop : Stop)
+    (fields : Fields) (p q : Place) → Follow stop fields (map rows xs) p q
+    → OfFault e (λ f. (ends stop q ≡ false) × IsFault fields q f)
+    → OfFault e (λ f. IsListFault stop fields p f)
+list_fault rows errors.Memory xs stop fields p q follow t = tt
+list_fault rows (errors.Fault f) xs stop fields p q follow t =
+    record { whole = map rows xs; reached = q; follow = follow; goes_on = t.0; told = t.1 }
+
+-- ---- a list that stands
+
+-- Its rows follow one another up to the end.
+pub record AreListed {X : Type 0} (rows : X → List Row) (stop : Stop) (fields : Fields) (xs : List X) (p q : Place) : Type 0 where
+  pub follow : Follow stop fields (map rows xs) p q
+  pub over : ends stop q ≡ true
+
+pub stand_follow : {X : Type 0} (rows : X → List Row) (xs : List X) (stop : Stop) (fields : Fields)
+    (p q : Place) → ((x : X) → AreRowsOf fields (rows x)) → Stand stop rows xs p q
+    → AreListed rows stop fields xs p q
+stand_follow rows [] stop fields p q are_rows (over, there) =
+    record { follow = there; over = subst (λ (z : Place). ends stop z ≡ true) (sym there) over }
+stand_follow rows (x ∷ xs) stop fields p q are_rows (goes, (m, spelled, rest)) =
+    let more = stand_follow rows xs stop fields m q are_rows rest in
+    record { follow = (goes, (m, are_rows x, spelled, more.follow)); over = more.over }
+
+map_back : {X : Type 0} (rows : X → List Row) (of : List Row → X) (xs : List X)
+    → ((x : X) → of (rows x) ≡ x) → map of (map rows xs) ≡ xs
+map_back rows of [] back = refl
+map_back rows of (x ∷ xs) back =
+    let first = back x in
+    let rest = map_back rows of xs back in cc
+
+-- A list that stands is what reading gives.
+pub stand_is_read : {X : Type 0} (rows : X → List Row) (of : List Row → X) (xs : List X) (stop : Stop)
+    (fields : Fields) (p q : Place) → IsHeaded fields → ((x : X) → AreRowsOf fields (rows x))
+    → ((x : X) → of (rows x) ≡ x) → p.at ≤ length p.bits → Stand stop rows xs p q
+    → items_at stop fields of p ≡ Ok (xs, q)
+stand_is_read rows of xs stop fields p q head are_rows back within s =
+    let listed = stand_follow rows xs stop fields p q are_rows s in
+    follow_is_read of (map rows xs) stop fields p q head within listed.follow listed.over
+    ∙ ap (λ ys. Ok (ys, q)) (map_back rows of xs back)
+
+-- ---- a fault that is told
+
+-- A fault that is told is what reading gives.
+pub list_fails : {X : Type 0} (of : List Row → X) (e : DecodeError) (stop : Stop) (fields : Fields)
+    (p : Place) → IsHeaded fields → p.at ≤ length p.bits
+    → OfFault e (λ f. IsListFault stop fields p f) → Fails e (items_at stop fields of p)
+list_fails of errors.Memory stop fields p head within t = tt
+list_fails of (errors.Fault f) stop fields p head within t =
+    list_fault_is_read of stop fields p f head within t
+
+-- Where a fault is told, no list stands, in any input of the same length with the same front.
+pub none_stand : {X : Type 0} (rows : X → List Row) (stop : Stop) (fields : Fields) (p : Place)
+    (f : Fault) → IsHeaded fields → ((x : X) → AreRowsOf fields (rows x)) → p.at ≤ length p.bits
+    → IsListFault stop fields p f → NoneStand stop rows p f
+none_stand rows stop fields p f head are_rows within t = λ bits len same xs to s.
+    let there = place_in bits p.at in
+    let inside : there.at ≤ length there.bits = omega (arith, within, len) in
+    let listed = stand_follow rows xs stop fields there to are_rows s in
+    let reads = follow_is_read rows_alone (map rows xs) stop fields there to head inside listed.follow listed.over in
+    let fails = list_fault_is_read rows_alone stop fields there f head inside (list_fault_stays stop fields p f bits head within len same t) in
+    cc
+  where
+    rows_alone : List Row → List Row
+    rows_alone rs = rs
+
+pub none_of : {X : Type 0} (rows : X → List Row) (e : DecodeError) (stop : Stop) (fields : Fields)
+    (p : Place) → IsHeaded fields → ((x : X) → AreRowsOf fields (rows x)) → p.at ≤ length p.bits
+    → OfFault e (λ f. IsListFault stop fields p f) → OfFault e (λ f. NoneStand stop rows p f)
+none_of rows errors.Memory stop fields p head are_rows within t = tt
+none_of rows (errors.Fault f) stop fields p head are_rows within t =
+    none_stand rows stop fields p f head are_rows within t
+
+-- ---- writing
+
+-- a fact of a result that is no error
+pub was_done : {A E P : Type 0} (r : Result A E) → is_err r ≡ false → OnOk r P → P
+was_done (Ok x) good p = p
+was_done (Err e) good p = absurd cc

@@ -1,0 +1,176 @@
+-- A head and its list: what stands is read, what is told is read, and there is one of them alone.
+use Rattle.std.proofs.Common.{◌≡◌, ℕ, ◌+◌, ◌≤◌, Bool, true, false, List, [], ◌∷◌, ◌++◌, length, take, Result, Ok, Err, refl, sym, ap, subst, ◌∙◌, arith, inl, inr, ◌⊎◌}
+use Rattle.etcs_bits.specs.declared.fault.Fault.{Fault}
+use Rattle.etcs_bits.specs.declared.fault.DecodeError.{DecodeError}
+use Rattle.etcs_bits.specs.declared.fault.DecodeError.TheVariants as errors
+use Rattle.etcs_bits.specs.Rows.{Row, Place, IsSpelled, join}
+use Rattle.etcs_bits.specs.Fields.{Fields, AreRowsOf}
+use Rattle.etcs_bits.specs.Fault.{IsFault}
+use Rattle.etcs_bits.specs.Reading.{◌>>=◌, rows_at}
+use Rattle.etcs_bits.specs.Layout.{Fails, Gives, OfFault}
+use Rattle.etcs_bits.proofs.BindLemmas.{bind_err}
+use Rattle.etcs_bits.proofs.StandLemmas.{place_in, stands_moved}
+use Rattle.etcs_bits.proofs.ReadingLemmas.{read_is_spelled, spelled_is_read, fault_is_told}
+use Rattle.etcs_bits.proofs.FaultLemmas.{told_is_given, fault_stays}
+use Rattle.etcs_packet.specs.declared.stop.Stop.{Stop}
+use Rattle.etcs_packet.specs.Lists.{IsHeaded, Stand, IsListFault, items_at}
+use Rattle.etcs_packet.specs.Whole.{start, IsWhole, IsLaterFault, IsWholeFault, NoneWhole, Means, whole_at, whole_of}
+use Rattle.etcs_packet.proofs.EndLemmas.{told_past, next_within}
+use Rattle.etcs_packet.proofs.FollowLemmas.{follow_forward, follow_within, list_fault_stays}
+use Rattle.etcs_packet.proofs.ItemLemmas.{list_fault_is_read, list_fault_is_told}
+use Rattle.etcs_packet.proofs.ListLemmas.{stand_is_read}
+
+-- the list behind a head, and both
+abbrev then_items : {H X : Type 0} → Stop → (List Row → H) → Fields → (List Row → X)
+    → List Row × Place → Result ((H × List X) × Place) Fault
+then_items stop head_of item item_of first =
+    items_at stop item item_of first.1 >>= λ more. Ok ((head_of first.0, more.0), more.1)
+
+both_at : {H X : Type 0} (stop : Stop) (head : Fields) (head_of : List Row → H) (item : Fields)
+    (item_of : List Row → X) (p : Place) → whole_at stop head head_of item item_of p
+    ≡ (rows_at head p >>= λ first. then_items stop head_of item item_of first)
+unfolding whole_at
+both_at stop head head_of item item_of p = refl
+
+of_bits : {H X : Type 0} (stop : Stop) (head : Fields) (head_of : List Row → H) (item : Fields)
+    (item_of : List Row → X) (bits : List Bool) → whole_of stop head head_of item item_of bits
+    ≡ (whole_at stop head head_of item item_of (start bits) >>= λ read. Ok read.0)
+unfolding whole_of
+of_bits stop head head_of item item_of bits = refl
+
+-- What stands is read.
+pub whole_is_read : {H X : Type 0} (head : H → List Row) (head_of : List Row → H) (rows : X → List Row)
+    (item_of : List Row → X) (stop : Stop) (header item : Fields) (h : H) (xs : List X) (p q : Place)
+    → IsHeaded item → ((v : H) → AreRowsOf header (head v)) → ((v : H) → head_of (head v) ≡ v)
+    → ((x : X) → AreRowsOf item (rows x)) → ((x : X) → item_of (rows x) ≡ x)
+    → p.at ≤ length p.bits → IsWhole stop head rows h xs p q
+    → whole_at stop header head_of item item_of p ≡ Ok ((h, xs), q)
+whole_is_read head head_of rows item_of stop header item h xs p q headed are_head back_head are_rows back within w =
+    let first = spelled_is_read header (head h) p w.middle within (are_head h) w.first in
+    let more = stand_is_read rows item_of xs stop item w.middle q headed are_rows back (next_within (head h) p w.middle within w.first) w.items in
+    both_at stop header head_of item item_of p ∙ rw (first, more, back_head h) refl
+
+-- What is told is read.
+pub whole_fault_is_read : {H X : Type 0} (head_of : List Row → H) (item_of : List Row → X) (stop : Stop)
+    (header item : Fields) (p : Place) (f : Fault) → IsHeaded item → p.at ≤ length p.bits
+    → IsWholeFault stop header item p f → whole_at stop header head_of item item_of p ≡ Err f
+whole_fault_is_read head_of item_of stop header item p f headed within (inl t) =
+    both_at stop header head_of item item_of p ∙ rw (told_is_given header p f within t) refl
+whole_fault_is_read head_of item_of stop header item p f headed within (inr t) =
+    let first = spelled_is_read header t.rows p t.middle within t.whole t.first in
+    let more = list_fault_is_read item_of stop item t.middle f headed (next_within t.rows p t.middle within t.first) t.told in
+    both_at stop header head_of item item_of p ∙ rw (first, more) refl
+
+-- a step that only builds cannot fail
+abbrev with_head : {H X : Type 0}
+    → H → Result (List X × Place) Fault → Result ((H × List X) × Place) Fault
+with_head h read = read >>= λ more. Ok ((h, more.0), more.1)
+
+not_after : {H X : Type 0} (read : Result (List X × Place) Fault) (h : H) (f : Fault)
+    → with_head h read ≡ Err f → read ≡ Err f
+not_after (Ok y) h f e = absurd cc
+not_after (Err c) h f e = cc
+
+-- A fault that is read is told.
+pub whole_fault_is_told : {H X : Type 0} (head_of : List Row → H) (item_of : List Row → X) (stop : Stop)
+    (header item : Fields) (p : Place) (f : Fault) → p.at ≤ length p.bits
+    → whole_at stop header head_of item item_of p ≡ Err f → IsWholeFault stop header item p f
+whole_fault_is_told head_of item_of stop header item p f within e =
+    elim (bind_err (rows_at header p) (λ first. then_items stop head_of item item_of first) f (sym (both_at stop header head_of item item_of p) ∙ e)) [
+      | inl t ↦ inl (fault_is_told header p f within t)
+      | inr a ↦
+          let first = read_is_spelled header p a.0 within a.1 in
+          let fails = not_after (items_at stop item item_of a.0.1) (head_of a.0.0) f a.2 in
+          inr (record {
+            rows = a.0.0;
+            middle = a.0.1;
+            whole = first.whole;
+            first = first.spelled;
+            told = list_fault_is_told item_of stop item a.0.1 f (next_within a.0.0 p a.0.1 within first.spelled) fails;
+          })
+    ]
+
+-- ---- a fault stays in each input of the same length with the same front
+
+-- a list's fault ends past the list's beginning
+list_past : (stop : Stop) (item : Fields) (p : Place) (f : Fault) → IsHeaded item
+    → p.at ≤ length p.bits → IsListFault stop item p f → p.at ≤ f.end
+list_past stop item p f headed within t =
+    let inside = follow_within stop item t.whole p t.reached within t.follow in
+    omega (arith, follow_forward stop item t.whole p t.reached t.follow, (told_past item t.reached f headed inside t.told).0)
+
+whole_fault_stays : (stop : Stop) (header item : Fields) (p : Place) (f : Fault) (bits : List Bool)
+    → IsHeaded item → p.at ≤ length p.bits → length bits ≡ length p.bits
+    → take f.end bits ≡ take f.end p.bits
+    → IsWholeFault stop header item p f → IsWholeFault stop header item (place_in bits p.at) f
+whole_fault_stays stop header item p f bits headed within len same (inl t) =
+    inl (fault_stays header p f bits within len same t)
+whole_fault_stays stop header item p f bits headed within len same (inr t) =
+    let inside = next_within t.rows p t.middle within t.first in
+    let back = sym t.first.stands.same in
+    let past = list_past stop item t.middle f headed inside t.told in
+    inr (record {
+      rows = t.rows;
+      middle = place_in bits t.middle.at;
+      whole = t.whole;
+      first = record { allowed = t.first.allowed; stands = stands_moved (join t.rows) p t.middle bits f.end t.first.stands past same };
+      told = list_fault_stays stop item t.middle f bits headed inside (len ∙ ap length back) (same ∙ ap (take f.end) back) t.told;
+    })
+
+-- Where a fault is told, no whole stands.
+pub none_whole : {H X : Type 0} (head : H → List Row) (head_of : List Row → H) (rows : X → List Row)
+    (item_of : List Row → X) (stop : Stop) (header item : Fields) (p : Place) (f : Fault)
+    → IsHeaded item → ((v : H) → AreRowsOf header (head v)) → ((v : H) → head_of (head v) ≡ v)
+    → ((x : X) → AreRowsOf item (rows x)) → ((x : X) → item_of (rows x) ≡ x)
+    → p.at ≤ length p.bits → IsWholeFault stop header item p f → NoneWhole stop head rows p f
+none_whole head head_of rows item_of stop header item p f headed are_head back_head are_rows back within t =
+    λ bits len same h xs to w.
+    let there = place_in bits p.at in
+    let inside : there.at ≤ length there.bits = omega (arith, within, len) in
+    let reads = whole_is_read head head_of rows item_of stop header item h xs there to headed are_head back_head are_rows back inside w in
+    let fails = whole_fault_is_read head_of item_of stop header item there f headed inside (whole_fault_stays stop header item p f bits headed within len same t) in
+    cc
+
+-- ---- what a reader may say
+
+pub head_fault : (e : DecodeError) (stop : Stop) (header item : Fields) (p : Place)
+    → OfFault e (λ f. IsFault header p f) → OfFault e (λ f. IsWholeFault stop header item p f)
+head_fault errors.Memory stop header item p t = tt
+head_fault (errors.Fault f) stop header item p t = inl t
+
+pub later_fault : (e : DecodeError) (stop : Stop) (header item : Fields) (rows : List Row) (p m : Place)
+    → AreRowsOf header rows → IsSpelled rows p m → OfFault e (λ f. IsListFault stop item m f)
+    → OfFault e (λ f. IsWholeFault stop header item p f)
+later_fault errors.Memory stop header item rows p m whole spelled t = tt
+later_fault (errors.Fault f) stop header item rows p m whole spelled t =
+    inr (record { rows = rows; middle = m; whole = whole; first = spelled; told = t })
+
+pub whole_fails : {H X : Type 0} (head_of : List Row → H) (item_of : List Row → X) (e : DecodeError)
+    (stop : Stop) (header item : Fields) (p : Place) → IsHeaded item → p.at ≤ length p.bits
+    → OfFault e (λ f. IsWholeFault stop header item p f)
+    → Fails e (whole_at stop header head_of item item_of p)
+whole_fails head_of item_of errors.Memory stop header item p headed within t = tt
+whole_fails head_of item_of (errors.Fault f) stop header item p headed within t =
+    whole_fault_is_read head_of item_of stop header item p f headed within t
+
+pub none_of_whole : {H X : Type 0} (head : H → List Row) (head_of : List Row → H) (rows : X → List Row)
+    (item_of : List Row → X) (e : DecodeError) (stop : Stop) (header item : Fields) (p : Place)
+    → IsHeaded item → ((v : H) → AreRowsOf header (head v)) → ((v : H) → head_of (head v) ≡ v)
+    → ((x : X) → AreRowsOf item (rows x)) → ((x : X) → item_of (rows x) ≡ x)
+    → p.at ≤ length p.bits → OfFault e (λ f. IsWholeFault stop header item p f)
+    → OfFault e (λ f. NoneWhole stop head rows p f)
+none_of_whole head head_of rows item_of errors.Memory stop header item p headed are_head back_head are_rows back within t = tt
+none_of_whole head head_of rows item_of (errors.Fault f) stop header item p headed are_head back_head are_rows back within t =
+    none_whole head head_of rows item_of stop header item p f headed are_head back_head are_rows back within t
+
+-- What reading gives at the beginning of bits, they mean.
+pub gives_means : {H X Y : Type 0} (view : Y → H × List X) (result : Result Y DecodeError) (stop : Stop)
+    (head : Fields) (head_of : List Row → H) (item : Fields) (item_of : List Row → X)
+    (bits : List Bool) (q : Place)
+    → Gives view result (whole_at stop head head_of item item_of (start bits)) q
+    → Means view result (whole_of stop head head_of item item_of bits)
+gives_means view (Ok y) stop head head_of item item_of bits q gives =
+    of_bits stop head head_of item item_of bits ∙ rw gives refl
+gives_means view (Err errors.Memory) stop head head_of item item_of bits q gives = tt
+gives_means view (Err (errors.Fault f)) stop head head_of item item_of bits q gives =
+    of_bits stop head head_of item item_of bits ∙ rw gives refl

@@ -1,0 +1,9 @@
+use Rattle.std.proofs.Common.{◌≡◌, ◌++◌, length, take}
+use Rattle.std.specs.List.{flat_map}
+use Rattle.etcs_bits.specs.Rows.{join}
+use Rattle.etcs_packet.proofs.list.write_items.Given as goal
+
+-- the packets up to here are written
+abbrev pub invariant-items : goal.invariant-items
+invariant-items g l =
+    l.out ≡ l.fn.out ++ join (flat_map g.T.Layout.rows (take l.item-index l.items))

@@ -1,0 +1,48 @@
+use Rattle.std.proofs.Common.{◌≡◌, ◌≤◌, length}
+use Rattle.std.proofs.lemmas.Result.{err_from_is_err_and}
+use Rattle.etcs_bits.specs.Rows.{IsSpelled}
+use Rattle.etcs_bits.specs.Fault.{IsFault}
+use Rattle.etcs_bits.specs.Layout.{OfFault}
+use Rattle.etcs_packet.specs.Whole.{IsWhole, IsWholeFault}
+use Rattle.etcs_packet.proofs.WholeLemmas.{head_fault, later_fault, whole_fails, whole_is_read, none_of_whole}
+use Rattle.etcs_packet.proofs.whole.next_whole.Goals as goal
+
+-- the fault of the head is that of the whole
+pub returns-in_err-head-clause-exact : goal.returns-in_err-head-clause-exact
+returns-in_err-head-clause-exact g c =
+    let failed = err_from_is_err_and c.from_residual.result c.from_residual.ensures.1 in
+    let e = c.in_err-head.field-0.0 in
+    let inside : c.args.cur.now.at ≤ length c.args.cur.now.bits = rw c.fork-ahead.ensures.same at c.fork-ahead.ensures.inside in
+    let told : OfFault e (λ f. IsFault g.H.Layout.fields c.args.cur.now f) = rw c.fork-ahead.ensures.same at c.in_err-head.ensures.fault in
+    rw (failed.1, failed.2) (whole_fails g.H.Layout.record_of g.T.Layout.record_of e c.args.stop g.H.Layout.fields g.T.Layout.fields c.args.cur.now c.requires inside (head_fault e c.args.stop g.H.Layout.fields g.T.Layout.fields c.args.cur.now told))
+
+-- where a head stands, the fault of the list is that of the whole, and then no whole stands
+pub returns-in_err-items-clause-none : goal.returns-in_err-items-clause-none
+returns-in_err-items-clause-none g c =
+    let failed = err_from_is_err_and c.from_residual-in_err-items.result c.from_residual-in_err-items.ensures.1 in
+    let e = c.in_err-items.field-0.0 in
+    let head = c.in_ok-head.head in
+    let inside : c.args.cur.now.at ≤ length c.args.cur.now.bits = rw c.fork-ahead.ensures.same at c.fork-ahead.ensures.inside in
+    let spelled : IsSpelled (g.H.Layout.rows head) c.args.cur.now c.read.new.cur = rw c.fork-ahead.ensures.same at c.in_ok-head.ensures.ok in
+    let told = later_fault e c.args.stop g.H.Layout.fields g.T.Layout.fields (g.H.Layout.rows head) c.args.cur.now c.read.new.cur (g.met.H.Layout.are_rows head) spelled c.in_err-items.ensures.fault in
+    rw (failed.1, failed.2) (none_of_whole g.H.Layout.rows g.H.Layout.record_of g.T.Layout.rows g.T.Layout.record_of e c.args.stop g.H.Layout.fields g.T.Layout.fields c.args.cur.now c.requires g.met.H.Layout.are_rows g.met.H.Layout.is_record g.met.T.Layout.are_rows g.met.T.Layout.is_record inside told)
+
+-- and reading gives it
+pub returns-in_err-items-clause-exact : goal.returns-in_err-items-clause-exact
+returns-in_err-items-clause-exact g c =
+    let failed = err_from_is_err_and c.from_residual-in_err-items.result c.from_residual-in_err-items.ensures.1 in
+    let e = c.in_err-items.field-0.0 in
+    let head = c.in_ok-head.head in
+    let inside : c.args.cur.now.at ≤ length c.args.cur.now.bits = rw c.fork-ahead.ensures.same at c.fork-ahead.ensures.inside in
+    let spelled : IsSpelled (g.H.Layout.rows head) c.args.cur.now c.read.new.cur = rw c.fork-ahead.ensures.same at c.in_ok-head.ensures.ok in
+    let told = later_fault e c.args.stop g.H.Layout.fields g.T.Layout.fields (g.H.Layout.rows head) c.args.cur.now c.read.new.cur (g.met.H.Layout.are_rows head) spelled c.in_err-items.ensures.fault in
+    rw (failed.1, failed.2) (whole_fails g.H.Layout.record_of g.T.Layout.record_of e c.args.stop g.H.Layout.fields g.T.Layout.fields c.args.cur.now c.requires inside told)
+
+-- a whole that stands is what reading gives
+pub returns-clause-exact : goal.returns-clause-exact
+returns-clause-exact g c =
+    let head = c.in_ok-head.head in
+    let inside : c.args.cur.now.at ≤ length c.args.cur.now.bits = rw c.fork-ahead.ensures.same at c.fork-ahead.ensures.inside in
+    let spelled : IsSpelled (g.H.Layout.rows head) c.args.cur.now c.read.new.cur = rw c.fork-ahead.ensures.same at c.in_ok-head.ensures.ok in
+    let whole : IsWhole c.args.stop g.H.Layout.rows g.T.Layout.rows head c.in_ok-items.items.items c.args.cur.now c.read_items.new.cur = record { middle = c.read.new.cur; first = spelled; items = c.in_ok-items.ensures.ok } in
+    whole_is_read g.H.Layout.rows g.H.Layout.record_of g.T.Layout.rows g.T.Layout.record_of c.args.stop g.H.Layout.fields g.T.Layout.fields head c.in_ok-items.items.items c.args.cur.now c.read_items.new.cur c.requires g.met.H.Layout.are_rows g.met.H.Layout.is_record g.met.T.Layout.are_rows g.met.T.Layout.is_record inside whole

@@ -1,0 +1,10 @@
+use Rattle.etcs_bits.specs.Layout.{Gives}
+use Rattle.etcs_packet.specs.Whole.{start, whole_at}
+use Rattle.etcs_packet.proofs.WholeLemmas.{gives_means}
+use Rattle.etcs_packet.proofs.whole.read_whole.Goals as goal
+
+-- the cursor is at the beginning
+pub returns-clause-exact : goal.returns-clause-exact
+returns-clause-exact g c =
+    gives_means (λ w. (w.0, w.1.items)) c.next_whole.result c.args.stop g.H.Layout.fields g.H.Layout.record_of g.T.Layout.fields g.T.Layout.record_of c.args.bits.now c.next_whole.new.cur
+    (rw c.new-cur.ensures at c.next_whole.ensures.exact)

@@ -1,0 +1,69 @@
+-- A head and the list of packets behind it: a telegram's header and its packets (SUBSET-026, 8.4.2),
+-- a radio message's own fields and its packets (SUBSET-026, 8.4.4).
+use Rattle.std.specs.Prelude.{◌≡◌, ◌⊎◌, List, Bool, length, take, Result, Ok, Err}
+use Rattle.etcs_bits.specs.declared.fault.Fault.{Fault}
+use Rattle.etcs_bits.specs.declared.fault.DecodeError.{DecodeError}
+use Rattle.etcs_bits.specs.Rows.{Row, Place, IsSpelled}
+use Rattle.etcs_bits.specs.Fields.{Fields, AreRowsOf}
+use Rattle.etcs_bits.specs.Fault.{IsFault}
+use Rattle.etcs_bits.specs.Reading.{◌>>=◌, rows_at}
+use Rattle.etcs_bits.specs.Layout.{Fails}
+use Rattle.etcs_packet.specs.declared.stop.Stop.{Stop}
+use Rattle.etcs_packet.specs.Lists.{Stand, IsListFault, items_at}
+
+-- the beginning of bits
+abbrev pub start : List Bool → Place
+start bits = record { bits = bits; at = 0 }
+
+-- The head stands here, the records behind it, up to the place where their list ends.
+pub record IsWhole {H X : Type 0} (stop : Stop) (head : H → List Row) (rows : X → List Row)
+    (h : H) (xs : List X) (from to : Place) : Type 0 where
+  pub middle : Place
+  pub first : IsSpelled (head h) from middle
+  pub items : Stand stop rows xs middle to
+
+-- Bits begin with this head and these records; what comes behind the end of the list says nothing.
+pub record BeginsWith {H X : Type 0} (stop : Stop) (head : H → List Row) (rows : X → List Row)
+    (h : H) (xs : List X) (bits : List Bool) : Type 0 where
+  pub end : Place
+  pub whole : IsWhole stop head rows h xs (start bits) end
+
+-- the fault of the list behind a head that is whole
+pub record IsLaterFault (stop : Stop) (head item : Fields) (from : Place) (fault : Fault) : Type 0 where
+  pub rows : List Row
+  pub middle : Place
+  pub whole : AreRowsOf head rows
+  pub first : IsSpelled rows from middle
+  pub told : IsListFault stop item middle fault
+
+-- The fault of a head and its list: that of the head, or, where a head stands, that of the list.
+abbrev pub IsWholeFault : Stop → Fields → Fields → Place → Fault → Type 0
+IsWholeFault stop head item from fault =
+    IsFault head from fault ⊎ IsLaterFault stop head item from fault
+
+-- No input of the same length that begins with the same first `end` bits has such a whole here.
+abbrev pub NoneWhole : {H X : Type 0}
+    → Stop → (H → List Row) → (X → List Row) → Place → Fault → Type 0
+NoneWhole {H} {X} stop head rows from fault =
+    (bits : List Bool) → length bits ≡ length from.bits
+    → take fault.end bits ≡ take fault.end from.bits → (h : H) (xs : List X) (to : Place)
+    → IsWhole stop head rows h xs (record { bits = bits; at = from.at }) to → ⊥
+
+-- What reading a head and its list gives: both and the place where the list ends, or the first fault.
+unfoldable pub whole_at : {H X : Type 0} → Stop → Fields → (List Row → H) → Fields → (List Row → X)
+    → Place → Result ((H × List X) × Place) Fault
+whole_at stop head head_of item item_of p = do
+  first ← rows_at head p
+  more ← items_at stop item item_of first.1
+  Ok ((head_of first.0, more.0), more.1)
+
+-- what bits mean: the head and the list that they begin with, or their first fault
+unfoldable pub whole_of : {H X : Type 0} → Stop → Fields → (List Row → H) → Fields → (List Row → X)
+    → List Bool → Result (H × List X) Fault
+whole_of stop head head_of item item_of bits =
+    whole_at stop head head_of item item_of (start bits) >>= λ read. Ok read.0
+
+-- What a function returned, seen by `view`, is what the bits mean, unless memory ran out.
+abbrev pub Means : {X Y : Type 0} → (X → Y) → Result X DecodeError → Result Y Fault → Type 0
+Means view (Ok x) meaning = meaning ≡ Ok (view x)
+Means view (Err e) meaning = Fails e meaning

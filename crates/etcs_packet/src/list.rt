@@ -1,0 +1,101 @@
+//! A list of packets, as a telegram and a message have one.
+
+ghost use Rattle.std.specs.Prelude.{◌≡◌, ◌≤◌, ◌++◌, length, false, IfOk, OnOk, OnErr};
+ghost use Rattle.std.specs.List.{flat_map};
+ghost use Rattle.etcs_bits.specs.Rows.{AreAllowed, join};
+ghost use Rattle.etcs_bits.specs.Fault.{IsFault};
+ghost use Rattle.etcs_bits.specs.Layout.{Gives, IfFault};
+ghost use Rattle.etcs_packet.specs.Lists.{IsHeaded, IsListFault, IsStep, NoStep, NoneStand, Stand, ends, items_at};
+
+use crate::stop::Stop;
+use etcs_bits::{Bits, Cursor, DecodeError, Layout, Memory};
+use std::alloc::Global;
+
+/// Whether the list ends at the cursor. Takes no memory.
+#[inline]
+pub fn is_end(cur: &Cursor<'_>, stop: Stop) -> bool
+    ensures value { result ≡ ends stop cur.now }
+    ensures inside { cur.now.at ≤ length cur.now.bits }
+{
+    match cur.fork().take(8) {
+        Ok(number) => number == 255,
+        Err(_) => match stop {
+            Stop::Telegram => false,
+            Stop::Message => true,
+        },
+    }
+}
+
+/// The packet at the cursor, which then stands behind it; none where the list ends.
+///
+/// A fault is the first one of the packet that is due, and then there is no packet and no end, in any
+/// input of the same length with the same first `end` bits. Fewer than eight bits in a telegram are a
+/// NoEnd fault. If memory runs out, a fault may go unseen. After an error the cursor stands where it
+/// stood.
+pub fn next_item<T: Layout>(
+    alloc: Global,
+    cur: &mut Cursor<'_>,
+    stop: Stop,
+) -> Result<Option<T>, DecodeError>
+    requires { IsHeaded T.fields }
+    ensures ok { IfOk result (λ o. IsStep stop T.rows o cur.old cur.new) }
+
+    ensures fault { IfFault result (λ f. (ends stop cur.old ≡ false) × IsFault T.fields cur.old f) }
+    ensures none { IfFault result (λ f. NoStep stop T.rows cur.old f) }
+    ensures err { OnErr result (cur.new ≡ cur.old) }
+{
+    if is_end(cur, stop) {
+        return Ok(None);
+    }
+    let item = T::read(alloc, cur)?;
+    Ok(Some(item))
+}
+
+/// The packets from the cursor up to the place where the list ends; there the cursor then stands, at
+/// the end mark or at the bits that are left.
+///
+/// A fault is the first one of the list, and then there is no list, in any input of the same length
+/// with the same first `end` bits. If memory runs out, a fault may go unseen. After an error the
+/// cursor stands where it stood.
+pub fn read_items<T: Layout>(
+    alloc: Global,
+    cur: &mut Cursor<'_>,
+    stop: Stop,
+) -> Result<Vec<T>, DecodeError>
+    requires { IsHeaded T.fields }
+    ensures ok { IfOk result (λ v. Stand stop T.rows v.items cur.old cur.new) }
+
+    ensures fault { IfFault result (λ f. IsListFault stop T.fields cur.old f) }
+    ensures none { IfFault result (λ f. NoneStand stop T.rows cur.old f) }
+    ensures err { OnErr result (cur.new ≡ cur.old) }
+
+    // The same as a function of the bits.
+    ensures exact { Gives (λ v. v.items) result
+        (items_at stop T.fields T.record_of cur.old) cur.new }
+{
+    let mut ahead = cur.fork();
+    let mut found = Vec::new(alloc);
+    while let Some(item) = next_item(alloc, &mut ahead, stop)? {
+        found.push(item)?;
+    }
+    *cur = ahead;
+    Ok(found)
+}
+
+/// Appends the spellings of packets that are allowed, one after the other, and no end mark. If memory
+/// runs out, nothing is appended.
+pub fn write_items<T: Layout>(items: &[T], out: &mut Bits) -> Result<(), Memory>
+    requires { AreAllowed (flat_map T.rows items.now) }
+    ensures ok { OnOk result (out.new ≡ out.old ++ join (flat_map T.rows items.now)) }
+    ensures err { OnErr result (out.new ≡ out.old) }
+{
+    let len = out.len();
+    'items: for item in items {
+        let done = item.write(out);
+        if done.is_err() {
+            out.truncate(len);
+            return done;
+        }
+    }
+    Ok(())
+}

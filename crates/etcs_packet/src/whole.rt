@@ -1,0 +1,64 @@
+//! A head and the packets behind it, as telegrams and messages are.
+
+ghost use Rattle.std.specs.Prelude.{◌≡◌, IfOk, OnErr};
+ghost use Rattle.etcs_bits.specs.Layout.{Gives, IfFault};
+ghost use Rattle.etcs_packet.specs.Lists.{IsHeaded};
+ghost use Rattle.etcs_packet.specs.Whole.{BeginsWith, IsWhole, IsWholeFault, Means, NoneWhole, start, whole_at, whole_of};
+
+use crate::list::read_items;
+use crate::stop::Stop;
+use etcs_bits::{Bits, Cursor, DecodeError, Layout};
+use std::alloc::Global;
+
+/// The head at the cursor and the packets behind it; the cursor then stands where they end, at the
+/// end mark or at the bits that are left.
+///
+/// A fault is the first one of the head and the packets, and then no such whole stands there, in any
+/// input of the same length with the same first `end` bits. If memory runs out, a fault may go
+/// unseen. After an error the cursor stands where it stood.
+pub fn next_whole<H: Layout, T: Layout>(
+    alloc: Global,
+    cur: &mut Cursor<'_>,
+    stop: Stop,
+) -> Result<(H, Vec<T>), DecodeError>
+    requires { IsHeaded T.fields }
+    ensures ok { IfOk result (λ w. IsWhole stop H.rows T.rows w.0 w.1.items cur.old cur.new) }
+
+    ensures fault { IfFault result (λ f. IsWholeFault stop H.fields T.fields cur.old f) }
+    ensures none { IfFault result (λ f. NoneWhole stop H.rows T.rows cur.old f) }
+    ensures err { OnErr result (cur.new ≡ cur.old) }
+
+    // The same as a function of the bits.
+    ensures exact { Gives (λ w. (w.0, w.1.items)) result
+        (whole_at stop H.fields H.record_of T.fields T.record_of cur.old) cur.new }
+{
+    let mut ahead = cur.fork();
+    let head = H::read(alloc, &mut ahead)?;
+    let items = read_items(alloc, &mut ahead, stop)?;
+    *cur = ahead;
+    Ok((head, items))
+}
+
+/// The head and the packets that bits begin with. What comes behind the place where the packets end
+/// is ignored.
+///
+/// A fault is the first one of the bits, and then they begin with no such whole, in any input of the
+/// same length with the same first `end` bits. If memory runs out, a fault may go unseen.
+pub fn read_whole<H: Layout, T: Layout>(
+    alloc: Global,
+    bits: &Bits,
+    stop: Stop,
+) -> Result<(H, Vec<T>), DecodeError>
+    requires { IsHeaded T.fields }
+    ensures ok { IfOk result (λ w. BeginsWith stop H.rows T.rows w.0 w.1.items bits.now) }
+
+    ensures fault { IfFault result (λ f. IsWholeFault stop H.fields T.fields (start bits.now) f) }
+    ensures none { IfFault result (λ f. NoneWhole stop H.rows T.rows (start bits.now) f) }
+
+    // The same as a function of the bits.
+    ensures exact { Means (λ w. (w.0, w.1.items)) result
+        (whole_of stop H.fields H.record_of T.fields T.record_of bits.now) }
+{
+    let mut cur = Cursor::new(bits);
+    next_whole(alloc, &mut cur, stop)
+}
