@@ -12,4 +12,5 @@ pub mod VariableLemmas
 pub mod Combined
 pub mod CombinedLemmas
 pub mod Identity
+pub mod Level
 pub mod Laws
