@@ -8,6 +8,7 @@ use Rattle.etcs_bits.specs.declared.version.Version.TheVariants as versions
 use Rattle.etcs_bits.specs.declared.scale.Scale.TheVariants as scales
 use Rattle.etcs_bits.specs.declared.direction.Dir.TheVariants as dirs
 use Rattle.etcs_bits.specs.declared.duplicate.Dup.TheVariants as dups
+use Rattle.etcs_bits.specs.declared.level.Level.TheVariants as levels
 use Rattle.etcs_bits.specs.Number.{worth}
 use Rattle.etcs_bits.specs.Rows.{row, alone, number_at, IsAllowed}
 use Rattle.etcs_bits.specs.Fields.{one}
@@ -15,6 +16,7 @@ use Rattle.etcs_bits.specs.RowLemmas.{alone_rows}
 use Rattle.etcs_bits.proofs.LayoutLemmas.{laid_out}
 use Rattle.etcs_bits.specs.Variables.{plain, free, ranged, q_updown, transmission_number, transmission_of, q_media, medium_number, medium_of, m_version, version_number, version_of, m_dup, dup_number, dup_of, q_scale, scale_number, scale_of, q_dir, dir_number, dir_of, flag_of}
 use Rattle.etcs_bits.specs.VariableLemmas.{number_alone, transmission_back, medium_back, version_back, dup_back, scale_back, dir_back, flag_back}
+use Rattle.etcs_bits.specs.Level.{m_level, nid_ntc, level_number}
 use Rattle.etcs_bits.specs.Laws.{AreLaidOut, HasNumbers, IsNumberOf, HasValues}
 
 either : (a b : Bool) → (a || b) ≡ true → (a ≡ true) ⊎ (b ≡ true)
@@ -134,6 +136,31 @@ pub directions_have_values : HasValues q_dir 2 dir_number dir_of
 directions_have_values = record {
   numbers = record { width = refl; numbers = λ n. (dir_value n, dir_allowed n) };
   back = dir_back;
+}
+
+level_value : (n : ℕ) → IsAllowed (row m_level n) → IsNumberOf level_number n
+level_value zero allowed = (levels.L0, refl)
+level_value (suc zero) allowed = (levels.Ntc 0, refl)
+level_value (suc (suc zero)) allowed = (levels.L1, refl)
+level_value (suc (suc (suc zero))) allowed = (levels.L2, refl)
+level_value (suc (suc (suc (suc zero)))) allowed = (levels.L3, refl)
+level_value (suc (suc (suc (suc (suc n))))) allowed =
+    absurd (omega (arith, ltb-true (suc (suc (suc (suc (suc n))))) 5 allowed.1))
+
+level_allowed : (n : ℕ) → IsNumberOf level_number n → IsAllowed (row m_level n)
+level_allowed n (levels.L0, e) = rw (← e) (search rules)
+level_allowed n (levels.Ntc ntc, e) = rw (← e) (search rules)
+level_allowed n (levels.L1, e) = rw (← e) (search rules)
+level_allowed n (levels.L2, e) = rw (← e) (search rules)
+level_allowed n (levels.L3, e) = rw (← e) (search rules)
+
+pub levels_have_numbers : HasNumbers m_level 3 (IsNumberOf level_number)
+levels_have_numbers = record { width = refl; numbers = λ n. (level_value n, level_allowed n) }
+
+pub ntcs_have_numbers : HasNumbers nid_ntc 8 (λ n. n < 256)
+ntcs_have_numbers = record {
+  width = refl;
+  numbers = λ n. (λ allowed. allowed.0, λ small. (small, refl));
 }
 
 -- ---- variables whose numbers are ranges

@@ -12,5 +12,6 @@ pub mod VariableLemmas
 pub mod Combined
 pub mod CombinedLemmas
 pub mod Identity
+pub mod Level
 pub mod Laws
 pub mod LaidLemmas

@@ -3,13 +3,14 @@
 //! [`records_are_laid_out`].
 
 ghost use Rattle.std.specs.Prelude.{ℕ, ◌≤◌, ◌<◌, ◌^◌, ◌⊎◌};
-ghost use Rattle.etcs_bits.specs.Laws.{SpellsOneRecord, NoSpellingBegins, FaultMeansNone, TellsOneFault, NumbersAreBits, AreLaidOut, HasNumbers, HasValues};
+ghost use Rattle.etcs_bits.specs.Laws.{SpellsOneRecord, NoSpellingBegins, FaultMeansNone, TellsOneFault, NumbersAreBits, AreLaidOut, HasNumbers, IsNumberOf, HasValues};
 ghost use Rattle.etcs_bits.specs.Number.{worth};
 ghost use Rattle.etcs_bits.specs.Rows.{alone};
 ghost use Rattle.etcs_bits.specs.Fields.{◌▹◌, one, option, counted, sized};
 ghost use Rattle.etcs_bits.specs.Variables.{plain, free, ranged, q_updown, transmission_number, transmission_of, q_media, medium_number, medium_of, m_version, version_number, version_of, m_dup, dup_number, dup_of, q_scale, scale_number, scale_of, q_dir, dir_number, dir_of, flag_of};
 ghost use Rattle.etcs_bits.specs.Combined.{qualifier, n_iter, pair_rows, option_rows, counted_rows, body_rows};
 ghost use Rattle.etcs_bits.specs.Identity.{identity_fields, identity_rows};
+ghost use Rattle.etcs_bits.specs.Level.{m_level, nid_ntc, level_number, level_fields, level_rows};
 
 use crate::body::Body;
 use crate::direction::Dir;
@@ -17,6 +18,7 @@ use crate::duplicate::Dup;
 use crate::identity::Identity;
 use crate::items::Items;
 use crate::layout::Layout;
+use crate::level::Level;
 use crate::medium::Medium;
 use crate::plain::Plain;
 use crate::ranged::Ranged;
@@ -186,4 +188,15 @@ pub fn directions_have_their_numbers()
     ensures laid_out { AreLaidOut (one q_dir) (λ v. alone q_dir (dir_number v)) }
 {
     records_are_laid_out::<Dir>();
+}
+
+/// M_LEVEL and M_LEVELTR have three bits; each level has its number, and no other is allowed.
+/// NID_NTC has eight bits, and stands behind level NTC alone.
+#[tactic(auto, using(crate::proofs::ValueLemmas::levels_have_numbers, crate::proofs::ValueLemmas::ntcs_have_numbers))]
+pub fn levels_have_their_numbers()
+    ensures numbers { HasNumbers m_level 3 (IsNumberOf level_number) }
+    ensures ntc { HasNumbers nid_ntc 8 (λ n. n < 256) }
+    ensures laid_out { AreLaidOut level_fields level_rows }
+{
+    records_are_laid_out::<Level>();
 }

@@ -1,6 +1,7 @@
 //! What no contract says: outside vectors, printed texts, and that memory that is there suffices.
 
 mod combined;
+mod level;
 mod raw;
 
 use crate::{

@@ -1,0 +1,66 @@
+-- The level of M_LEVELTR and M_LEVEL: three bits, and behind level NTC the national system that
+-- supervises the train (SUBSET-026, 7.5.1).
+use Rattle.std.specs.Prelude.{◌≡◌, ℕ, ◌==◌, nat_lt, if◌then◌else◌, false, List, [], ◌++◌, refl}
+use Rattle.etcs_bits.specs.declared.fault.FaultKind.TheVariants.{Spare}
+use Rattle.etcs_bits.specs.declared.level.Level.{Level}
+use Rattle.etcs_bits.specs.declared.level.Level.TheVariants as levels
+use Rattle.etcs_bits.specs.Rows.{Variable, Row, alone, number_at}
+use Rattle.etcs_bits.specs.Fields.{Fields, nothing, field, one, AreRowsOf}
+use Rattle.etcs_bits.specs.Variables.{plain}
+
+-- M_LEVELTR and M_LEVEL, 3 bits: 0 to 4 are levels, 5 to 7 are spare
+abbrev pub m_level : Variable
+m_level = record { width = 3; allows = λ n. nat_lt n 5; refusal = Spare; closes = false }
+
+-- NID_NTC, 8 bits: the national system of level NTC
+abbrev pub nid_ntc : Variable
+nid_ntc = plain 8
+
+-- which fields come: NID_NTC only at level NTC
+abbrev pub level_fields : Fields
+level_fields = field m_level (λ n. if n == 1 then one nid_ntc else nothing)
+
+-- the number of a level
+abbrev pub level_number : Level → ℕ
+level_number levels.L0 = 0
+level_number (levels.Ntc ntc) = 1
+level_number levels.L1 = 2
+level_number levels.L2 = 3
+level_number levels.L3 = 4
+
+-- the rows of a level
+abbrev pub level_rows : Level → List Row
+level_rows levels.L0 = alone m_level 0
+level_rows (levels.Ntc ntc) = alone m_level 1 ++ alone nid_ntc ntc
+level_rows levels.L1 = alone m_level 2
+level_rows levels.L2 = alone m_level 3
+level_rows levels.L3 = alone m_level 4
+
+-- the level of a number that is allowed, and of NID_NTC where that follows
+abbrev pub level_of_numbers : ℕ → ℕ → Level
+level_of_numbers n ntc =
+    if n == 0 then levels.L0
+    else (if n == 1 then levels.Ntc ntc
+    else (if n == 2 then levels.L1 else (if n == 3 then levels.L2 else levels.L3)))
+
+-- the level of rows
+abbrev pub level_of : List Row → Level
+level_of rows = level_of_numbers (number_at 0 rows) (number_at 1 rows)
+
+-- ---- proofs of the laws of `Layout`
+
+pub level_are_rows : (v : Level) → AreRowsOf level_fields (level_rows v)
+unfolding alone
+level_are_rows levels.L0 = (0, [], refl, refl)
+level_are_rows (levels.Ntc ntc) = (1, alone nid_ntc ntc, refl, (ntc, [], refl, refl))
+level_are_rows levels.L1 = (2, [], refl, refl)
+level_are_rows levels.L2 = (3, [], refl, refl)
+level_are_rows levels.L3 = (4, [], refl, refl)
+
+pub level_record : (v : Level) → level_of (level_rows v) ≡ v
+unfolding alone
+level_record levels.L0 = refl
+level_record (levels.Ntc ntc) = refl
+level_record levels.L1 = refl
+level_record levels.L2 = refl
+level_record levels.L3 = refl

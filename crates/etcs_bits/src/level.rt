@@ -1,0 +1,104 @@
+//! The level in which a train runs.
+
+ghost use Rattle.std.specs.Prelude.{◌≡◌};
+
+use crate::bits::Bits;
+use crate::cursor::Cursor;
+use crate::fault::{DecodeError, FaultKind, refused};
+use crate::layout::Layout;
+use crate::memory::Memory;
+use std::alloc::Global;
+
+/// M_LEVELTR and M_LEVEL, 3 bits: the level of ETCS in which a train runs, or has to run from a
+/// place on; level NTC has NID_NTC, 8 bits, behind it (SUBSET-026, 7.5.1). 5 to 7 are spare: a Spare
+/// fault.
+#[derive(Clone, Copy, Debug, PartialEq, Eq)]
+pub enum Level {
+    /// 0: level 0, where nothing but its top speed is supervised.
+    L0,
+    /// 1: level NTC, and NID_NTC: the national system that supervises the train.
+    Ntc(u8),
+    /// 2: level 1.
+    L1,
+    /// 3: level 2.
+    L2,
+    /// 4: level 3.
+    L3,
+}
+
+impl Level {
+    ghost use Rattle.etcs_bits.specs.Level.{level_number};
+
+    /// The number of a level, without NID_NTC.
+    #[inline]
+    pub fn number(self) -> u32
+        ensures { result ≡ level_number self }
+    {
+        match self {
+            Level::L0 => 0,
+            Level::Ntc(_) => 1,
+            Level::L1 => 2,
+            Level::L2 => 3,
+            Level::L3 => 4,
+        }
+    }
+}
+
+#[tactic(auto, using(crate::proofs::PutLemmas::puts_bits), unfolding(crate::specs::Rows::alone))]
+impl Layout for Level {
+    ghost use Rattle.std.specs.Prelude.{◌≡◌, ◌↔◌, true, IsTrue};
+    ghost use Rattle.etcs_bits.specs.Rows.{AreAllowed};
+    ghost use Rattle.etcs_bits.specs.Level.{level_rows, level_fields, level_of, level_are_rows, level_record};
+
+    ghost rows = { level_rows };
+
+    ghost fields = { level_fields };
+
+    ghost record_of = { level_of };
+
+    ghost are_rows = { level_are_rows };
+
+    ghost is_record = { level_record };
+
+    fn is_allowed(&self) -> bool
+        ensures allowed { IsTrue result ↔ AreAllowed (level_rows self.now) }
+        ensures always { result ≡ true }
+    {
+        // Each value of the type has numbers that are allowed: a u8 fits in NID_NTC.
+        match *self {
+            Level::Ntc(_ntc) => true,
+            _ => true,
+        }
+    }
+
+    fn width(&self) -> u64 {
+        match self {
+            Level::Ntc(_) => 11,
+            _ => 3,
+        }
+    }
+
+    fn put(&self, out: &mut Bits) -> Result<(), Memory> {
+        out.push_num(3, u64::from(self.number()))?;
+        match *self {
+            Level::Ntc(ntc) => out.push_num(8, u64::from(ntc)),
+            _ => Ok(()),
+        }
+    }
+
+    #[inline]
+    fn scan(_alloc: Global, cur: &mut Cursor<'_>) -> Result<Self, DecodeError> {
+        let at = cur.at();
+        match cur.take(3)? {
+            0 => Ok(Level::L0),
+            1 => {
+                let ntc = cur.take(8)?;
+                Ok(Level::Ntc(ntc as u8))
+            }
+            2 => Ok(Level::L1),
+            3 => Ok(Level::L2),
+            4 => Ok(Level::L3),
+            _ => Err(refused(at, cur, FaultKind::Spare)),
+        }
+    }
+}
