@@ -10,3 +10,4 @@ pub mod NumeralLemmas
 pub mod ListLemmas
 pub mod SizedLemmas
 pub mod ValueLemmas
+pub mod FitLemmas

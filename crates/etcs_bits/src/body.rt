@@ -10,29 +10,43 @@ use std::marker::Model;
 
 /// L_PACKET, 13 bits, and the record behind it. L_PACKET counts all bits of the packet: the `BEFORE`
 /// that stand before it, its own and the record's (SUBSET-026, 7.4 and 7.5.1); another number is a
-/// Length fault at L_PACKET, told behind the record's last field. A packet of more than 8,191 bits
-/// is not allowed. Contracts see the record.
+/// Length fault at L_PACKET, told behind the record's last field. Each body is allowed: no packet
+/// has more than 8,191 bits, which L_PACKET cannot count. Contracts see the record.
 #[derive(Debug, Drop)]
-pub struct Body<const BEFORE: u32, T> {
+pub struct Body<const BEFORE: u32, T: Layout> {
     content: T,
 }
 
-impl<const BEFORE: u32, T> Model for Body<BEFORE, T> {
+impl<const BEFORE: u32, T: Layout> Model for Body<BEFORE, T> {
+    ghost use Rattle.etcs_bits.specs.Rows.{AreAllowed};
+    ghost use Rattle.etcs_bits.specs.Combined.{body_rows};
+
     ghost Value = { T };
 
     ghost view = { λ b. b.content };
+
+    ghost invariant = { λ b. AreAllowed (body_rows BEFORE T.rows b.content) };
 }
 
-impl<const BEFORE: u32, T> Body<BEFORE, T> {
-    ghost use Rattle.std.specs.Prelude.{◌≡◌};
+impl<const BEFORE: u32, T: Layout> Body<BEFORE, T> {
+    ghost use Rattle.std.specs.Prelude.{◌≡◌, ◌↔◌, ◌≤◌, ◌+◌, IsSome, IfSome};
+    ghost use Rattle.etcs_bits.specs.Rows.{width};
 
-    /// The body that is this record; where the packet has more than 8,191 bits, it is not allowed.
-    #[inline]
-    pub fn new(content: T) -> Self
-        ensures { result ≡ content }
+    /// The body that is this record; None where the record is not allowed or the packet has more
+    /// than 8,191 bits, and then the record is gone.
+    #[tactic(auto, unfolding(crate::specs::Rows::alone))]
+    pub fn new(content: T) -> Option<Self>
+        ensures some { IfSome result (λ b. b ≡ content) }
+        ensures fit { IsSome result ↔ (T.fit content × (BEFORE + (13 + width (T.rows content)) ≤ 8191)) }
     {
-        // A record that is too long makes a body too: `is_allowed` refuses it.
-        Body { content }
+        let length = content
+            .width()
+            .saturating_add(13)
+            .saturating_add(u64::from(BEFORE));
+        if 8191 < length || !content.is_allowed() {
+            return None;
+        }
+        Some(Body { content })
     }
 
     /// The record behind L_PACKET.
@@ -46,6 +60,7 @@ impl<const BEFORE: u32, T> Body<BEFORE, T> {
 
 #[tactic(auto, using(crate::proofs::PutLemmas::puts_bits), unfolding(crate::specs::Rows::alone))]
 impl<const BEFORE: u32, T: Layout> Layout for Body<BEFORE, T> {
+    ghost use Rattle.etcs_bits.specs.Rows.{AreAllowed};
     ghost use Rattle.etcs_bits.specs.Fields.{sized};
     ghost use Rattle.etcs_bits.specs.Combined.{body_rows, body_of};
     ghost use Rattle.etcs_bits.specs.CombinedLemmas.{body_are_rows, body_record};
@@ -56,12 +71,16 @@ impl<const BEFORE: u32, T: Layout> Layout for Body<BEFORE, T> {
 
     ghost record_of = { body_of T.record_of };
 
+    // Its type keeps its numbers in range.
+    ghost fit = { λ _. Unit {0} };
+
     ghost are_rows = { body_are_rows BEFORE T.fields T.rows T.are_rows };
 
     ghost is_record = { body_record BEFORE T.rows T.record_of T.is_record };
 
     fn is_allowed(&self) -> bool {
-        self.width().saturating_add(u64::from(BEFORE)) < 8192 && self.content.is_allowed()
+        let _content = &self.content;
+        true
     }
 
     fn width(&self) -> u64 {

@@ -1,7 +1,7 @@
 //! A list behind its count.
 
-ghost use Rattle.std.specs.Prelude.{◌≡◌, ◌↔◌, min, length, IsTrue, IfOk};
-ghost use Rattle.std.specs.List.{flat_map};
+ghost use Rattle.std.specs.Prelude.{◌≡◌, ◌↔◌, ◌≤◌, min, length, IsTrue, IfOk};
+ghost use Rattle.std.specs.List.{AllByRecursion, flat_map};
 ghost use Rattle.etcs_bits.specs.Rows.{AreAllowed, join, width};
 ghost use Rattle.etcs_bits.specs.Fields.{times};
 ghost use Rattle.etcs_bits.specs.Reading.{rows_at};
@@ -52,7 +52,8 @@ impl<T> Items<T> {
 
 // Whether each item is allowed.
 fn are_allowed<T: Layout>(items: &[T]) -> bool
-    ensures { IsTrue result ↔ AreAllowed (flat_map T.rows items.now) }
+    ensures allowed { IsTrue result ↔ AreAllowed (flat_map T.rows items.now) }
+    ensures fit { IsTrue result ↔ AllByRecursion T.fit items.now }
 {
     'items: for item in items {
         if !item.is_allowed() {
@@ -116,6 +117,8 @@ impl<T: Layout> Layout for Items<T> {
     ghost fields = { counted n_iter T.fields };
 
     ghost record_of = { counted_of T.fields T.record_of };
+
+    ghost fit = { λ l. (length l ≤ 31) × AllByRecursion T.fit l };
 
     ghost are_rows = { counted_are_rows T.fields T.rows T.are_rows };
 

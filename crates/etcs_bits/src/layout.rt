@@ -28,9 +28,14 @@ pub trait Layout: Drop {
     /// The record that has these rows.
     ghost record_of: { List Row → Self };
 
+    /// When each number of a record is allowed, in the record's own terms: always, where its types
+    /// keep them in range.
+    ghost fit: { Self → Type 0 };
+
     /// Whether each variable has a number that fits in its bits and is allowed. Takes no memory.
     fn is_allowed(&self) -> bool
-        ensures { IsTrue result ↔ AreAllowed (rows self.now) };
+        ensures allowed { IsTrue result ↔ AreAllowed (rows self.now) }
+        ensures fit { IsTrue result ↔ fit self.now };
 
     /// How many bits the spelling has; `u64::MAX` where it has more.
     fn width(&self) -> u64

@@ -11,6 +11,7 @@ use std::alloc::Global;
 /// it does not (SUBSET-026, 7.4). Its faults are Short at the qualifier, and those of the record.
 #[tactic(auto, using(crate::proofs::PutLemmas::puts_bits), unfolding(crate::specs::Rows::alone))]
 impl<T: Layout> Layout for Option<T> {
+    ghost use Rattle.std.specs.Prelude.{IfSome};
     ghost use Rattle.etcs_bits.specs.Fields.{option};
     ghost use Rattle.etcs_bits.specs.Combined.{qualifier, option_rows, option_of};
     ghost use Rattle.etcs_bits.specs.CombinedLemmas.{option_are_rows, option_record};
@@ -20,6 +21,8 @@ impl<T: Layout> Layout for Option<T> {
     ghost fields = { option qualifier T.fields };
 
     ghost record_of = { option_of T.record_of };
+
+    ghost fit = { λ o. IfSome o T.fit };
 
     ghost are_rows = { option_are_rows T.fields T.rows T.are_rows };
 

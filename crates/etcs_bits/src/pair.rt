@@ -21,6 +21,8 @@ impl<A: Layout, B: Layout> Layout for (A, B) {
 
     ghost record_of = { pair_of A.fields A.record_of B.record_of };
 
+    ghost fit = { λ p. A.fit p.0 × B.fit p.1 };
+
     ghost are_rows = { pair_are_rows A.fields B.fields A.rows B.rows A.are_rows B.are_rows };
 
     ghost is_record = { pair_record A.fields A.rows B.rows A.record_of B.record_of A.are_rows

@@ -1,5 +1,6 @@
 -- What a constructor answers.
-use Rattle.std.specs.Prelude.{◌≡◌, ℕ, ◌<◌, List, Result, Ok, Err}
+use Rattle.std.specs.Prelude.{◌≡◌, ℕ, ◌<◌, ◌⊎◌, List, ◌∷◌, length, Result, Ok, Err}
+use Rattle.std.specs.List.{AllByRecursion}
 use Rattle.etcs_bits.specs.declared.direction.Dir.{Dir}
 use Rattle.etcs_bits.specs.Rows.{Row, width}
 use Rattle.etcs_profile.specs.declared.error.BuildError.{BuildError}
@@ -22,3 +23,7 @@ IsBuilt (Err e) given many long = IsReason e many long
 -- the packet has more bits than L_PACKET, 13 bits, can count
 abbrev pub IsTooLong : {X : Type 0} → ℕ → (X → List Row) → Dir × Profile X → Type 0
 IsTooLong k rows p = 8191 < width (packet_rows k (elements_rows rows) p)
+
+-- There are more than 31 elements behind the first, or one of them all has a list of more than 31.
+abbrev pub HasMany : {X : Type 0} → (X → Type 0) → X → List X → Type 0
+HasMany few first further = (31 < length further) ⊎ (AllByRecursion few (first ∷ further) → ⊥)

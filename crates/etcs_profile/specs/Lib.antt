@@ -5,7 +5,6 @@ pub mod Elements
 pub mod Gradient
 pub mod Built
 pub mod Speed
-pub mod Few
 pub mod Parts
 pub mod Terms
 pub mod Authority

@@ -1,6 +1,6 @@
 //! The movement authorities, packets 12 and 15.
 
-ghost use Rattle.std.specs.Prelude.{◌≡◌, ◌<◌, ◌≤◌, ◌*◌, length, sum_by};
+ghost use Rattle.std.specs.Prelude.{◌≡◌, ◌↔◌, ◌<◌, ◌≤◌, ◌*◌, length, sum_by, IsSome, IfSome};
 
 use crate::danger_point::DangerPoint;
 use crate::end_timer::EndTimer;
@@ -8,7 +8,6 @@ use crate::error::BuildError;
 use crate::factor::factor;
 use crate::number::other_packet;
 use crate::overlap::Overlap;
-use crate::packet::MOST_BITS;
 use crate::section::{Section, SectionTimer};
 use crate::terms::Terms;
 use etcs_bits::{
@@ -57,8 +56,9 @@ fn length_of(sections: &[Section]) -> u64
 }
 
 impl Authority {
+    ghost use Rattle.etcs_bits.specs.Rows.{width};
     ghost use Rattle.etcs_profile.specs.Terms.{conditions};
-    ghost use Rattle.etcs_profile.specs.Authority.{permission, authority_end, IsAuthorityTooLong};
+    ghost use Rattle.etcs_profile.specs.Authority.{permission, authority_end, authority_rows, IsAuthorityTooLong};
     ghost use Rattle.etcs_profile.specs.Built.{IsBuilt};
 
     /// The movement authority of these parts: packet 12 where there is a `main` speed, else packet
@@ -99,22 +99,27 @@ impl Authority {
             danger_point,
             overlap,
         };
-        let authority = Authority::of(dir, scale, main, terms);
-        if MOST_BITS < authority.width() {
-            return Err(BuildError::TooLong);
-        }
-        Ok(authority)
+        Authority::of(dir, scale, main, terms).ok_or(BuildError::TooLong)
     }
 
-    // The packet of these parts.
-    fn of(dir: Dir, scale: Scale, main: Option<Speed>, terms: Terms) -> Authority
-        ensures { result ≡ permission dir scale main terms }
+    // The packet of these parts; None where it has more than 8,191 bits.
+    #[tactic(auto, unfolding(etcs_bits::specs::Rows::alone))]
+    fn of(dir: Dir, scale: Scale, main: Option<Speed>, terms: Terms) -> Option<Authority>
+        ensures some { IfSome result (λ a. a ≡ permission dir scale main terms) }
+        ensures few { IsSome result ↔ (width (authority_rows (permission dir scale main terms)) ≤ 8191) }
     {
-        let packet = match main {
-            Some(main) => Numbered::Level1((dir, Body::new((scale, (main, terms))))),
-            None => Numbered::Level2((dir, Body::new((scale, terms)))),
-        };
-        Authority { packet }
+        match main {
+            Some(main) => {
+                let body = Body::new((scale, (main, terms)))?;
+                let packet = Numbered::Level1((dir, body));
+                Some(Authority { packet })
+            }
+            None => {
+                let body = Body::new((scale, terms))?;
+                let packet = Numbered::Level2((dir, body));
+                Some(Authority { packet })
+            }
+        }
     }
 
     // What both packets have.
@@ -235,6 +240,9 @@ impl Layout for Authority {
     ghost fields = { authority_fields };
 
     ghost record_of = { authority_of };
+
+    // Its types keep their numbers in range.
+    ghost fit = { λ _. Unit {0} };
 
     ghost are_rows = { authority_are_rows };
 

@@ -22,6 +22,9 @@ impl Layout for DangerPoint {
 
     ghost record_of = { danger_point_of };
 
+    // Its types keep their numbers in range.
+    ghost fit = { λ _. Unit {0} };
+
     ghost are_rows = { danger_point_are_rows };
 
     ghost is_record = { danger_point_record };

@@ -34,11 +34,11 @@ impl<T> Model for Elements<T> {
 
 impl<T: Drop> Elements<T> {
     ghost use Rattle.std.specs.Prelude.{IfOk, IfErr, IsErr, ◌↔◌, ◌≤◌};
+    ghost use Rattle.etcs_profile.specs.Elements.{profile};
 
     /// These elements. TooMany: more than 31 behind the first.
     pub fn new(scale: Scale, first: T, further: Vec<T>) -> Result<Elements<T>, BuildError>
-        ensures ok { IfOk result (λ e. (e.scale ≡ scale) × (e.first ≡ first)
-            × (e.further ≡ further.items)) }
+        ensures ok { IfOk result (λ e. e ≡ profile scale first further.items) }
         ensures many { IsErr result ↔ (32 ≤ length further.items) }
         ensures err { IfErr result (λ e. e ≡ BuildError.TooMany) }
     {
@@ -113,6 +113,7 @@ impl<T: Element> Elements<T> {
 
 #[tactic(auto, using(etcs_bits::proofs::PutLemmas::puts_then, etcs_bits::proofs::PutLemmas::keeps_front, etcs_bits::proofs::PutLemmas::allowed_both))]
 impl<T: Layout> Layout for Elements<T> {
+    ghost use Rattle.std.specs.List.{AllByRecursion};
     ghost use Rattle.etcs_bits.specs.LaidLemmas.{laid};
     ghost use Rattle.etcs_profile.specs.Elements.{elements_rows, elements_fields, elements_of, elements_laid};
 
@@ -121,6 +122,8 @@ impl<T: Layout> Layout for Elements<T> {
     ghost fields = { elements_fields T.fields };
 
     ghost record_of = { elements_of T.fields T.record_of };
+
+    ghost fit = { λ e. T.fit e.first × AllByRecursion T.fit e.further };
 
     ghost are_rows = { (elements_laid (laid T.fields T.rows T.record_of T.are_rows T.is_record)).have };
 

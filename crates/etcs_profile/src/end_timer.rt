@@ -22,6 +22,9 @@ impl Layout for EndTimer {
 
     ghost record_of = { end_timer_of };
 
+    // Its types keep their numbers in range.
+    ghost fit = { λ _. Unit {0} };
+
     ghost are_rows = { end_timer_are_rows };
 
     ghost is_record = { end_timer_record };

@@ -58,6 +58,9 @@ impl Layout for GradientElement {
 
     ghost record_of = { gradient_element_of };
 
+    // Its types keep their numbers in range.
+    ghost fit = { λ _. Unit {0} };
+
     ghost are_rows = { gradient_element_are_rows };
 
     ghost is_record = { gradient_element_record };

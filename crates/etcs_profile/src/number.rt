@@ -23,7 +23,7 @@ pub(crate) fn other_packet(at: usize, end: usize) -> DecodeError
 
 #[tactic(auto, unfolding(etcs_bits::specs::Rows::alone))]
 impl<const N: u32> Layout for Number<N> {
-    ghost use Rattle.std.specs.Prelude.{refl};
+    ghost use Rattle.std.specs.Prelude.{◌<◌, refl};
     ghost use Rattle.etcs_bits.specs.Rows.{alone};
     ghost use Rattle.etcs_bits.specs.Fields.{one};
     ghost use Rattle.etcs_bits.specs.RowLemmas.{alone_rows};
@@ -34,6 +34,8 @@ impl<const N: u32> Layout for Number<N> {
     ghost fields = { one (nid_packet N) };
 
     ghost record_of = { λ _. record {} };
+
+    ghost fit = { λ _. N < 256 };
 
     ghost are_rows = { λ _. alone_rows (nid_packet N) N };
 

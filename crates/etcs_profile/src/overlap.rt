@@ -27,6 +27,9 @@ impl Layout for Overlap {
 
     ghost record_of = { overlap_of };
 
+    // Its types keep their numbers in range.
+    ghost fit = { λ _. Unit {0} };
+
     ghost are_rows = { overlap_are_rows };
 
     ghost is_record = { overlap_record };

@@ -7,18 +7,15 @@ use etcs_bits::{Bits, Body, Cursor, DecodeError, Dir, Layout, Memory};
 use std::alloc::Global;
 use std::marker::Model;
 
-/// How many bits a packet may have: L_PACKET has 13 bits.
-pub(crate) const MOST_BITS: u64 = 8191;
-
 /// Packet number `N`: NID_PACKET, 8 bits, Q_DIR, 2 bits, L_PACKET, 13 bits, and a record
 /// (SUBSET-026, 7.4). Contracts see the direction and the record.
 #[derive(Debug, Drop)]
-pub struct Packet<const N: u32, T> {
+pub struct Packet<const N: u32, T: Layout> {
     dir: Dir,
     body: Body<10, T>,
 }
 
-impl<const N: u32, T> Model for Packet<N, T> {
+impl<const N: u32, T: Layout> Model for Packet<N, T> {
     ghost use Rattle.etcs_bits.specs.declared.direction.Dir.{Dir};
 
     ghost Value = { Dir × T };
@@ -26,16 +23,19 @@ impl<const N: u32, T> Model for Packet<N, T> {
     ghost view = { λ p. (p.dir, p.body) };
 }
 
-impl<const N: u32, T> Packet<N, T> {
-    /// The packet that is this record, for this direction.
+impl<const N: u32, T: Layout> Packet<N, T> {
+    ghost use Rattle.std.specs.Prelude.{◌↔◌, ◌≤◌, ◌+◌, IsSome, IfSome};
+    ghost use Rattle.etcs_bits.specs.Rows.{width};
+
+    /// The packet that is this record, for this direction; None where the record is not allowed, or
+    /// the packet has more than 8,191 bits.
     #[inline]
-    pub(crate) fn of(dir: Dir, body: T) -> Self
-        ensures { result ≡ (dir, body) }
+    pub(crate) fn of(dir: Dir, body: T) -> Option<Self>
+        ensures some { IfSome result (λ p. p ≡ (dir, body)) }
+        ensures fit { IsSome result ↔ (T.fit body × (23 + width (T.rows body) ≤ 8191)) }
     {
-        Packet {
-            dir,
-            body: Body::new(body),
-        }
+        let body = Body::new(body)?;
+        Some(Packet { dir, body })
     }
 
     /// Q_DIR: for which running directions the packet is.
@@ -57,6 +57,7 @@ impl<const N: u32, T> Packet<N, T> {
 
 #[tactic(auto, using(etcs_bits::proofs::PutLemmas::puts_then, etcs_bits::proofs::PutLemmas::keeps_front, etcs_bits::proofs::PutLemmas::allowed_both))]
 impl<const N: u32, T: Layout> Layout for Packet<N, T> {
+    ghost use Rattle.std.specs.Prelude.{◌<◌};
     ghost use Rattle.etcs_bits.specs.LaidLemmas.{laid};
     ghost use Rattle.etcs_profile.specs.Packet.{packet_rows, packet_fields, packet_of, packet_laid};
 
@@ -65,6 +66,8 @@ impl<const N: u32, T: Layout> Layout for Packet<N, T> {
     ghost fields = { packet_fields N T.fields };
 
     ghost record_of = { packet_of T.record_of };
+
+    ghost fit = { λ _. N < 256 };
 
     ghost are_rows = { (packet_laid N (laid T.fields T.rows T.record_of T.are_rows T.is_record)).have };
 

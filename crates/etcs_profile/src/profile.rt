@@ -1,16 +1,17 @@
 //! A packet that tells a profile of the track.
 
+ghost use Rattle.std.specs.Prelude.{◌≡◌};
+
 use crate::element::Element;
 use crate::elements::Elements;
 use crate::error::BuildError;
-use crate::packet::{MOST_BITS, Packet};
+use crate::packet::Packet;
 use crate::reach::Reach;
 use etcs_bits::{Dir, Layout, Scale};
 
 impl<const N: u32, T: Element> Packet<N, Elements<T>> {
-    ghost use Rattle.std.specs.Prelude.{◌≡◌, ◌<◌, length};
     ghost use Rattle.etcs_profile.specs.Elements.{elements_reach, profile};
-    ghost use Rattle.etcs_profile.specs.Built.{IsBuilt, IsTooLong};
+    ghost use Rattle.etcs_profile.specs.Built.{HasMany, IsBuilt, IsTooLong};
 
     // The packet of these elements.
     pub(crate) fn build(
@@ -20,14 +21,15 @@ impl<const N: u32, T: Element> Packet<N, Elements<T>> {
         further: Vec<T>,
     ) -> Result<Self, BuildError>
         ensures { IsBuilt result (dir, profile scale first further.items)
-            (31 < length further.items)
+            (HasMany T.fit first further.items)
             (IsTooLong N T.rows (dir, profile scale first further.items)) }
     {
-        let packet: Packet<N, Elements<T>> = Packet::of(dir, Elements::new(scale, first, further)?);
-        if MOST_BITS < packet.width() {
-            return Err(BuildError::TooLong);
+        let elements = Elements::new(scale, first, further)?;
+        // An element's own list may be too long for its N_ITER.
+        if !elements.is_allowed() {
+            return Err(BuildError::TooMany);
         }
-        Ok(packet)
+        Packet::of(dir, elements).ok_or(BuildError::TooLong)
     }
 
     /// Q_SCALE: the unit of all distances.

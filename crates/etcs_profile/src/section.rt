@@ -22,11 +22,14 @@ impl Layout for Section {
 
     ghost record_of = { section_of };
 
+    // Its types keep their numbers in range.
+    ghost fit = { λ _. Unit {0} };
+
     ghost are_rows = { section_are_rows };
 
     ghost is_record = { section_record };
 
-    #[tactic(auto, using(etcs_bits::proofs::PutLemmas::allowed_both))]
+    #[tactic(auto, using(etcs_bits::proofs::PutLemmas::allowed_both, etcs_bits::proofs::FitLemmas::some_fit))]
     fn is_allowed(&self) -> bool {
         self.length.is_allowed() && self.timer.is_allowed()
     }
@@ -67,6 +70,9 @@ impl Layout for SectionTimer {
     ghost fields = { section_timer_fields };
 
     ghost record_of = { section_timer_of };
+
+    // Its types keep their numbers in range.
+    ghost fit = { λ _. Unit {0} };
 
     ghost are_rows = { section_timer_are_rows };
 

@@ -1,8 +1,6 @@
 //! The static speed profile, packet 27.
 
-ghost use Rattle.std.specs.Prelude.{◌≡◌, ◌==◌, ◌↔◌, ◌≤◌, length, IsTrue};
-ghost use Rattle.std.specs.List.{AllByRecursion};
-ghost use Rattle.etcs_profile.specs.Few.{HaveFew};
+ghost use Rattle.std.specs.Prelude.{◌≡◌, ◌==◌, ◌≤◌, length};
 
 use crate::element::Element;
 use crate::elements::Elements;
@@ -22,14 +20,14 @@ impl Packet<27, Elements<SpeedElement>> {
     ghost use Rattle.etcs_profile.specs.Elements.{profile};
     ghost use Rattle.etcs_profile.specs.Built.{IsBuilt, IsTooLong};
     ghost use Rattle.etcs_profile.specs.Speed.{speed_element_rows};
-    ghost use Rattle.etcs_profile.specs.Few.{HasMany};
+    ghost use Rattle.etcs_profile.specs.Built.{HasMany};
+    ghost use Rattle.etcs_profile.specs.declared.speed.SpeedElement.{SpeedElement};
 
     /// The static speed profile of these elements. Takes no memory; after a refusal the elements
     /// are gone.
     ///
     /// `TooMany`: more than 31 elements behind the first, or more than 31 differences in one of them
     /// all. `TooLong`: more than 8,191 bits.
-    #[tactic(auto, using(crate::proofs::BuiltLemmas::built_too))]
     pub fn new(
         dir: Dir,
         scale: Scale,
@@ -37,26 +35,11 @@ impl Packet<27, Elements<SpeedElement>> {
         further: Vec<SpeedElement>,
     ) -> Result<SpeedProfile, BuildError>
         ensures { IsBuilt result (dir, profile scale first further.items)
-            (HasMany first further.items)
+            (HasMany (λ (e : SpeedElement). length e.differences ≤ 31) first further.items)
             (IsTooLong 27 speed_element_rows (dir, profile scale first further.items)) }
     {
-        if 31 < first.differences.as_slice().len() || !have_few(further.as_slice()) {
-            return Err(BuildError::TooMany);
-        }
         Packet::build(dir, scale, first, further)
     }
-}
-
-// Whether no element has more than 31 differences.
-fn have_few(elements: &[SpeedElement]) -> bool
-    ensures { IsTrue result ↔ HaveFew elements.now }
-{
-    'elements: for element in elements {
-        if 31 < element.differences.as_slice().len() {
-            return false;
-        }
-    }
-    true
 }
 
 /// Another speed for some trains: 13 bits (SUBSET-026, 7.4.2).
@@ -79,6 +62,9 @@ impl Layout for Difference {
     ghost fields = { difference_fields };
 
     ghost record_of = { difference_of };
+
+    // Its types keep their numbers in range.
+    ghost fit = { λ _. Unit {0} };
 
     ghost are_rows = { difference_are_rows };
 
@@ -137,11 +123,14 @@ impl Layout for SpeedElement {
 
     ghost record_of = { speed_element_of };
 
+    // Its types keep its numbers in range, but for the count of differences.
+    ghost fit = { λ e. length e.differences ≤ 31 };
+
     ghost are_rows = { speed_element_are_rows };
 
     ghost is_record = { speed_element_record };
 
-    #[tactic(auto, using(etcs_bits::proofs::PutLemmas::allowed_both))]
+    #[tactic(auto, using(etcs_bits::proofs::PutLemmas::allowed_both, etcs_bits::proofs::FitLemmas::all_fit))]
     fn is_allowed(&self) -> bool {
         self.distance.is_allowed()
             && self.speed.is_allowed()

@@ -43,11 +43,14 @@ impl Layout for Terms {
 
     ghost record_of = { terms_of };
 
+    // Its types keep their numbers in range.
+    ghost fit = { λ _. Unit {0} };
+
     ghost are_rows = { terms_are_rows };
 
     ghost is_record = { terms_record };
 
-    #[tactic(auto, using(etcs_bits::proofs::PutLemmas::allowed_both))]
+    #[tactic(auto, using(etcs_bits::proofs::PutLemmas::allowed_both, etcs_bits::proofs::FitLemmas::some_fit, etcs_bits::proofs::FitLemmas::all_fit))]
     fn is_allowed(&self) -> bool {
         self.end_speed.is_allowed()
             && self.end_timeout.is_allowed()

@@ -1,5 +1,8 @@
 use Rattle.std.proofs.Common.{◌≤◌, length, arith}
 use Rattle.etcs_bits.specs.Rows.{alone}
+use Rattle.etcs_bits.specs.Fields.{sized}
+use Rattle.etcs_bits.specs.Combined.{body_rows}
+use Rattle.etcs_bits.proofs.LayoutLemmas.{is_spelled}
 use Rattle.etcs_bits.proofs.SizedLemmas.{AreSized, sized_place, sized_ok}
 use Rattle.etcs_bits.proofs.body.BodyLayout.scan.Goals as goal
 
@@ -17,3 +20,12 @@ returns g c =
     let made : AreSized g.T.Layout.fields c.args.cur.now c.in_ok-length.length c.take.new.self (g.T.Layout.rows c.in_ok-content.content) c.scan.new.cur =
     record { within = within; length_read = c.in_ok-length.ensures.exact; body_read = c.in_ok-content.ensures } in
     sized_ok g.row.BEFORE g.T.Layout.fields c.args.cur.now c.in_ok-length.length c.take.new.self (g.T.Layout.rows c.in_ok-content.content) c.scan.new.cur made (omega arith)
+
+pub invariant_of-result : goal.invariant_of-result
+unfolding alone
+invariant_of-result g c =
+    let within : c.args.cur.now.at ≤ length c.args.cur.now.bits = omega (arith, c.at-at.ensures.place, c.at-at.ensures.inside) in
+    let made : AreSized g.T.Layout.fields c.args.cur.now c.in_ok-length.length c.take.new.self (g.T.Layout.rows c.in_ok-content.content) c.scan.new.cur =
+    record { within = within; length_read = c.in_ok-length.ensures.exact; body_read = c.in_ok-content.ensures } in
+    (is_spelled (sized g.row.BEFORE g.T.Layout.fields) (body_rows g.row.BEFORE g.T.Layout.rows c.in_ok-content.content) c.args.cur.now c.scan.new.cur within
+    (sized_ok g.row.BEFORE g.T.Layout.fields c.args.cur.now c.in_ok-length.length c.take.new.self (g.T.Layout.rows c.in_ok-content.content) c.scan.new.cur made (omega arith))).allowed
