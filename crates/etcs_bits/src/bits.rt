@@ -5,6 +5,7 @@ ghost use Rattle.etcs_bits.specs.Number.{num, bits_of_bytes};
 
 use crate::memory::Memory;
 use crate::numerals::{bits_of_byte, bits_of_num, bytes_of};
+use crate::same::Same;
 use std::alloc::Global;
 use std::marker::Model;
 
@@ -124,5 +125,11 @@ impl Bits {
         ensures { self.new ≡ take len self.old }
     {
         self.items.truncate(len);
+    }
+}
+
+impl Same for Bits {
+    fn same(&self, other: &Bits) -> bool {
+        self.items == other.items
     }
 }

@@ -29,6 +29,7 @@ mod option;
 mod pair;
 mod plain;
 mod ranged;
+mod same;
 mod scale;
 #[cfg(test)]
 mod tests;
@@ -49,6 +50,7 @@ pub use medium::Medium;
 pub use memory::Memory;
 pub use plain::{Counter, Country, Distance, GroupNumber, Plain, Position, Time, Total};
 pub use ranged::{Ranged, ReleaseSpeed, Speed, StaticSpeed};
+pub use same::{Same, are_same};
 pub use scale::Scale;
 pub use transmission::Transmission;
 pub use version::Version;
