@@ -108,7 +108,8 @@ impl Bits {
     pub(crate) fn copied(alloc: Global, bits: &[bool]) -> Result<Bits, Memory>
         ensures { IfOk result (λ b. b ≡ bits.now) }
     {
-        let items = bits.to_vec(alloc)?;
+        let mut items = Vec::with_capacity(alloc, bits.len())?;
+        items.extend_from_slice(bits)?;
         Ok(Bits { items })
     }
 

@@ -4,10 +4,10 @@
 //! [`Bits`] is a list of bits, [`Cursor`] a place in one, [`Layout`] a record of variables, such as
 //! [`Version`] or [`Identity`]. Pairs, options, [`Items`] and [`Body`] make records of others
 //! (`specs/Combined.antt`). Layers above stand on the contract of [`Layout::scan`]: it reads
-//! the record that stands at the cursor, and where none does it tells the first [`Fault`]. Read
-//! `layout.rt` first, with `specs/Rows.antt`, `Fields.antt` and `Fault.antt`; what holds of every
-//! record is in [`laws`]. Left out: packets, whole telegrams and their text, and the channel coding
-//! of the user bits (SUBSET-036, 4.3).
+//! the record that stands at the cursor, and where none does it tells the first [`Fault`]. [`Same`]
+//! tells two values apart. Read `layout.rt` first, with `specs/Rows.antt`, `Fields.antt` and
+//! `Fault.antt`; what holds of every record and variable is in [`laws`]. Left out: packets, whole
+//! telegrams and their text, and the channel coding of the user bits (SUBSET-036, 4.3).
 #![tactic(auto)]
 
 mod bits;
