@@ -5,7 +5,7 @@ ghost use Rattle.etcs_bits.specs.Number.{num, bits_of_bytes};
 
 use crate::memory::Memory;
 use crate::numerals::{bits_of_byte, bits_of_num, bytes_of};
-use crate::same::Same;
+use crate::same::{Same, are_same};
 use std::alloc::Global;
 use std::marker::Model;
 
@@ -131,6 +131,6 @@ impl Bits {
 
 impl Same for Bits {
     fn same(&self, other: &Bits) -> bool {
-        self.items == other.items
+        are_same(self.as_slice(), other.as_slice())
     }
 }
