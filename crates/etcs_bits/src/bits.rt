@@ -5,6 +5,7 @@ ghost use Rattle.etcs_bits.specs.Number.{num, bits_of_bytes};
 
 use crate::memory::Memory;
 use crate::numerals::{bits_of_byte, bits_of_num, bytes_of};
+use crate::same::{Same, are_same};
 use std::alloc::Global;
 use std::marker::Model;
 
@@ -107,7 +108,8 @@ impl Bits {
     pub(crate) fn copied(alloc: Global, bits: &[bool]) -> Result<Bits, Memory>
         ensures { IfOk result (λ b. b ≡ bits.now) }
     {
-        let items = bits.to_vec(alloc)?;
+        let mut items = Vec::with_capacity(alloc, bits.len())?;
+        items.extend_from_slice(bits)?;
         Ok(Bits { items })
     }
 
@@ -124,5 +126,11 @@ impl Bits {
         ensures { self.new ≡ take len self.old }
     {
         self.items.truncate(len);
+    }
+}
+
+impl Same for Bits {
+    fn same(&self, other: &Bits) -> bool {
+        are_same(self.as_slice(), other.as_slice())
     }
 }

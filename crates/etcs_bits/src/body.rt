@@ -5,6 +5,7 @@ use crate::cursor::Cursor;
 use crate::fault::{DecodeError, Fault, FaultKind};
 use crate::layout::Layout;
 use crate::memory::Memory;
+use crate::same::Same;
 use std::alloc::Global;
 use std::marker::Model;
 
@@ -106,5 +107,11 @@ impl<const BEFORE: u32, T: Layout> Layout for Body<BEFORE, T> {
             }));
         }
         Ok(Body { content })
+    }
+}
+
+impl<const BEFORE: u32, T: Same> Same for Body<BEFORE, T> {
+    fn same(&self, other: &Self) -> bool {
+        self.content.same(&other.content)
     }
 }

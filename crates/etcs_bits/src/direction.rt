@@ -7,6 +7,7 @@ use crate::cursor::Cursor;
 use crate::fault::{DecodeError, FaultKind, refused};
 use crate::layout::Layout;
 use crate::memory::Memory;
+use crate::same::Same;
 use std::alloc::Global;
 
 /// Q_DIR, 2 bits: for which running directions a packet is, seen from the group that sends it
@@ -93,5 +94,11 @@ impl Layout for Dir {
             Some(dir) => Ok(dir),
             None => Err(refused(at, cur, FaultKind::Spare)),
         }
+    }
+}
+
+impl Same for Dir {
+    fn same(&self, other: &Dir) -> bool {
+        self == other
     }
 }

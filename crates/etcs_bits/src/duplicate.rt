@@ -7,6 +7,7 @@ use crate::cursor::Cursor;
 use crate::fault::{DecodeError, FaultKind, refused};
 use crate::layout::Layout;
 use crate::memory::Memory;
+use crate::same::Same;
 use std::alloc::Global;
 
 /// M_DUP, 2 bits: whether a balise says the same as a neighbour in its group, so that a train may
@@ -93,5 +94,11 @@ impl Layout for Dup {
             Some(dup) => Ok(dup),
             None => Err(refused(at, cur, FaultKind::Spare)),
         }
+    }
+}
+
+impl Same for Dup {
+    fn same(&self, other: &Dup) -> bool {
+        self == other
     }
 }

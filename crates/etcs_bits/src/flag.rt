@@ -5,6 +5,7 @@ use crate::cursor::Cursor;
 use crate::fault::DecodeError;
 use crate::layout::Layout;
 use crate::memory::Memory;
+use crate::same::Same;
 use std::alloc::Global;
 
 /// A flag of one bit, such as Q_LINK: 1 is true (SUBSET-026, 7.5.1).
@@ -49,5 +50,11 @@ impl Layout for bool {
     #[inline]
     fn scan(_alloc: Global, cur: &mut Cursor<'_>) -> Result<Self, DecodeError> {
         Ok(cur.take(1)? == 1)
+    }
+}
+
+impl Same for bool {
+    fn same(&self, other: &bool) -> bool {
+        self == other
     }
 }

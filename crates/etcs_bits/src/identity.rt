@@ -6,6 +6,7 @@ use crate::fault::DecodeError;
 use crate::layout::Layout;
 use crate::memory::Memory;
 use crate::plain::{Country, GroupNumber};
+use crate::same::Same;
 use std::alloc::Global;
 
 /// Which balise group it is: 24 bits, NID_C and then NID_BG (SUBSET-026, 7.5.1). Every number of
@@ -55,5 +56,11 @@ impl Layout for Identity {
         let country = Country::scan(alloc, cur)?;
         let group = GroupNumber::scan(alloc, cur)?;
         Ok(Identity { country, group })
+    }
+}
+
+impl Same for Identity {
+    fn same(&self, other: &Identity) -> bool {
+        self.country.same(&other.country) && self.group.same(&other.group)
     }
 }

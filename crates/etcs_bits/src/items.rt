@@ -12,6 +12,7 @@ use crate::cursor::Cursor;
 use crate::fault::DecodeError;
 use crate::layout::Layout;
 use crate::memory::Memory;
+use crate::same::{Same, are_same};
 use std::alloc::Global;
 use std::marker::Model;
 
@@ -147,5 +148,11 @@ impl<T: Layout> Layout for Items<T> {
         let count = cur.take(5)?;
         let items = scan_items(alloc, count, cur)?;
         Ok(Items { items })
+    }
+}
+
+impl<T: Same> Same for Items<T> {
+    fn same(&self, other: &Self) -> bool {
+        are_same(self.as_slice(), other.as_slice())
     }
 }

@@ -7,6 +7,7 @@ use crate::cursor::Cursor;
 use crate::fault::{DecodeError, FaultKind, refused};
 use crate::layout::Layout;
 use crate::memory::Memory;
+use crate::same::Same;
 use std::alloc::Global;
 
 /// M_LEVELTR and M_LEVEL, 3 bits: the level of ETCS in which a train runs, or has to run from a
@@ -98,5 +99,11 @@ impl Layout for Level {
             4 => Ok(Level::L3),
             _ => Err(refused(at, cur, FaultKind::Spare)),
         }
+    }
+}
+
+impl Same for Level {
+    fn same(&self, other: &Level) -> bool {
+        self == other
     }
 }

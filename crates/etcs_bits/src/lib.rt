@@ -4,10 +4,10 @@
 //! [`Bits`] is a list of bits, [`Cursor`] a place in one, [`Layout`] a record of variables, such as
 //! [`Version`] or [`Identity`]. Pairs, options, [`Items`] and [`Body`] make records of others
 //! (`specs/Combined.antt`). Layers above stand on the contract of [`Layout::scan`]: it reads
-//! the record that stands at the cursor, and where none does it tells the first [`Fault`]. Read
-//! `layout.rt` first, with `specs/Rows.antt`, `Fields.antt` and `Fault.antt`; what holds of every
-//! record is in [`laws`]. Left out: packets, whole telegrams and their text, and the channel coding
-//! of the user bits (SUBSET-036, 4.3).
+//! the record that stands at the cursor, and where none does it tells the first [`Fault`]. [`Same`]
+//! tells two values apart. Read `layout.rt` first, with `specs/Rows.antt`, `Fields.antt` and
+//! `Fault.antt`; what holds of every record and variable is in [`laws`]. Left out: packets, whole
+//! telegrams and their text, and the channel coding of the user bits (SUBSET-036, 4.3).
 #![tactic(auto)]
 
 mod bits;
@@ -29,6 +29,7 @@ mod option;
 mod pair;
 mod plain;
 mod ranged;
+mod same;
 mod scale;
 #[cfg(test)]
 mod tests;
@@ -49,6 +50,7 @@ pub use medium::Medium;
 pub use memory::Memory;
 pub use plain::{Counter, Country, Distance, GroupNumber, Plain, Position, Time, Total};
 pub use ranged::{Ranged, ReleaseSpeed, Speed, StaticSpeed};
+pub use same::{Same, are_same};
 pub use scale::Scale;
 pub use transmission::Transmission;
 pub use version::Version;

@@ -7,6 +7,7 @@ use crate::cursor::Cursor;
 use crate::fault::{DecodeError, FaultKind, refused};
 use crate::layout::Layout;
 use crate::memory::Memory;
+use crate::same::Same;
 use std::alloc::Global;
 
 /// Q_MEDIA, 1 bit: what sends a telegram (SUBSET-026, 7.5.1). Only a balise (0) is read, by this
@@ -85,5 +86,11 @@ impl Layout for Medium {
             Some(medium) => Ok(medium),
             None => Err(refused(at, cur, FaultKind::Loop)),
         }
+    }
+}
+
+impl Same for Medium {
+    fn same(&self, other: &Medium) -> bool {
+        self == other
     }
 }

@@ -5,6 +5,7 @@ use crate::cursor::Cursor;
 use crate::fault::DecodeError;
 use crate::layout::Layout;
 use crate::memory::Memory;
+use crate::same::Same;
 use std::alloc::Global;
 
 /// A record behind a qualifier of one bit, such as Q_OVERLAP: 1 where the record follows, 0 where
@@ -59,6 +60,16 @@ impl<T: Layout> Layout for Option<T> {
             Ok(Some(record))
         } else {
             Ok(None)
+        }
+    }
+}
+
+impl<T: Same> Same for Option<T> {
+    fn same(&self, other: &Self) -> bool {
+        match (self, other) {
+            (None, None) => true,
+            (Some(this), Some(that)) => this.same(that),
+            _ => false,
         }
     }
 }

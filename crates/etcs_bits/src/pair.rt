@@ -5,6 +5,7 @@ use crate::cursor::Cursor;
 use crate::fault::DecodeError;
 use crate::layout::Layout;
 use crate::memory::Memory;
+use crate::same::Same;
 use std::alloc::Global;
 
 /// Two records, one after the other without a gap (SUBSET-026, 7.4). The fault of the first comes
@@ -47,5 +48,11 @@ impl<A: Layout, B: Layout> Layout for (A, B) {
         let first = A::scan(alloc, cur)?;
         let second = B::scan(alloc, cur)?;
         Ok((first, second))
+    }
+}
+
+impl<A: Same, B: Same> Same for (A, B) {
+    fn same(&self, other: &Self) -> bool {
+        self.0.same(&other.0) && self.1.same(&other.1)
     }
 }

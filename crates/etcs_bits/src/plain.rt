@@ -7,6 +7,7 @@ use crate::cursor::Cursor;
 use crate::fault::DecodeError;
 use crate::layout::Layout;
 use crate::memory::Memory;
+use crate::same::Same;
 use std::alloc::Global;
 use std::marker::Model;
 
@@ -122,5 +123,11 @@ impl<const W: u32> Layout for Plain<W> {
         }
         let n = cur.take(W)?;
         Ok(Plain { number: n as u32 })
+    }
+}
+
+impl<const W: u32> Same for Plain<W> {
+    fn same(&self, other: &Self) -> bool {
+        self.number() == other.number()
     }
 }

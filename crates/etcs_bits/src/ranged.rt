@@ -7,6 +7,7 @@ use crate::cursor::Cursor;
 use crate::fault::{DecodeError, FaultKind, refused};
 use crate::layout::Layout;
 use crate::memory::Memory;
+use crate::same::Same;
 use std::alloc::Global;
 use std::marker::Model;
 
@@ -121,5 +122,11 @@ impl<const W: u32, const LAST: u32, const FROM: u32> Layout for Ranged<W, LAST, 
             return Err(refused(at, cur, FaultKind::Spare));
         }
         Ok(Ranged { number: n })
+    }
+}
+
+impl<const W: u32, const LAST: u32, const FROM: u32> Same for Ranged<W, LAST, FROM> {
+    fn same(&self, other: &Self) -> bool {
+        self.number() == other.number()
     }
 }

@@ -7,6 +7,7 @@ use crate::cursor::Cursor;
 use crate::fault::{DecodeError, FaultKind, refused};
 use crate::layout::Layout;
 use crate::memory::Memory;
+use crate::same::Same;
 use std::alloc::Global;
 
 /// Q_SCALE, 2 bits: the unit of all distances in a packet (SUBSET-026, 7.5.1). 3 is spare: a Spare
@@ -93,5 +94,11 @@ impl Layout for Scale {
             Some(scale) => Ok(scale),
             None => Err(refused(at, cur, FaultKind::Spare)),
         }
+    }
+}
+
+impl Same for Scale {
+    fn same(&self, other: &Scale) -> bool {
+        self == other
     }
 }

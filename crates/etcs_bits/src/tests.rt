@@ -3,6 +3,7 @@
 mod combined;
 mod level;
 mod raw;
+mod same;
 
 use crate::{
     Bits, Counter, Country, Cursor, DecodeError, Dup, Fault, FaultKind, GroupNumber, Identity,

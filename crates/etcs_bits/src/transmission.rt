@@ -7,6 +7,7 @@ use crate::cursor::Cursor;
 use crate::fault::{DecodeError, FaultKind, refused};
 use crate::layout::Layout;
 use crate::memory::Memory;
+use crate::same::Same;
 use std::alloc::Global;
 
 /// Q_UPDOWN, 1 bit: in which direction a telegram goes (SUBSET-026, 7.5.1). Only track to train (1)
@@ -85,5 +86,11 @@ impl Layout for Transmission {
             Some(transmission) => Ok(transmission),
             None => Err(refused(at, cur, FaultKind::Downlink)),
         }
+    }
+}
+
+impl Same for Transmission {
+    fn same(&self, other: &Transmission) -> bool {
+        self == other
     }
 }

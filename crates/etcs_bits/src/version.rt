@@ -7,6 +7,7 @@ use crate::cursor::Cursor;
 use crate::fault::{DecodeError, FaultKind, refused};
 use crate::layout::Layout;
 use crate::memory::Memory;
+use crate::same::Same;
 use std::alloc::Global;
 
 /// M_VERSION, 7 bits: the system version that a telegram is written for (SUBSET-026, 7.5.1). Only
@@ -89,5 +90,11 @@ impl Layout for Version {
             Some(version) => Ok(version),
             None => Err(refused(at, cur, FaultKind::Version)),
         }
+    }
+}
+
+impl Same for Version {
+    fn same(&self, other: &Version) -> bool {
+        self == other
     }
 }
