@@ -164,13 +164,20 @@ none_of_whole head head_of rows item_of (errors.Fault f) stop header item p head
     none_whole head head_of rows item_of stop header item p f headed are_head back_head are_rows back within t
 
 -- What reading gives at the beginning of bits, they mean.
+pub means_whole : {H X : Type 0} (stop : Stop) (head : Fields) (head_of : List Row → H) (item : Fields)
+    (item_of : List Row → X) (bits : List Bool) (w : H × List X) (q : Place)
+    → whole_at stop head head_of item item_of (start bits) ≡ Ok (w, q)
+    → whole_of stop head head_of item item_of bits ≡ Ok w
+means_whole stop head head_of item item_of bits w q gives =
+    of_bits stop head head_of item item_of bits ∙ rw gives refl
+
 pub gives_means : {H X Y : Type 0} (view : Y → H × List X) (result : Result Y DecodeError) (stop : Stop)
     (head : Fields) (head_of : List Row → H) (item : Fields) (item_of : List Row → X)
     (bits : List Bool) (q : Place)
     → Gives view result (whole_at stop head head_of item item_of (start bits)) q
     → Means view result (whole_of stop head head_of item item_of bits)
 gives_means view (Ok y) stop head head_of item item_of bits q gives =
-    of_bits stop head head_of item item_of bits ∙ rw gives refl
+    means_whole stop head head_of item item_of bits (view y) q gives
 gives_means view (Err errors.Memory) stop head head_of item item_of bits q gives = tt
 gives_means view (Err (errors.Fault f)) stop head head_of item item_of bits q gives =
     of_bits stop head head_of item item_of bits ∙ rw gives refl

@@ -1,6 +1,7 @@
 //! The packets of balise telegrams and radio messages, one after the other (SUBSET-026, 7.4 and 8.4).
 #![tactic(auto)]
 
+pub mod laws;
 mod list;
 mod stop;
 mod whole;
