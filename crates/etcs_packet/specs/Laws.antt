@@ -3,6 +3,7 @@
 use Rattle.std.specs.Prelude.{◌≡◌, ℕ, ◌+◌, ◌<◌, ◌≤◌, ◌↔◌, Bool, true, false, List, ◌++◌, map, length, Result, Ok, Err}
 use Rattle.std.specs.List.{flat_map}
 use Rattle.etcs_bits.specs.declared.fault.Fault.{Fault}
+use Rattle.etcs_bits.specs.declared.fault.FaultKind.TheVariants.{NoEnd}
 use Rattle.etcs_bits.specs.Number.{num}
 use Rattle.etcs_bits.specs.Rows.{Row, Place, AreAllowed, join}
 use Rattle.etcs_bits.specs.Fields.{Fields, nothing, field, ◌▹◌, sized}
@@ -52,6 +53,12 @@ abbrev pub ListFaultIsRead : {X : Type 0} → (List Row → X) → Fields → Ty
 ListFaultIsRead {X} record_of fields =
     (stop : Stop) (p : Place) (f : Fault) → p.at ≤ length p.bits
     → IsListFault stop fields p f ↔ (items_at stop fields record_of p ≡ Err f)
+
+-- Where a telegram has fewer than eight bits left, no end is met: any input as long has as few there.
+abbrev pub NoEndIsTold : Fields → Type 0
+NoEndIsTold fields =
+    (p : Place) → p.at ≤ length p.bits → length p.bits < p.at + 8
+    → IsListFault stops.Telegram fields p (record { at = p.at; end = p.at; why = NoEnd })
 
 -- Where a fault is told, no list stands, in any input with the same length and front.
 abbrev pub ListFaultMeansNone : {X : Type 0} → (X → List Row) → Fields → Type 0

@@ -2,7 +2,7 @@
 //! do nothing: laws for users.
 
 ghost use Rattle.etcs_packet.specs.Lists.{IsHeaded};
-ghost use Rattle.etcs_packet.specs.Laws.{ListFaultIsRead, ListFaultMeansNone, ListIsRead, ListsEnd, OneListStands, OneWholeBegins, ReadIsSpelled, WholeFaultIsRead, WholeFaultMeansNone, WholeIsRead, WrittenIsReadBack, WrittenStands};
+ghost use Rattle.etcs_packet.specs.Laws.{ListFaultIsRead, ListFaultMeansNone, ListIsRead, ListsEnd, NoEndIsTold, OneListStands, OneWholeBegins, ReadIsSpelled, WholeFaultIsRead, WholeFaultMeansNone, WholeIsRead, WrittenIsReadBack, WrittenStands};
 
 use etcs_bits::Layout;
 
@@ -33,6 +33,12 @@ pub fn what_is_read_is_spelled<T: Layout>()
 pub fn a_list_fault_is_read<T: Layout>()
     requires { IsHeaded T.fields }
     ensures { ListFaultIsRead T.record_of T.fields }
+{}
+
+/// A telegram without an end mark: where fewer than eight bits are left, the fault is NoEnd.
+pub fn a_telegram_without_its_mark_has_no_end<T: Layout>()
+    requires { IsHeaded T.fields }
+    ensures { NoEndIsTold T.fields }
 {}
 
 /// Where a list's fault is told, no list stands, in any input of the same length with the same first
