@@ -4,6 +4,8 @@
 pub mod laws;
 mod list;
 mod stop;
+#[cfg(test)]
+mod tests;
 mod whole;
 
 pub use list::{is_end, next_item, read_items, write_items};
