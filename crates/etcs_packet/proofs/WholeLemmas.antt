@@ -1,5 +1,5 @@
 -- A head and its list: what stands is read, what is told is read, and there is one of them alone.
-use Rattle.std.proofs.Common.{◌≡◌, ℕ, ◌+◌, ◌≤◌, Bool, true, false, List, [], ◌∷◌, ◌++◌, length, take, Result, Ok, Err, refl, sym, ap, subst, ◌∙◌, arith, inl, inr, ◌⊎◌}
+use Rattle.std.proofs.Common.{◌≡◌, ◌≤◌, Bool, List, length, take, Result, Ok, Err, refl, sym, ap, ◌∙◌, arith, inl, inr}
 use Rattle.etcs_bits.specs.declared.fault.Fault.{Fault}
 use Rattle.etcs_bits.specs.declared.fault.DecodeError.{DecodeError}
 use Rattle.etcs_bits.specs.declared.fault.DecodeError.TheVariants as errors
@@ -13,8 +13,8 @@ use Rattle.etcs_bits.proofs.StandLemmas.{place_in, stands_moved}
 use Rattle.etcs_bits.proofs.ReadingLemmas.{read_is_spelled, spelled_is_read, fault_is_told}
 use Rattle.etcs_bits.proofs.FaultLemmas.{told_is_given, fault_stays}
 use Rattle.etcs_packet.specs.declared.stop.Stop.{Stop}
-use Rattle.etcs_packet.specs.Lists.{IsHeaded, Stand, IsListFault, items_at}
-use Rattle.etcs_packet.specs.Whole.{start, IsWhole, IsLaterFault, IsWholeFault, NoneWhole, Means, whole_at, whole_of}
+use Rattle.etcs_packet.specs.Lists.{IsHeaded, IsListFault, items_at}
+use Rattle.etcs_packet.specs.Whole.{start, IsWhole, IsWholeFault, NoneWhole, Means, whole_at, whole_of}
 use Rattle.etcs_packet.proofs.EndLemmas.{told_past, next_within}
 use Rattle.etcs_packet.proofs.FollowLemmas.{follow_forward, follow_within, list_fault_stays}
 use Rattle.etcs_packet.proofs.ItemLemmas.{list_fault_is_read, list_fault_is_told}

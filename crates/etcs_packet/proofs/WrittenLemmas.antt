@@ -1,10 +1,10 @@
 -- Which bits end a list, and that what was written is there.
-use Rattle.std.proofs.Common.{◌≡◌, ℕ, ◌+◌, ◌-◌, ◌^◌, ◌<◌, ◌≤◌, Bool, true, false, ltb, List, [], ◌∷◌, ◌++◌, length, take, drop, Result, Ok, Err, refl, sym, ap, subst, ◌∙◌, append_assoc, arith}
+use Rattle.std.proofs.Common.{◌≡◌, ℕ, ◌+◌, ◌^◌, ◌<◌, ◌≤◌, Bool, true, false, ltb, List, [], ◌∷◌, ◌++◌, length, take, drop, refl, sym, ap, subst, ◌∙◌, append_assoc, arith}
 use Rattle.std.specs.List.{flat_map}
 use Rattle.std.proofs.lemmas.Bool.{lt-ltb, le-ltb, ne_eqb, ltb-true, ltb-false}
 use Rattle.std.proofs.lemmas.List.{length-append, length-drop, take_at, drop_at, drop-drop}
-use Rattle.etcs_bits.specs.Number.{num, num_of_bits}
-use Rattle.etcs_bits.specs.Rows.{Variable, Row, Place, Stands, IsSpelled, AreAllowed, join}
+use Rattle.etcs_bits.specs.Number.{num}
+use Rattle.etcs_bits.specs.Rows.{Row, Place, Stands, IsSpelled, AreAllowed, join}
 use Rattle.etcs_bits.specs.Fields.{Fields, nothing, field, ◌▹◌, sized, AreRowsOf}
 use Rattle.etcs_bits.proofs.NumberLemmas.{length-num, num_of_bits-small}
 use Rattle.etcs_bits.proofs.StandLemmas.{place_in, same_position, join-append, allowed_first, allowed_second, stands_within, standing_number, stands_parts}

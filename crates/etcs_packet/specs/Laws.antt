@@ -1,6 +1,6 @@
 -- What holds of every list of packets, and of every head with its packets, whatever reads or writes
 -- them. Each law is over records with a table of fields that begins with NID_PACKET.
-use Rattle.std.specs.Prelude.{◌≡◌, ℕ, ◌+◌, ◌<◌, ◌≤◌, ◌↔◌, Bool, true, false, List, ◌++◌, map, length, Result, Ok, Err}
+use Rattle.std.specs.Prelude.{◌≡◌, ◌+◌, ◌<◌, ◌≤◌, ◌↔◌, Bool, true, false, List, ◌++◌, map, length, Ok, Err}
 use Rattle.std.specs.List.{flat_map}
 use Rattle.etcs_bits.specs.declared.fault.Fault.{Fault}
 use Rattle.etcs_bits.specs.declared.fault.FaultKind.TheVariants.{NoEnd}

@@ -1,6 +1,6 @@
 -- A list of packets: one after the other, up to the first place where the list ends (SUBSET-026, 7.4
 -- and 8.4). The packets may be any records whose table of fields begins with NID_PACKET.
-use Rattle.std.specs.Prelude.{◌≡◌, ℕ, zero, suc, ◌+◌, ◌==◌, nat_lt, Bool, true, false, if◌then◌else◌, List, [], ◌∷◌, length, take, drop, Option, Some, None, Result, Ok, Err}
+use Rattle.std.specs.Prelude.{◌≡◌, ℕ, zero, suc, ◌+◌, ◌==◌, nat_lt, Bool, true, false, if◌then◌else◌, List, [], ◌∷◌, length, take, drop, Option, Some, None, Result, Ok}
 use Rattle.etcs_bits.specs.declared.fault.Fault.{Fault}
 use Rattle.etcs_bits.specs.Number.{num_of_bits}
 use Rattle.etcs_bits.specs.Rows.{Row, Place, IsSpelled}

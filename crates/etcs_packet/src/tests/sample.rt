@@ -1,8 +1,7 @@
 //! A packet for tests, with the laws of a record: NID_PACKET, 8 bits, any number but 255, and a
 //! number of four bits.
 
-ghost use Rattle.std.specs.Prelude.{◌≡◌, ℕ, ◌<◌, nat_lt, true, IfSome, IfOk};
-ghost use Rattle.etcs_bits.specs.declared.fault.FaultKind.TheVariants.{Spare};
+ghost use Rattle.std.specs.Prelude.{◌≡◌, IfSome};
 
 use etcs_bits::{Bits, Cursor, DecodeError, Fault, FaultKind, Layout, Memory};
 use std::alloc::Global;
@@ -41,7 +40,7 @@ impl Sample {
 
 #[tactic(auto, using(etcs_bits::proofs::PutLemmas::puts_bits, etcs_bits::proofs::PutLemmas::keeps_front), unfolding(etcs_bits::specs::Rows::alone))]
 impl Layout for Sample {
-    ghost use Rattle.std.specs.Prelude.{nat_lt, true, false, refl, ◌∷◌};
+    ghost use Rattle.std.specs.Prelude.{nat_lt, true, refl, ◌∷◌};
     ghost use Rattle.std.proofs.Common.{ap};
     ghost use Rattle.etcs_bits.specs.declared.fault.FaultKind.TheVariants.{Spare};
     ghost use Rattle.etcs_bits.specs.Rows.{row, alone, number_at};
