@@ -19,8 +19,8 @@ HasNoMark nothing = ⊥
 HasNoMark (a ▹ b) = ⊥
 HasNoMark (sized before body) = ⊥
 
--- A list ends at eight ones, whatever follows them; fewer than eight bits end that of a message, but
--- not that of a telegram. No other bits of the input count.
+-- A list ends at eight ones, whatever follows them; fewer than eight bits end that of a message,
+-- but not that of a telegram. No other bits of the input count.
 pub record ListsEnd : Type 0 where
   pub mark : (stop : Stop) (fill : List Bool) → ends stop (start (num 8 255 ++ fill)) ≡ true
   pub message : (fill : List Bool) → length fill < 8 → ends stops.Message (start fill) ≡ true
@@ -54,7 +54,8 @@ ListFaultIsRead {X} record_of fields =
     (stop : Stop) (p : Place) (f : Fault) → p.at ≤ length p.bits
     → IsListFault stop fields p f ↔ (items_at stop fields record_of p ≡ Err f)
 
--- Where a telegram has fewer than eight bits left, no end is met: any input as long has as few there.
+-- Where a telegram has fewer than eight bits left, no end is met: any input as long has as few
+-- there.
 abbrev pub NoEndIsTold : Fields → Type 0
 NoEndIsTold fields =
     (p : Place) → p.at ≤ length p.bits → length p.bits < p.at + 8
@@ -66,8 +67,8 @@ ListFaultMeansNone rows fields =
     (stop : Stop) (p : Place) (f : Fault) → p.at ≤ length p.bits
     → IsListFault stop fields p f → NoneStand stop rows p f
 
--- Spellings one after the other, and behind them bits at which a list ends, are that list: it stands
--- behind whatever comes before it, and ends where the spellings end.
+-- Spellings one after the other, and behind them bits at which a list ends, are that list: it
+-- stands behind whatever comes before it, and ends where the spellings end.
 abbrev pub WrittenStands : {X : Type 0} → (X → List Row) → Fields → Type 0
 WrittenStands {X} rows fields =
     HasNoMark fields → (stop : Stop) (xs : List X) (front rest : List Bool)
@@ -81,13 +82,15 @@ abbrev pub WholeIsRead : {H X : Type 0}
     → (H → List Row) → (List Row → H) → Fields → (X → List Row) → (List Row → X) → Fields → Type 0
 WholeIsRead {H} {X} head head_of header rows record_of item =
     (stop : Stop) (h : H) (xs : List X) (p q : Place) → p.at ≤ length p.bits
-    → IsWhole stop head rows h xs p q → whole_at stop header head_of item record_of p ≡ Ok ((h, xs), q)
+    → IsWhole stop head rows h xs p q
+    → whole_at stop header head_of item record_of p ≡ Ok ((h, xs), q)
 
 -- Bits begin with at most one head and list.
 abbrev pub OneWholeBegins : {H X : Type 0} → (H → List Row) → (X → List Row) → Type 0
 OneWholeBegins {H} {X} head rows =
     (stop : Stop) (h k : H) (xs ys : List X) (bits : List Bool)
-    → BeginsWith stop head rows h xs bits → BeginsWith stop head rows k ys bits → (h ≡ k) × (xs ≡ ys)
+    → BeginsWith stop head rows h xs bits → BeginsWith stop head rows k ys bits
+    → (h ≡ k) × (xs ≡ ys)
 
 -- A fault of a whole is told exactly where reading gives it.
 abbrev pub WholeFaultIsRead : {H X : Type 0}
@@ -105,9 +108,9 @@ WholeFaultMeansNone head header rows item =
 
 -- The spelling of a head, those of its list, and bits at which a list ends: they begin with that
 -- head and that list, and mean them.
-pub record IsReadBack {H X : Type 0} (head : H → List Row) (head_of : List Row → H) (header : Fields)
-    (rows : X → List Row) (record_of : List Row → X) (item : Fields) (stop : Stop) (h : H) (xs : List X)
-    (bits : List Bool) : Type 0 where
+pub record IsReadBack {H X : Type 0} (head : H → List Row) (head_of : List Row → H)
+    (header : Fields) (rows : X → List Row) (record_of : List Row → X) (item : Fields) (stop : Stop)
+    (h : H) (xs : List X) (bits : List Bool) : Type 0 where
   pub begins : BeginsWith stop head rows h xs bits
   pub means : whole_of stop header head_of item record_of bits ≡ Ok (h, xs)
 

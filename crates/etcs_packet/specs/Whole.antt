@@ -1,5 +1,5 @@
--- A head and the list of packets behind it: a telegram's header and its packets (SUBSET-026, 8.4.2),
--- a radio message's own fields and its packets (SUBSET-026, 8.4.4).
+-- A head and the list of packets behind it: a telegram's header and its packets (SUBSET-026,
+-- 8.4.2), a radio message's own fields and its packets (SUBSET-026, 8.6 and 8.7).
 use Rattle.std.specs.Prelude.{◌≡◌, ◌⊎◌, List, Bool, length, take, Result, Ok, Err}
 use Rattle.etcs_bits.specs.declared.fault.Fault.{Fault}
 use Rattle.etcs_bits.specs.declared.fault.DecodeError.{DecodeError}
@@ -29,7 +29,8 @@ pub record BeginsWith {H X : Type 0} (stop : Stop) (head : H → List Row) (rows
   pub whole : IsWhole stop head rows h xs (start bits) end
 
 -- the fault of the list behind a head that is whole
-pub record IsLaterFault (stop : Stop) (head item : Fields) (from : Place) (fault : Fault) : Type 0 where
+pub record IsLaterFault (stop : Stop) (head item : Fields) (from : Place)
+    (fault : Fault) : Type 0 where
   pub rows : List Row
   pub middle : Place
   pub whole : AreRowsOf head rows
@@ -49,7 +50,8 @@ NoneWhole {H} {X} stop head rows from fault =
     → take fault.end bits ≡ take fault.end from.bits → (h : H) (xs : List X) (to : Place)
     → IsWhole stop head rows h xs (record { bits = bits; at = from.at }) to → ⊥
 
--- What reading a head and its list gives: both and the place where the list ends, or the first fault.
+-- What reading a head and its list gives: both and the place where the list ends, or the first
+-- fault.
 unfoldable pub whole_at : {H X : Type 0} → Stop → Fields → (List Row → H) → Fields → (List Row → X)
     → Place → Result ((H × List X) × Place) Fault
 whole_at stop head head_of item item_of p = do

@@ -1,5 +1,5 @@
-//! What holds of lists of packets and of the wholes that they are part of, as contracts of calls that
-//! do nothing: laws for users.
+//! What holds of lists of packets and of the wholes that they are part of, as contracts of calls
+//! that do nothing: laws for users.
 
 ghost use Rattle.etcs_packet.specs.Lists.{IsHeaded};
 ghost use Rattle.etcs_packet.specs.Laws.{ListFaultIsRead, ListFaultMeansNone, ListIsRead, ListsEnd, NoEndIsTold, OneListStands, OneWholeBegins, ReadIsSpelled, WholeFaultIsRead, WholeFaultMeansNone, WholeIsRead, WrittenIsReadBack, WrittenStands};
@@ -41,8 +41,8 @@ pub fn a_telegram_without_its_mark_has_no_end<T: Layout>()
     ensures { NoEndIsTold T.fields }
 {}
 
-/// Where a list's fault is told, no list stands, in any input of the same length with the same first
-/// `end` bits.
+/// Where a list's fault is told, no list stands, in any input of the same length with the same
+/// first `end` bits.
 pub fn a_list_fault_means_no_list<T: Layout>()
     requires { IsHeaded T.fields }
     ensures { ListFaultMeansNone T.rows T.fields }
@@ -72,8 +72,8 @@ pub fn a_whole_fault_is_read<H: Layout, T: Layout>()
     ensures { WholeFaultIsRead H.record_of H.fields T.record_of T.fields }
 {}
 
-/// Where a fault of a whole is told, none stands, in any input of the same length with the same first
-/// `end` bits.
+/// Where a fault of a whole is told, none stands, in any input of the same length with the same
+/// first `end` bits.
 pub fn a_whole_fault_means_no_whole<H: Layout, T: Layout>()
     requires { IsHeaded T.fields }
     ensures { WholeFaultMeansNone H.rows H.fields T.rows T.fields }
