@@ -1,18 +1,19 @@
 -- Which bits end a list, and that what was written is there.
-use Rattle.std.proofs.Common.{◌≡◌, ℕ, ◌+◌, ◌^◌, ◌<◌, ◌≤◌, Bool, true, false, ltb, List, [], ◌∷◌, ◌++◌, length, take, drop, refl, sym, ap, subst, ◌∙◌, append_assoc, arith}
+use Rattle.std.proofs.Common.{◌≡◌, ℕ, ◌+◌, ◌^◌, ◌<◌, ◌≤◌, Bool, true, false, eqb, ltb, List, [], ◌∷◌, ◌++◌, length, take, drop, refl, sym, ap, subst, ◌∙◌, append_assoc, arith, inl, inr, ◌⊎◌}
 use Rattle.std.specs.List.{flat_map}
-use Rattle.std.proofs.lemmas.Bool.{lt-ltb, le-ltb, ne_eqb, ltb-true, ltb-false}
+use Rattle.std.proofs.lemmas.Bool.{lt-ltb, le-ltb, ne_eqb, ltb-true, ltb-false, eqb-true}
 use Rattle.std.proofs.lemmas.List.{length-append, length-drop, take_at, drop_at, drop-drop}
-use Rattle.etcs_bits.specs.Number.{num}
+use Rattle.etcs_bits.specs.Number.{num, num_of_bits}
 use Rattle.etcs_bits.specs.Rows.{Row, Place, Stands, IsSpelled, AreAllowed, join}
 use Rattle.etcs_bits.specs.Fields.{Fields, nothing, field, ◌▹◌, sized, AreRowsOf}
 use Rattle.etcs_bits.proofs.NumberLemmas.{length-num, num_of_bits-small}
-use Rattle.etcs_bits.proofs.StandLemmas.{place_in, same_position, join-append, allowed_first, allowed_second, stands_within, standing_number, stands_parts}
+use Rattle.etcs_bits.proofs.StandLemmas.{place_in, same_position, join-append, allowed-append, allowed_first, allowed_second, stands_nothing, stands_then, stands_within, number_stands, standing_number, stands_parts}
 use Rattle.etcs_packet.specs.declared.stop.Stop.{Stop}
 use Rattle.etcs_packet.specs.declared.stop.Stop.TheVariants as stops
-use Rattle.etcs_packet.specs.Lists.{IsHeaded, ends, Stand}
-use Rattle.etcs_packet.specs.Whole.{start, IsWhole}
+use Rattle.etcs_packet.specs.Lists.{IsHeaded, ends_short, ends, Stand}
+use Rattle.etcs_packet.specs.Whole.{start, IsWhole, BeginsWith, AreSpelled}
 use Rattle.etcs_packet.specs.Laws.{HasNoMark}
+use Rattle.etcs_packet.proofs.EndLemmas.{next_within}
 
 -- ---- the end of a list
 
@@ -49,6 +50,70 @@ pub ends_behind : (stop : Stop) (front rest : List Bool)
     → ends stop (place_in (front ++ rest) (length front)) ≡ ends stop (start rest)
 ends_behind stop front rest =
     ends_by_rest stop (place_in (front ++ rest) (length front)) rest (drop_at front rest (length front) refl) (length-append front rest)
+
+-- a list ends nowhere else
+pub ends_only : (stop : Stop) (rest : List Bool) → ends stop (start rest) ≡ true
+    → ((stop ≡ stops.Message) × (length rest < 8))
+    ⊎ ((fill : List Bool) × (rest ≡ num 8 255 ++ fill))
+ends_only stop rest over = go (ltb (length rest) (0 + 8)) refl
+  where
+    short : (s : Stop) → ends_short s ≡ true → s ≡ stops.Message
+    short stops.Telegram e = absurd cc
+    short stops.Message e = refl
+
+    go : (b : Bool) → ltb (length rest) (0 + 8) ≡ b
+        → ((stop ≡ stops.Message) × (length rest < 8))
+        ⊎ ((fill : List Bool) × (rest ≡ num 8 255 ++ fill))
+    go true few =
+        let said : ends_short stop ≡ true = rw few at over in
+        inl (short stop said, omega (arith, ltb-true _ _ few))
+    go false many =
+        let said : eqb (num_of_bits (take 8 rest)) 255 ≡ true = rw many at over in
+        let number : num_of_bits (take 8 rest) ≡ 255 = eqb-true _ _ said in
+        let here = (number_stands 8 (start rest) (omega (arith, ltb-false _ _ many))).here in
+        inr (drop (0 + 8) rest, here ∙ ap (λ (n : ℕ). num 8 n ++ drop (0 + 8) rest) number)
+
+-- ---- a list that stands is its spellings
+
+pub record Ended {X : Type 0} (rows : X → List Row) (stop : Stop) (xs : List X) (p q : Place) : Type 0 where
+  pub spelled : IsSpelled (flat_map rows xs) p q
+  pub over : ends stop q ≡ true
+
+pub stand_spelled : {X : Type 0} (rows : X → List Row) (xs : List X) (stop : Stop) (p q : Place)
+    → Stand stop rows xs p q → Ended rows stop xs p q
+stand_spelled rows [] stop p q (over, there) =
+    let here : Ended rows stop [] p p = record { spelled = record { allowed = tt; stands = stands_nothing p }; over = over } in
+    subst (λ (z : Place). Ended rows stop [] p z) (sym there) here
+stand_spelled rows (x ∷ xs) stop p q (goes, (m, spelled, rest)) =
+    let more = stand_spelled rows xs stop m q rest in
+    record {
+      spelled = record {
+        allowed = allowed-append (rows x) (flat_map rows xs) spelled.allowed more.spelled.allowed;
+        stands = rw join-append (stands_then (join (rows x)) (join (flat_map rows xs)) p m q spelled.stands more.spelled.stands);
+      };
+      over = more.over;
+    }
+
+pub whole_spelled : {H X : Type 0} (head : H → List Row) (rows : X → List Row) (h : H) (xs : List X)
+    (stop : Stop) (bits : List Bool) → BeginsWith stop head rows h xs bits
+    → AreSpelled stop head rows h xs bits
+whole_spelled head rows h xs stop bits b =
+    let w = b.whole in
+    let listed = stand_spelled rows xs stop w.middle b.end w.items in
+    let first = w.first.stands in
+    let list = listed.spelled.stands in
+    let same : b.end.bits ≡ bits = list.same ∙ first.same in
+    let rest = drop b.end.at bits in
+    let within = next_within (flat_map rows xs) w.middle b.end (next_within (head h) (start bits) w.middle (omega arith) w.first) listed.spelled in
+    let behind : drop w.middle.at bits ≡ join (flat_map rows xs) ++ rest = rw first.same at list.here in
+    let len : length b.end.bits ≡ b.end.at + length rest = omega (arith, within, ap length same, length-drop b.end.at bits) in
+    record {
+      rest = rest;
+      first = w.first.allowed;
+      items = listed.spelled.allowed;
+      over = sym (ends_by_rest stop b.end rest (ap (drop b.end.at) same) len) ∙ listed.over;
+      are = first.here ∙ ap (λ (more : List Bool). join (head h) ++ more) behind;
+    }
 
 -- ---- a list that was written
 

@@ -2,7 +2,7 @@
 //! that do nothing: laws for users.
 
 ghost use Rattle.etcs_packet.specs.Lists.{IsHeaded};
-ghost use Rattle.etcs_packet.specs.Laws.{ListFaultIsRead, ListFaultMeansNone, ListIsRead, ListsEnd, NoEndIsTold, OneListStands, OneWholeBegins, ReadIsSpelled, WholeFaultIsRead, WholeFaultMeansNone, WholeIsRead, WrittenIsReadBack, WrittenStands};
+ghost use Rattle.etcs_packet.specs.Laws.{ListFaultIsRead, ListFaultMeansNone, ListIsRead, ListsEnd, NoEndIsTold, OneListStands, OneWholeBegins, ReadIsSpelled, StandIsSpelled, WholeFaultIsRead, WholeFaultMeansNone, WholeIsRead, WholeIsSpelled, WrittenIsReadBack, WrittenStands};
 
 use etcs_bits::Layout;
 
@@ -21,6 +21,11 @@ pub fn a_list_is_read<T: Layout>()
 pub fn a_place_has_one_list<T: Layout>()
     requires { IsHeaded T.fields }
     ensures { OneListStands T.rows }
+{}
+
+/// A list that stands is the spellings of its packets, one after the other.
+pub fn a_list_is_its_spellings<T: Layout>()
+    ensures { StandIsSpelled T.rows }
 {}
 
 /// What reading gives stands in its rows, up to the end of the list.
@@ -79,7 +84,12 @@ pub fn a_whole_fault_means_no_whole<H: Layout, T: Layout>()
     ensures { WholeFaultMeansNone H.rows H.fields T.rows T.fields }
 {}
 
-/// What was written is read back.
+/// Bits that begin with a head and a list are their spellings and a rest at which a list ends.
+pub fn a_whole_is_its_spellings<H: Layout, T: Layout>()
+    ensures { WholeIsSpelled H.rows T.rows }
+{}
+
+/// What was written is read back, whatever follows the end of the list.
 pub fn what_is_written_is_read_back<H: Layout, T: Layout>()
     requires { IsHeaded T.fields }
     ensures { WrittenIsReadBack H.rows H.record_of H.fields T.rows T.record_of T.fields }
