@@ -110,7 +110,7 @@ impl<const BEFORE: u32, T: Layout> Layout for Body<BEFORE, T> {
     }
 }
 
-impl<const BEFORE: u32, T: Same> Same for Body<BEFORE, T> {
+impl<const BEFORE: u32, T: Layout + Same> Same for Body<BEFORE, T> {
     fn same(&self, other: &Self) -> bool {
         self.content.same(&other.content)
     }

@@ -1,12 +1,12 @@
 -- Eight bits settle whether a list ends, and what begins with NID_PACKET has as many.
-use Rattle.std.proofs.Common.{◌≡◌, ℕ, ◌+◌, ◌-◌, ◌<◌, ◌≤◌, Bool, true, false, List, length, take, drop, refl, sym, ap, subst, ◌∙◌, arith, inl, inr, ◌⊎◌}
+use Rattle.std.proofs.Common.{◌≡◌, ℕ, ◌+◌, ◌-◌, ◌<◌, ◌≤◌, Bool, true, false, List, [], length, take, drop, refl, sym, ap, subst, ◌∙◌, arith, inl, inr, ◌⊎◌}
 use Rattle.std.proofs.lemmas.Bool.{lt-ltb}
 use Rattle.std.proofs.lemmas.List.{take-take, drop-take}
 use Rattle.etcs_bits.specs.declared.fault.Fault.{Fault}
 use Rattle.etcs_bits.specs.Rows.{Variable, Row, Place, IsSpelled, join, width}
 use Rattle.etcs_bits.specs.Fields.{Fields, nothing, field, ◌▹◌, sized, AreRowsOf, Due, due, differs, IsOpen}
 use Rattle.etcs_bits.specs.Fault.{lack, Tells, IsFault}
-use Rattle.etcs_bits.proofs.StandLemmas.{place_in, length-join, stands_within}
+use Rattle.etcs_bits.proofs.StandLemmas.{place_in, length-join, stands_nothing, stands_within}
 use Rattle.etcs_packet.specs.declared.stop.Stop.{Stop}
 use Rattle.etcs_packet.specs.Lists.{IsHeaded, ends}
 
@@ -74,6 +74,21 @@ told_past (field x next) p f head within t =
 told_past nothing p f head within t = absurd head
 told_past (a ▹ b) p f head within t = absurd head
 told_past (sized before body) p f head within t = absurd head
+
+-- too few bits for NID_PACKET are a fault of their own
+pub no_end_here : (fields : Fields) (p : Place) → IsHeaded fields → length p.bits < p.at + 8
+    → IsFault fields p (lack true p)
+no_end_here (field x next) p head few = record {
+  rows = [];
+  next = due x;
+  reached = p;
+  is_open = inl (refl, refl);
+  spelled = record { allowed = tt; stands = stands_nothing p };
+  tells = inl (omega (arith, few, head.0), ap (λ closes. lack closes p) (sym head.1));
+}
+no_end_here nothing p head few = absurd head
+no_end_here (a ▹ b) p head few = absurd head
+no_end_here (sized before body) p head few = absurd head
 
 -- ---- a record that begins with NID_PACKET has eight bits
 

@@ -3,3 +3,4 @@ pub mod FollowLemmas
 pub mod ItemLemmas
 pub mod ListLemmas
 pub mod WholeLemmas
+pub mod WrittenLemmas

@@ -1,11 +1,11 @@
 -- A list of records, as a reader goes through it and as a user knows it.
-use Rattle.std.proofs.Common.{◌≡◌, ℕ, ◌≤◌, Bool, true, false, List, [], ◌∷◌, ◌++◌, map, length, take, Option, Some, None, Result, Ok, Err, refl, sym, ap, subst, ◌∙◌, arith}
+use Rattle.std.proofs.Common.{◌≡◌, ◌≤◌, Bool, true, false, List, [], ◌∷◌, ◌++◌, map, length, take, Option, Some, None, Result, Ok, Err, refl, sym, ap, subst, ◌∙◌, arith}
 use Rattle.std.specs.Result.{is_err, OnOk}
 use Rattle.std.proofs.lemmas.List.{map-append}
 use Rattle.etcs_bits.specs.declared.fault.Fault.{Fault}
 use Rattle.etcs_bits.specs.declared.fault.DecodeError.{DecodeError}
 use Rattle.etcs_bits.specs.declared.fault.DecodeError.TheVariants as errors
-use Rattle.etcs_bits.specs.Rows.{Row, Place, IsSpelled}
+use Rattle.etcs_bits.specs.Rows.{Row, Place}
 use Rattle.etcs_bits.specs.Fields.{Fields, AreRowsOf}
 use Rattle.etcs_bits.specs.Fault.{IsFault, NoneBegins}
 use Rattle.etcs_bits.specs.Layout.{Fails, OfFault}

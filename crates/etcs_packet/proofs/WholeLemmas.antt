@@ -1,5 +1,5 @@
 -- A head and its list: what stands is read, what is told is read, and there is one of them alone.
-use Rattle.std.proofs.Common.{◌≡◌, ℕ, ◌+◌, ◌≤◌, Bool, true, false, List, [], ◌∷◌, ◌++◌, length, take, Result, Ok, Err, refl, sym, ap, subst, ◌∙◌, arith, inl, inr, ◌⊎◌}
+use Rattle.std.proofs.Common.{◌≡◌, ◌≤◌, Bool, List, length, take, Result, Ok, Err, refl, sym, ap, ◌∙◌, arith, inl, inr}
 use Rattle.etcs_bits.specs.declared.fault.Fault.{Fault}
 use Rattle.etcs_bits.specs.declared.fault.DecodeError.{DecodeError}
 use Rattle.etcs_bits.specs.declared.fault.DecodeError.TheVariants as errors
@@ -13,8 +13,8 @@ use Rattle.etcs_bits.proofs.StandLemmas.{place_in, stands_moved}
 use Rattle.etcs_bits.proofs.ReadingLemmas.{read_is_spelled, spelled_is_read, fault_is_told}
 use Rattle.etcs_bits.proofs.FaultLemmas.{told_is_given, fault_stays}
 use Rattle.etcs_packet.specs.declared.stop.Stop.{Stop}
-use Rattle.etcs_packet.specs.Lists.{IsHeaded, Stand, IsListFault, items_at}
-use Rattle.etcs_packet.specs.Whole.{start, IsWhole, IsLaterFault, IsWholeFault, NoneWhole, Means, whole_at, whole_of}
+use Rattle.etcs_packet.specs.Lists.{IsHeaded, IsListFault, items_at}
+use Rattle.etcs_packet.specs.Whole.{start, IsWhole, IsWholeFault, NoneWhole, Means, whole_at, whole_of}
 use Rattle.etcs_packet.proofs.EndLemmas.{told_past, next_within}
 use Rattle.etcs_packet.proofs.FollowLemmas.{follow_forward, follow_within, list_fault_stays}
 use Rattle.etcs_packet.proofs.ItemLemmas.{list_fault_is_read, list_fault_is_told}
@@ -164,13 +164,20 @@ none_of_whole head head_of rows item_of (errors.Fault f) stop header item p head
     none_whole head head_of rows item_of stop header item p f headed are_head back_head are_rows back within t
 
 -- What reading gives at the beginning of bits, they mean.
+pub means_whole : {H X : Type 0} (stop : Stop) (head : Fields) (head_of : List Row → H) (item : Fields)
+    (item_of : List Row → X) (bits : List Bool) (w : H × List X) (q : Place)
+    → whole_at stop head head_of item item_of (start bits) ≡ Ok (w, q)
+    → whole_of stop head head_of item item_of bits ≡ Ok w
+means_whole stop head head_of item item_of bits w q gives =
+    of_bits stop head head_of item item_of bits ∙ rw gives refl
+
 pub gives_means : {H X Y : Type 0} (view : Y → H × List X) (result : Result Y DecodeError) (stop : Stop)
     (head : Fields) (head_of : List Row → H) (item : Fields) (item_of : List Row → X)
     (bits : List Bool) (q : Place)
     → Gives view result (whole_at stop head head_of item item_of (start bits)) q
     → Means view result (whole_of stop head head_of item item_of bits)
 gives_means view (Ok y) stop head head_of item item_of bits q gives =
-    of_bits stop head head_of item item_of bits ∙ rw gives refl
+    means_whole stop head head_of item item_of bits (view y) q gives
 gives_means view (Err errors.Memory) stop head head_of item item_of bits q gives = tt
 gives_means view (Err (errors.Fault f)) stop head head_of item item_of bits q gives =
     of_bits stop head head_of item item_of bits ∙ rw gives refl

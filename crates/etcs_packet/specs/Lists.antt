@@ -1,6 +1,6 @@
--- A list of packets: one after the other, up to the first place where the list ends (SUBSET-026, 7.4
--- and 8.4). The packets may be any records whose table of fields begins with NID_PACKET.
-use Rattle.std.specs.Prelude.{◌≡◌, ℕ, zero, suc, ◌+◌, ◌==◌, nat_lt, Bool, true, false, if◌then◌else◌, List, [], ◌∷◌, length, take, drop, Option, Some, None, Result, Ok, Err}
+-- A list of packets: one after the other, up to the first place where the list ends (SUBSET-026,
+-- 7.4 and 8.4). The packets may be any records whose table of fields begins with NID_PACKET.
+use Rattle.std.specs.Prelude.{◌≡◌, ℕ, zero, suc, ◌+◌, ◌==◌, nat_lt, Bool, true, false, if◌then◌else◌, List, [], ◌∷◌, length, take, drop, Option, Some, None, Result, Ok}
 use Rattle.etcs_bits.specs.declared.fault.Fault.{Fault}
 use Rattle.etcs_bits.specs.Number.{num_of_bits}
 use Rattle.etcs_bits.specs.Rows.{Row, Place, IsSpelled}
@@ -47,7 +47,8 @@ Follow stop fields (rows ∷ more) p q =
     (ends stop p ≡ false)
     × ((m : Place) × AreRowsOf fields rows × IsSpelled rows p m × Follow stop fields more m q)
 
--- The fault of a list: behind records that are whole, where it does not end, it is that of the next.
+-- The fault of a list: behind records that are whole, where it does not end, it is that of the
+-- next.
 pub record IsListFault (stop : Stop) (fields : Fields) (from : Place) (fault : Fault) : Type 0 where
   pub whole : List (List Row)
   pub reached : Place
@@ -78,8 +79,8 @@ at_most (suc n) stop fields record_of p =
     else (rows_at fields p >>= λ first. at_most n stop fields record_of first.1
     >>= λ more. Ok (record_of first.0 ∷ more.0, more.1))
 
--- What reading a list gives: its records and the place where it ends, or the first fault. Each record
--- has a bit or more, so that the count never runs out.
+-- What reading a list gives: its records and the place where it ends, or the first fault. A record
+-- has eight bits or more, so that the count never runs out.
 unfoldable pub items_at : {X : Type 0}
     → Stop → Fields → (List Row → X) → Place → Result (List X × Place) Fault
 items_at stop fields record_of p = at_most (suc (length p.bits)) stop fields record_of p

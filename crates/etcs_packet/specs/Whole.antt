@@ -1,15 +1,16 @@
--- A head and the list of packets behind it: a telegram's header and its packets (SUBSET-026, 8.4.2),
--- a radio message's own fields and its packets (SUBSET-026, 8.4.4).
-use Rattle.std.specs.Prelude.{◌≡◌, ◌⊎◌, List, Bool, length, take, Result, Ok, Err}
+-- A head and the list of packets behind it: a telegram's header and its packets (SUBSET-026,
+-- 8.4.2), a radio message's own fields and its packets (SUBSET-026, 8.6 and 8.7).
+use Rattle.std.specs.Prelude.{◌≡◌, ◌⊎◌, List, Bool, true, ◌++◌, length, take, Result, Ok, Err}
+use Rattle.std.specs.List.{flat_map}
 use Rattle.etcs_bits.specs.declared.fault.Fault.{Fault}
 use Rattle.etcs_bits.specs.declared.fault.DecodeError.{DecodeError}
-use Rattle.etcs_bits.specs.Rows.{Row, Place, IsSpelled}
+use Rattle.etcs_bits.specs.Rows.{Row, Place, AreAllowed, join, IsSpelled}
 use Rattle.etcs_bits.specs.Fields.{Fields, AreRowsOf}
 use Rattle.etcs_bits.specs.Fault.{IsFault}
 use Rattle.etcs_bits.specs.Reading.{◌>>=◌, rows_at}
 use Rattle.etcs_bits.specs.Layout.{Fails}
 use Rattle.etcs_packet.specs.declared.stop.Stop.{Stop}
-use Rattle.etcs_packet.specs.Lists.{Stand, IsListFault, items_at}
+use Rattle.etcs_packet.specs.Lists.{ends, Stand, IsListFault, items_at}
 
 -- the beginning of bits
 abbrev pub start : List Bool → Place
@@ -28,8 +29,18 @@ pub record BeginsWith {H X : Type 0} (stop : Stop) (head : H → List Row) (rows
   pub end : Place
   pub whole : IsWhole stop head rows h xs (start bits) end
 
+-- The bits are the spelling of this head, those of these records, and a rest at which a list ends.
+pub record AreSpelled {H X : Type 0} (stop : Stop) (head : H → List Row) (rows : X → List Row)
+    (h : H) (xs : List X) (bits : List Bool) : Type 0 where
+  pub rest : List Bool
+  pub first : AreAllowed (head h)
+  pub items : AreAllowed (flat_map rows xs)
+  pub over : ends stop (start rest) ≡ true
+  pub are : bits ≡ join (head h) ++ (join (flat_map rows xs) ++ rest)
+
 -- the fault of the list behind a head that is whole
-pub record IsLaterFault (stop : Stop) (head item : Fields) (from : Place) (fault : Fault) : Type 0 where
+pub record IsLaterFault (stop : Stop) (head item : Fields) (from : Place)
+    (fault : Fault) : Type 0 where
   pub rows : List Row
   pub middle : Place
   pub whole : AreRowsOf head rows
@@ -49,7 +60,8 @@ NoneWhole {H} {X} stop head rows from fault =
     → take fault.end bits ≡ take fault.end from.bits → (h : H) (xs : List X) (to : Place)
     → IsWhole stop head rows h xs (record { bits = bits; at = from.at }) to → ⊥
 
--- What reading a head and its list gives: both and the place where the list ends, or the first fault.
+-- What reading a head and its list gives: both and the place where the list ends, or the first
+-- fault.
 unfoldable pub whole_at : {H X : Type 0} → Stop → Fields → (List Row → H) → Fields → (List Row → X)
     → Place → Result ((H × List X) × Place) Fault
 whole_at stop head head_of item item_of p = do

@@ -28,10 +28,10 @@ pub fn is_end(cur: &Cursor<'_>, stop: Stop) -> bool
 
 /// The packet at the cursor, which then stands behind it; none where the list ends.
 ///
-/// A fault is the first one of the packet that is due, and then there is no packet and no end, in any
-/// input of the same length with the same first `end` bits. Fewer than eight bits in a telegram are a
-/// NoEnd fault. If memory runs out, a fault may go unseen. After an error the cursor stands where it
-/// stood.
+/// A fault is the first one of the packet that is due, and then there is no packet and no end, in
+/// any input of the same length with the same first `end` bits. Fewer than eight bits in a telegram
+/// are a NoEnd fault. If memory runs out, a fault may go unseen. After an error the cursor stands
+/// where it stood.
 pub fn next_item<T: Layout>(
     alloc: Global,
     cur: &mut Cursor<'_>,
@@ -51,8 +51,8 @@ pub fn next_item<T: Layout>(
     Ok(Some(item))
 }
 
-/// The packets from the cursor up to the place where the list ends; there the cursor then stands, at
-/// the end mark or at the bits that are left.
+/// The packets from the cursor up to the place where the list ends; there the cursor then stands,
+/// at the end mark or at the bits that are left.
 ///
 /// A fault is the first one of the list, and then there is no list, in any input of the same length
 /// with the same first `end` bits. If memory runs out, a fault may go unseen. After an error the
@@ -82,8 +82,8 @@ pub fn read_items<T: Layout>(
     Ok(found)
 }
 
-/// Appends the spellings of packets that are allowed, one after the other, and no end mark. If memory
-/// runs out, nothing is appended.
+/// Appends the spellings of packets that are allowed, one after the other, and no end mark. If
+/// memory runs out, nothing is appended.
 pub fn write_items<T: Layout>(items: &[T], out: &mut Bits) -> Result<(), Memory>
     requires { AreAllowed (flat_map T.rows items.now) }
     ensures ok { OnOk result (out.new ≡ out.old ++ join (flat_map T.rows items.now)) }

@@ -13,8 +13,8 @@ use std::alloc::Global;
 /// The head at the cursor and the packets behind it; the cursor then stands where they end, at the
 /// end mark or at the bits that are left.
 ///
-/// A fault is the first one of the head and the packets, and then no such whole stands there, in any
-/// input of the same length with the same first `end` bits. If memory runs out, a fault may go
+/// A fault is the first one of the head and the packets, and then no such whole stands there, in
+/// any input of the same length with the same first `end` bits. If memory runs out, a fault may go
 /// unseen. After an error the cursor stands where it stood.
 pub fn next_whole<H: Layout, T: Layout>(
     alloc: Global,
@@ -42,8 +42,8 @@ pub fn next_whole<H: Layout, T: Layout>(
 /// The head and the packets that bits begin with. What comes behind the place where the packets end
 /// is ignored.
 ///
-/// A fault is the first one of the bits, and then they begin with no such whole, in any input of the
-/// same length with the same first `end` bits. If memory runs out, a fault may go unseen.
+/// A fault is the first one of the bits, and then they begin with no such whole, in any input of
+/// the same length with the same first `end` bits. If memory runs out, a fault may go unseen.
 pub fn read_whole<H: Layout, T: Layout>(
     alloc: Global,
     bits: &Bits,

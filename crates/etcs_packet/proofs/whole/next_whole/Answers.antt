@@ -1,9 +1,9 @@
-use Rattle.std.proofs.Common.{◌≡◌, ◌≤◌, length}
+use Rattle.std.proofs.Common.{◌≤◌, length}
 use Rattle.std.proofs.lemmas.Result.{err_from_is_err_and}
 use Rattle.etcs_bits.specs.Rows.{IsSpelled}
 use Rattle.etcs_bits.specs.Fault.{IsFault}
 use Rattle.etcs_bits.specs.Layout.{OfFault}
-use Rattle.etcs_packet.specs.Whole.{IsWhole, IsWholeFault}
+use Rattle.etcs_packet.specs.Whole.{IsWhole}
 use Rattle.etcs_packet.proofs.WholeLemmas.{head_fault, later_fault, whole_fails, whole_is_read, none_of_whole}
 use Rattle.etcs_packet.proofs.whole.next_whole.Goals as goal
 

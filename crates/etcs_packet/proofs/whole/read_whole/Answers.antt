@@ -1,5 +1,3 @@
-use Rattle.etcs_bits.specs.Layout.{Gives}
-use Rattle.etcs_packet.specs.Whole.{start, whole_at}
 use Rattle.etcs_packet.proofs.WholeLemmas.{gives_means}
 use Rattle.etcs_packet.proofs.whole.read_whole.Goals as goal
 

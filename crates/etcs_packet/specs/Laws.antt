@@ -1,0 +1,137 @@
+-- What holds of every list of packets, and of every head with its packets, whatever reads or writes
+-- them, where the packets are records whose table of fields begins with NID_PACKET.
+use Rattle.std.specs.Prelude.{◌≡◌, ◌+◌, ◌<◌, ◌≤◌, ◌↔◌, ◌⊎◌, Bool, true, false, List, ◌++◌, map, length, Ok, Err}
+use Rattle.std.specs.List.{flat_map}
+use Rattle.etcs_bits.specs.declared.fault.Fault.{Fault}
+use Rattle.etcs_bits.specs.declared.fault.FaultKind.TheVariants.{NoEnd}
+use Rattle.etcs_bits.specs.Number.{num}
+use Rattle.etcs_bits.specs.Rows.{Row, Place, AreAllowed, join, IsSpelled}
+use Rattle.etcs_bits.specs.Fields.{Fields, nothing, field, ◌▹◌, sized}
+use Rattle.etcs_packet.specs.declared.stop.Stop.{Stop}
+use Rattle.etcs_packet.specs.declared.stop.Stop.TheVariants as stops
+use Rattle.etcs_packet.specs.Lists.{Follow, IsListFault, NoneStand, Stand, ends, items_at}
+use Rattle.etcs_packet.specs.Whole.{AreSpelled, BeginsWith, IsWhole, IsWholeFault, NoneWhole, start, whole_at, whole_of}
+
+-- No record of the fields begins with eight ones, the NID_PACKET of the end mark.
+abbrev pub HasNoMark : Fields → Type 0
+HasNoMark (field x next) = x.allows 255 ≡ false
+HasNoMark nothing = ⊥
+HasNoMark (a ▹ b) = ⊥
+HasNoMark (sized before body) = ⊥
+
+-- A list ends at eight ones, whatever follows them. Fewer than eight bits end that of a message,
+-- but not that of a telegram. What comes before does not count, and no list ends at other bits.
+pub record ListsEnd : Type 0 where
+  pub mark : (stop : Stop) (fill : List Bool) → ends stop (start (num 8 255 ++ fill)) ≡ true
+  pub message : (fill : List Bool) → length fill < 8 → ends stops.Message (start fill) ≡ true
+  pub telegram : (fill : List Bool) → length fill < 8 → ends stops.Telegram (start fill) ≡ false
+  pub behind : (stop : Stop) (front rest : List Bool)
+      → ends stop (record { bits = front ++ rest; at = length front }) ≡ ends stop (start rest)
+  pub only : (stop : Stop) (rest : List Bool) → ends stop (start rest) ≡ true
+      → ((stop ≡ stops.Message) × (length rest < 8))
+      ⊎ ((fill : List Bool) × (rest ≡ num 8 255 ++ fill))
+
+-- A list that stands is what reading gives.
+abbrev pub ListIsRead : {X : Type 0} → (X → List Row) → (List Row → X) → Fields → Type 0
+ListIsRead {X} rows record_of fields =
+    (stop : Stop) (xs : List X) (p q : Place) → p.at ≤ length p.bits
+    → Stand stop rows xs p q → items_at stop fields record_of p ≡ Ok (xs, q)
+
+-- A list that stands is the spellings of its records, one after the other, up to where it ends.
+abbrev pub StandIsSpelled : {X : Type 0} → (X → List Row) → Type 0
+StandIsSpelled {X} rows =
+    (stop : Stop) (xs : List X) (p q : Place) → Stand stop rows xs p q
+    → IsSpelled (flat_map rows xs) p q × (ends stop q ≡ true)
+
+-- A place has at most one list, and it has one end.
+abbrev pub OneListStands : {X : Type 0} → (X → List Row) → Type 0
+OneListStands {X} rows =
+    (stop : Stop) (xs ys : List X) (p q r : Place) → p.at ≤ length p.bits
+    → Stand stop rows xs p q → Stand stop rows ys p r → (xs ≡ ys) × (q ≡ r)
+
+-- What reading gives stands in its rows: whole lists of them follow one another up to the end.
+abbrev pub ReadIsSpelled : {X : Type 0} → (List Row → X) → Fields → Type 0
+ReadIsSpelled {X} record_of fields =
+    (stop : Stop) (xs : List X) (p q : Place) → p.at ≤ length p.bits
+    → items_at stop fields record_of p ≡ Ok (xs, q)
+    → (whole : List (List Row)) × (map record_of whole ≡ xs)
+    × Follow stop fields whole p q × (ends stop q ≡ true)
+
+-- A fault is told exactly where reading gives it: so a place tells one fault alone.
+abbrev pub ListFaultIsRead : {X : Type 0} → (List Row → X) → Fields → Type 0
+ListFaultIsRead {X} record_of fields =
+    (stop : Stop) (p : Place) (f : Fault) → p.at ≤ length p.bits
+    → IsListFault stop fields p f ↔ (items_at stop fields record_of p ≡ Err f)
+
+-- Where a telegram has fewer than eight bits left, no end is met: any input as long has as few
+-- there.
+abbrev pub NoEndIsTold : Fields → Type 0
+NoEndIsTold fields =
+    (p : Place) → p.at ≤ length p.bits → length p.bits < p.at + 8
+    → IsListFault stops.Telegram fields p (record { at = p.at; end = p.at; why = NoEnd })
+
+-- Where a fault is told, no list stands, in any input with the same length and front.
+abbrev pub ListFaultMeansNone : {X : Type 0} → (X → List Row) → Fields → Type 0
+ListFaultMeansNone rows fields =
+    (stop : Stop) (p : Place) (f : Fault) → p.at ≤ length p.bits
+    → IsListFault stop fields p f → NoneStand stop rows p f
+
+-- Spellings one after the other, and behind them bits at which a list ends, are that list: it
+-- stands behind whatever comes before it, and ends where the spellings end.
+abbrev pub WrittenStands : {X : Type 0} → (X → List Row) → Fields → Type 0
+WrittenStands {X} rows fields =
+    HasNoMark fields → (stop : Stop) (xs : List X) (front rest : List Bool)
+    → AreAllowed (flat_map rows xs) → ends stop (start rest) ≡ true
+    → (bits : List Bool) → bits ≡ front ++ (join (flat_map rows xs) ++ rest)
+    → Stand stop rows xs (record { bits = bits; at = length front })
+    (record { bits = bits; at = length front + length (join (flat_map rows xs)) })
+
+-- A whole that stands is what reading gives.
+abbrev pub WholeIsRead : {H X : Type 0}
+    → (H → List Row) → (List Row → H) → Fields → (X → List Row) → (List Row → X) → Fields → Type 0
+WholeIsRead {H} {X} head head_of header rows record_of item =
+    (stop : Stop) (h : H) (xs : List X) (p q : Place) → p.at ≤ length p.bits
+    → IsWhole stop head rows h xs p q
+    → whole_at stop header head_of item record_of p ≡ Ok ((h, xs), q)
+
+-- Bits begin with at most one head and list.
+abbrev pub OneWholeBegins : {H X : Type 0} → (H → List Row) → (X → List Row) → Type 0
+OneWholeBegins {H} {X} head rows =
+    (stop : Stop) (h k : H) (xs ys : List X) (bits : List Bool)
+    → BeginsWith stop head rows h xs bits → BeginsWith stop head rows k ys bits
+    → (h ≡ k) × (xs ≡ ys)
+
+-- A fault of a whole is told exactly where reading gives it.
+abbrev pub WholeFaultIsRead : {H X : Type 0}
+    → (List Row → H) → Fields → (List Row → X) → Fields → Type 0
+WholeFaultIsRead head_of header record_of item =
+    (stop : Stop) (p : Place) (f : Fault) → p.at ≤ length p.bits
+    → IsWholeFault stop header item p f ↔ (whole_at stop header head_of item record_of p ≡ Err f)
+
+-- Where a fault of a whole is told, none stands, in any input with the same length and front.
+abbrev pub WholeFaultMeansNone : {H X : Type 0}
+    → (H → List Row) → Fields → (X → List Row) → Fields → Type 0
+WholeFaultMeansNone head header rows item =
+    (stop : Stop) (p : Place) (f : Fault) → p.at ≤ length p.bits
+    → IsWholeFault stop header item p f → NoneWhole stop head rows p f
+
+-- Bits that begin with a head and a list are their spellings and a rest at which a list ends.
+abbrev pub WholeIsSpelled : {H X : Type 0} → (H → List Row) → (X → List Row) → Type 0
+WholeIsSpelled {H} {X} head rows =
+    (stop : Stop) (h : H) (xs : List X) (bits : List Bool)
+    → BeginsWith stop head rows h xs bits → AreSpelled stop head rows h xs bits
+
+-- The bits begin with this head and this list, and mean them.
+pub record IsReadBack {H X : Type 0} (head : H → List Row) (head_of : List Row → H)
+    (header : Fields) (rows : X → List Row) (record_of : List Row → X) (item : Fields) (stop : Stop)
+    (h : H) (xs : List X) (bits : List Bool) : Type 0 where
+  pub begins : BeginsWith stop head rows h xs bits
+  pub means : whole_of stop header head_of item record_of bits ≡ Ok (h, xs)
+
+-- What was written is read back, whatever follows the end of the list.
+abbrev pub WrittenIsReadBack : {H X : Type 0}
+    → (H → List Row) → (List Row → H) → Fields → (X → List Row) → (List Row → X) → Fields → Type 0
+WrittenIsReadBack {H} {X} head head_of header rows record_of item =
+    HasNoMark item → (stop : Stop) (h : H) (xs : List X) (bits : List Bool)
+    → AreSpelled stop head rows h xs bits
+    → IsReadBack head head_of header rows record_of item stop h xs bits

@@ -1,0 +1,96 @@
+//! What holds of lists of packets and of the wholes that they are part of, as contracts of calls
+//! that do nothing: laws for users.
+
+ghost use Rattle.etcs_packet.specs.Lists.{IsHeaded};
+ghost use Rattle.etcs_packet.specs.Laws.{ListFaultIsRead, ListFaultMeansNone, ListIsRead, ListsEnd, NoEndIsTold, OneListStands, OneWholeBegins, ReadIsSpelled, StandIsSpelled, WholeFaultIsRead, WholeFaultMeansNone, WholeIsRead, WholeIsSpelled, WrittenIsReadBack, WrittenStands};
+
+use etcs_bits::Layout;
+
+/// Which bits end a list.
+pub fn lists_end()
+    ensures { ListsEnd }
+{}
+
+/// A list that stands is what reading gives.
+pub fn a_list_is_read<T: Layout>()
+    requires { IsHeaded T.fields }
+    ensures { ListIsRead T.rows T.record_of T.fields }
+{}
+
+/// A place has at most one list, and it has one end.
+pub fn a_place_has_one_list<T: Layout>()
+    requires { IsHeaded T.fields }
+    ensures { OneListStands T.rows }
+{}
+
+/// A list that stands is the spellings of its packets, one after the other.
+pub fn a_list_is_its_spellings<T: Layout>()
+    ensures { StandIsSpelled T.rows }
+{}
+
+/// What reading gives stands in its rows, up to the end of the list.
+pub fn what_is_read_is_spelled<T: Layout>()
+    requires { IsHeaded T.fields }
+    ensures { ReadIsSpelled T.record_of T.fields }
+{}
+
+/// A list's fault is told exactly where reading gives it.
+pub fn a_list_fault_is_read<T: Layout>()
+    requires { IsHeaded T.fields }
+    ensures { ListFaultIsRead T.record_of T.fields }
+{}
+
+/// A telegram without an end mark: where fewer than eight bits are left, the fault is NoEnd.
+pub fn a_telegram_without_its_mark_has_no_end<T: Layout>()
+    requires { IsHeaded T.fields }
+    ensures { NoEndIsTold T.fields }
+{}
+
+/// Where a list's fault is told, no list stands, in any input of the same length with the same
+/// first `end` bits.
+pub fn a_list_fault_means_no_list<T: Layout>()
+    requires { IsHeaded T.fields }
+    ensures { ListFaultMeansNone T.rows T.fields }
+{}
+
+/// Spellings one after the other are a list, behind any bits and before bits at which a list ends.
+pub fn written_packets_are_a_list<T: Layout>()
+    requires { IsHeaded T.fields }
+    ensures { WrittenStands T.rows T.fields }
+{}
+
+/// A whole that stands is what reading gives.
+pub fn a_whole_is_read<H: Layout, T: Layout>()
+    requires { IsHeaded T.fields }
+    ensures { WholeIsRead H.rows H.record_of H.fields T.rows T.record_of T.fields }
+{}
+
+/// Bits begin with at most one head and list.
+pub fn bits_begin_with_one_whole<H: Layout, T: Layout>()
+    requires { IsHeaded T.fields }
+    ensures { OneWholeBegins H.rows T.rows }
+{}
+
+/// A fault of a whole is told exactly where reading gives it.
+pub fn a_whole_fault_is_read<H: Layout, T: Layout>()
+    requires { IsHeaded T.fields }
+    ensures { WholeFaultIsRead H.record_of H.fields T.record_of T.fields }
+{}
+
+/// Where a fault of a whole is told, none stands, in any input of the same length with the same
+/// first `end` bits.
+pub fn a_whole_fault_means_no_whole<H: Layout, T: Layout>()
+    requires { IsHeaded T.fields }
+    ensures { WholeFaultMeansNone H.rows H.fields T.rows T.fields }
+{}
+
+/// Bits that begin with a head and a list are their spellings and a rest at which a list ends.
+pub fn a_whole_is_its_spellings<H: Layout, T: Layout>()
+    ensures { WholeIsSpelled H.rows T.rows }
+{}
+
+/// What was written is read back, whatever follows the end of the list.
+pub fn what_is_written_is_read_back<H: Layout, T: Layout>()
+    requires { IsHeaded T.fields }
+    ensures { WrittenIsReadBack H.rows H.record_of H.fields T.rows T.record_of T.fields }
+{}
