@@ -16,9 +16,9 @@ use etcs_bits::{
 use std::alloc::Global;
 use std::marker::Model;
 
-/// Packets 12 and 15, the movement authorities of levels 1 and 2: how far a train may run, and under
-/// which conditions (SUBSET-026, 3.8 and 7.4.2). Packet 12 alone has V_MAIN, the speed with which
-/// the train may run on.
+/// Packet 12, the movement authority of level 1, and packet 15, that of levels 2 and 3: how far a
+/// train may run, and under which conditions (SUBSET-026, 3.8 and 7.4.2). Packet 12 alone has
+/// V_MAIN, the speed with which the train may run on.
 #[derive(Debug, Drop)]
 pub struct Authority {
     packet: Numbered,

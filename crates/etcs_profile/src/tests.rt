@@ -1,6 +1,11 @@
 //! What no contract says: outside vectors and printed texts.
 
+mod authority;
+mod faults;
+mod line;
+mod parts;
 mod speed;
+mod spelled;
 
 use crate::{BuildError, Gradient, GradientElement, Reach};
 use etcs_bits::{
@@ -11,9 +16,6 @@ use std::test::Fail;
 
 // Packet 21 for the nominal direction, in metres: after 1,000 metres 5 per 1,000 uphill; 54 bits.
 const ONE_ELEMENT: [u8; 7] = [0x15, 0x40, 0x6c, 0x83, 0xe8, 0x82, 0x80];
-
-// Where its fields begin.
-const STARTS: [usize; 8] = [0, 8, 10, 23, 25, 40, 41, 49];
 
 // The record at the start of the bits, and the place behind it.
 fn read_one<T: Layout>(alloc: Global, bits: &Bits) -> Result<(T, usize), DecodeError> {
@@ -32,19 +34,17 @@ fn write_one<T: Layout>(alloc: Global, record: &T) -> Result<Vec<u8>, Memory> {
     bits.to_bytes(alloc)
 }
 
-fn fault(at: usize, end: usize, why: FaultKind) -> Option<DecodeError> {
-    Some(DecodeError::Fault(Fault { at, end, why }))
+// The bits of the record, if it is allowed; else none.
+fn written<T: Layout>(alloc: Global, record: &T) -> Result<Bits, Memory> {
+    let mut bits = Bits::new(alloc);
+    if record.is_allowed() {
+        record.write(&mut bits)?;
+    }
+    Ok(bits)
 }
 
-// Where the fields begin at `starts`: the first one that does not fit in `end` bits.
-fn short(starts: &[usize], end: usize) -> Option<DecodeError> {
-    let mut at = 0;
-    for start in starts {
-        if *start <= end {
-            at = *start;
-        }
-    }
-    fault(at, end, FaultKind::Short)
+fn fault(at: usize, end: usize, why: FaultKind) -> Option<DecodeError> {
+    Some(DecodeError::Fault(Fault { at, end, why }))
 }
 
 // An element, uphill; none where a number does not fit.
@@ -126,37 +126,6 @@ fn a_gradient_profile_is_read_and_written(rt: HostRuntime) -> Result<(), Fail> {
     assert_eq!(rt; gradient.further().len(), 0);
     let written = [0xe2, 0xa8, 0x0d, 0x90, 0x7d, 0x10, 0x50, 0x00];
     assert_eq!(rt; write_one(alloc, &gradient)?.as_slice(), written.as_slice());
-    Ok(())
-}
-
-#[test]
-fn each_field_of_a_gradient_profile_has_its_fault(rt: HostRuntime) -> Result<(), Fail> {
-    let alloc = rt.alloc();
-    // L_PACKET 55, NID_PACKET 22, Q_DIR 3 and Q_SCALE 3.
-    let faults = [
-        (2, 0x6e, fault(10, 54, FaultKind::Length)),
-        (0, 0x16, fault(0, 8, FaultKind::Spare)),
-        (1, 0xc0, fault(8, 10, FaultKind::Spare)),
-        (2, 0x6d, fault(23, 25, FaultKind::Spare)),
-    ];
-    for (place, byte, fault) in faults {
-        let mut bytes = ONE_ELEMENT;
-        bytes[place] = byte;
-        let bits = Bits::from_bytes(alloc, &bytes, 54)?;
-        let read = read_one::<Gradient>(alloc, &bits);
-        assert_eq!(rt; read.err(), fault, "byte {place}");
-    }
-    Ok(())
-}
-
-#[test]
-fn a_gradient_profile_may_end_early(rt: HostRuntime) -> Result<(), Fail> {
-    let alloc = rt.alloc();
-    for n in 0..54usize {
-        let bits = Bits::from_bytes(alloc, &ONE_ELEMENT, n)?;
-        let read = read_one::<Gradient>(alloc, &bits);
-        assert_eq!(rt; read.err(), short(&STARTS, n), "at {n}");
-    }
     Ok(())
 }
 

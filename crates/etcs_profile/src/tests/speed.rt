@@ -1,15 +1,14 @@
 //! The static speed profile: worked numbers from outside.
 
+use super::spelled::{SPEED, spelled};
+use super::{read_one, written};
 use crate::{BuildError, Difference, Reach, SpeedElement, SpeedProfile};
-use etcs_bits::{
-    Bits, Cursor, DecodeError, Dir, Distance, Fault, FaultKind, Items, Layout, Plain, Ranged,
-    Scale, Speed, StaticSpeed,
-};
+use etcs_bits::{Dir, Distance, Items, Layout, Plain, Ranged, Scale, Speed, StaticSpeed};
 use std::alloc::Global;
 use std::test::Fail;
 
 // So many differences: 100 km/h for category 3 by cant deficiency.
-fn differences(alloc: Global, count: usize) -> Result<Items<Difference>, Fail> {
+pub fn differences(alloc: Global, count: usize) -> Result<Items<Difference>, Fail> {
     let mut items = Vec::new(alloc);
     for _ in 0..count {
         items.push(Difference {
@@ -22,7 +21,12 @@ fn differences(alloc: Global, count: usize) -> Result<Items<Difference>, Fail> {
 }
 
 // An element at a distance, with a number of V_STATIC.
-fn element(alloc: Global, distance: u32, speed: u32, count: usize) -> Result<SpeedElement, Fail> {
+pub fn element(
+    alloc: Global,
+    distance: u32,
+    speed: u32,
+    count: usize,
+) -> Result<SpeedElement, Fail> {
     Ok(SpeedElement {
         distance: Distance::new(distance).ok_or("no D_STATIC")?,
         speed: StaticSpeed::new(speed).ok_or("no V_STATIC")?,
@@ -85,52 +89,20 @@ fn lists_have_31_items_at_most(rt: HostRuntime) -> Result<(), Fail> {
     Ok(())
 }
 
-// Packet 27: nominal, 71 bits, 10 cm; distance 5, 100 km/h, front, one difference, no more elements.
-const WHOLE: [u8; 9] = [0x1b, 0x40, 0x8e, 0x00, 0x05, 0x29, 0x08, 0x65, 0x00];
-
-// The same with 72 as its length, with V_STATIC 121, and with Q_DIFF 3.
-const LONG: [u8; 9] = [0x1b, 0x40, 0x90, 0x00, 0x05, 0x29, 0x08, 0x65, 0x00];
-
-const SPARE_SPEED: [u8; 9] = [0x1b, 0x40, 0x8e, 0x00, 0x05, 0xf3, 0x08, 0x65, 0x00];
-
-const SPARE_KIND: [u8; 9] = [0x1b, 0x40, 0x8e, 0x00, 0x05, 0x29, 0x0e, 0x65, 0x00];
-
-fn read(alloc: Global, bits: &Bits) -> Result<(SpeedProfile, usize), DecodeError> {
-    let mut cur = Cursor::new(bits);
-    let profile = SpeedProfile::read(alloc, &mut cur)?;
-    Ok((profile, cur.at()))
-}
-
 #[test]
 fn a_packet_is_read_and_written(rt: HostRuntime) -> Result<(), Fail> {
     let alloc = rt.alloc();
-    let bits = Bits::from_bytes(alloc, &WHOLE, 71)?;
-    let (read_one, end) = read(alloc, &bits)?;
+    let bits = spelled(alloc, &SPEED)?;
+    let (again, end) = read_one::<SpeedProfile>(alloc, &bits)?;
     assert_eq!(rt; end, 71);
     let made = profile(element(alloc, 5, 20, 1)?, Vec::new(alloc))?;
-    let mut again = Bits::new(alloc);
-    let mut third = Bits::new(alloc);
-    if read_one.is_allowed() && made.is_allowed() {
-        read_one.write(&mut again)?;
-        made.write(&mut third)?;
-    }
-    assert_eq!(rt; again.to_bytes(alloc)?.as_slice(), WHOLE.as_slice());
-    assert_eq!(rt; third.to_bytes(alloc)?.as_slice(), WHOLE.as_slice());
-    Ok(())
-}
-
-#[test]
-fn packets_fail_at_their_first_bad_field(rt: HostRuntime) -> Result<(), Fail> {
-    let alloc = rt.alloc();
-    let cases = [
-        (&LONG, 10, 71, FaultKind::Length),
-        (&SPARE_SPEED, 40, 47, FaultKind::Spare),
-        (&SPARE_KIND, 53, 55, FaultKind::Spare),
-    ];
-    for (bytes, at, end, why) in cases {
-        let bits = Bits::from_bytes(alloc, bytes, 71)?;
-        let fault = DecodeError::Fault(Fault { at, end, why });
-        assert_eq!(rt; read(alloc, &bits).err(), Some(fault));
+    for packet in [&again, &made] {
+        let out = written(alloc, packet)?;
+        assert_eq!(rt; out.len(), 71);
+        assert_eq!(rt;
+            out.to_bytes(alloc)?.as_slice(),
+            bits.to_bytes(alloc)?.as_slice()
+        );
     }
     Ok(())
 }
