@@ -1,9 +1,11 @@
 -- The laws of `Layout` that a record brings, together, so that antt infers what they are about.
-use Rattle.std.specs.Prelude.{ℕ, List}
+use Rattle.std.specs.Prelude.{ℕ, Bool, List}
 use Rattle.etcs_bits.specs.Rows.{Variable, Row, alone, number_at}
 use Rattle.etcs_bits.specs.Fields.{Fields, one, ◌▹◌, sized, option, counted}
 use Rattle.etcs_bits.specs.RowLemmas.{alone_rows}
-use Rattle.etcs_bits.specs.VariableLemmas.{number_alone}
+use Rattle.etcs_bits.specs.VariableLemmas.{number_alone, flag_record}
+use Rattle.etcs_bits.specs.Number.{worth}
+use Rattle.etcs_bits.specs.Variables.{plain, flag_of}
 use Rattle.etcs_bits.specs.Combined.{qualifier, n_iter, pair_rows, pair_of, option_rows, option_of, counted_rows, counted_of, body_rows, body_of}
 use Rattle.etcs_bits.specs.CombinedLemmas.{HaveFields, AreOf, pair_are_rows, pair_record, option_are_rows, option_record, counted_are_rows, counted_record, body_are_rows, body_record}
 
@@ -20,6 +22,10 @@ laid fields rows of have is = record { have = have; is = is }
 -- a variable by itself
 pub alone_laid : (x : Variable) → IsLaid (one x) (alone x) (number_at 0)
 alone_laid x = record { have = alone_rows x; is = number_alone x }
+
+-- a flag
+pub flag_laid : IsLaid (one (plain 1)) (λ (b : Bool). alone (plain 1) (worth b)) (λ rows. flag_of (number_at 0 rows))
+flag_laid = record { have = λ b. alone_rows (plain 1) (worth b); is = flag_record }
 
 -- a pair
 pub pair_laid : {A B : Type 0} {a b : Fields} {rows_a : A → List Row} {rows_b : B → List Row}

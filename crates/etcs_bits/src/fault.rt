@@ -98,9 +98,9 @@ impl<T: Drop> From<AllocFailed<T>> for DecodeError {
     }
 }
 
-// The refusal of the field that began at `at` and ends at the cursor.
+/// The refusal of the field that began at `at` and ends at the cursor, for a reader.
 #[cold]
-pub(crate) fn refused(at: usize, cur: &Cursor<'_>, why: FaultKind) -> DecodeError
+pub fn refused(at: usize, cur: &Cursor<'_>, why: FaultKind) -> DecodeError
     ensures { result ≡ DecodeError.Fault (record { at = at; end = cur.now.at; why = why }) }
 {
     DecodeError::Fault(Fault {

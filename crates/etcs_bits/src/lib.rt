@@ -41,7 +41,7 @@ pub use body::Body;
 pub use cursor::Cursor;
 pub use direction::Dir;
 pub use duplicate::Dup;
-pub use fault::{DecodeError, Fault, FaultKind};
+pub use fault::{DecodeError, Fault, FaultKind, refused};
 pub use identity::Identity;
 pub use items::Items;
 pub use layout::Layout;

@@ -8,13 +8,21 @@
 //! the packets.
 #![tactic(auto)]
 
+mod cover;
 pub mod laws;
+mod linking;
 mod list;
+mod raw;
 mod stop;
 #[cfg(test)]
 mod tests;
+mod transition;
 mod whole;
 
+pub use cover::CoverMarker;
+pub use linking::{Link, Linking, Reaction};
 pub use list::{is_end, next_item, read_items, write_items};
+pub use raw::RawPacket;
 pub use stop::Stop;
+pub use transition::{LevelOrder, Transition};
 pub use whole::{next_whole, read_whole};

@@ -48,7 +48,7 @@ packet_of of rows = rest_of of (drop 1 rows)
 
 -- ---- proofs of the laws of `Layout`
 
-dir_laid : IsLaid (one q_dir) dir_rows dir_at
+pub dir_laid : IsLaid (one q_dir) dir_rows dir_at
 dir_laid = record { have = λ (d : Dir). alone_rows q_dir (dir_number d); is = dir_record }
 
 -- what follows NID_PACKET is laid out as the body is

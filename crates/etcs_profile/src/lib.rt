@@ -34,6 +34,7 @@ pub use elements::Elements;
 pub use end_timer::EndTimer;
 pub use error::BuildError;
 pub use gradient::{Gradient, GradientElement};
+pub use number::Number;
 pub use overlap::Overlap;
 pub use packet::Packet;
 pub use reach::Reach;

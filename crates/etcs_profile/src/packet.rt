@@ -30,7 +30,7 @@ impl<const N: u32, T: Layout> Packet<N, T> {
     /// The packet that is this record, for this direction; None where the record is not allowed, or
     /// the packet has more than 8,191 bits.
     #[inline]
-    pub(crate) fn of(dir: Dir, body: T) -> Option<Self>
+    pub fn of(dir: Dir, body: T) -> Option<Self>
         ensures some { IfSome result (λ p. p ≡ (dir, body)) }
         ensures fit { IsSome result ↔ (T.fit body × (23 + width (T.rows body) ≤ 8191)) }
     {
@@ -48,7 +48,7 @@ impl<const N: u32, T: Layout> Packet<N, T> {
 
     /// What comes behind L_PACKET.
     #[inline]
-    pub(crate) fn body(&self) -> &T
+    pub fn body(&self) -> &T
         ensures { result.now ≡ self.now.1 }
     {
         self.body.content()

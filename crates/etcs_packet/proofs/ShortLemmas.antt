@@ -1,0 +1,64 @@
+-- Packets whose lists are counted by N_ITER and whose items are short have fewer bits than L_PACKET
+-- can count.
+use Rattle.std.proofs.Common.{ℕ, ◌+◌, ◌*◌, ◌≤◌, List, [], ◌∷◌, length, Option, Some, None, arith}
+use Rattle.std.specs.List.{flat_map}
+use Rattle.etcs_bits.specs.declared.level.Level.{Level}
+use Rattle.etcs_bits.specs.declared.level.Level.TheVariants as levels
+use Rattle.etcs_bits.specs.Rows.{Row, alone, width}
+use Rattle.etcs_bits.specs.Combined.{pair_rows, option_rows, counted_rows}
+use Rattle.etcs_bits.specs.Variables.{nid_c, nid_bg}
+use Rattle.etcs_bits.specs.Level.{level_rows}
+use Rattle.etcs_bits.proofs.WidthLemmas.{width_both}
+use Rattle.etcs_profile.specs.Profile.{Profile}
+use Rattle.etcs_profile.specs.Elements.{elements_rows}
+use Rattle.etcs_packet.specs.declared.linking.Link.{Link}
+use Rattle.etcs_packet.specs.declared.transition.LevelOrder.{LevelOrder}
+use Rattle.etcs_packet.specs.Linking.{link_rows, flag_rows, q_linkreaction, q_locacc}
+use Rattle.etcs_packet.specs.Transition.{Body, l_ackleveltr, order_rows, body_rows}
+
+-- items of at most n bits, one after the other
+items_short : {X : Type 0} (rows : X → List Row) (n : ℕ) → ((x : X) → width (rows x) ≤ n)
+    → (xs : List X) → width (flat_map rows xs) ≤ n * length xs
+items_short rows n each [] = omega arith
+items_short rows n each (x ∷ xs) =
+    omega (arith, width_both (rows x) (flat_map rows xs), each x, items_short rows n each xs)
+
+country_short : (o : Option ℕ) → width (option_rows (alone nid_c) o) ≤ 11
+unfolding alone
+country_short None = omega arith
+country_short (Some n) = omega arith
+
+link_short : (l : Link) → width (link_rows l) ≤ 49
+unfolding alone
+link_short l =
+    let country = option_rows (alone nid_c) l.country in
+    omega (
+      arith,
+      country_short l.country,
+      width_both country (pair_rows (alone nid_bg)
+          (pair_rows flag_rows (pair_rows (alone q_linkreaction) (alone q_locacc))) (l.group, (l.nominal, (l.reaction, l.accuracy)))),
+    )
+
+level_short : (v : Level) → width (level_rows v) ≤ 11
+unfolding alone
+level_short levels.L0 = omega arith
+level_short (levels.Ntc ntc) = omega arith
+level_short levels.L1 = omega arith
+level_short levels.L2 = omega arith
+level_short levels.L3 = omega arith
+
+order_short : (o : LevelOrder) → width (order_rows o) ≤ 26
+unfolding alone
+order_short o = omega (arith, level_short o.level, width_both (level_rows o.level) (alone l_ackleveltr o.acknowledge))
+
+-- a packet of links
+pub links_short : (e : Profile Link) → length e.further ≤ 31 → 23 + width (elements_rows link_rows e) ≤ 8191
+unfolding alone
+links_short e few =
+    omega (arith, few, link_short e.first, width_both (link_rows e.first) (counted_rows link_rows e.further), items_short link_rows 49 link_short e.further)
+
+-- a packet of level orders
+pub orders_short : (b : Body) → length b.1.1.1 ≤ 31 → 23 + width (body_rows b) ≤ 8191
+unfolding alone
+orders_short b few =
+    omega (arith, few, order_short b.1.1.0, width_both (order_rows b.1.1.0) (counted_rows order_rows b.1.1.1), items_short order_rows 26 order_short b.1.1.1)

@@ -1,0 +1,99 @@
+-- A packet of any other number (SUBSET-026, 7.4.1): its head, and its body as bits.
+use Rattle.std.specs.Prelude.{◌≡◌, ℕ, ◌+◌, ◌-◌, Bool, true, false, List, [], ◌∷◌, ◌++◌, length, drop, refl}
+use Rattle.std.proofs.Common.{sym, ap, ap₂, subst, ◌∙◌, arith}
+use Rattle.std.proofs.Math.Bool.{Bool-set}
+use Rattle.etcs_bits.specs.declared.direction.Dir.{Dir}
+use Rattle.etcs_bits.specs.Number.{num, num_of_bits}
+use Rattle.etcs_bits.specs.Rows.{Row, row, alone, number_at}
+use Rattle.etcs_bits.specs.Fields.{Fields, field, one, ◌▹◌, AreRowsOf}
+use Rattle.etcs_bits.specs.CombinedLemmas.{HaveFields, AreOf}
+use Rattle.etcs_bits.specs.LaidLemmas.{IsLaid, laid, pair_laid}
+use Rattle.etcs_bits.specs.Combined.{pair_rows, pair_of}
+use Rattle.etcs_bits.specs.Variables.{free, q_dir}
+use Rattle.etcs_bits.proofs.NumberLemmas.{num-num_of_bits}
+use Rattle.etcs_profile.specs.Packet.{dir_rows, dir_at, dir_laid}
+use Rattle.etcs_packet.specs.declared.raw.RawPacket.{RawPacket}
+use Rattle.etcs_packet.specs.Free.{free_rows}
+use Rattle.etcs_packet.specs.Numbers.{is_kept, nid_raw, l_raw}
+
+-- L_PACKET, which counts the 23 bits up to its own end and the body, and the body
+abbrev pub tail_rows : List Bool → List Row
+tail_rows bits = row l_raw (23 + length bits) ∷ free_rows bits
+
+abbrev pub tail_fields : Fields
+tail_fields = field l_raw (λ l. one (free (l - 23)))
+
+-- the body of rows
+abbrev pub tail_of : List Row → List Bool
+tail_of rows = num (number_at 0 rows - 23) (number_at 1 rows)
+
+-- what follows NID_PACKET: Q_DIR, L_PACKET, the body
+abbrev pub raw_rest_fields : Fields
+raw_rest_fields = one q_dir ▹ tail_fields
+
+abbrev pub raw_rest : Dir → List Bool → List Row
+raw_rest dir body = pair_rows dir_rows tail_rows (dir, body)
+
+abbrev pub raw_fields : Fields
+raw_fields = field nid_raw (λ _. raw_rest_fields)
+
+abbrev pub raw_rows : RawPacket → List Row
+raw_rows r = row nid_raw r.number ∷ raw_rest r.dir r.body
+
+-- the packet of these parts, where they make one, and of any parts
+abbrev pub raw : (n : ℕ) → Dir → (body : List Bool) → is_kept n (length body) ≡ true → RawPacket
+raw n dir body kept = record { number = n; dir = dir; body = body; kept = kept }
+
+abbrev pub raw_by : (n : ℕ) → Dir → (body : List Bool) → (b : Bool) → is_kept n (length body) ≡ b → RawPacket
+raw_by n dir body true kept = raw n dir body kept
+raw_by n dir body false other = raw 1 dir [] refl
+
+abbrev pub raw_with : ℕ → Dir × List Bool → RawPacket
+raw_with n p = raw_by n p.0 p.1 (is_kept n (length p.1)) refl
+
+-- the packet of rows
+abbrev pub raw_of : List Row → RawPacket
+raw_of rows =
+    raw_with (number_at 0 rows) (pair_of (one q_dir) dir_at tail_of (drop 1 rows))
+
+-- ---- proofs of the laws of `Layout`
+
+tail_are_rows : HaveFields tail_fields tail_rows
+tail_are_rows bits =
+    let back : (23 + length bits) - 23 ≡ length bits = omega arith in
+    (23 + length bits, free_rows bits, refl, subst (λ (k : ℕ). AreRowsOf (one (free k)) (free_rows bits)) (sym back) (num_of_bits bits, [], refl, refl))
+
+tail_record : AreOf tail_of tail_rows
+tail_record bits =
+    let back : (23 + length bits) - 23 ≡ length bits = omega arith in
+    ap (λ (k : ℕ). num k (num_of_bits bits)) back ∙ num-num_of_bits bits
+
+rest_laid : IsLaid raw_rest_fields (pair_rows dir_rows tail_rows) (pair_of (one q_dir) dir_at tail_of)
+rest_laid = pair_laid dir_laid (laid tail_fields tail_rows tail_of tail_are_rows tail_record)
+
+pub rest_are_rows : (dir : Dir) (body : List Bool) → AreRowsOf raw_rest_fields (raw_rest dir body)
+rest_are_rows dir body = rest_laid.have (dir, body)
+
+pub raw_are_rows : HaveFields raw_fields raw_rows
+raw_are_rows r = (r.number, raw_rest r.dir r.body, refl, rest_are_rows r.dir r.body)
+
+-- the parts of a packet make that packet
+raw_back : (n : ℕ) (dir : Dir) (body : List Bool) (h : is_kept n (length body) ≡ true) (b : Bool)
+    (e : is_kept n (length body) ≡ b) → raw_by n dir body b e ≡ raw n dir body h
+raw_back n dir body h true e =
+    ap (λ (k : is_kept n (length body) ≡ true). raw n dir body k) (Bool-set (is_kept n (length body)) true e h)
+raw_back n dir body h false e = absurd (let both = sym h ∙ e in cc)
+
+pub raw_record : AreOf raw_of raw_rows
+raw_record r =
+    let parts = rest_laid.is (r.dir, r.body) in
+    ap (λ (p : Dir × List Bool). raw_with r.number p) parts
+    ∙ raw_back r.number r.dir r.body r.kept (is_kept r.number (length r.body)) refl
+
+-- raw packets with the same number, direction and body are one
+pub raw_parts : (v w : RawPacket) → v.number ≡ w.number → v.dir ≡ w.dir → v.body ≡ w.body → v ≡ w
+raw_parts v w p q r =
+    sym (raw_record v)
+    ∙ ap raw_of (ap (λ (n : ℕ). row nid_raw n ∷ raw_rest v.dir v.body) p
+    ∙ ap (λ (rows : List Row). row nid_raw w.number ∷ rows) (ap₂ (λ (d : Dir) (b : List Bool). raw_rest d b) q r))
+    ∙ raw_record w

@@ -1,0 +1,71 @@
+-- Packet 41, level transition order (SUBSET-026, 5.10 and 7.4.2): in which level a train has to run,
+-- and from where on.
+use Rattle.std.specs.Prelude.{ℕ, List}
+use Rattle.std.proofs.Common.{ap}
+use Rattle.etcs_bits.specs.declared.direction.Dir.{Dir}
+use Rattle.etcs_bits.specs.declared.level.Level.{Level}
+use Rattle.etcs_bits.specs.declared.scale.Scale.{Scale}
+use Rattle.etcs_bits.specs.Rows.{Variable, Row, alone, number_at}
+use Rattle.etcs_bits.specs.Fields.{Fields, one, ◌▹◌, counted}
+use Rattle.etcs_bits.specs.Combined.{n_iter, pair_rows, pair_of, counted_rows, counted_of}
+use Rattle.etcs_bits.specs.CombinedLemmas.{HaveFields, AreOf}
+use Rattle.etcs_bits.specs.LaidLemmas.{IsLaid, laid, alone_laid, pair_laid, counted_laid}
+use Rattle.etcs_bits.specs.Level.{level_fields, level_rows, level_of, level_are_rows, level_record}
+use Rattle.etcs_bits.specs.Variables.{plain, q_scale}
+use Rattle.etcs_profile.specs.Elements.{scale_rows, scale_at, scale_laid}
+use Rattle.etcs_packet.specs.declared.transition.LevelOrder.{LevelOrder}
+
+-- D_LEVELTR, 15 bits: the distance to the place of the change; 32,767 is now
+abbrev pub d_leveltr : Variable
+d_leveltr = plain 15
+
+-- L_ACKLEVELTR, 15 bits: how long before that place the driver has to acknowledge
+abbrev pub l_ackleveltr : Variable
+l_ackleveltr = plain 15
+
+-- the fields of an order: M_LEVELTR, NID_NTC only at level NTC, L_ACKLEVELTR
+abbrev pub order_fields : Fields
+order_fields = level_fields ▹ one l_ackleveltr
+
+abbrev pub order_with : Level × ℕ → LevelOrder
+order_with p = record { level = p.0; acknowledge = p.1 }
+
+abbrev pub order_rows : LevelOrder → List Row
+order_rows o = pair_rows level_rows (alone l_ackleveltr) (o.level, o.acknowledge)
+
+abbrev pub order_of : List Row → LevelOrder
+order_of rows = order_with (pair_of level_fields level_of (number_at 0) rows)
+
+-- ---- the body: Q_SCALE, D_LEVELTR, an order, N_ITER and so many more
+
+abbrev pub body_fields : Fields
+body_fields = one q_scale ▹ one d_leveltr ▹ order_fields ▹ counted n_iter order_fields
+
+abbrev pub Body : Type 0
+Body = Scale × (ℕ × (LevelOrder × List LevelOrder))
+
+abbrev pub body_rows : Body → List Row
+body_rows b =
+    pair_rows scale_rows (pair_rows (alone d_leveltr) (pair_rows order_rows (counted_rows order_rows))) b
+
+abbrev pub body_of : List Row → Body
+body_of rows =
+    pair_of (one q_scale) scale_at (pair_of (one d_leveltr) (number_at 0)
+    (pair_of order_fields order_of (counted_of order_fields order_of))) rows
+
+-- ---- proofs of the laws of `Layout`
+
+level_order_laid : IsLaid order_fields (pair_rows level_rows (alone l_ackleveltr)) (pair_of level_fields level_of (number_at 0))
+level_order_laid = pair_laid (laid level_fields level_rows level_of level_are_rows level_record) (alone_laid l_ackleveltr)
+
+pub order_are_rows : HaveFields order_fields order_rows
+order_are_rows o = level_order_laid.have (o.level, o.acknowledge)
+
+pub order_record : AreOf order_of order_rows
+order_record o = ap order_with (level_order_laid.is (o.level, o.acknowledge))
+
+pub order_laid : IsLaid order_fields order_rows order_of
+order_laid = record { have = order_are_rows; is = order_record }
+
+pub body_laid : IsLaid body_fields body_rows body_of
+body_laid = pair_laid scale_laid (pair_laid (alone_laid d_leveltr) (pair_laid order_laid (counted_laid order_laid)))

@@ -1,0 +1,54 @@
+//! Virtual balise cover markers, packet 0.
+
+use etcs_bits::{Bits, Cursor, DecodeError, Layout, Memory, Plain, Same};
+use etcs_profile::Number;
+use std::alloc::Global;
+
+/// Packet 0, the virtual balise cover marker: a train that is told to cover this marker ignores the
+/// balise (SUBSET-026, 3.15.9 and 7.4.2). 14 bits; it has neither Q_DIR nor L_PACKET.
+#[derive(Clone, Copy, Debug, PartialEq, Eq)]
+pub struct CoverMarker {
+    /// NID_VBCMK, 6 bits: which marker it is.
+    pub marker: Plain<6>,
+}
+
+impl Layout for CoverMarker {
+    ghost use Rattle.etcs_packet.specs.Cover.{cover_rows, cover_fields, cover_of, cover_are_rows, cover_record};
+
+    ghost rows = { cover_rows };
+
+    ghost fields = { cover_fields };
+
+    ghost record_of = { cover_of };
+
+    // Its type keeps its number in range.
+    ghost fit = { λ _. Unit {0} };
+
+    ghost are_rows = { cover_are_rows };
+
+    ghost is_record = { cover_record };
+
+    #[tactic(auto, using(etcs_bits::proofs::PutLemmas::allowed_both))]
+    fn is_allowed(&self) -> bool {
+        let number = Number::<0>;
+        number.is_allowed() && self.marker.is_allowed()
+    }
+
+    #[tactic(auto, using(etcs_bits::proofs::WidthLemmas::width_both), unfolding(etcs_bits::specs::Rows::alone))]
+    fn width(&self) -> u64 {
+        14
+    }
+
+    #[tactic(auto, using(etcs_bits::proofs::PutLemmas::puts_then, etcs_bits::proofs::PutLemmas::keeps_front, etcs_bits::proofs::PutLemmas::allowed_both))]
+    fn put(&self, out: &mut Bits) -> Result<(), Memory> {
+        let number = Number::<0>;
+        number.put(out)?;
+        self.marker.put(out)
+    }
+
+    fn scan(alloc: Global, cur: &mut Cursor<'_>) -> Result<Self, DecodeError> {
+        let _number = Number::<0>::scan(alloc, cur)?;
+        let marker = Plain::scan(alloc, cur)?;
+        Ok(CoverMarker { marker })
+    }
+}

@@ -1,0 +1,150 @@
+//! Packets of which no layout is known here.
+
+ghost use Rattle.std.specs.Prelude.{◌≡◌, ◌≢◌, ◌≤◌, ◌<◌, ◌+◌, length, true, IfOk, IfErr, IsOk, ◌↔◌};
+ghost use Rattle.etcs_bits.specs.Reading.{field_at};
+ghost use Rattle.etcs_bits.specs.Layout.{Gives, Puts};
+ghost use Rattle.etcs_bits.specs.Rows.{join};
+ghost use Rattle.etcs_packet.specs.Free.{free_rows};
+ghost use Rattle.etcs_packet.specs.Numbers.{is_kept, is_other, l_raw};
+
+use etcs_bits::{Bits, Cursor, DecodeError, Dir, FaultKind, Layout, Memory, Same, refused};
+use std::alloc::Global;
+
+// How many bits a body may have: L_PACKET, 13 bits, counts the 23 of the head too.
+const MOST_BITS: usize = 8168;
+
+/// Whether a number is none of the known packets' and not the end mark.
+pub(crate) fn is_raw(number: u64) -> bool
+    ensures { result ≡ is_other number }
+{
+    !matches!(number, 0 | 5 | 12 | 15 | 21 | 27 | 41 | 255)
+}
+
+// L_PACKET of a packet that is kept as bits.
+fn scan_length(cur: &mut Cursor<'_>) -> Result<u64, DecodeError>
+    ensures gives { Gives (λ n. n) result (field_at l_raw cur.old) cur.new }
+    ensures least { IfOk result (λ n. 23 ≤ n) }
+    ensures most { IfOk result (λ n. n < 8192) }
+{
+    let at = cur.at();
+    let length = cur.take(13)?;
+    if length < 23 {
+        return Err(refused(at, cur, FaultKind::Length));
+    }
+    Ok(length)
+}
+
+// Appends bits as they are.
+fn put_body(body: &Bits, out: &mut Bits) -> Result<(), Memory>
+    ensures { Puts (join (free_rows body.now)) result out.old out.new }
+{
+    out.push_bits(body)
+}
+
+/// A packet of which no layout is known here (SUBSET-026, 7.4.1): NID_PACKET, Q_DIR, L_PACKET and
+/// its body, kept as it is. Its number is none of 0, 5, 12, 15, 21, 27, 41 and 255, and its body has
+/// at most 8,168 bits.
+#[derive(Drop)]
+pub struct RawPacket {
+    number: u8,
+    dir: Dir,
+    body: Bits,
+    pub ghost kept: { is_kept number (length body) ≡ true },
+}
+
+impl RawPacket {
+    /// The packet of these parts; the body back where the number is that of a known packet or of the
+    /// end mark, or the body has more than 8,168 bits.
+    pub fn new(number: u8, dir: Dir, body: Bits) -> Result<Self, Bits>
+        ensures ok { IfOk result (λ r. (r.number ≡ number) × ((r.dir ≡ dir) × (r.body ≡ body))) }
+        ensures made { IsOk result ↔ (is_kept number (length body) ≡ true) }
+        ensures err { IfErr result (λ b. b ≡ body) }
+    {
+        if !is_raw(u64::from(number)) || MOST_BITS < body.len() {
+            return Err(body);
+        }
+        Ok(RawPacket { number, dir, body })
+    }
+
+    /// NID_PACKET.
+    pub fn number(&self) -> u8
+        ensures number { result ≡ self.now.number }
+        ensures other { is_other result ≡ true }
+    {
+        self.number
+    }
+
+    /// Q_DIR: for which running directions the packet is.
+    pub fn dir(&self) -> Dir
+        ensures { result ≡ self.now.dir }
+    {
+        self.dir
+    }
+
+    /// The bits behind L_PACKET, at most 8,168.
+    pub fn body(&self) -> &Bits
+        ensures bits { result.now ≡ self.now.body }
+        ensures short { length result.now ≤ 8168 }
+    {
+        &self.body
+    }
+}
+
+impl Layout for RawPacket {
+    ghost use Rattle.etcs_packet.specs.Raw.{raw_rows, raw_fields, raw_of, raw_are_rows, raw_record};
+
+    ghost rows = { raw_rows };
+
+    ghost fields = { raw_fields };
+
+    ghost record_of = { raw_of };
+
+    // Its type keeps number and body in range.
+    ghost fit = { λ _. Unit {0} };
+
+    ghost are_rows = { raw_are_rows };
+
+    ghost is_record = { raw_record };
+
+    fn is_allowed(&self) -> bool {
+        let _number = self.number();
+        let _body = self.body();
+        self.dir.is_allowed()
+    }
+
+    #[tactic(auto, unfolding(etcs_bits::specs::Rows::alone))]
+    fn width(&self) -> u64 {
+        (self.body.len() as u64).saturating_add(23)
+    }
+
+    #[tactic(auto, using(etcs_bits::proofs::PutLemmas::puts_bits, etcs_bits::proofs::PutLemmas::puts_then, etcs_bits::proofs::PutLemmas::keeps_front, etcs_bits::proofs::PutLemmas::allowed_both), unfolding(etcs_bits::specs::Rows::alone))]
+    fn put(&self, out: &mut Bits) -> Result<(), Memory> {
+        out.push_num(8, u64::from(self.number))?;
+        self.dir.put(out)?;
+        out.push_num(13, self.body().len() as u64 + 23)?;
+        put_body(&self.body, out)
+    }
+
+    fn scan(alloc: Global, cur: &mut Cursor<'_>) -> Result<Self, DecodeError> {
+        let at = cur.at();
+        let number = cur.take(8)?;
+        if !is_raw(number) {
+            return Err(refused(at, cur, FaultKind::Spare));
+        }
+        let dir = Dir::scan(alloc, cur)?;
+        let length = scan_length(cur)?;
+        let body = cur.take_bits(alloc, (length - 23) as usize)?;
+        Ok(RawPacket {
+            number: number as u8,
+            dir,
+            body,
+        })
+    }
+}
+
+#[tactic(auto, using(crate::specs::Raw::raw_parts))]
+impl Same for RawPacket {
+    fn same(&self, other: &RawPacket) -> bool {
+        self.number == other.number && self.dir.same(&other.dir) && self.body.same(&other.body)
+    }
+}
