@@ -62,18 +62,30 @@ fn a_profile_without_an_end_mark_is_open(rt: HostRuntime) -> Result<(), Fail> {
     Ok(())
 }
 
+// The width of a profile whose first element has 31 differences, each of the next `count` elements
+// `each`, and the last one `last`; 0 if it is not allowed.
+fn width_of(
+    alloc: Global,
+    count: usize,
+    each: usize,
+    last: usize,
+) -> Result<Result<u64, BuildError>, Fail> {
+    let mut further = elements(alloc, count, each)?;
+    further.push(element(alloc, 1, 20, last)?)?;
+    let made = profile(element(alloc, 1, 20, 31)?, further);
+    Ok(made.map(|profile| if profile.is_allowed() {
+        profile.width()
+    } else {
+        0
+    }))
+}
+
 #[test]
 fn a_packet_has_8191_bits_at_most(rt: HostRuntime) -> Result<(), Fail> {
     let alloc = rt.alloc();
-    let most = profile(element(alloc, 1, 20, 31)?, elements(alloc, 31, 17)?)?;
-    assert_eq!(rt; most.width(), 8180);
-    assert!(rt; most.is_allowed());
-    let mut further = elements(alloc, 30, 17)?;
-    further.push(element(alloc, 1, 20, 18)?)?;
-    let long = profile(element(alloc, 1, 20, 31)?, further);
-    assert_eq!(rt; long.err(), Some(BuildError::TooLong));
-    let full = profile(element(alloc, 1, 20, 31)?, elements(alloc, 30, 31)?);
-    assert_eq!(rt; full.err(), Some(BuildError::TooLong));
+    assert_eq!(rt; width_of(alloc, 30, 17, 17)?, Ok(8180));
+    assert_eq!(rt; width_of(alloc, 30, 17, 18)?, Err(BuildError::TooLong));
+    assert_eq!(rt; width_of(alloc, 29, 31, 31)?, Err(BuildError::TooLong));
     Ok(())
 }
 

@@ -108,12 +108,22 @@ pub const SPEED: [&str; 12] = [
     "00000", // N_ITER 0
 ];
 
+// Appends a bit, unless there are as many as `most`.
+fn push_digit(out: &mut Bits, digit: u8, most: usize) -> Result<(), Memory> {
+    if most <= out.len() {
+        return Ok(());
+    }
+    if digit == b'1' {
+        out.push_num(1, 1)
+    } else {
+        out.push_num(1, 0)
+    }
+}
+
 // Appends the digits, up to `most` bits in all.
 fn push_digits(out: &mut Bits, digits: &str, most: usize) -> Result<(), Memory> {
     for digit in digits.as_bytes() {
-        if out.len() < most {
-            out.push_num(1, if *digit == b'1' { 1 } else { 0 })?;
-        }
+        push_digit(out, *digit, most)?;
     }
     Ok(())
 }
