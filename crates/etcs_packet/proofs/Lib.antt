@@ -6,3 +6,5 @@ pub mod WholeLemmas
 pub mod WrittenLemmas
 pub mod ShortLemmas
 pub mod RawLemmas
+pub mod ListedLemmas
+pub mod TrackLemmas

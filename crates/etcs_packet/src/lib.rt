@@ -13,9 +13,11 @@ pub mod laws;
 mod linking;
 mod list;
 mod raw;
+mod run;
 mod stop;
 #[cfg(test)]
 mod tests;
+mod track;
 mod transition;
 mod whole;
 
@@ -23,6 +25,8 @@ pub use cover::CoverMarker;
 pub use linking::{Link, Linking, Reaction};
 pub use list::{is_end, next_item, read_items, write_items};
 pub use raw::RawPacket;
+pub use run::Run;
 pub use stop::Stop;
+pub use track::TrackPacket;
 pub use transition::{LevelOrder, Transition};
 pub use whole::{next_whole, read_whole};

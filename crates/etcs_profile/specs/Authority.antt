@@ -39,10 +39,13 @@ with_main_fields = one q_scale ▹ one speed ▹ terms_fields
 abbrev pub without_main_fields : Fields
 without_main_fields = one q_scale ▹ terms_fields
 
+-- what follows NID_PACKET, by its number
+abbrev pub authority_rest : ℕ → Fields
+authority_rest n = if n == 12 then rest_fields with_main_fields else rest_fields without_main_fields
+
 -- the fields
 abbrev pub authority_fields : Fields
-authority_fields = field nid_authority
-    (λ n. if n == 12 then rest_fields with_main_fields else rest_fields without_main_fields)
+authority_fields = field nid_authority authority_rest
 
 -- what packet 12 says behind L_PACKET, and what packet 15 says there
 abbrev pub WithMain : Type 0
@@ -101,10 +104,10 @@ IsAuthorityTooLong a = 8191 < width (authority_rows a)
 
 -- ---- proofs of the laws of `Layout`
 
-with_main_laid : IsLaid (rest_fields with_main_fields) (rest_rows with_main_rows) (rest_of with_main_of)
+pub with_main_laid : IsLaid (rest_fields with_main_fields) (rest_rows with_main_rows) (rest_of with_main_of)
 with_main_laid = rest_laid (pair_laid scale_laid (pair_laid (alone_laid speed) terms_laid))
 
-without_main_laid : IsLaid (rest_fields without_main_fields) (rest_rows without_main_rows) (rest_of without_main_of)
+pub without_main_laid : IsLaid (rest_fields without_main_fields) (rest_rows without_main_rows) (rest_of without_main_of)
 without_main_laid = rest_laid (pair_laid scale_laid terms_laid)
 
 are_rows_by : (main : Option ℕ) (a : Permission) → AreRowsOf authority_fields (rows_by main a)
