@@ -51,8 +51,8 @@ impl<T> Items<T> {
     }
 }
 
-// Whether each item is allowed.
-fn are_allowed<T: Layout>(items: &[T]) -> bool
+/// Whether each item is allowed. Takes no memory.
+pub fn are_allowed<T: Layout>(items: &[T]) -> bool
     ensures allowed { IsTrue result ↔ AreAllowed (flat_map T.rows items.now) }
     ensures fit { IsTrue result ↔ AllByRecursion T.fit items.now }
 {
@@ -64,8 +64,8 @@ fn are_allowed<T: Layout>(items: &[T]) -> bool
     true
 }
 
-// How many bits the items have.
-fn width_of<T: Layout>(items: &[T]) -> u64
+/// How many bits the items have, one after the other; `u64::MAX` where they have more.
+pub fn width_of<T: Layout>(items: &[T]) -> u64
     ensures { result ≡ min (width (flat_map T.rows items.now)) u64.MAX }
 {
     let mut sum = 0u64;

@@ -43,7 +43,7 @@ pub use direction::Dir;
 pub use duplicate::Dup;
 pub use fault::{DecodeError, Fault, FaultKind, refused};
 pub use identity::Identity;
-pub use items::Items;
+pub use items::{Items, are_allowed, width_of};
 pub use layout::Layout;
 pub use level::Level;
 pub use medium::Medium;

@@ -1,0 +1,50 @@
+//! The packets of a telegram or of a message.
+
+ghost use Rattle.std.specs.Prelude.{◌≡◌, ◌++◌, IfOk, OnOk, OnErr};
+ghost use Rattle.std.specs.List.{flat_map};
+ghost use Rattle.etcs_bits.specs.Rows.{join};
+ghost use Rattle.etcs_bits.specs.Layout.{Gives, IfFault};
+ghost use Rattle.etcs_packet.specs.Lists.{IsListFault, NoneStand, Stand, items_at};
+ghost use Rattle.etcs_packet.specs.Listed.{track_fields};
+ghost use Rattle.etcs_packet.specs.Track.{track_rows, track_of};
+
+use crate::list::{read_items, write_items};
+use crate::stop::Stop;
+use crate::track::TrackPacket;
+use etcs_bits::{Bits, Cursor, DecodeError, Memory, are_allowed};
+use std::alloc::Global;
+
+/// The packets from the cursor up to the place where their list ends; there the cursor then stands,
+/// at the end mark or at the bits that are left (SUBSET-026, 7.4.2 and 8.4).
+///
+/// A fault is the first one of the list, and then there is no list, in any input of the same length
+/// with the same first `end` bits. If memory runs out, a fault may go unseen. After an error the
+/// cursor stands where it stood.
+pub fn read_packets(
+    alloc: Global,
+    cur: &mut Cursor<'_>,
+    stop: Stop,
+) -> Result<Vec<TrackPacket>, DecodeError>
+    ensures ok { IfOk result (λ v. Stand stop track_rows v.items cur.old cur.new) }
+
+    ensures fault { IfFault result (λ f. IsListFault stop track_fields cur.old f) }
+    ensures none { IfFault result (λ f. NoneStand stop track_rows cur.old f) }
+    ensures err { OnErr result (cur.new ≡ cur.old) }
+
+    // The same as a function of the bits.
+    ensures exact { Gives (λ v. v.items) result (items_at stop track_fields track_of cur.old) cur.new }
+{
+    read_items(alloc, cur, stop)
+}
+
+/// Appends the spellings of the packets, one after the other, and no end mark. If memory runs out,
+/// nothing is appended.
+#[tactic(auto, using(etcs_bits::proofs::FitLemmas::all_fit))]
+pub fn write_packets(packets: &[TrackPacket], out: &mut Bits) -> Result<(), Memory>
+    ensures ok { OnOk result (out.new ≡ out.old ++ join (flat_map track_rows packets.now)) }
+    ensures err { OnErr result (out.new ≡ out.old) }
+{
+    // Their types keep their numbers in range.
+    let _allowed = are_allowed(packets);
+    write_items(packets, out)
+}
