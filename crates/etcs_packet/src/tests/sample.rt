@@ -58,6 +58,9 @@ impl Layout for Sample {
 
     ghost record_of = { λ rows. (number_at 0 rows, number_at 1 rows) };
 
+    // Its types keep its numbers in range.
+    ghost fit = { λ _. Unit {0} };
+
     ghost are_rows = { λ s. (s.0, alone (plain 4) s.1, refl, alone_rows (plain 4) s.1) };
 
     ghost is_record = { λ s. ap (λ n. (s.0, n)) (number_alone (plain 4) s.1) };
