@@ -1,5 +1,5 @@
 -- A packet read by itself, where its number was seen, is read as one of a list.
-use Rattle.std.proofs.Common.{◌≡◌, ℕ, Bool, true, false, List, ◌∷◌, take, drop, Result, Ok, Err, refl, sym, ap, ◌∙◌}
+use Rattle.std.proofs.Common.{◌≡◌, ℕ, true, false, List, ◌∷◌, take, drop, Result, Ok, Err, refl, sym, ap, ◌∙◌}
 use Rattle.std.proofs.lemmas.Bool.{eq-eqb, ne_eqb}
 use Rattle.std.proofs.Common.{◌⊎◌, inl, inr}
 use Rattle.std.specs.Prelude.{◌==◌, not, nat_lt, ◌+◌, length}
@@ -8,7 +8,7 @@ use Rattle.etcs_bits.specs.declared.fault.DecodeError.{DecodeError}
 use Rattle.etcs_bits.specs.declared.fault.DecodeError.TheVariants as errors
 use Rattle.etcs_bits.specs.Rows.{Variable, Row, row, Place}
 use Rattle.etcs_bits.specs.Fields.{Fields, one, field, ◌▹◌}
-use Rattle.etcs_bits.specs.Reading.{◌>>=◌, rows_at, field_at, taken, taken_or_closed, forward}
+use Rattle.etcs_bits.specs.Reading.{rows_at, field_at, taken, forward}
 use Rattle.etcs_bits.specs.Layout.{Gives, Fails}
 use Rattle.etcs_bits.specs.Number.{num_of_bits}
 use Rattle.etcs_bits.specs.Fault.{short}

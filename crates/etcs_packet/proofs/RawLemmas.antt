@@ -1,10 +1,10 @@
 -- Packets that are kept as bits: which can be written, and how.
-use Rattle.std.proofs.Common.{◌≡◌, ℕ, ◌+◌, ◌<◌, ◌≤◌, Bool, true, List, ◌++◌, length, take, Result, Ok, Err, OnOk, OnErr, refl, sym, ap, ◌∙◌, arith}
+use Rattle.std.proofs.Common.{◌≡◌, ℕ, ◌+◌, ◌≤◌, Bool, true, List, ◌++◌, length, Result, Ok, Err, OnOk, OnErr, refl, sym, ap, ◌∙◌, arith}
 use Rattle.std.proofs.lemmas.List.{append-nil, take_all}
 use Rattle.std.proofs.lemmas.Bool.{le-leb}
 use Rattle.etcs_bits.specs.declared.direction.Dir.{Dir}
 use Rattle.etcs_bits.specs.Number.{num, num_of_bits}
-use Rattle.etcs_bits.specs.Rows.{Row, AreAllowed, join, alone}
+use Rattle.etcs_bits.specs.Rows.{AreAllowed, join, alone}
 use Rattle.etcs_bits.specs.Layout.{Puts}
 use Rattle.etcs_bits.specs.Variables.{q_dir, dir_number}
 use Rattle.etcs_bits.proofs.NumberLemmas.{num-num_of_bits, num_of_bits-lt}

@@ -1,12 +1,12 @@
 -- A packet's rows by itself and as one of a list have the same bits.
-use Rattle.std.proofs.Common.{◌≡◌, ℕ, Bool, true, false, List, [], ◌∷◌, ◌++◌, Option, Some, None, ◌+◌, length, ◌<◌, ◌^◌, refl, sym, ap, subst, ◌∙◌}
+use Rattle.std.proofs.Common.{◌≡◌, ℕ, Bool, true, false, List, [], ◌∷◌, ◌++◌, Option, Some, None, ◌+◌, length, ◌<◌, ◌^◌, refl, sym, ap, subst}
 use Rattle.std.specs.Prelude.{◌==◌, ◌||◌, not}
 use Rattle.etcs_bits.specs.Number.{num}
-use Rattle.etcs_bits.specs.Rows.{Row, row, alone, AreAllowed, join, width}
+use Rattle.etcs_bits.specs.Rows.{Row, alone, AreAllowed, join, width}
 use Rattle.etcs_profile.specs.Authority.{Permission, rows_by}
 use Rattle.etcs_packet.specs.declared.track.TrackPacket.{TrackPacket}
 use Rattle.etcs_packet.specs.declared.track.TrackPacket.TheVariants as packets
-use Rattle.etcs_packet.specs.Numbers.{is_known, is_other, is_kept, nid_track}
+use Rattle.etcs_packet.specs.Numbers.{is_known}
 use Rattle.etcs_packet.specs.Listed.{renamed}
 use Rattle.etcs_packet.specs.Track.{own_rows, other_of}
 

@@ -1,10 +1,10 @@
 -- A packet of any other number (SUBSET-026, 7.4.1): its head, and its body as bits.
-use Rattle.std.specs.Prelude.{◌≡◌, ℕ, ◌+◌, ◌-◌, Bool, true, false, List, [], ◌∷◌, ◌++◌, length, drop, refl}
+use Rattle.std.specs.Prelude.{◌≡◌, ℕ, ◌+◌, ◌-◌, Bool, true, false, List, [], ◌∷◌, length, drop, refl}
 use Rattle.std.proofs.Common.{sym, ap, ap₂, subst, ◌∙◌, arith}
 use Rattle.std.proofs.Math.Bool.{Bool-set}
 use Rattle.etcs_bits.specs.declared.direction.Dir.{Dir}
 use Rattle.etcs_bits.specs.Number.{num, num_of_bits}
-use Rattle.etcs_bits.specs.Rows.{Row, row, alone, number_at}
+use Rattle.etcs_bits.specs.Rows.{Row, row, number_at}
 use Rattle.etcs_bits.specs.Fields.{Fields, field, one, ◌▹◌, AreRowsOf}
 use Rattle.etcs_bits.specs.CombinedLemmas.{HaveFields, AreOf}
 use Rattle.etcs_bits.specs.LaidLemmas.{IsLaid, laid, pair_laid}

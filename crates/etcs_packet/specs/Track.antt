@@ -1,10 +1,10 @@
 -- The packets from track to train: those whose layout is known, and all others.
-use Rattle.std.specs.Prelude.{◌≡◌, ℕ, ◌==◌, ◌||◌, ◌&&◌, if◌then◌else◌, nat_le, Bool, true, false, List, [], ◌∷◌, length, Option, Some, None, refl}
+use Rattle.std.specs.Prelude.{◌≡◌, ℕ, ◌==◌, ◌||◌, ◌&&◌, if◌then◌else◌, nat_le, Bool, true, false, List, [], length, Option, Some, None, refl}
 use Rattle.std.proofs.Common.{ap, sym, ◌∙◌}
 use Rattle.std.proofs.lemmas.Bool.{ne_eqb}
 use Rattle.etcs_bits.specs.declared.direction.Dir.{Dir}
-use Rattle.etcs_bits.specs.Rows.{Row, row, alone, number_at}
-use Rattle.etcs_bits.specs.Fields.{Fields, AreRowsOf}
+use Rattle.etcs_bits.specs.Rows.{Row, alone, number_at}
+use Rattle.etcs_bits.specs.Fields.{AreRowsOf}
 use Rattle.etcs_bits.specs.CombinedLemmas.{HaveFields, AreOf}
 use Rattle.etcs_bits.specs.LaidLemmas.{IsLaid, laid}
 use Rattle.etcs_profile.specs.declared.gradient.GradientElement.{GradientElement}
@@ -12,7 +12,7 @@ use Rattle.etcs_profile.specs.declared.speed.SpeedElement.{SpeedElement}
 use Rattle.etcs_profile.specs.Profile.{Profile}
 use Rattle.etcs_packet.specs.declared.linking.Link.{Link}
 use Rattle.etcs_profile.specs.Packet.{rest_rows, rest_laid, packet_rows, packet_of, packet_laid}
-use Rattle.etcs_profile.specs.Elements.{elements_rows, elements_fields, elements_of, elements_laid}
+use Rattle.etcs_profile.specs.Elements.{elements_rows, elements_of, elements_laid}
 use Rattle.etcs_profile.specs.Authority.{Permission, with_main_rows, without_main_rows, with_main_laid, without_main_laid, authority_rows, rows_by, authority_of, authority_record}
 use Rattle.etcs_profile.specs.Gradient.{gradient_element_fields, gradient_element_rows, gradient_element_of, gradient_element_are_rows, gradient_element_record}
 use Rattle.etcs_profile.specs.Speed.{speed_element_fields, speed_element_rows, speed_element_of, speed_element_are_rows, speed_element_record}
@@ -23,7 +23,7 @@ use Rattle.etcs_packet.specs.Linking.{link_fields, link_rows, link_of, link_laid
 use Rattle.etcs_packet.specs.Transition.{Body, body_rows, body_of, body_laid}
 use Rattle.etcs_packet.specs.Cover.{nid_vbcmk, cover_rows, cover_of, cover_record}
 use Rattle.etcs_packet.specs.Raw.{raw_rest_fields, raw_rest, raw_rows, raw_of, rest_are_rows, raw_record}
-use Rattle.etcs_packet.specs.Numbers.{is_other, is_kept, nid_track}
+use Rattle.etcs_packet.specs.Numbers.{is_other, is_kept}
 use Rattle.etcs_packet.specs.Meant.{is_meant}
 use Rattle.etcs_packet.specs.Listed.{rest_by, track_fields, renamed}
 

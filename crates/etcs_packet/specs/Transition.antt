@@ -2,7 +2,6 @@
 -- and from where on.
 use Rattle.std.specs.Prelude.{ℕ, List}
 use Rattle.std.proofs.Common.{ap}
-use Rattle.etcs_bits.specs.declared.direction.Dir.{Dir}
 use Rattle.etcs_bits.specs.declared.level.Level.{Level}
 use Rattle.etcs_bits.specs.declared.scale.Scale.{Scale}
 use Rattle.etcs_bits.specs.Rows.{Variable, Row, alone, number_at}

@@ -58,6 +58,12 @@ impl Layout for LevelOrder {
     }
 }
 
+impl Same for LevelOrder {
+    fn same(&self, other: &Self) -> bool {
+        self.level.same(&other.level) && self.acknowledge.same(&other.acknowledge)
+    }
+}
+
 /// Packet 41, a level transition order: from where on a train has to run in another level, by
 /// priority (SUBSET-026, 5.10 and 7.4.2). Contracts see the direction, and scale, distance and
 /// levels.
@@ -171,5 +177,11 @@ impl Layout for Transition {
     fn scan(alloc: Global, cur: &mut Cursor<'_>) -> Result<Self, DecodeError> {
         let packet = Packet::scan(alloc, cur)?;
         Ok(Transition { packet })
+    }
+}
+
+impl Same for Transition {
+    fn same(&self, other: &Self) -> bool {
+        self.packet.same(&other.packet)
     }
 }

@@ -1,4 +1,4 @@
-use Rattle.std.proofs.Common.{◌≡◌, ◌<◌, length, arith, ap}
+use Rattle.std.proofs.Common.{◌≡◌, ◌<◌, length, arith}
 use Rattle.std.proofs.Math.Nat.{lt_of_not-le}
 use Rattle.etcs_bits.proofs.FitLemmas.{all_fit}
 use Rattle.etcs_profile.specs.Elements.{profile}

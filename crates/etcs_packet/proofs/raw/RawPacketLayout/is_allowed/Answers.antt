@@ -1,4 +1,4 @@
-use Rattle.std.proofs.Common.{◌≡◌, ◌≤◌, ◌<◌, length, arith}
+use Rattle.std.proofs.Common.{◌≤◌, ◌<◌, length, arith}
 use Rattle.etcs_packet.proofs.RawLemmas.{rest_allowed}
 use Rattle.etcs_packet.proofs.raw.RawPacketLayout.is_allowed.Goals as goal
 

@@ -1,4 +1,4 @@
-use Rattle.std.proofs.Common.{◌≡◌, ◌≤◌, length, sym, ◌∙◌, arith}
+use Rattle.std.proofs.Common.{◌≤◌, length, sym, ◌∙◌, arith}
 use Rattle.etcs_packet.proofs.RawLemmas.{kept_of}
 use Rattle.etcs_packet.proofs.raw.RawPacketLayout.scan.Goals as goal
 

@@ -1,4 +1,4 @@
-use Rattle.std.proofs.Common.{◌≡◌, refl}
+use Rattle.std.proofs.Common.{refl}
 use Rattle.etcs_packet.proofs.ListedLemmas.{packet_here, authority_here, raw_here, is_other_of}
 use Rattle.etcs_packet.proofs.track.TrackPacketLayout.scan.Goals as goal
 

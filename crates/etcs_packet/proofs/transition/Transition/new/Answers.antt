@@ -1,4 +1,4 @@
-use Rattle.std.proofs.Common.{◌≡◌, ◌≤◌, length, arith}
+use Rattle.std.proofs.Common.{◌≤◌, length, arith}
 use Rattle.etcs_bits.proofs.FitLemmas.{all_fit}
 use Rattle.etcs_packet.specs.Transition.{Body}
 use Rattle.etcs_packet.proofs.ShortLemmas.{orders_short}
