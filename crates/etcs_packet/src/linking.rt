@@ -167,7 +167,8 @@ impl Linking {
 
     /// The groups behind the first, in order; at most 31.
     pub fn further(&self) -> &[Link]
-        ensures { result.now ≡ self.now.1.further }
+        ensures links { result.now ≡ self.now.1.further }
+        ensures few { length result.now < 32 }
     {
         self.packet.body().further()
     }

@@ -138,9 +138,13 @@ impl Transition {
     }
 
     /// The other levels, by priority; at most 31.
+    #[tactic(auto, using(crate::proofs::ShortLemmas::orders_few))]
     pub fn further(&self) -> &[LevelOrder]
-        ensures { result.now ≡ self.now.1.1.1.1 }
+        ensures levels { result.now ≡ self.now.1.1.1.1 }
+        ensures few { length result.now < 32 }
     {
+        // Its type keeps N_ITER within five bits.
+        let _allowed = self.packet.is_allowed();
         self.packet.body().1.1.1.as_slice()
     }
 }
