@@ -1,14 +1,17 @@
 -- Packets whose lists are counted by N_ITER and whose items are short have fewer bits than L_PACKET
--- can count.
-use Rattle.std.proofs.Common.{ℕ, ◌+◌, ◌*◌, ◌≤◌, List, [], ◌∷◌, length, Option, Some, None, arith}
+-- can count; and a packet that is allowed has no more items than N_ITER can count.
+use Rattle.std.proofs.Common.{ℕ, ◌+◌, ◌*◌, ◌≤◌, ◌<◌, List, [], ◌∷◌, length, Option, Some, None, arith}
 use Rattle.std.specs.List.{flat_map}
 use Rattle.etcs_bits.specs.declared.level.Level.{Level}
 use Rattle.etcs_bits.specs.declared.level.Level.TheVariants as levels
-use Rattle.etcs_bits.specs.Rows.{Row, alone, width}
+use Rattle.etcs_bits.specs.declared.direction.Dir.{Dir}
+use Rattle.etcs_bits.specs.Rows.{Row, AreAllowed, alone, width}
 use Rattle.etcs_bits.specs.Combined.{pair_rows, option_rows, counted_rows}
 use Rattle.etcs_bits.specs.Variables.{nid_c, nid_bg}
 use Rattle.etcs_bits.specs.Level.{level_rows}
+use Rattle.etcs_bits.proofs.StandLemmas.{allowed_second}
 use Rattle.etcs_bits.proofs.WidthLemmas.{width_both}
+use Rattle.etcs_profile.specs.Packet.{packet_rows}
 use Rattle.etcs_profile.specs.Profile.{Profile}
 use Rattle.etcs_profile.specs.Elements.{elements_rows}
 use Rattle.etcs_packet.specs.declared.linking.Link.{Link}
@@ -62,3 +65,10 @@ pub orders_short : (b : Body) → length b.1.1.1 ≤ 31 → 23 + width (body_row
 unfolding alone
 orders_short b few =
     omega (arith, few, order_short b.1.1.0, width_both (order_rows b.1.1.0) (counted_rows order_rows b.1.1.1), items_short order_rows 26 order_short b.1.1.1)
+
+-- five rows stand before the first order
+pub orders_few : (p : Dir × Body) → AreAllowed (packet_rows 41 body_rows p) → length p.1.1.1.1 < 32
+unfolding alone
+orders_few p allowed =
+    let counted = allowed_second (order_rows p.1.1.1.0) (counted_rows order_rows p.1.1.1.1) allowed.1.1.1.1.1 in
+    counted.0.0

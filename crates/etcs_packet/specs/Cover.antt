@@ -8,7 +8,7 @@ use Rattle.etcs_bits.specs.Variables.{plain}
 use Rattle.etcs_profile.specs.Packet.{nid_packet}
 use Rattle.etcs_packet.specs.declared.cover.CoverMarker.{CoverMarker}
 
--- NID_VBCMK, 6 bits: which covers it belongs to
+-- NID_VBCMK, 6 bits: which marker it is
 abbrev pub nid_vbcmk : Variable
 nid_vbcmk = plain 6
 

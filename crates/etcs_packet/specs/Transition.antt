@@ -18,7 +18,7 @@ use Rattle.etcs_packet.specs.declared.transition.LevelOrder.{LevelOrder}
 abbrev pub d_leveltr : Variable
 d_leveltr = plain 15
 
--- L_ACKLEVELTR, 15 bits: how long before that place the driver has to acknowledge
+-- L_ACKLEVELTR, 15 bits: how long before that place the driver may acknowledge
 abbrev pub l_ackleveltr : Variable
 l_ackleveltr = plain 15
 

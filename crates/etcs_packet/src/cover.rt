@@ -52,3 +52,9 @@ impl Layout for CoverMarker {
         Ok(CoverMarker { marker })
     }
 }
+
+impl Same for CoverMarker {
+    fn same(&self, other: &Self) -> bool {
+        self.marker.same(&other.marker)
+    }
+}

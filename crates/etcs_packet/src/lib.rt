@@ -1,11 +1,16 @@
-//! Lists of packets, as balise telegrams and radio messages have them (SUBSET-026, 7.4 and 8.4).
+//! The packets from track to train, and their lists, as balise telegrams and radio messages have
+//! them (SUBSET-026, 7.4 and 8.4).
 //!
-//! A [`Stop`] says where a list ends. [`next_item`] reads one packet, [`read_items`] all of them,
-//! [`next_whole`] and [`read_whole`] the head before them too; [`write_items`] writes packets. A
-//! packet is any record whose table of fields begins with NID_PACKET, and the calls stand on the
-//! contract of [`etcs_bits::Layout`]. Read `list.rt` first, with `specs/Lists.antt`, then
-//! `whole.rt`, with `specs/Whole.antt`; what holds of every list is in [`laws`]. Left out so far:
-//! the packets.
+//! [`TrackPacket`] is any of these packets; [`Linking`], [`Transition`] and [`CoverMarker`] are
+//! packets 5, 41 and 0, and [`RawPacket`] is one whose layout is not known here. [`read_packets`]
+//! and [`write_packets`] read and write lists of them. They stand on calls that take any record
+//! whose table of fields begins with NID_PACKET: a [`Stop`] says where a list ends, [`next_item`]
+//! reads one packet, [`read_items`] all of them, [`next_whole`] and [`read_whole`] the head before
+//! them too, and [`write_items`] writes packets. All stand on the contract of
+//! [`etcs_bits::Layout`]. Read `track.rt` and `packets.rt` first, with `specs/Track.antt` and
+//! `specs/Listed.antt`, then `list.rt`, with `specs/Lists.antt`, and `whole.rt`, with
+//! `specs/Whole.antt`; what holds of every list is in [`laws`]. Left out: packets from train to
+//! track.
 #![tactic(auto)]
 
 mod cover;

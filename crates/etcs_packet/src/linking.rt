@@ -92,6 +92,17 @@ impl Layout for Link {
     }
 }
 
+impl Same for Link {
+    fn same(&self, other: &Self) -> bool {
+        self.distance.same(&other.distance)
+            && self.country.same(&other.country)
+            && self.group.same(&other.group)
+            && self.nominal.same(&other.nominal)
+            && self.reaction.same(&other.reaction)
+            && self.accuracy.same(&other.accuracy)
+    }
+}
+
 /// Packet 5, linking: which balise groups come next, so that a train notices one that it misses
 /// (SUBSET-026, 3.4.4 and 7.4.2). Contracts see the direction, and the scale with the links.
 #[derive(Debug, Drop)]
@@ -156,7 +167,8 @@ impl Linking {
 
     /// The groups behind the first, in order; at most 31.
     pub fn further(&self) -> &[Link]
-        ensures { result.now ≡ self.now.1.further }
+        ensures links { result.now ≡ self.now.1.further }
+        ensures few { length result.now < 32 }
     {
         self.packet.body().further()
     }
@@ -196,5 +208,11 @@ impl Layout for Linking {
     fn scan(alloc: Global, cur: &mut Cursor<'_>) -> Result<Self, DecodeError> {
         let packet = Packet::scan(alloc, cur)?;
         Ok(Linking { packet })
+    }
+}
+
+impl Same for Linking {
+    fn same(&self, other: &Self) -> bool {
+        self.packet.same(&other.packet)
     }
 }

@@ -44,7 +44,7 @@ fn put_body(body: &Bits, out: &mut Bits) -> Result<(), Memory>
 /// A packet of which no layout is known here (SUBSET-026, 7.4.1): NID_PACKET, Q_DIR, L_PACKET and
 /// its body, kept as it is. Its number is none of 0, 5, 12, 15, 21, 27, 41 and 255, and its body has
 /// at most 8,168 bits.
-#[derive(Drop)]
+#[derive(Debug, Drop)]
 pub struct RawPacket {
     number: u8,
     dir: Dir,

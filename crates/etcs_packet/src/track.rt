@@ -12,12 +12,12 @@ use crate::linking::Linking;
 use crate::raw::RawPacket;
 use crate::run::Run;
 use crate::transition::Transition;
-use etcs_bits::{Bits, Cursor, DecodeError, Dir, Fault, FaultKind, Layout, Memory, refused};
+use etcs_bits::{Bits, Cursor, DecodeError, Dir, Fault, FaultKind, Layout, Memory, Same, refused};
 use etcs_profile::{Authority, Gradient, SpeedProfile};
 use std::alloc::Global;
 
 /// A packet from track to train (SUBSET-026, 7.4.2).
-#[derive(Drop)]
+#[derive(Debug, Drop)]
 pub enum TrackPacket {
     /// Packet 0: the balise is ignored by trains that cover its marker.
     Cover(CoverMarker),
@@ -219,5 +219,20 @@ impl Layout for TrackPacket {
             return Ok(TrackPacket::Transition(scan_listed(alloc, cur)?));
         }
         Ok(TrackPacket::Raw(scan_listed(alloc, cur)?))
+    }
+}
+
+impl Same for TrackPacket {
+    fn same(&self, other: &Self) -> bool {
+        match (self, other) {
+            (TrackPacket::Cover(this), TrackPacket::Cover(that)) => this.same(that),
+            (TrackPacket::Linking(this), TrackPacket::Linking(that)) => this.same(that),
+            (TrackPacket::Authority(this), TrackPacket::Authority(that)) => this.same(that),
+            (TrackPacket::Gradient(this), TrackPacket::Gradient(that)) => this.same(that),
+            (TrackPacket::Speed(this), TrackPacket::Speed(that)) => this.same(that),
+            (TrackPacket::Transition(this), TrackPacket::Transition(that)) => this.same(that),
+            (TrackPacket::Raw(this), TrackPacket::Raw(that)) => this.same(that),
+            _ => false,
+        }
     }
 }

@@ -58,6 +58,12 @@ impl Layout for LevelOrder {
     }
 }
 
+impl Same for LevelOrder {
+    fn same(&self, other: &Self) -> bool {
+        self.level.same(&other.level) && self.acknowledge.same(&other.acknowledge)
+    }
+}
+
 /// Packet 41, a level transition order: from where on a train has to run in another level, by
 /// priority (SUBSET-026, 5.10 and 7.4.2). Contracts see the direction, and scale, distance and
 /// levels.
@@ -132,9 +138,13 @@ impl Transition {
     }
 
     /// The other levels, by priority; at most 31.
+    #[tactic(auto, using(crate::proofs::ShortLemmas::orders_few))]
     pub fn further(&self) -> &[LevelOrder]
-        ensures { result.now ≡ self.now.1.1.1.1 }
+        ensures levels { result.now ≡ self.now.1.1.1.1 }
+        ensures few { length result.now < 32 }
     {
+        // Its type keeps N_ITER within five bits.
+        let _allowed = self.packet.is_allowed();
         self.packet.body().1.1.1.as_slice()
     }
 }
@@ -171,5 +181,11 @@ impl Layout for Transition {
     fn scan(alloc: Global, cur: &mut Cursor<'_>) -> Result<Self, DecodeError> {
         let packet = Packet::scan(alloc, cur)?;
         Ok(Transition { packet })
+    }
+}
+
+impl Same for Transition {
+    fn same(&self, other: &Self) -> bool {
+        self.packet.same(&other.packet)
     }
 }

@@ -11,7 +11,7 @@ use crate::overlap::Overlap;
 use crate::section::{Section, SectionTimer};
 use crate::terms::Terms;
 use etcs_bits::{
-    Bits, Body, Cursor, DecodeError, Dir, Distance, Items, Layout, Memory, Scale, Speed, Time,
+    Bits, Body, Cursor, DecodeError, Dir, Distance, Items, Layout, Memory, Same, Scale, Speed, Time,
 };
 use std::alloc::Global;
 use std::marker::Model;
@@ -284,5 +284,15 @@ impl Layout for Authority {
             _ => return Err(other_packet(at, cur.at())),
         };
         Ok(Authority { packet })
+    }
+}
+
+impl Same for Authority {
+    fn same(&self, other: &Self) -> bool {
+        match (&self.packet, &other.packet) {
+            (Numbered::Level1(this), Numbered::Level1(that)) => this.same(that),
+            (Numbered::Level2(this), Numbered::Level2(that)) => this.same(that),
+            _ => false,
+        }
     }
 }

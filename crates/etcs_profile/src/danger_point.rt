@@ -1,6 +1,6 @@
 //! The danger point behind a movement authority's end.
 
-use etcs_bits::{Bits, Cursor, DecodeError, Distance, Layout, Memory, ReleaseSpeed};
+use etcs_bits::{Bits, Cursor, DecodeError, Distance, Layout, Memory, ReleaseSpeed, Same};
 use std::alloc::Global;
 
 /// The first place behind the end of the authority that may be dangerous (SUBSET-026, 3.8 and 7.4.2):
@@ -52,5 +52,11 @@ impl Layout for DangerPoint {
             distance,
             release_speed,
         })
+    }
+}
+
+impl Same for DangerPoint {
+    fn same(&self, other: &Self) -> bool {
+        self.distance.same(&other.distance) && self.release_speed.same(&other.release_speed)
     }
 }

@@ -7,7 +7,7 @@ use crate::element::Element;
 use crate::error::BuildError;
 use crate::factor::factor;
 use crate::reach::Reach;
-use etcs_bits::{Bits, Cursor, DecodeError, Items, Layout, Memory, Scale};
+use etcs_bits::{Bits, Cursor, DecodeError, Items, Layout, Memory, Same, Scale};
 use std::alloc::Global;
 use std::marker::Model;
 
@@ -156,5 +156,13 @@ impl<T: Layout> Layout for Elements<T> {
             first,
             further,
         })
+    }
+}
+
+impl<T: Same> Same for Elements<T> {
+    fn same(&self, other: &Self) -> bool {
+        self.scale.same(&other.scale)
+            && self.first.same(&other.first)
+            && self.further.same(&other.further)
     }
 }

@@ -1,6 +1,6 @@
 //! The timer of a movement authority's end section.
 
-use etcs_bits::{Bits, Cursor, DecodeError, Distance, Layout, Memory, Time};
+use etcs_bits::{Bits, Cursor, DecodeError, Distance, Layout, Memory, Same, Time};
 use std::alloc::Global;
 
 /// Until when the end section is given (SUBSET-026, 3.8 and 7.4.2): 25 bits.
@@ -49,5 +49,11 @@ impl Layout for EndTimer {
         let time = Time::scan(alloc, cur)?;
         let start = Distance::scan(alloc, cur)?;
         Ok(EndTimer { time, start })
+    }
+}
+
+impl Same for EndTimer {
+    fn same(&self, other: &Self) -> bool {
+        self.time.same(&other.time) && self.start.same(&other.start)
     }
 }

@@ -6,7 +6,7 @@ use crate::element::Element;
 use crate::elements::Elements;
 use crate::error::BuildError;
 use crate::packet::Packet;
-use etcs_bits::{Bits, Cursor, DecodeError, Dir, Distance, Layout, Memory, Plain, Scale};
+use etcs_bits::{Bits, Cursor, DecodeError, Dir, Distance, Layout, Memory, Plain, Same, Scale};
 use std::alloc::Global;
 
 /// Packet 21, the gradient profile: how steep the track is, from each place on (SUBSET-026, 7.4.2).
@@ -91,6 +91,14 @@ impl Layout for GradientElement {
             uphill,
             gradient,
         })
+    }
+}
+
+impl Same for GradientElement {
+    fn same(&self, other: &Self) -> bool {
+        self.distance.same(&other.distance)
+            && self.uphill.same(&other.uphill)
+            && self.gradient.same(&other.gradient)
     }
 }
 

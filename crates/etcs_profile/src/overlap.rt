@@ -1,6 +1,6 @@
 //! The overlap behind a movement authority's end.
 
-use etcs_bits::{Bits, Cursor, DecodeError, Distance, Layout, Memory, ReleaseSpeed, Time};
+use etcs_bits::{Bits, Cursor, DecodeError, Distance, Layout, Memory, ReleaseSpeed, Same, Time};
 use std::alloc::Global;
 
 /// The track behind the end of the authority that is kept free for a while (SUBSET-026, 3.8 and
@@ -66,5 +66,14 @@ impl Layout for Overlap {
             length,
             release_speed,
         })
+    }
+}
+
+impl Same for Overlap {
+    fn same(&self, other: &Self) -> bool {
+        self.start.same(&other.start)
+            && self.time.same(&other.time)
+            && self.length.same(&other.length)
+            && self.release_speed.same(&other.release_speed)
     }
 }

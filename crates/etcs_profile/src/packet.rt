@@ -3,7 +3,7 @@
 ghost use Rattle.std.specs.Prelude.{◌≡◌};
 
 use crate::number::Number;
-use etcs_bits::{Bits, Body, Cursor, DecodeError, Dir, Layout, Memory};
+use etcs_bits::{Bits, Body, Cursor, DecodeError, Dir, Layout, Memory, Same};
 use std::alloc::Global;
 use std::marker::Model;
 
@@ -95,5 +95,11 @@ impl<const N: u32, T: Layout> Layout for Packet<N, T> {
         let dir = Dir::scan(alloc, cur)?;
         let body = Body::scan(alloc, cur)?;
         Ok(Packet { dir, body })
+    }
+}
+
+impl<const N: u32, T: Layout + Same> Same for Packet<N, T> {
+    fn same(&self, other: &Self) -> bool {
+        self.dir.same(&other.dir) && self.body.same(&other.body)
     }
 }

@@ -1,6 +1,6 @@
 //! A section of a movement authority.
 
-use etcs_bits::{Bits, Cursor, DecodeError, Distance, Layout, Memory, Time};
+use etcs_bits::{Bits, Cursor, DecodeError, Distance, Layout, Memory, Same, Time};
 use std::alloc::Global;
 
 /// A section of a movement authority: a stretch of track behind the one before it (SUBSET-026, 3.8
@@ -52,6 +52,12 @@ impl Layout for Section {
     }
 }
 
+impl Same for Section {
+    fn same(&self, other: &Self) -> bool {
+        self.length.same(&other.length) && self.timer.same(&other.timer)
+    }
+}
+
 /// Until when a section may be entered (SUBSET-026, 3.8 and 7.4.2): 25 bits.
 #[derive(Clone, Copy, Debug, PartialEq, Eq)]
 pub struct SectionTimer {
@@ -98,5 +104,11 @@ impl Layout for SectionTimer {
         let time = Time::scan(alloc, cur)?;
         let stop = Distance::scan(alloc, cur)?;
         Ok(SectionTimer { time, stop })
+    }
+}
+
+impl Same for SectionTimer {
+    fn same(&self, other: &Self) -> bool {
+        self.time.same(&other.time) && self.stop.same(&other.stop)
     }
 }

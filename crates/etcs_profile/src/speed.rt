@@ -7,8 +7,8 @@ use crate::elements::Elements;
 use crate::error::BuildError;
 use crate::packet::Packet;
 use etcs_bits::{
-    Bits, Cursor, DecodeError, Dir, Distance, Items, Layout, Memory, Plain, Ranged, Scale, Speed,
-    StaticSpeed,
+    Bits, Cursor, DecodeError, Dir, Distance, Items, Layout, Memory, Plain, Ranged, Same, Scale,
+    Speed, StaticSpeed,
 };
 use std::alloc::Global;
 
@@ -99,6 +99,14 @@ impl Layout for Difference {
     }
 }
 
+impl Same for Difference {
+    fn same(&self, other: &Self) -> bool {
+        self.kind.same(&other.kind)
+            && self.category.same(&other.category)
+            && self.speed.same(&other.speed)
+    }
+}
+
 /// From one place on, how fast trains may go (SUBSET-026, 7.4.2): 28 bits, and 13 for each
 /// difference.
 #[derive(Debug, Drop)]
@@ -162,6 +170,15 @@ impl Layout for SpeedElement {
             front,
             differences,
         })
+    }
+}
+
+impl Same for SpeedElement {
+    fn same(&self, other: &Self) -> bool {
+        self.distance.same(&other.distance)
+            && self.speed.same(&other.speed)
+            && self.front.same(&other.front)
+            && self.differences.same(&other.differences)
     }
 }
 

@@ -4,7 +4,7 @@ use crate::danger_point::DangerPoint;
 use crate::end_timer::EndTimer;
 use crate::overlap::Overlap;
 use crate::section::{Section, SectionTimer};
-use etcs_bits::{Bits, Cursor, DecodeError, Distance, Items, Layout, Memory, Speed, Time};
+use etcs_bits::{Bits, Cursor, DecodeError, Distance, Items, Layout, Memory, Same, Speed, Time};
 use std::alloc::Global;
 use std::marker::Model;
 
@@ -104,5 +104,18 @@ impl Layout for Terms {
             danger_point,
             overlap,
         })
+    }
+}
+
+impl Same for Terms {
+    fn same(&self, other: &Self) -> bool {
+        self.end_speed.same(&other.end_speed)
+            && self.end_timeout.same(&other.end_timeout)
+            && self.sections.same(&other.sections)
+            && self.l_endsection.same(&other.l_endsection)
+            && self.section_timer.same(&other.section_timer)
+            && self.end_timer.same(&other.end_timer)
+            && self.danger_point.same(&other.danger_point)
+            && self.overlap.same(&other.overlap)
     }
 }
