@@ -2,7 +2,7 @@
 
 ghost use Rattle.std.specs.Prelude.{◌≡◌, ◌++◌, IfOk, OnOk, OnErr};
 ghost use Rattle.std.specs.List.{flat_map};
-ghost use Rattle.etcs_bits.specs.Rows.{join};
+ghost use Rattle.etcs_bits.specs.Rows.{AreAllowed, join};
 ghost use Rattle.etcs_bits.specs.Layout.{Gives, IfFault};
 ghost use Rattle.etcs_packet.specs.Lists.{IsListFault, NoneStand, Stand, items_at};
 ghost use Rattle.etcs_packet.specs.Listed.{track_fields};
@@ -38,13 +38,13 @@ pub fn read_packets(
 }
 
 /// Appends the spellings of the packets, one after the other, and no end mark. If memory runs out,
-/// nothing is appended.
+/// nothing is appended. Their types keep all numbers in range.
 #[tactic(auto, using(etcs_bits::proofs::FitLemmas::all_fit))]
 pub fn write_packets(packets: &[TrackPacket], out: &mut Bits) -> Result<(), Memory>
     ensures ok { OnOk result (out.new ≡ out.old ++ join (flat_map track_rows packets.now)) }
     ensures err { OnErr result (out.new ≡ out.old) }
+    ensures allowed { AreAllowed (flat_map track_rows packets.now) }
 {
-    // Their types keep their numbers in range.
     let _allowed = are_allowed(packets);
     write_items(packets, out)
 }

@@ -1,71 +1,108 @@
--- What is read is a telegram, and where a fault is told there is none.
-use Rattle.std.proofs.Common.{◌≡◌, ◌-◌, ◌≤◌, true, Bool, List, [], ◌++◌, length, replicate, Result, Ok, Err, refl, sym, ap, ap₂, ◌∙◌, arith}
-use Rattle.std.specs.Prelude.{IfOk}
-use Rattle.std.proofs.Common.{lit<}
-use Rattle.std.proofs.lemmas.List.{append-nil, length-append}
+-- What bits mean, and which bits are a telegram.
+use Rattle.std.proofs.Common.{◌≡◌, ℕ, ◌+◌, ◌-◌, ◌≤◌, true, false, Bool, List, [], ◌++◌, length, replicate, Option, Some, None, Result, Ok, Err, refl, sym, ap, ◌∙◌, ◌==◌, ◌↔◌, if◌then◌else◌, arith, append_assoc}
+use Rattle.std.specs.Prelude.{IsErrOf}
+use Rattle.std.specs.List.{flat_map}
+use Rattle.std.proofs.lemmas.Bool.{eqb-true}
+use Rattle.std.proofs.lemmas.List.{length-append}
 use Rattle.etcs_bits.proofs.NumberLemmas.{length-num}
+use Rattle.etcs_bits.proofs.StandLemmas.{length-join, place_in}
 use Rattle.etcs_bits.specs.declared.fault.DecodeError.{DecodeError}
 use Rattle.etcs_bits.specs.declared.fault.DecodeError.TheVariants as errors
+use Rattle.etcs_bits.specs.declared.fault.Fault.{Fault}
 use Rattle.etcs_bits.specs.Number.{num}
-use Rattle.etcs_bits.specs.Rows.{alone, AreAllowed, join, Place}
-use Rattle.etcs_bits.specs.Fields.{AreRowsOf}
-use Rattle.etcs_bits.specs.Fault.{IsFault, NoneBegins}
-use Rattle.etcs_bits.specs.Reading.{rows_at}
-use Rattle.etcs_bits.specs.Layout.{Fails, Gives, IfFault, IsMeaning}
-use Rattle.etcs_bits.specs.RowLemmas.{alone_rows}
-use Rattle.etcs_bits.proofs.StandLemmas.{join-append, length-join, allowed-append}
-use Rattle.etcs_bits.proofs.LayoutLemmas.{is_spelled, is_fault, none_begins}
+use Rattle.etcs_bits.specs.Rows.{alone, AreAllowed, join, width}
+use Rattle.etcs_bits.specs.Layout.{Fails}
+use Rattle.etcs_packet.specs.declared.stop.Stop.TheVariants as stops
+use Rattle.etcs_packet.specs.declared.track.TrackPacket.{TrackPacket}
+use Rattle.etcs_packet.specs.Laws.{HasNoMark}
+use Rattle.etcs_packet.specs.Lists.{IsHeaded}
+use Rattle.etcs_packet.specs.Listed.{track_fields}
+use Rattle.etcs_packet.specs.Track.{track_rows, track_of, track_are_rows, track_record}
+use Rattle.etcs_packet.specs.Whole.{BeginsWith, start, whole_of}
+use Rattle.etcs_packet.proofs.WholeLemmas.{whole_is_read, means_whole}
+use Rattle.etcs_packet.proofs.WrittenLemmas.{mark_ends, whole_written}
+use Rattle.etcs_telegram.specs.declared.error.EncodeError.{EncodeError}
+use Rattle.etcs_telegram.specs.declared.error.EncodeError.TheVariants as encode_errors
 use Rattle.etcs_telegram.specs.declared.header.Header.{Header}
 use Rattle.etcs_telegram.specs.declared.size.Size.{Size}
-use Rattle.etcs_telegram.specs.declared.size.Size.TheVariants.{Short}
-use Rattle.etcs_telegram.specs.declared.telegram.Telegram.{Telegram}
-use Rattle.etcs_telegram.specs.Header.{header_rows, header_are_rows, header_front}
-use Rattle.etcs_telegram.specs.Telegram.{user_bits, end_mark, telegram_fields, telegram_rows, start, IsTelegram, IsEncoding, telegram_with, telegram_of}
+use Rattle.etcs_telegram.specs.declared.size.Size.TheVariants.{Short, Long}
+use Rattle.etcs_telegram.specs.Header.{header_fields, header_rows, header_of, header_are_rows, header_record}
+use Rattle.etcs_telegram.specs.Record.{Telegram}
+use Rattle.etcs_telegram.specs.Sizes.{user_bits, size_of}
+use Rattle.etcs_telegram.specs.Telegram.{IsTelegram, IsEncoding, IsTooBig, front_bits, canonical_bits, used_bits, size_by, telegram_by, telegram_of}
+use Rattle.etcs_telegram.proofs.FillLemmas.{length-ones}
 
--- ---- records and rows
+-- ---- sizes
 
-pub telegram_are_rows : (t : Telegram) → AreRowsOf telegram_fields (telegram_rows t)
-telegram_are_rows t = (header_rows t.header, alone end_mark 255, refl, header_are_rows t.header, alone_rows end_mark 255)
+abbrev Counts : ℕ → Option Size → Type 0
+Counts n None = Unit {0}
+Counts n (Some size) = (n ≡ user_bits size) × (size_by n ≡ size)
 
-pub short_size : (s : Size) → 210 ≡ user_bits s
-short_size Short = refl
+counts_by : (n : ℕ) (short long : Bool) → n == 210 ≡ short → n == 830 ≡ long
+    → Counts n (if short then Some Short else (if long then Some Long else None))
+counts_by n true long is other = (eqb-true n 210 is, rw is refl)
+counts_by n false true other is = (eqb-true n 830 is, rw other refl)
+counts_by n false false other others = tt
 
-abbrev telegram : Size → Header → Telegram
-telegram s h = record { size = s; header = h }
+counts : (n : ℕ) → Counts n (size_of n)
+counts n = counts_by n (n == 210) (n == 830) refl refl
 
-size_is : (s : Size) → Short ≡ s
-size_is Short = refl
+pub size_counts : (n : ℕ) (size : Size) → size_of n ≡ Some size → n ≡ user_bits size
+size_counts n size is = let c = counts n in let d = rw is at c in d.0
 
--- a telegram is the one of its rows
-pub telegram_back : (t : Telegram) → telegram_with (telegram_rows t) ≡ t
-telegram_back t = ap₂ (λ (s : Size) (h : Header). telegram s h) (size_is t.size) (header_front t.header (alone end_mark 255))
+pub size_found : (n : ℕ) (size : Size) → size_of n ≡ Some size → size_by n ≡ size
+size_found n size is = let c = counts n in let d = rw is at c in d.1
 
--- ---- decoding
+pub size_back : (size : Size) → size_by (user_bits size) ≡ size
+size_back Short = refl
+size_back Long = refl
 
-pub decoded_telegram : (r : Result Telegram DecodeError) (bits : List Bool) (after : Place) → length bits ≡ 210 → Gives telegram_rows r (rows_at telegram_fields (start bits)) after → IfOk r (λ t. IsTelegram t bits)
-decoded_telegram (Ok t) bits after count e = record { count = count ∙ short_size t.size; end = after; spelled = is_spelled telegram_fields (telegram_rows t) (start bits) after (omega arith) e }
-decoded_telegram (Err e) bits after count fails = tt
+pub few_bits : (size : Size) → user_bits size ≤ 830
+few_bits Short = omega arith
+few_bits Long = omega arith
 
-pub decoded_fault : (r : Result Telegram DecodeError) (bits : List Bool) (after : Place) → Gives telegram_rows r (rows_at telegram_fields (start bits)) after → IfFault r (λ f. IsFault telegram_fields (start bits) f)
-decoded_fault (Ok t) bits after e = tt
-decoded_fault (Err e) bits after fails = is_fault e telegram_fields (start bits) (omega arith) fails
+-- ---- what bits mean
 
-pub decoded_none : (r : Result Telegram DecodeError) (bits : List Bool) (after : Place) → Gives telegram_rows r (rows_at telegram_fields (start bits)) after → IfFault r (λ f. NoneBegins telegram_rows (start bits) f)
-decoded_none (Ok t) bits after e = tt
-decoded_none (Err e) bits after fails = none_begins telegram_rows e telegram_fields (start bits) (omega arith) telegram_are_rows fails
+pub headed : IsHeaded track_fields
+headed = (refl, refl)
 
-failed_meaning : (e : DecodeError) (bits : List Bool) → Fails e (rows_at telegram_fields (start bits)) → Fails e (telegram_of bits)
+pub no_mark : HasNoMark track_fields
+no_mark = refl
+
+-- a header and packets at the front are read
+pub begins_meaning : (h : Header) (packets : List TrackPacket) (bits : List Bool)
+    → BeginsWith stops.Telegram header_rows track_rows h packets bits
+    → whole_of stops.Telegram header_fields header_of track_fields track_of bits ≡ Ok (h, packets)
+begins_meaning h packets bits b =
+    means_whole stops.Telegram header_fields header_of track_fields track_of bits (h, packets) b.end
+    (whole_is_read header_rows header_of track_rows track_of stops.Telegram header_fields track_fields h packets (start bits) b.end headed header_are_rows header_record track_are_rows track_record (omega arith) b.whole)
+
+-- a telegram of these parts
+abbrev pub made : Size → Header → List TrackPacket → Telegram
+made size h packets = record { size = size; header = h; packets = packets }
+
+pub telegram_meaning : (t : Telegram) (bits : List Bool) → IsTelegram t bits → telegram_of bits ≡ Ok t
+unfolding telegram_of
+telegram_meaning t bits x =
+    let size : size_by (length bits) ≡ t.size = ap size_by x.count ∙ size_back t.size in
+    rw (begins_meaning t.header t.packets bits x.begins) (ap (λ (s : Size). Ok (made s t.header t.packets)) size)
+
+-- what was read, with its size
+pub read_meaning : (h : Header) (packets : List TrackPacket) (size : Size) (bits : List Bool)
+    → size_of (length bits) ≡ Some size
+    → whole_of stops.Telegram header_fields header_of track_fields track_of bits ≡ Ok (h, packets)
+    → telegram_of bits ≡ Ok (made size h packets)
+unfolding telegram_of
+read_meaning h packets size bits found read =
+    rw read (ap (λ (s : Size). Ok (made s h packets)) (size_found (length bits) size found))
+
+-- and what was not
+pub failed_meaning : (e : DecodeError) (bits : List Bool)
+    → Fails e (whole_of stops.Telegram header_fields header_of track_fields track_of bits)
+    → Fails e (telegram_of bits)
 unfolding telegram_of
 failed_meaning errors.Memory bits fails = tt
 failed_meaning (errors.Fault f) bits fails = rw fails refl
-
-pub read_meaning : (t : Telegram) (bits : List Bool) (after : Place) → rows_at telegram_fields (start bits) ≡ Ok (telegram_rows t, after) → telegram_of bits ≡ Ok t
-unfolding telegram_of
-read_meaning t bits after e = rw e (ap Ok (telegram_back t))
-
-pub decoded_meaning : (r : Result Telegram DecodeError) (bits : List Bool) (after : Place) → Gives telegram_rows r (rows_at telegram_fields (start bits)) after → IsMeaning r (telegram_of bits)
-decoded_meaning (Ok t) bits after e = read_meaning t bits after e
-decoded_meaning (Err e) bits after fails = failed_meaning e bits fails
 
 -- ---- encoding
 
@@ -73,29 +110,64 @@ pub header_width : (h : Header) → length (join (header_rows h)) ≡ 50
 unfolding alone
 header_width h = length-join (header_rows h)
 
-mark_bits : join (alone end_mark 255) ≡ num 8 255
-unfolding alone
-mark_bits = append-nil (num 8 255)
+-- the header, the packets and the end mark have the bits that are counted
+pub front_width : (t : Telegram) → length (front_bits t) ≡ used_bits t
+front_width t =
+    let packets = flat_map track_rows t.packets in
+    omega (
+      arith,
+      length-append (join (header_rows t.header)) (join packets ++ num 8 255),
+      length-append (join packets) (num 8 255),
+      header_width t.header,
+      length-join packets,
+      length-num 8 255,
+    )
 
-mark_allowed : AreAllowed (alone end_mark 255)
-unfolding alone
-mark_allowed = ((lit< tt, refl), tt)
-
--- the bits up to the end mark's last
-pub front_bits : (t : Telegram) → join (header_rows t.header) ++ num 8 255 ≡ join (telegram_rows t)
-front_bits t = sym (join-append (header_rows t.header) (alone end_mark 255) ∙ ap (λ (xs : List Bool). join (header_rows t.header) ++ xs) mark_bits)
-
--- a header, the end mark and ones are the canonical spelling
-pub is_encoding : (t : Telegram) (bits : List Bool) → AreAllowed (header_rows t.header)
-    → bits ≡ (join (header_rows t.header) ++ num 8 255) ++ replicate (user_bits t.size - length (join (header_rows t.header) ++ num 8 255)) true → IsEncoding t bits
-is_encoding t bits allowed e = record {
-  allowed = allowed-append (header_rows t.header) (alone end_mark 255) allowed mark_allowed;
-  canonical = e ∙ ap (λ (xs : List Bool). xs ++ replicate (user_bits t.size - length xs) true) (front_bits t);
-}
-
-pub header_and_mark : (t : Telegram) → length (join (header_rows t.header) ++ num 8 255) ≤ user_bits t.size
-header_and_mark t = omega (arith, length-append (join (header_rows t.header)) (num 8 255), header_width t.header, length-num 8 255, short_size t.size)
+pub canonical_length : (t : Telegram) → used_bits t ≤ user_bits t.size → length (canonical_bits t) ≡ user_bits t.size
+canonical_length t fits =
+    let n = user_bits t.size - used_bits t in
+    omega (arith, length-append (front_bits t) (replicate n true), length-ones n, front_width t)
 
 -- what was written one after the other
-pub written_front : (h : Header) (none first second : List Bool) → none ≡ [] → first ≡ none ++ join (header_rows h) → second ≡ first ++ num 8 255 → second ≡ join (header_rows h) ++ num 8 255
-written_front h none first second e f g = g ∙ ap (λ (xs : List Bool). xs ++ num 8 255) (f ∙ ap (λ (xs : List Bool). xs ++ join (header_rows h)) e)
+pub written_front : (t : Telegram) (none first second third : List Bool) → none ≡ []
+    → first ≡ none ++ join (header_rows t.header) → second ≡ first ++ join (flat_map track_rows t.packets)
+    → third ≡ second ++ num 8 255 → third ≡ front_bits t
+written_front t none first second third e f g h =
+    let header = join (header_rows t.header) in
+    let packets = join (flat_map track_rows t.packets) in
+    h ∙ ap (λ (xs : List Bool). xs ++ num 8 255) (g ∙ ap (λ (xs : List Bool). xs ++ packets) (f ∙ ap (λ (xs : List Bool). xs ++ header) e))
+    ∙ append_assoc header packets (num 8 255)
+
+-- and filled up
+pub is_encoding : (t : Telegram) (front bits : List Bool) → used_bits t ≤ user_bits t.size
+    → AreAllowed (header_rows t.header) → AreAllowed (flat_map track_rows t.packets) → front ≡ front_bits t
+    → bits ≡ front ++ replicate (user_bits t.size - length front) true → IsEncoding t bits
+is_encoding t front bits fits header packets is filled = record {
+  fits = fits;
+  header = header;
+  packets = packets;
+  canonical =
+      filled ∙ ap (λ (xs : List Bool). xs ++ replicate (user_bits t.size - length xs) true) is
+      ∙ ap (λ n. front_bits t ++ replicate (user_bits t.size - n) true) (front_width t);
+}
+
+-- an encoding is the telegram
+pub encoding_telegram : (t : Telegram) (bits : List Bool) → IsEncoding t bits → IsTelegram t bits
+encoding_telegram t bits x =
+    let header = join (header_rows t.header) in
+    let packets = join (flat_map track_rows t.packets) in
+    let ones = replicate (user_bits t.size - used_bits t) true in
+    let parts = x.canonical ∙ append_assoc header (packets ++ num 8 255) ones ∙ ap (λ (xs : List Bool). header ++ xs) (append_assoc packets (num 8 255) ones) in
+    let whole = whole_written header_rows track_rows t.header t.packets stops.Telegram track_fields (num 8 255 ++ ones) bits headed no_mark track_are_rows x.header x.packets (mark_ends stops.Telegram ones) parts in
+    record {
+      count = ap length x.canonical ∙ canonical_length t x.fits;
+      begins = record { end = place_in bits (length header + length packets); whole = whole };
+    }
+
+-- where a telegram fits, only memory can be wanting
+pub only_memory : {X : Type 0} (r : Result X EncodeError) (t : Telegram) → used_bits t ≤ user_bits t.size
+    → r ≡ Err encode_errors.Memory → IsErrOf r encode_errors.TooBig ↔ IsTooBig t
+only_memory r t fits is = (
+  λ told. absurd (let both = sym is ∙ told in cc),
+  λ big. absurd (omega (arith, fits, big)),
+)

@@ -1,53 +1,148 @@
 -- Pad bits, digits, and what a text is refused for.
-use Rattle.std.proofs.Common.{◌≡◌, ℕ, ◌+◌, ◌-◌, ◌*◌, ◌%◌, ◌^◌, ◌<◌, ◌≤◌, Bool, true, false, List, [], ◌∷◌, ◌++◌, length, get_or, drop, replicate, Result, Ok, Err, refl, sym, ap, ap₂, ◌∙◌, arith, length-append, length-drop}
-use Rattle.std.proofs.lemmas.List.{drop-drop, drop_more, drop_all, length-replicate}
+use Rattle.std.proofs.Common.{◌≡◌, ◌≢◌, ℕ, ◌+◌, ◌-◌, ◌*◌, ◌%◌, ◌^◌, ◌==◌, ◌<◌, ◌≤◌, if◌then◌else◌, Bool, true, false, List, [], ◌∷◌, ◌++◌, length, get_or, take, drop, replicate, Option, Some, None, Result, Ok, Err, refl, sym, ap, ap₂, subst, ◌∙◌, arith, length-append, length-drop}
 use Rattle.std.proofs.Common.{String, Global, string_bytes}
 use Rattle.std.specs.Prelude.{IfOk, OnOk}
-use Rattle.etcs_telegram.specs.declared.error.EncodeError.{EncodeError}
+use Rattle.std.proofs.lemmas.Bool.{eqb-true, eqb-false}
+use Rattle.std.proofs.lemmas.List.{drop-drop, drop_more, drop_all, length-replicate}
 use Rattle.hex.specs.Hex.{decode_of, encode_lower, IsBytes}
-use Rattle.hex.proofs.HexLemmas.{decode_of-digits, decode_of-ok}
+use Rattle.hex.proofs.HexLemmas.{decode_of-digits}
 use Rattle.etcs_bits.specs.Number.{num, num_of_bits, bits_of_bytes}
 use Rattle.etcs_bits.proofs.NumberLemmas.{length-num, num_of_bits-small, num_of_bits-drop, same_from_num, drop-bits_of_bytes, bits_of_one, length-bits_of_bytes}
-use Rattle.etcs_telegram.specs.declared.telegram.Telegram.{Telegram}
+use Rattle.etcs_telegram.specs.declared.error.EncodeError.{EncodeError}
 use Rattle.etcs_telegram.specs.declared.error.TextError.{TextError}
 use Rattle.etcs_telegram.specs.declared.error.TextError.TheVariants as errors
-use Rattle.etcs_telegram.specs.Telegram.{user_bits, canonical_bits, IsEncoding, telegram_rows}
-use Rattle.etcs_bits.specs.Rows.{join}
-use Rattle.etcs_telegram.specs.Text.{IsReason, FailsDecoded, IsCanonicalText}
-use Rattle.etcs_telegram.proofs.FillLemmas.{length-ones}
-use Rattle.etcs_telegram.proofs.TelegramLemmas.{front_bits, header_and_mark, short_size}
+use Rattle.etcs_telegram.specs.declared.size.Size.{Size}
+use Rattle.etcs_telegram.specs.declared.size.Size.TheVariants.{Short, Long}
+use Rattle.etcs_telegram.specs.Record.{Telegram}
+use Rattle.etcs_telegram.specs.Sizes.{user_bits, byte_count, pad_count, size_in}
+use Rattle.etcs_telegram.specs.Telegram.{canonical_bits, IsEncoding, IsTelegram}
+use Rattle.etcs_telegram.specs.Text.{pad_bits_in, user_bits_in, no_pads, pads_with_zeros, ArePadded, HavePadSet, IsReason, FailsDecoded, IsCanonicalText}
+use Rattle.etcs_telegram.proofs.TelegramLemmas.{canonical_length}
+
+-- ---- sizes
+
+-- the user bits end in the last byte, with the pad bits behind them
+pub whole_bytes : (size : Size) → user_bits size + pad_count size ≡ 8 * byte_count size
+whole_bytes Short = refl
+whole_bytes Long = refl
+
+pub few_pads : (size : Size) → pad_count size < 8
+few_pads Short = omega arith
+few_pads Long = omega arith
+
+pub some_bytes : (size : Size) → 1 ≤ byte_count size
+some_bytes Short = omega arith
+some_bytes Long = omega arith
+
+pub size_in_back : (size : Size) → size_in (byte_count size) ≡ Some size
+size_in_back Short = refl
+size_in_back Long = refl
+
+abbrev Counts : ℕ → Option Size → Type 0
+Counts n None = (size : Size) → n ≢ byte_count size
+Counts n (Some size) = n ≡ byte_count size
+
+no_count : (n : ℕ) → n == 27 ≡ false → n == 104 ≡ false → (size : Size) → n ≢ byte_count size
+no_count n other others Short = eqb-false n 27 other
+no_count n other others Long = eqb-false n 104 others
+
+counts_by : (n : ℕ) (short long : Bool) → n == 27 ≡ short → n == 104 ≡ long
+    → Counts n (if short then Some Short else (if long then Some Long else None))
+counts_by n true long is other = eqb-true n 27 is
+counts_by n false true other is = eqb-true n 104 is
+counts_by n false false other others = no_count n other others
+
+counts : (n : ℕ) → Counts n (size_in n)
+counts n = counts_by n (n == 27) (n == 104) refl refl
+
+pub size_counts : (n : ℕ) (size : Size) → size_in n ≡ Some size → n ≡ byte_count size
+size_counts n size is = let c = counts n in rw is at c
+
+pub none_counts : (n : ℕ) → size_in n ≡ None → (size : Size) → n ≢ byte_count size
+none_counts n is = let c = counts n in rw is at c
 
 -- ---- pad bits
 
--- the six pad bits are the last of the 27th byte
-pad_bits : (bytes : List ℕ) → length bytes ≡ 27 → drop 210 (bits_of_bytes bytes) ≡ drop 2 (num 8 (get_or bytes 26 0))
-pad_bits bytes count =
-    let b = get_or bytes 26 0 in
-    let one : drop 26 bytes ≡ b ∷ [] = drop_more bytes 26 0 (omega arith) ∙ ap (λ bs. b ∷ bs) (drop_all 27 bytes (omega arith)) in
-    sym (drop-drop 2 208 (bits_of_bytes bytes)) ∙ ap (drop 2) (drop-bits_of_bytes 26 bytes ∙ ap bits_of_bytes one ∙ bits_of_one b)
+-- what stands behind all but the last bits of the last byte
+last_bits : (bytes : List ℕ) (front keep : ℕ) → length bytes ≡ front + 1
+    → drop (8 * front + keep) (bits_of_bytes bytes) ≡ drop keep (num 8 (get_or bytes front 0))
+last_bits bytes front keep count =
+    let b = get_or bytes front 0 in
+    let one : drop front bytes ≡ b ∷ [] = drop_more bytes front 0 (omega arith) ∙ ap (λ bs. b ∷ bs) (drop_all (front + 1) bytes (omega arith)) in
+    sym (drop-drop keep (8 * front) (bits_of_bytes bytes)) ∙ ap (drop keep) (drop-bits_of_bytes front bytes ∙ ap bits_of_bytes one ∙ bits_of_one b)
 
-pad_count : (b : ℕ) → length (drop 2 (num 8 b)) ≡ 6
-pad_count b = length-drop 2 (num 8 b) ∙ ap (λ n. n - 2) (length-num 8 b)
+abbrev last : Size → List ℕ → ℕ
+last size bytes = get_or bytes (byte_count size - 1) 0
 
-pad_number : (b : ℕ) → b < 256 → num_of_bits (drop 2 (num 8 b)) ≡ b % 64
-pad_number b small = num_of_bits-drop 2 (num 8 b) ∙ ap₂ (λ n k. n % 2 ^ k) (num_of_bits-small 8 b small) (pad_count b)
+-- the pad bits are the last of the last byte
+pad_bits : (size : Size) (bytes : List ℕ) → length bytes ≡ byte_count size
+    → pad_bits_in size bytes ≡ drop (8 - pad_count size) (num 8 (last size bytes))
+pad_bits size bytes count =
+    let whole = whole_bytes size in
+    let few = few_pads size in
+    let some = some_bytes size in
+    let place : user_bits size ≡ 8 * (byte_count size - 1) + (8 - pad_count size) = omega arith in
+    ap (λ n. drop n (bits_of_bytes bytes)) place ∙ last_bits bytes (byte_count size - 1) (8 - pad_count size) (omega arith)
 
-no_number : num_of_bits (replicate 6 false) ≡ 0
+pad_length : (size : Size) (b : ℕ) → length (drop (8 - pad_count size) (num 8 b)) ≡ pad_count size
+pad_length size b =
+    let few = few_pads size in
+    length-drop (8 - pad_count size) (num 8 b) ∙ ap (λ n. n - (8 - pad_count size)) (length-num 8 b) ∙ omega arith
+
+pad_number : (size : Size) (b : ℕ) → b < 256 → num_of_bits (drop (8 - pad_count size) (num 8 b)) ≡ b % 2 ^ pad_count size
+pad_number size b small =
+    num_of_bits-drop (8 - pad_count size) (num 8 b) ∙ ap₂ (λ n k. n % 2 ^ k) (num_of_bits-small 8 b small) (pad_length size b)
+
+no_number : (size : Size) → num_of_bits (no_pads size) ≡ 0
 unfolding num_of_bits
-no_number = refl
+no_number Short = refl
+no_number Long = refl
 
-pub pads_are_zeros : (bytes : List ℕ) → length bytes ≡ 27 → get_or bytes 26 0 < 256 → get_or bytes 26 0 % 64 ≡ 0 → drop 210 (bits_of_bytes bytes) ≡ replicate 6 false
-pads_are_zeros bytes count small zero =
-    let b = get_or bytes 26 0 in
-    pad_bits bytes count ∙ same_from_num (drop 2 (num 8 b)) (replicate 6 false) (pad_count b) (pad_number b small ∙ zero ∙ sym no_number)
+pub pads_are_zeros : (size : Size) (bytes : List ℕ) → length bytes ≡ byte_count size → last size bytes < 256
+    → last size bytes % 2 ^ pad_count size ≡ 0 → pad_bits_in size bytes ≡ no_pads size
+pads_are_zeros size bytes count small zero =
+    let b = last size bytes in
+    pad_bits size bytes count
+    ∙ same_from_num (drop (8 - pad_count size) (num 8 b)) (no_pads size) (pad_length size b ∙ sym (length-replicate (pad_count size) false)) (pad_number size b small ∙ zero ∙ sym (no_number size))
 
 -- and the other way round
-pub pads_divide : (bytes : List ℕ) → length bytes ≡ 27 → get_or bytes 26 0 < 256 → drop 210 (bits_of_bytes bytes) ≡ replicate 6 false → get_or bytes 26 0 % 64 ≡ 0
-pads_divide bytes count small zeros =
-    sym (pad_number (get_or bytes 26 0) small) ∙ ap num_of_bits (sym (pad_bits bytes count) ∙ zeros) ∙ no_number
+pub pads_divide : (size : Size) (bytes : List ℕ) → length bytes ≡ byte_count size → last size bytes < 256
+    → pad_bits_in size bytes ≡ no_pads size → last size bytes % 2 ^ pad_count size ≡ 0
+pads_divide size bytes count small zeros =
+    sym (pad_number size (last size bytes) small) ∙ ap num_of_bits (sym (pad_bits size bytes count) ∙ zeros) ∙ no_number size
 
-pub a_pad_is_set : (bytes : List ℕ) → length bytes ≡ 27 → get_or bytes 26 0 < 256 → (get_or bytes 26 0 % 64 ≡ 0 → ⊥) → drop 210 (bits_of_bytes bytes) ≡ replicate 6 false → ⊥
-a_pad_is_set bytes count small set zeros = set (pads_divide bytes count small zeros)
+-- where they are, the bytes are padded; where not, one is set
+pub padded_when : (size : Size) (bytes : List ℕ) → length bytes ≡ byte_count size → last size bytes < 256
+    → pads_with_zeros size bytes ≡ true → ArePadded size bytes
+padded_when size bytes count small zero = record {
+  count = count;
+  padding = pads_are_zeros size bytes count small (eqb-true _ _ zero);
+}
+
+pub set_when : (size : Size) (bytes : List ℕ) → length bytes ≡ byte_count size → last size bytes < 256
+    → pads_with_zeros size bytes ≡ false → HavePadSet bytes
+set_when size bytes count small other = record {
+  size = size;
+  count = count;
+  set = λ zeros. eqb-false _ _ other (pads_divide size bytes count small zeros);
+}
+
+-- ---- the telegram in bytes
+
+same_size : (a b : Size) → user_bits a ≡ user_bits b → a ≡ b
+same_size Short Short e = refl
+same_size Short Long e = absurd (omega (arith, e))
+same_size Long Short e = absurd (omega (arith, e))
+same_size Long Long e = refl
+
+-- bytes of this size hold a telegram of no other
+pub of_its_size : (t : Telegram) (size : Size) (bits : List Bool) (bytes : List ℕ) → ArePadded size bytes
+    → bits ≡ user_bits_in size bytes → length bits ≡ user_bits size → IsTelegram t bits
+    → ArePadded t.size bytes × IsTelegram t (user_bits_in t.size bytes)
+of_its_size t size bits bytes padded is count x =
+    let same : size ≡ t.size = same_size size t.size (sym count ∙ x.count) in
+    subst (λ (s : Size). ArePadded s bytes × IsTelegram t (user_bits_in s bytes)) same
+    (padded, subst (λ (b : List Bool). IsTelegram t b) is x)
 
 -- ---- digits
 
@@ -55,38 +150,35 @@ a_pad_is_set bytes count small set zeros = set (pads_divide bytes count small ze
 pub failed_reason : (e : TextError) (text : List ℕ) → FailsDecoded e (decode_of text) → IsReason e text
 failed_reason errors.Memory text fails = tt
 failed_reason errors.NotHex text fails = λ h. let d = decode_of-digits text h.even h.digits in let f = fails.1 in let g = d.1 in cc (f, g)
-failed_reason errors.WrongSize text fails = record { bytes = fails.0; decoded = fails.1; reason = fails.2 }
+failed_reason errors.WrongSize text fails = absurd fails
 failed_reason errors.PadBits text fails = absurd fails
 failed_reason (errors.Fault f) text fails = absurd fails
 
--- ---- sizes
+-- ---- the canonical text
 
-pub canonical_length : (t : Telegram) → length (canonical_bits t) ≡ user_bits t.size
-canonical_length t =
-    let front = join (telegram_rows t) in
-    let n = user_bits t.size - length front in
-    let room : length front ≤ user_bits t.size = omega (arith, ap length (front_bits t), header_and_mark t) in
-    length-append front (replicate n true) ∙ ap (λ k. length front + k) (length-ones n) ∙ omega arith
-
--- bits of a short telegram in bytes leave six zeros
-pub six_zeros : (t : Telegram) (bits : List Bool) (bytes : List ℕ) → IsEncoding t bits → bits_of_bytes bytes ≡ bits ++ replicate (8 * length bytes - length bits) false → 8 * length bytes < length bits + 8
-    → bits_of_bytes bytes ≡ bits ++ replicate 6 false
-six_zeros t bits bytes encoding holds few =
+-- bits of a telegram in bytes leave zeros as pad bits
+pub zeros_left : (t : Telegram) (bits : List Bool) (bytes : List ℕ) → IsEncoding t bits
+    → bits_of_bytes bytes ≡ bits ++ replicate (8 * length bytes - length bits) false
+    → 8 * length bytes < length bits + 8 → bits_of_bytes bytes ≡ bits ++ no_pads t.size
+zeros_left t bits bytes encoding holds few =
     let k = 8 * length bytes - length bits in
-    let size : length bits ≡ 210 = ap length encoding.canonical ∙ canonical_length t ∙ sym (short_size t.size) in
-    let whole : 8 * length bytes ≡ length bits + k = sym (length-bits_of_bytes bytes) ∙ ap length holds ∙ length-append bits (replicate k false) ∙ ap (λ n. length bits + n) (length-replicate k false) in
-    let six : k ≡ 6 = omega arith in
-    holds ∙ ap (λ n. bits ++ replicate n false) six
+    let size : length bits ≡ user_bits t.size = ap length encoding.canonical ∙ canonical_length t encoding.fits in
+    let count : 8 * length bytes ≡ length bits + k = sym (length-bits_of_bytes bytes) ∙ ap length holds ∙ length-append bits (replicate k false) ∙ ap (λ n. length bits + n) (length-replicate k false) in
+    let whole = whole_bytes t.size in
+    let pads = few_pads t.size in
+    let left : k ≡ pad_count t.size = omega arith in
+    holds ∙ ap (λ n. bits ++ replicate n false) left
 
 -- what the canonical text is made of
-pub canonical_text : (t : Telegram) (bits : List Bool) (bytes text : List ℕ) → IsEncoding t bits → bits_of_bytes bytes ≡ bits ++ replicate (8 * length bytes - length bits) false → 8 * length bytes < length bits + 8
-    → IsBytes bytes → text ≡ encode_lower bytes → IsCanonicalText t text
+pub canonical_text : (t : Telegram) (bits : List Bool) (bytes text : List ℕ) → IsEncoding t bits
+    → bits_of_bytes bytes ≡ bits ++ replicate (8 * length bytes - length bits) false
+    → 8 * length bytes < length bits + 8 → IsBytes bytes → text ≡ encode_lower bytes → IsCanonicalText t text
 canonical_text t bits bytes text encoding holds few in_range written = record {
   bits = bits;
   encoding = encoding;
   bytes = bytes;
   in_range = in_range;
-  padded = six_zeros t bits bytes encoding holds few;
+  padded = zeros_left t bits bytes encoding holds few;
   written = written;
 }
 
@@ -96,7 +188,3 @@ pub written_text : (r : Result (String Global) EncodeError) (t : Telegram) (bits
     → IfOk r (λ s. string_bytes s ≡ encode_lower bytes) → OnOk r (IsBytes bytes) → IfOk r (λ s. IsCanonicalText t (string_bytes s))
 written_text (Ok s) t bits bytes encoding holds few written in_range = canonical_text t bits bytes (string_bytes s) encoding holds few in_range written
 written_text (Err e) t bits bytes encoding holds few written in_range = tt
-
--- a text of another size has another count of bytes
-pub other_count : (text bytes : List ℕ) → decode_of text ≡ Ok bytes → (length text ≡ 54 → ⊥) → length bytes ≡ 27 → ⊥
-other_count text bytes decoded other count = other (let twice = (decode_of-ok text bytes decoded).2 in omega (arith, twice, count))

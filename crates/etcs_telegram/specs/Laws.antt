@@ -1,6 +1,6 @@
 -- What holds of telegrams, their bits and their texts, whatever reads or writes them.
 use Rattle.std.specs.Prelude.{◌≡◌, ℕ, List, Bool, Ok}
-use Rattle.etcs_telegram.specs.declared.telegram.Telegram.{Telegram}
+use Rattle.etcs_telegram.specs.Record.{Telegram}
 use Rattle.etcs_telegram.specs.Telegram.{IsTelegram, IsEncoding, telegram_of}
 use Rattle.etcs_telegram.specs.Text.{IsTelegramText, IsCanonicalText, telegram_of_text}
 

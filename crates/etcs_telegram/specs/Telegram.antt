@@ -1,57 +1,77 @@
--- A telegram of a balise (SUBSET-026, 8.4.2; SUBSET-036, 4.3): its header, the end mark (packet 255,
--- eight ones), and then bits that say nothing, up to the size of a telegram.
-use Rattle.std.specs.Prelude.{◌≡◌, ℕ, ◌-◌, ◌==◌, true, List, Bool, ◌++◌, length, replicate, Result, Ok}
+-- A telegram of a balise (SUBSET-026, 8.4.2; SUBSET-036, 4.3): its header, its packets, the end mark
+-- (packet 255, eight ones), and then bits that say nothing, up to the size of a telegram.
+use Rattle.std.specs.Prelude.{◌≡◌, ℕ, ◌+◌, ◌-◌, ◌<◌, ◌≤◌, ◌==◌, if◌then◌else◌, true, List, Bool, ◌++◌, length, replicate, IsSome, Result, Ok, Err}
+use Rattle.std.specs.List.{flat_map}
 use Rattle.etcs_bits.specs.declared.fault.Fault.{Fault}
-use Rattle.etcs_bits.specs.declared.fault.FaultKind.TheVariants.{Unsupported}
-use Rattle.etcs_bits.specs.Rows.{Variable, Row, alone, AreAllowed, join, Place, IsSpelled}
-use Rattle.etcs_bits.specs.Fields.{Fields, one, ◌▹◌}
-use Rattle.etcs_bits.specs.Reading.{◌>>=◌, rows_at}
+use Rattle.etcs_bits.specs.Number.{num}
+use Rattle.etcs_bits.specs.Rows.{AreAllowed, join, width}
+use Rattle.etcs_packet.specs.declared.stop.Stop.TheVariants as stops
+use Rattle.etcs_packet.specs.declared.track.TrackPacket.{TrackPacket}
+use Rattle.etcs_packet.specs.Listed.{track_fields}
+use Rattle.etcs_packet.specs.Track.{track_rows, track_of}
+use Rattle.etcs_packet.specs.Whole.{BeginsWith, IsWholeFault, NoneWhole, start, whole_of}
+use Rattle.etcs_telegram.specs.declared.header.Header.{Header}
 use Rattle.etcs_telegram.specs.declared.size.Size.{Size}
-use Rattle.etcs_telegram.specs.declared.size.Size.TheVariants.{Short}
-use Rattle.etcs_telegram.specs.declared.telegram.Telegram.{Telegram}
+use Rattle.etcs_telegram.specs.declared.size.Size.TheVariants.{Short, Long}
 use Rattle.etcs_telegram.specs.Header.{header_fields, header_rows, header_of}
+use Rattle.etcs_telegram.specs.Record.{Telegram}
+use Rattle.etcs_telegram.specs.Sizes.{user_bits, size_of}
 
--- how many user bits a telegram of this size has
-abbrev pub user_bits : Size → ℕ
-user_bits Short = 210
+-- there are as many bits as some telegram has
+abbrev pub AreUserBits : List Bool → Type 0
+AreUserBits bits = IsSome (size_of (length bits))
 
--- NID_PACKET behind the header: in this stage the end mark alone, 255
-abbrev pub end_mark : Variable
-end_mark = record { width = 8; allows = λ n. n == 255; refusal = Unsupported; closes = true }
-
--- which fields a telegram has, up to the end mark
-abbrev pub telegram_fields : Fields
-telegram_fields = header_fields ▹ one end_mark
-
--- the rows of a telegram, up to the end mark
-abbrev pub telegram_rows : Telegram → List Row
-telegram_rows t = header_rows t.header ++ alone end_mark 255
-
--- the beginning of bits
-abbrev pub start : List Bool → Place
-start bits = record { bits = bits; at = 0 }
-
--- The bits are this telegram: as many as its size has, and its rows are spelled at their front. What
--- comes behind the end mark says nothing.
+-- The bits are this telegram: as many as its size has, and they begin with its header and its
+-- packets, up to the first end mark. What comes behind that says nothing.
 pub record IsTelegram (t : Telegram) (bits : List Bool) : Type 0 where
   pub count : length bits ≡ user_bits t.size
-  pub end : Place
-  pub spelled : IsSpelled (telegram_rows t) (start bits) end
+  pub begins : BeginsWith stops.Telegram header_rows track_rows t.header t.packets bits
+
+-- The first fault of the bits: that of the header, or of the packets behind a header that is whole.
+abbrev pub IsTelegramFault : List Bool → Fault → Type 0
+IsTelegramFault bits f = IsWholeFault stops.Telegram header_fields track_fields (start bits) f
+
+-- No bits of the same number that begin with the same first `end` bits are a telegram.
+abbrev pub IsNoTelegram : List Bool → Fault → Type 0
+IsNoTelegram bits f = NoneWhole stops.Telegram header_rows track_rows (start bits) f
+
+-- ---- from a telegram to bits
+
+-- how many bits its header, its packets and the end mark have
+abbrev pub used_bits : Telegram → ℕ
+used_bits t = 50 + width (flat_map track_rows t.packets) + 8
+
+-- they are more than the telegram's size has
+abbrev pub IsTooBig : Telegram → Type 0
+IsTooBig t = user_bits t.size < used_bits t
+
+-- the header, the packets and the end mark, one after the other
+abbrev pub front_bits : Telegram → List Bool
+front_bits t = join (header_rows t.header) ++ (join (flat_map track_rows t.packets) ++ num 8 255)
 
 -- the bits of a telegram, filled up with ones (this project's rule)
 abbrev pub canonical_bits : Telegram → List Bool
-canonical_bits t =
-    join (telegram_rows t) ++ replicate (user_bits t.size - length (join (telegram_rows t))) true
+canonical_bits t = front_bits t ++ replicate (user_bits t.size - used_bits t) true
 
--- The bits are the telegram's canonical spelling, and none of its numbers is spare.
+-- The bits are the telegram's canonical spelling, in which none of its numbers is spare.
 pub record IsEncoding (t : Telegram) (bits : List Bool) : Type 0 where
-  pub allowed : AreAllowed (telegram_rows t)
+  pub fits : used_bits t ≤ user_bits t.size
+  pub header : AreAllowed (header_rows t.header)
+  pub packets : AreAllowed (flat_map track_rows t.packets)
   pub canonical : bits ≡ canonical_bits t
 
--- the short telegram that rows begin with
-abbrev pub telegram_with : List Row → Telegram
-telegram_with rows = record { size = Short; header = header_of rows }
+-- ---- as a function
 
--- what 210 bits mean: their telegram, or their first fault
+-- the size of so many bits
+abbrev pub size_by : ℕ → Size
+size_by n = if n == 210 then Short else Long
+
+-- a telegram in so many bits, of this header and these packets
+abbrev pub telegram_by : ℕ → Result (Header × List TrackPacket) Fault → Result Telegram Fault
+telegram_by n (Ok read) = Ok (record { size = size_by n; header = read.0; packets = read.1 })
+telegram_by n (Err f) = Err f
+
+-- what 210 or 830 bits mean: their telegram, or their first fault
 unfoldable pub telegram_of : List Bool → Result Telegram Fault
-telegram_of bits = rows_at telegram_fields (start bits) >>= λ read. Ok (telegram_with read.0)
+telegram_of bits =
+    telegram_by (length bits) (whole_of stops.Telegram header_fields header_of track_fields track_of bits)

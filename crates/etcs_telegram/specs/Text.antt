@@ -1,37 +1,45 @@
--- Telegrams as text: the hexadecimal digits of their bytes, 210 user bits and six zeros, the pad
--- bits, in 27 bytes. Digits of either case are read, lower-case ones are written.
-use Rattle.std.specs.Prelude.{◌≡◌, ◌≢◌, ℕ, ◌%◌, ◌==◌, Bool, false, if◌then◌else◌, List, ◌++◌, length, take, drop, replicate, slice_index, Result, Ok, Err}
+-- Telegrams as text: the hexadecimal digits of their bytes, the user bits and then zeros, the pad
+-- bits, up to a whole byte. Digits of either case are read, lower-case ones are written.
+use Rattle.std.specs.Prelude.{◌≡◌, ◌≢◌, ℕ, ◌-◌, ◌%◌, ◌^◌, ◌==◌, Bool, false, if◌then◌else◌, List, ◌++◌, length, take, drop, replicate, slice_index, Option, Some, None, Result, Ok, Err}
 use Rattle.std.specs.List.{AllPass}
 use Rattle.hex.specs.Hex.{decode_of, encode_lower, is_hex_digit, IsBytes}
 use Rattle.hex.specs.declared.error.FromHexError.{FromHexError}
 use Rattle.etcs_bits.specs.declared.fault.Fault.{Fault}
 use Rattle.etcs_bits.specs.Number.{bits_of_bytes}
-use Rattle.etcs_bits.specs.Fault.{IsFault, NoneBegins}
-use Rattle.etcs_telegram.specs.declared.telegram.Telegram.{Telegram}
+use Rattle.etcs_telegram.specs.declared.size.Size.{Size}
 use Rattle.etcs_telegram.specs.declared.error.TextError.{TextError}
 use Rattle.etcs_telegram.specs.declared.error.TextError.TheVariants as errors
-use Rattle.etcs_telegram.specs.Telegram.{IsTelegram, IsEncoding, telegram_fields, telegram_rows, telegram_of, start}
+use Rattle.etcs_telegram.specs.Record.{Telegram}
+use Rattle.etcs_telegram.specs.Sizes.{user_bits, byte_count, pad_count, size_in}
+use Rattle.etcs_telegram.specs.Telegram.{IsTelegram, IsTelegramFault, IsNoTelegram, IsEncoding, telegram_of}
 
 -- The text is an even number of hexadecimal digits, of either case.
 pub record IsHexadecimal (text : List ℕ) : Type 0 where
   pub even : length text % 2 ≡ 0
   pub digits : AllPass is_hex_digit text
 
--- the 210 user bits of 27 bytes
-abbrev pub user_bits_in : List ℕ → List Bool
-user_bits_in bytes = take 210 (bits_of_bytes bytes)
+-- the user bits of bytes, in a telegram of this size, and the pad bits behind them
+abbrev pub user_bits_in : Size → List ℕ → List Bool
+user_bits_in size bytes = take (user_bits size) (bits_of_bytes bytes)
 
--- there are 27 bytes, and the six bits behind their user bits, the pad bits, are zeros
-pub record ArePadded (bytes : List ℕ) : Type 0 where
-  pub count : length bytes ≡ 27
-  pub padding : drop 210 (bits_of_bytes bytes) ≡ replicate 6 false
+abbrev pub pad_bits_in : Size → List ℕ → List Bool
+pad_bits_in size bytes = drop (user_bits size) (bits_of_bytes bytes)
+
+-- zeros, as many as a telegram of this size has pad bits
+abbrev pub no_pads : Size → List Bool
+no_pads size = replicate (pad_count size) false
+
+-- There are as many bytes as a telegram of this size has, and all pad bits are zeros.
+pub record ArePadded (size : Size) (bytes : List ℕ) : Type 0 where
+  pub count : length bytes ≡ byte_count size
+  pub padding : pad_bits_in size bytes ≡ no_pads size
 
 -- The text is this telegram.
 pub record IsTelegramText (t : Telegram) (text : List ℕ) : Type 0 where
   pub bytes : List ℕ
   pub decoded : decode_of text ≡ Ok bytes
-  pub padded : ArePadded bytes
-  pub telegram : IsTelegram t (user_bits_in bytes)
+  pub padded : ArePadded t.size bytes
+  pub telegram : IsTelegram t (user_bits_in t.size bytes)
 
 -- The text is the canonical one of this telegram: its bits filled up with ones, zeros as pad bits,
 -- in lower-case digits.
@@ -40,19 +48,29 @@ pub record IsCanonicalText (t : Telegram) (text : List ℕ) : Type 0 where
   pub encoding : IsEncoding t bits
   pub bytes : List ℕ
   pub in_range : IsBytes bytes
-  pub padded : bits_of_bytes bytes ≡ bits ++ replicate 6 false
+  pub padded : bits_of_bytes bytes ≡ bits ++ no_pads t.size
   pub written : text ≡ encode_lower bytes
+
+-- the bytes are those of a telegram, but for a pad bit that is set
+pub record HavePadSet (bytes : List ℕ) : Type 0 where
+  pub size : Size
+  pub count : length bytes ≡ byte_count size
+  pub set : pad_bits_in size bytes ≢ no_pads size
+
+-- the bytes are those of a telegram, but for a fault of the user bits
+pub record HaveFault (bytes : List ℕ) (f : Fault) : Type 0 where
+  pub size : Size
+  pub padded : ArePadded size bytes
+  pub first : IsTelegramFault (user_bits_in size bytes) f
+  pub none : IsNoTelegram (user_bits_in size bytes) f
 
 -- why bytes are refused is so, and what is looked for before is not
 abbrev pub IsReasonIn : TextError → List ℕ → Type 0
 IsReasonIn errors.Memory bytes = Unit {0}
 IsReasonIn errors.NotHex bytes = ⊥
-IsReasonIn errors.WrongSize bytes = length bytes ≢ 27
-IsReasonIn errors.PadBits bytes =
-    (length bytes ≡ 27) × (drop 210 (bits_of_bytes bytes) ≢ replicate 6 false)
-IsReasonIn (errors.Fault f) bytes =
-    ArePadded bytes × IsFault telegram_fields (start (user_bits_in bytes)) f
-    × NoneBegins telegram_rows (start (user_bits_in bytes)) f
+IsReasonIn errors.WrongSize bytes = (size : Size) → length bytes ≢ byte_count size
+IsReasonIn errors.PadBits bytes = HavePadSet bytes
+IsReasonIn (errors.Fault f) bytes = HaveFault bytes f
 
 -- why hexadecimal text is refused is so of its bytes
 pub record IsReasonDecoded (e : TextError) (text : List ℕ) : Type 0 where
@@ -70,23 +88,25 @@ IsReason (errors.Fault f) text = IsReasonDecoded (errors.Fault f) text
 
 -- ---- as a function
 
--- the last six bits of the last byte are zeros
-abbrev pub pads_with_zeros : List ℕ → Bool
-pads_with_zeros bytes = slice_index bytes 26 % 64 == 0
+-- the pad bits, the last ones of the last byte, are zeros
+abbrev pub pads_with_zeros : Size → List ℕ → Bool
+pads_with_zeros size bytes = slice_index bytes (byte_count size - 1) % 2 ^ pad_count size == 0
 
 -- what the bits mean
 abbrev pub of_bits : Result Telegram Fault → Result Telegram TextError
 of_bits (Ok t) = Ok t
 of_bits (Err f) = Err (errors.Fault f)
 
--- what 27 bytes mean: pad bits are looked at first
-abbrev pub of_27_bytes : List ℕ → Result Telegram TextError
-of_27_bytes bytes =
-    if pads_with_zeros bytes then of_bits (telegram_of (user_bits_in bytes)) else Err errors.PadBits
+-- what bytes of a telegram of this size mean: pad bits are looked at first
+abbrev pub of_size : Option Size → List ℕ → Result Telegram TextError
+of_size None bytes = Err errors.WrongSize
+of_size (Some size) bytes =
+    if pads_with_zeros size bytes then of_bits (telegram_of (user_bits_in size bytes))
+    else Err errors.PadBits
 
 -- what bytes mean: their number is looked at first
 abbrev pub of_bytes : List ℕ → Result Telegram TextError
-of_bytes bytes = if length bytes == 27 then of_27_bytes bytes else Err errors.WrongSize
+of_bytes bytes = of_size (size_in (length bytes)) bytes
 
 -- what digits mean, seen as the bytes that they spell
 abbrev pub of_decoded : Result (List ℕ) FromHexError → Result Telegram TextError
@@ -110,10 +130,8 @@ abbrev pub IsTextMeaning : Result Telegram TextError → Result Telegram TextErr
 IsTextMeaning (Ok t) meaning = meaning ≡ Ok t
 IsTextMeaning (Err e) meaning = TextFails e meaning
 
--- memory ran out; or the text is not hexadecimal; or it is, and of another size
+-- memory ran out, or the text is not hexadecimal
 abbrev pub FailsDecoded : TextError → Result (List ℕ) FromHexError → Type 0
 FailsDecoded errors.Memory decoded = Unit {0}
 FailsDecoded errors.NotHex decoded = (e : FromHexError) × (decoded ≡ Err e)
-FailsDecoded errors.WrongSize decoded =
-    (bytes : List ℕ) × (decoded ≡ Ok bytes) × (length bytes ≢ 27)
 FailsDecoded _ decoded = ⊥

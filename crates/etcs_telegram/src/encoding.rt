@@ -1,11 +1,13 @@
 //! From a telegram to bits.
 
-ghost use Rattle.std.specs.Prelude.{◌≡◌, ◌-◌, ◌≤◌, ◌++◌, true, length, replicate, IfOk, OnOk};
-ghost use Rattle.etcs_telegram.specs.Telegram.{IsEncoding};
+ghost use Rattle.std.specs.Prelude.{◌≡◌, ◌↔◌, ◌-◌, ◌≤◌, ◌++◌, min, true, length, replicate, IfOk, IsErrOf, OnOk};
+ghost use Rattle.etcs_telegram.specs.Sizes.{user_bits};
+ghost use Rattle.etcs_telegram.specs.Telegram.{IsEncoding, IsTooBig, used_bits};
 
 use crate::error::EncodeError;
 use crate::telegram::Telegram;
-use etcs_bits::{Bits, Layout, Memory};
+use etcs_bits::{Bits, Layout, Memory, width_of};
+use etcs_packet::write_packets;
 use std::alloc::Global;
 
 // Fills the bits up with ones to the length.
@@ -20,16 +22,39 @@ fn fill(bits: &mut Bits, len: usize) -> Result<(), Memory>
     Ok(())
 }
 
-/// The telegram's user bits: 210, filled up with ones (this project's rule) behind the end mark. In
-/// this stage it fails only if memory runs out.
-pub fn encode(alloc: Global, telegram: &Telegram) -> Result<Bits, EncodeError>
-    ensures ok { IfOk result (λ b. IsEncoding telegram.now b) }
+// How many bits the header, the packets and the end mark have.
+fn used_width(telegram: &Telegram) -> u64
+    ensures { result ≡ min (used_bits telegram.now) u64.MAX }
+{
+    width_of(telegram.packets.as_slice()).saturating_add(58)
+}
+
+// Writes the header, the packets and the end mark, and fills up with ones.
+fn write(alloc: Global, telegram: &Telegram) -> Result<Bits, Memory>
+    requires { used_bits telegram.now ≤ user_bits telegram.now.size }
+    ensures { IfOk result (λ b. IsEncoding telegram.now b) }
 {
     let allowed = telegram.header.is_allowed();
     prove!(allowed);
     let mut bits = Bits::new(alloc);
     telegram.header.write(&mut bits)?;
+    write_packets(telegram.packets.as_slice(), &mut bits)?;
     bits.push_num(8, 255)?;
     fill(&mut bits, telegram.size.user_bits())?;
     Ok(bits)
+}
+
+/// The telegram's user bits, filled up with ones (this project's rule) behind the end mark: 210 or
+/// 830, by its size.
+///
+/// `TooBig`: its header, packets and end mark have more bits; this is found before memory is asked
+/// for.
+pub fn encode(alloc: Global, telegram: &Telegram) -> Result<Bits, EncodeError>
+    ensures ok { IfOk result (λ b. IsEncoding telegram.now b) }
+    ensures too_big { IsErrOf result EncodeError.TooBig ↔ IsTooBig telegram.now }
+{
+    if used_width(telegram) > telegram.size.user_bits() as u64 {
+        return Err(EncodeError::TooBig);
+    }
+    Ok(write(alloc, telegram)?)
 }

@@ -1,5 +1,8 @@
 //! Why a telegram is not read or written.
 
+ghost use Rattle.std.specs.Prelude.{◌≡◌};
+ghost use Rattle.etcs_telegram.specs.declared.error.EncodeError.TheVariants as errors;
+
 use etcs_bits::{DecodeError, Fault, Memory};
 use thiserror::Error;
 
@@ -9,6 +12,9 @@ pub enum EncodeError {
     /// Memory ran out.
     #[error("out of memory")]
     Memory,
+    /// Its header, its packets and the end mark have more bits than its size.
+    #[error("too big")]
+    TooBig,
 }
 
 /// Why a text is no telegram, in the order in which the reasons are looked for.
@@ -20,10 +26,10 @@ pub enum TextError {
     /// It is not an even number of hexadecimal digits, of either case.
     #[error("not hexadecimal")]
     NotHex,
-    /// It has another number of digits than 54.
+    /// It has another number of digits than 54 and 208.
     #[error("wrong size")]
     WrongSize,
-    /// One of the six bits behind the 210 user bits is set.
+    /// One of the bits behind the user bits is set: of six behind 210, of two behind 830.
     #[error("pad bits set")]
     PadBits,
     /// The user bits are no telegram; this is their first fault.
@@ -32,6 +38,8 @@ pub enum TextError {
 }
 
 impl From<Memory> for EncodeError {
+    ghost from_gives = { λ _ error. error ≡ errors.Memory };
+
     fn from(_memory: Memory) -> EncodeError {
         EncodeError::Memory
     }

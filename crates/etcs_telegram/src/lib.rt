@@ -2,10 +2,10 @@
 //! SUBSET-036, 4.3).
 //!
 //! [`from_hex`] and [`to_hex`] read and write the text of a [`Telegram`], [`decode`] and [`encode`]
-//! its user bits; both stand on the contract of [`etcs_bits::Layout`] for the [`Header`]. Read
-//! `telegram.rt` and `text.rt` first, with `specs/Telegram.antt` and `specs/Text.antt`; what holds
-//! of every telegram and its text is in [`laws`]. Left out in this stage: packets other than the end
-//! mark, long telegrams, and the channel coding of the user bits.
+//! its user bits; both stand on the contract of [`etcs_bits::Layout`] for the [`Header`], and on
+//! `etcs_packet` for the packets behind it. Read `telegram.rt` and `text.rt` first, with
+//! `specs/Telegram.antt` and `specs/Text.antt`; what holds of every telegram and its text is in
+//! [`laws`]. Left out: the channel coding of the user bits.
 #![tactic(auto)]
 
 mod decoding;
@@ -24,6 +24,3 @@ pub use header::Header;
 pub use size::Size;
 pub use telegram::Telegram;
 pub use text::{from_hex, to_hex};
-
-#[cfg(test)]
-mod tests;

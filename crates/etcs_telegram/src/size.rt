@@ -2,16 +2,39 @@
 
 ghost use Rattle.std.specs.Prelude.{◌≡◌};
 
-/// How many user bits a telegram has (SUBSET-036, 4.3). This stage of the product reads the short
-/// ones alone.
+/// How long a telegram is (SUBSET-036, 4.3).
 #[derive(Clone, Copy, Debug, PartialEq, Eq)]
 pub enum Size {
-    /// 210 user bits.
+    /// 210 user bits, in 27 bytes.
     Short,
+    /// 830 user bits, in 104 bytes.
+    Long,
 }
 
 impl Size {
-    ghost use Rattle.etcs_telegram.specs.Telegram.{user_bits};
+    ghost use Rattle.etcs_telegram.specs.Sizes.{byte_count, pad_count, size_in, size_of, user_bits};
+
+    /// The size of a telegram with so many user bits: 210 or 830, and none with any other number.
+    pub fn of_len(n: usize) -> Option<Size>
+        ensures { result ≡ size_of n }
+    {
+        match n {
+            210 => Some(Size::Short),
+            830 => Some(Size::Long),
+            _ => None,
+        }
+    }
+
+    // The size of a telegram in so many bytes.
+    pub(crate) fn in_bytes(n: usize) -> Option<Size>
+        ensures { result ≡ size_in n }
+    {
+        match n {
+            27 => Some(Size::Short),
+            104 => Some(Size::Long),
+            _ => None,
+        }
+    }
 
     // How many user bits a telegram of this size has.
     pub(crate) fn user_bits(self) -> usize
@@ -19,6 +42,27 @@ impl Size {
     {
         match self {
             Size::Short => 210,
+            Size::Long => 830,
+        }
+    }
+
+    // In how many bytes they stand.
+    pub(crate) fn byte_count(self) -> usize
+        ensures { result ≡ byte_count self }
+    {
+        match self {
+            Size::Short => 27,
+            Size::Long => 104,
+        }
+    }
+
+    // How many bits of the last byte are none of them.
+    pub(crate) fn pad_count(self) -> u32
+        ensures { result ≡ pad_count self }
+    {
+        match self {
+            Size::Short => 6,
+            Size::Long => 2,
         }
     }
 }

@@ -1,15 +1,17 @@
-use Rattle.etcs_telegram.proofs.TelegramLemmas.{decoded_telegram, decoded_fault, decoded_none, decoded_meaning}
+use Rattle.std.proofs.Common.{◌≡◌, Some, length}
+use Rattle.std.proofs.lemmas.Result.{err_from_is_err_and}
+use Rattle.etcs_telegram.specs.Sizes.{size_of}
+use Rattle.etcs_telegram.proofs.TelegramLemmas.{read_meaning, failed_meaning}
 use Rattle.etcs_telegram.proofs.decoding.decode.Goals as goal
 
--- what is read from the start on is what the bits spell
-pub returns-clause-ok : goal.returns-clause-ok
-returns-clause-ok c = decoded_telegram c.scan.result c.args.bits.now c.scan.new.cur c.requires (rw c.new-cur.ensures at c.scan.ensures)
+-- what the header and the packets are refused for, the telegram is
+pub returns-in_err-header-clause-exact : goal.returns-in_err-header-clause-exact
+returns-in_err-header-clause-exact c =
+    let failed = err_from_is_err_and c.from_residual.result c.from_residual.ensures.1 in
+    rw (failed.1, failed.2) (failed_meaning c.in_err-header.field-0.0 c.args.bits.now c.in_err-header.ensures.exact)
 
-pub returns-clause-fault : goal.returns-clause-fault
-returns-clause-fault c = decoded_fault c.scan.result c.args.bits.now c.scan.new.cur (rw c.new-cur.ensures at c.scan.ensures)
-
-pub returns-clause-none : goal.returns-clause-none
-returns-clause-none c = decoded_none c.scan.result c.args.bits.now c.scan.new.cur (rw c.new-cur.ensures at c.scan.ensures)
-
+-- what is read is the telegram, of the size that was found
 pub returns-clause-exact : goal.returns-clause-exact
-returns-clause-exact c = decoded_meaning c.scan.result c.args.bits.now c.scan.new.cur (rw c.new-cur.ensures at c.scan.ensures)
+returns-clause-exact c =
+    let found : size_of (length c.args.bits.now) ≡ Some c.unwrap-size.result = cc (c.of_len.ensures, c.len.ensures, c.unwrap-size.ensures) in
+    read_meaning c.in_ok-header.header c.in_ok-header.packets.items c.unwrap-size.result c.args.bits.now found c.in_ok-header.ensures.exact

@@ -1,17 +1,14 @@
-use Rattle.std.proofs.Common.{refl, ◌∙◌, ◌++◌, ◌-◌, length, ap, ap₂, ℕ, arith, List, Bool, replicate, true}
-use Rattle.etcs_telegram.proofs.TelegramLemmas.{is_encoding, header_and_mark, written_front}
+use Rattle.std.proofs.Common.{◌≤◌, ap, arith, refl}
+use Rattle.std.proofs.lemmas.Result.{err_from_is_err_and}
+use Rattle.etcs_telegram.specs.Record.{Telegram}
+use Rattle.etcs_telegram.specs.Sizes.{user_bits}
+use Rattle.etcs_telegram.specs.Telegram.{used_bits}
+use Rattle.etcs_telegram.proofs.TelegramLemmas.{few_bits, only_memory}
 use Rattle.etcs_telegram.proofs.encoding.encode.Goals as goal
 
--- a header and the end mark leave room
-pub fill-requires : goal.fill-requires
-fill-requires c =
-    let front = written_front c.args.telegram.now.header _ _ _ c.new-bits.ensures c.in_ok-write.ensures.ok c.in_ok-push_num.ensures.ok in
-    omega (arith, ap length front, header_and_mark c.args.telegram.now, c.user_bits.ensures)
-
--- the header, the end mark, and ones up to the size
-pub returns : goal.returns
-returns c =
-    let t = c.args.telegram.now in
-    let front = written_front t.header _ _ _ c.new-bits.ensures c.in_ok-write.ensures.ok c.in_ok-push_num.ensures.ok in
-    let filled = λ (n : ℕ) (xs : List Bool). xs ++ replicate (n - length xs) true in
-    record { ok = is_encoding t c.fill.new.bits (c.if-prove.ensures.allowed.0 refl) (c.in_ok-fill.ensures ∙ ap₂ filled c.user_bits.ensures front) }
+-- where the telegram fits, only memory can be wanting
+pub returns-in_err-write-clause-too_big : goal.returns-in_err-write-clause-too_big
+returns-in_err-write-clause-too_big c =
+    let failed = err_from_is_err_and c.from_residual.result c.from_residual.ensures.1 in
+    let fits : used_bits c.args.telegram.now ≤ user_bits c.args.telegram.now.size = omega (arith, c.if-used_width-user_bits.false, c.used_width.ensures, c.user_bits.ensures, ap (λ (t : Telegram). user_bits t.size) c.telegram.view_is, few_bits c.args.telegram.now.size) in
+    only_memory c.from_residual.result c.args.telegram.now fits (rw (failed.1, failed.2) refl)

@@ -1,5 +1,6 @@
 use Rattle.std.proofs.Common.{◌∙◌, sym}
-use Rattle.etcs_telegram.proofs.LawLemmas.{telegram_meaning, encoding_telegram, one_meaning}
+use Rattle.etcs_telegram.proofs.TelegramLemmas.{telegram_meaning, encoding_telegram}
+use Rattle.etcs_telegram.proofs.LawLemmas.{one_meaning}
 use Rattle.etcs_telegram.proofs.laws.encodings_are_one_to_one.Goals as goal
 
 -- both are what the bits mean

@@ -1,4 +1,4 @@
-use Rattle.etcs_telegram.proofs.LawLemmas.{encoding_telegram}
+use Rattle.etcs_telegram.proofs.TelegramLemmas.{encoding_telegram}
 use Rattle.etcs_telegram.proofs.laws.encodings_are_telegrams.Goals as goal
 
 -- its rows stand at the front of their own join

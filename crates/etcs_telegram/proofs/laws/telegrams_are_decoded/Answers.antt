@@ -1,4 +1,4 @@
-use Rattle.etcs_telegram.proofs.LawLemmas.{telegram_meaning}
+use Rattle.etcs_telegram.proofs.TelegramLemmas.{telegram_meaning}
 use Rattle.etcs_telegram.proofs.laws.telegrams_are_decoded.Goals as goal
 
 -- reading gives the rows that stand there

@@ -1,4 +1,4 @@
-use Rattle.etcs_telegram.proofs.LawLemmas.{telegram_meaning, encoding_telegram}
+use Rattle.etcs_telegram.proofs.TelegramLemmas.{telegram_meaning, encoding_telegram}
 use Rattle.etcs_telegram.proofs.laws.what_is_encoded_is_decoded.Goals as goal
 
 -- an encoding is a telegram

@@ -1,33 +1,40 @@
-use Rattle.std.proofs.Common.{◌<◌, get_or, subst, List, Bool, arith}
-use Rattle.etcs_bits.specs.Fault.{IsFault, NoneBegins}
-use Rattle.etcs_telegram.specs.Telegram.{IsTelegram, telegram_fields, telegram_rows, start}
-use Rattle.etcs_telegram.proofs.TextLemmas.{pads_are_zeros, a_pad_is_set}
+use Rattle.std.proofs.Common.{◌≡◌, ◌<◌, ◌-◌, ◌∙◌, false, true, length, get_or, sym, ap, subst, List, Bool, arith}
+use Rattle.etcs_telegram.specs.Sizes.{byte_count, size_in}
+use Rattle.etcs_telegram.specs.Telegram.{IsTelegramFault, IsNoTelegram}
+use Rattle.etcs_telegram.specs.Text.{pads_with_zeros}
+use Rattle.etcs_telegram.proofs.TextLemmas.{size_counts, padded_when, set_when, of_its_size}
 use Rattle.etcs_telegram.proofs.text.telegram_in.Goals as goal
 
--- what 64 does not divide has one of its last six bits set
-pub returns-then-bytes-ne0-clause-reason : goal.returns-then-bytes-ne0-clause-reason
-returns-then-bytes-ne0-clause-reason c =
-    let small : get_or c.args.bytes.now 26 0 < 256 = omega (arith, c.type_inv.bytes 26) in
-    (c.requires, a_pad_is_set c.args.bytes.now c.requires small c.if-bytes-ne0.true)
+-- what is not divided has a pad bit set
+pub returns-then-not-is_padded-clause-reason : goal.returns-then-not-is_padded-clause-reason
+returns-then-not-is_padded-clause-reason c =
+    let size = c.in-Some.size in
+    let bytes = c.args.bytes.now in
+    let count = size_counts (length bytes) size (sym c.in_bytes.ensures ∙ c.in-Some.is) in
+    set_when size bytes count (omega (arith, c.type_inv.bytes (byte_count size - 1))) (sym c.is_padded.ensures ∙ c.if-not-is_padded.true)
 
--- what it divides has none
+-- what is divided is padded, and has the size of its telegram
 pub returns-in-Ok-decode-clause-ok : goal.returns-in-Ok-decode-clause-ok
 returns-in-Ok-decode-clause-ok c =
-    let small : get_or c.args.bytes.now 26 0 < 256 = omega (arith, c.type_inv.bytes 26) in
-    let count = c.requires in (
-      record { count = count; padding = pads_are_zeros c.args.bytes.now count small c.if-bytes-ne0.false },
-      subst (λ (bits : List Bool). IsTelegram c.in-Ok-decode.telegram bits) c.in-Ok.ensures.bits c.in-Ok-decode.ensures.ok,
-    )
+    let size = c.in-Some.size in
+    let bytes = c.args.bytes.now in
+    let count = size_counts (length bytes) size (sym c.in_bytes.ensures ∙ c.in-Some.is) in
+    let padded = padded_when size bytes count (omega (arith, c.type_inv.bytes (byte_count size - 1))) (sym c.is_padded.ensures ∙ c.if-not-is_padded.false) in
+    of_its_size c.in-Ok-decode.telegram size c.in-Ok.bits bytes padded (rw c.user_bits.ensures at c.in-Ok.ensures.bits) (c.in-Ok.ensures.len ∙ c.user_bits.ensures) c.in-Ok-decode.ensures.ok
 
 -- and the fault is that of the user bits
 pub returns-clause-reason : goal.returns-clause-reason
 returns-clause-reason c =
-    let small : get_or c.args.bytes.now 26 0 < 256 = omega (arith, c.type_inv.bytes 26) in
-    let count = c.requires in
+    let size = c.in-Some.size in
+    let bytes = c.args.bytes.now in
+    let count = size_counts (length bytes) size (sym c.in_bytes.ensures ∙ c.in-Some.is) in
     let f = c.in-Err-Fault.fault in
+    let is = rw c.user_bits.ensures at c.in-Ok.ensures.bits in
     let fault = rw c.in-Err-Fault.field-0-is at c.in-Err-Fault.ensures.fault in
-    let none = rw c.in-Err-Fault.field-0-is at c.in-Err-Fault.ensures.none in (
-      record { count = count; padding = pads_are_zeros c.args.bytes.now count small c.if-bytes-ne0.false },
-      subst (λ (bits : List Bool). IsFault telegram_fields (start bits) f) c.in-Ok.ensures.bits fault,
-      subst (λ (bits : List Bool). NoneBegins telegram_rows (start bits) f) c.in-Ok.ensures.bits none,
-    )
+    let none = rw c.in-Err-Fault.field-0-is at c.in-Err-Fault.ensures.none in
+    record {
+      size = size;
+      padded = padded_when size bytes count (omega (arith, c.type_inv.bytes (byte_count size - 1))) (sym c.is_padded.ensures ∙ c.if-not-is_padded.false);
+      first = subst (λ (bits : List Bool). IsTelegramFault bits f) is fault;
+      none = subst (λ (bits : List Bool). IsNoTelegram bits f) is none;
+    }
