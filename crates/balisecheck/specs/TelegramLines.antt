@@ -63,7 +63,6 @@ kind_words kinds.Downlink = codes "down-link"
 kind_words kinds.MessageKind = codes "message kind"
 kind_words kinds.NoAuthority = codes "no authority"
 kind_words kinds.NoReport = codes "no report"
-kind_words kinds.Unsupported = codes "unsupported"
 
 -- what is wrong, where its field begins, and by which bit it is decided
 abbrev pub fault_words : Fault → List ℕ

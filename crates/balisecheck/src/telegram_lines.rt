@@ -51,7 +51,6 @@ fn kind_text(kind: FaultKind) -> &'static str
         FaultKind::MessageKind => "message kind",
         FaultKind::NoAuthority => "no authority",
         FaultKind::NoReport => "no report",
-        FaultKind::Unsupported => "unsupported",
     }
 }
 

@@ -104,8 +104,20 @@ fn the_first_refused_line_ends_the_run(rt: HostRuntime) -> Result<(), Fail> {
             "spare at 15 end 17",
         ),
         (
-            "a1007f802000c5501b40001fe0ffffffffffffffffffffffffffc0",
-            "unsupported at 50 end 58",
+            "a1007f802000c5501bc0001fe0ffffffffffffffffffffffffffc0",
+            "length at 60 end 104",
+        ),
+        (
+            "a1007f802000cb2050000000000000000000000000000000000000",
+            "no end at 210 end 210",
+        ),
+        (
+            "a1007f802000cb2050800000000000000000000000000000000000",
+            "short at 73 end 210",
+        ),
+        (
+            "a1007f802000cb200b000000000000000000000000000000000000",
+            "length at 60 end 73",
         ),
     ] {
         let refusal = format!(in rt.alloc(); "refused: line 1: {text}\n")?;

@@ -43,9 +43,6 @@ pub enum FaultKind {
     /// A position report message holds neither packet 0 nor packet 1.
     #[error("no report")]
     NoReport,
-    /// A packet other than the end mark (packet 255); this stage of the product reads none.
-    #[error("unsupported")]
-    Unsupported,
 }
 
 /// The first fault of an input, printed as `spare at 15 end 17`.

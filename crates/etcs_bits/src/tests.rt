@@ -200,7 +200,6 @@ fn errors_say_what_is_wrong(rt: HostRuntime) -> Result<(), Fail> {
         (FaultKind::MessageKind, "message kind"),
         (FaultKind::NoAuthority, "no authority"),
         (FaultKind::NoReport, "no report"),
-        (FaultKind::Unsupported, "unsupported"),
     ];
     for (why, text) in kinds {
         assert_eq!(rt; why.to_string(rt.alloc())?.as_str(), text);
