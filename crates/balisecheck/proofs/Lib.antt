@@ -5,3 +5,4 @@ pub mod TellingLemmas
 pub mod RunLemmas
 pub mod CommandLemmas
 pub mod TextLemmas
+pub mod FormLemmas

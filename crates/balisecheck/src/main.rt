@@ -7,11 +7,16 @@
 //! `text_lines.rt` and `telegram_lines.rt`. The commands `check` and `encode` are left out so far.
 #![tactic(auto)]
 
+mod authority_form;
 mod command;
 mod counted;
 mod decoding;
 mod error;
+mod form;
+mod linking_form;
+mod number_forms;
 mod output;
+mod profile_form;
 mod program;
 mod status;
 mod telegram_form;
@@ -19,6 +24,7 @@ mod telegram_lines;
 #[cfg(test)]
 mod tests;
 mod text_lines;
+mod transition_form;
 mod turn;
 
 use crate::counted::Counted;
