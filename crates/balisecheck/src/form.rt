@@ -6,7 +6,7 @@ ghost use Rattle.serde_json.specs.Data.{Data};
 ghost use Rattle.serde_json.specs.Events.{SendsValue};
 ghost use Rattle.balisecheck.specs.Forms.{always, array_of, count_of, maybe, SendsEntry};
 
-use serde::Serializer;
+use serde::{Described, Serialize, Serializer};
 
 /// What has a JSON form. Each value is sent piece by piece, and none is kept in memory.
 pub trait Form {
@@ -102,4 +102,18 @@ pub fn send_first_and<T: Form, S: Serializer>(
     first.send(out)?;
     send_items(out, further)?;
     out.end_seq()
+}
+
+/// A record, to be written in its form.
+#[derive(Clone, Copy)]
+pub struct Sent<'a, T>(pub &'a T);
+
+impl<'a, T: Form> Described for Sent<'a, T> {
+    ghost writes = { λ sent. SendsValue (T.form sent.0.now) };
+}
+
+impl<'a, T: Form> Serialize for Sent<'a, T> {
+    fn serialize<S: Serializer>(&self, out: &mut S) -> Result<(), S::Error> {
+        self.0.send(out)
+    }
 }

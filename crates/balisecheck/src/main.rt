@@ -8,6 +8,7 @@
 #![tactic(auto)]
 
 mod authority_form;
+mod bit_text;
 mod command;
 mod counted;
 mod decoding;
@@ -16,8 +17,10 @@ mod form;
 mod linking_form;
 mod number_forms;
 mod output;
+mod packet_form;
 mod profile_form;
 mod program;
+mod raw_form;
 mod status;
 mod telegram_form;
 mod telegram_lines;
