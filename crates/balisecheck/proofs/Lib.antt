@@ -4,4 +4,5 @@ pub mod FillLemmas
 pub mod TellingLemmas
 pub mod RunLemmas
 pub mod CommandLemmas
-pub mod TextLemmas
+pub mod FormLemmas
+pub mod BitTextLemmas

@@ -2,6 +2,11 @@ pub mod Counted
 pub mod Command
 pub mod TextLines
 pub mod LineReading
+pub mod Forms
+pub mod ProfileForms
+pub mod AuthorityForms
+pub mod BitText
+pub mod PacketForms
 pub mod TelegramLines
 pub mod Output
 pub mod Ran

@@ -7,45 +7,30 @@ use Rattle.etcs_bits.specs.Variables.{dup_number, version_number}
 use Rattle.etcs_bits.specs.declared.fault.Fault.{Fault}
 use Rattle.etcs_bits.specs.declared.fault.FaultKind.{FaultKind}
 use Rattle.etcs_bits.specs.declared.fault.FaultKind.TheVariants as kinds
-use Rattle.etcs_telegram.specs.Telegram.{user_bits}
+use Rattle.etcs_telegram.specs.Sizes.{user_bits}
 use Rattle.etcs_telegram.specs.Text.{telegram_of_text}
-use Rattle.etcs_telegram.specs.declared.telegram.Telegram.{Telegram}
+use Rattle.etcs_telegram.specs.Record.{Telegram}
 use Rattle.etcs_telegram.specs.declared.error.TextError.{TextError}
 use Rattle.etcs_telegram.specs.declared.error.TextError.TheVariants as errors
-use Rattle.serde.specs.Event.{Log, Logs, field_key, unsigned as sent_number}
-use Rattle.serde.specs.declared.name.Case.TheVariants.{AsIs}
-use Rattle.serde_json.specs.Data.{Data, Members, array, member, no_items, no_members, number, object, unsigned}
+use Rattle.serde_json.specs.Data.{Data}
 use Rattle.serde_json.specs.Written.{compact_text}
+use Rattle.balisecheck.specs.Forms.{always, object_of, whole}
+use Rattle.balisecheck.specs.PacketForms.{packets_form}
 
--- a whole number
-abbrev pub whole : ℕ → Data
-whole n = number (unsigned n)
-
--- these keys with these values, in this order
-abbrev pub members_of : List (List ℕ × Data) → Members
-members_of [] = no_members
-members_of (entry ∷ entries) = member entry.0 entry.1 (members_of entries)
-
--- the telegram as a JSON object; none of its packets is read yet
+-- the telegram as a JSON object
 abbrev pub telegram_form : Telegram → Data
-telegram_form telegram = object (members_of (
-    (codes "m_dup", whole (dup_number telegram.header.dup))
-    ∷ (codes "m_mcount", whole telegram.header.counter)
-    ∷ (codes "m_version", whole (version_number telegram.header.version))
-    ∷ (codes "n_pig", whole telegram.header.position)
-    ∷ (codes "n_total", whole telegram.header.total)
-    ∷ (codes "nid_bg", whole telegram.header.identity.group)
-    ∷ (codes "nid_c", whole telegram.header.identity.country)
-    ∷ (codes "packets", array no_items)
-    ∷ (codes "q_link", whole (worth telegram.header.linked))
-    ∷ (codes "user_bits", whole (user_bits telegram.size))
-    ∷ []))
-
--- a key and a number were sent, one after the other, as a member of an object
-pub record SendsNumber (key : List ℕ) (n : ℕ) (old new : Log) : Type 0 where
-  pub named : Log
-  pub key_sent : Logs old named (field_key key AsIs)
-  pub number_sent : Logs named new (sent_number n)
+telegram_form telegram = object_of (
+    always (codes "m_dup") (whole (dup_number telegram.header.dup))
+    ∷ always (codes "m_mcount") (whole telegram.header.counter)
+    ∷ always (codes "m_version") (whole (version_number telegram.header.version))
+    ∷ always (codes "n_pig") (whole telegram.header.position)
+    ∷ always (codes "n_total") (whole telegram.header.total)
+    ∷ always (codes "nid_bg") (whole telegram.header.identity.group)
+    ∷ always (codes "nid_c") (whole telegram.header.identity.country)
+    ∷ always (codes "packets") (packets_form telegram.packets)
+    ∷ always (codes "q_link") (whole (worth telegram.header.linked))
+    ∷ always (codes "user_bits") (whole (user_bits telegram.size))
+    ∷ [])
 
 -- the telegram's JSON line
 unfoldable pub json_line_of : Telegram → List ℕ

@@ -7,18 +7,27 @@
 //! `text_lines.rt` and `telegram_lines.rt`. The commands `check` and `encode` are left out so far.
 #![tactic(auto)]
 
+mod authority_form;
+mod bit_text;
 mod command;
 mod counted;
 mod decoding;
 mod error;
+mod form;
+mod linking_form;
+mod number_forms;
 mod output;
+mod packet_form;
+mod profile_form;
 mod program;
+mod raw_form;
 mod status;
 mod telegram_form;
 mod telegram_lines;
 #[cfg(test)]
 mod tests;
 mod text_lines;
+mod transition_form;
 mod turn;
 
 use crate::counted::Counted;

@@ -4,7 +4,7 @@ ghost use Rattle.std.specs.Prelude.{◌≡◌, Ok, IfOk, MatchResult, string_byt
 ghost use Rattle.balisecheck.specs.TelegramLines.{Refuses, json_line_of};
 ghost use Rattle.balisecheck.specs.TelegramLines.{kind_words, meaning_of, reason_of, refusal_of};
 
-use crate::telegram_form::TelegramForm;
+use crate::form::Sent;
 use etcs_bits::{Fault, FaultKind};
 use etcs_telegram::{Telegram, TextError, from_hex};
 use std::alloc::{AllocError, Global};
@@ -14,7 +14,7 @@ fn json_line(alloc: Global, telegram: &Telegram) -> Result<String, AllocError>
     ensures { IfOk result (λ s. string_bytes s ≡ json_line_of telegram.now) }
 {
     // Numbers and lists always have a JSON text, so only memory can run out.
-    let Ok(mut line) = serde_json::to_string(alloc, &TelegramForm(*telegram)) else {
+    let Ok(mut line) = serde_json::to_string(alloc, &Sent(telegram)) else {
         return Err(AllocError);
     };
     line.push('\n')?;

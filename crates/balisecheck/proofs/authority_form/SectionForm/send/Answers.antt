@@ -1,0 +1,13 @@
+use Rattle.std.proofs.Common.{[], arith, codes}
+use Rattle.std.proofs.lemmas.Result.{on_ok_weaker}
+use Rattle.balisecheck.specs.AuthorityForms.{section_timer_form}
+use Rattle.balisecheck.proofs.FormLemmas.{finished, members_len-maybe, object_sent, then}
+use Rattle.balisecheck.proofs.authority_form.SectionForm.send.Goals as goal
+
+-- one member, and another where there is a timer
+pub returns : goal.returns
+returns g c =
+    let many = members_len-maybe section_timer_form (codes "section_timer") c.args.self.now.timer [] in
+    on_ok_weaker c.end_map.result (λ ended.
+    object_sent _ _ _ _ c.in_ok-begin_map.ensures (omega (arith, many, c.count.ensures.count))
+    (then c.in_ok-send_member.ensures (then c.in_ok-send_optional.ensures (finished ended)))) c.end_map.ensures

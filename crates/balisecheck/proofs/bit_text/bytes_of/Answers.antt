@@ -1,0 +1,22 @@
+use Rattle.std.proofs.Common.{◌≡◌, ◌∙◌, length, length-set, take, refl, subst, arith}
+use Rattle.balisecheck.specs.BitText.{bytes_for, bytes_in, filled_up}
+use Rattle.balisecheck.proofs.BitTextLemmas.{bytes_more}
+use Rattle.balisecheck.proofs.bit_text.bytes_of.Goals as goal
+
+-- one byte more stands
+pub bytes-preserved : goal.bytes-preserved
+bytes-preserved c = record {
+  whole = length-set c.bytes.bytes c.bytes.i _ ∙ c.bytes.invariant.whole;
+  so_far = bytes_more c.bytes.bytes c.bytes.i (filled_up c.args.bits.now) _ (omega arith) c.byte_at.ensures c.bytes.invariant.so_far;
+}
+
+-- none stands at first
+pub bytes-init : goal.bytes-init
+unfolding bytes_in
+bytes-init c = record { whole = refl; so_far = refl }
+
+-- and in the end all do
+pub returns : goal.returns
+returns c =
+    let all : c.bytes.i ≡ bytes_for (length c.args.bits.now) = omega (arith, c.bytes.auto.i-end) in
+    subst (λ n. take n c.bytes.bytes ≡ bytes_in n (filled_up c.args.bits.now)) all c.bytes.invariant.so_far

@@ -1,0 +1,7 @@
+use Rattle.std.proofs.Common.{◌≡◌, length, take}
+use Rattle.balisecheck.specs.BitText.{bytes_in, filled_up}
+use Rattle.balisecheck.proofs.bit_text.bytes_of.Given as goal
+
+-- the bytes so far
+abbrev pub invariant-bytes : goal.invariant-bytes
+invariant-bytes l = record { whole : length l.bytes ≡ 1021; so_far : take l.i l.bytes ≡ bytes_in l.i (filled_up l.bits) }

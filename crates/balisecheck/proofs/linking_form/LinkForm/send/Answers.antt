@@ -1,0 +1,19 @@
+use Rattle.std.proofs.Common.{[], ◌∷◌, arith, codes}
+use Rattle.std.proofs.lemmas.Result.{on_ok_weaker}
+use Rattle.etcs_bits.specs.Number.{worth}
+use Rattle.balisecheck.specs.Forms.{always, whole}
+use Rattle.balisecheck.proofs.FormLemmas.{finished, members_len-maybe, object_sent, then}
+use Rattle.balisecheck.proofs.linking_form.LinkForm.send.Goals as goal
+
+-- five members, and another where there is a country
+pub returns : goal.returns
+returns g c =
+    let link = c.args.self.now in
+    let many =
+    members_len-maybe whole (codes "nid_c") link.country
+    (always (codes "q_linkorientation") (whole (worth link.nominal)) ∷ always (codes "q_linkreaction") (whole link.reaction)
+    ∷ always (codes "q_locacc") (whole link.accuracy) ∷ []) in
+    on_ok_weaker c.end_map.result (λ ended.
+    object_sent _ _ _ _ c.in_ok-begin_map.ensures (omega (arith, many, c.count.ensures.count))
+    (then c.in_ok-send_member.ensures (then c.in_ok-send_member-2.ensures (then c.in_ok-send_optional.ensures
+    (then c.in_ok-send_member-3.ensures (then c.in_ok-send_member-4.ensures (then c.in_ok-send_member-5.ensures (finished ended)))))))) c.end_map.ensures

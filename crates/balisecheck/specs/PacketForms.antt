@@ -1,0 +1,99 @@
+-- The JSON form of each packet from track to train. The keys are the standard's names of variables
+-- in small letters (SUBSET-026, 7.4.2), in byte order; `links`, `transitions` and `body` are this
+-- project's. Lists hold the first item and the N_ITER further ones, and qualifiers are not written.
+use Rattle.std.specs.Prelude.{ℕ, ◌+◌, List, [], ◌∷◌, length, Option, Some, None, codes}
+use Rattle.etcs_bits.specs.Level.{level_number}
+use Rattle.etcs_bits.specs.Number.{worth}
+use Rattle.etcs_bits.specs.Variables.{dir_number, scale_number}
+use Rattle.etcs_bits.specs.declared.direction.Dir.{Dir}
+use Rattle.etcs_bits.specs.declared.level.Level.{Level}
+use Rattle.etcs_bits.specs.declared.level.Level.TheVariants as levels
+use Rattle.etcs_packet.specs.Transition.{Body}
+use Rattle.etcs_packet.specs.declared.cover.CoverMarker.{CoverMarker}
+use Rattle.etcs_packet.specs.declared.linking.Link.{Link}
+use Rattle.etcs_packet.specs.declared.raw.RawPacket.{RawPacket}
+use Rattle.etcs_packet.specs.declared.track.TrackPacket.{TrackPacket}
+use Rattle.etcs_packet.specs.declared.track.TrackPacket.TheVariants as packets
+use Rattle.etcs_packet.specs.declared.transition.LevelOrder.{LevelOrder}
+use Rattle.etcs_profile.specs.Profile.{Profile}
+use Rattle.serde_json.specs.Data.{Data, string}
+use Rattle.balisecheck.specs.AuthorityForms.{authority_form}
+use Rattle.balisecheck.specs.BitText.{bit_text}
+use Rattle.balisecheck.specs.Forms.{always, array_of, maybe, object_of, whole}
+use Rattle.balisecheck.specs.ProfileForms.{gradient_element_form, profile_form, speed_element_form}
+
+-- packet 0
+abbrev pub cover_form : CoverMarker → Data
+cover_form c = object_of (
+    always (codes "nid_packet") (whole 0)
+    ∷ always (codes "nid_vbcmk") (whole c.marker)
+    ∷ [])
+
+-- a balise group that comes; its country only where it is a new one
+abbrev pub link_form : Link → Data
+link_form l = object_of (
+    always (codes "d_link") (whole l.distance)
+    ∷ always (codes "nid_bg") (whole l.group)
+    ∷ maybe (codes "nid_c") whole l.country
+    ∷ always (codes "q_linkorientation") (whole (worth l.nominal))
+    ∷ always (codes "q_linkreaction") (whole l.reaction)
+    ∷ always (codes "q_locacc") (whole l.accuracy)
+    ∷ [])
+
+-- packet 5
+abbrev pub linking_form : Dir × Profile Link → Data
+linking_form p = object_of (
+    always (codes "links") (array_of link_form (p.1.first ∷ p.1.further))
+    ∷ always (codes "nid_packet") (whole 5)
+    ∷ always (codes "q_dir") (whole (dir_number p.0))
+    ∷ always (codes "q_scale") (whole (scale_number p.1.scale))
+    ∷ [])
+
+-- the national system of level NTC
+abbrev pub national_system : Level → Option ℕ
+national_system levels.L0 = None
+national_system (levels.Ntc ntc) = Some ntc
+national_system levels.L1 = None
+national_system levels.L2 = None
+national_system levels.L3 = None
+
+-- a level in which a train may run on; the national system only at level NTC
+abbrev pub order_form : LevelOrder → Data
+order_form o = object_of (
+    always (codes "l_ackleveltr") (whole o.acknowledge)
+    ∷ always (codes "m_leveltr") (whole (level_number o.level))
+    ∷ maybe (codes "nid_ntc") whole (national_system o.level)
+    ∷ [])
+
+-- packet 41
+abbrev pub transition_form : Dir × Body → Data
+transition_form p = object_of (
+    always (codes "d_leveltr") (whole p.1.1.0)
+    ∷ always (codes "nid_packet") (whole 41)
+    ∷ always (codes "q_dir") (whole (dir_number p.0))
+    ∷ always (codes "q_scale") (whole (scale_number p.1.0))
+    ∷ always (codes "transitions") (array_of order_form (p.1.1.1.0 ∷ p.1.1.1.1))
+    ∷ [])
+
+-- a packet whose body is kept as bits; L_PACKET counts the 23 bits up to its own end too
+abbrev pub raw_form : RawPacket → Data
+raw_form r = object_of (
+    always (codes "body") (string (bit_text r.body))
+    ∷ always (codes "l_packet") (whole (23 + length r.body))
+    ∷ always (codes "nid_packet") (whole r.number)
+    ∷ always (codes "q_dir") (whole (dir_number r.dir))
+    ∷ [])
+
+-- any packet
+abbrev pub packet_form : TrackPacket → Data
+packet_form (packets.Cover p) = cover_form p
+packet_form (packets.Linking p) = linking_form p
+packet_form (packets.Authority p) = authority_form p
+packet_form (packets.Gradient p) = profile_form 21 gradient_element_form p
+packet_form (packets.Speed p) = profile_form 27 speed_element_form p
+packet_form (packets.Transition p) = transition_form p
+packet_form (packets.Raw p) = raw_form p
+
+-- a list of packets
+abbrev pub packets_form : List TrackPacket → Data
+packets_form packets = array_of packet_form packets

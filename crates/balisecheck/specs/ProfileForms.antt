@@ -1,0 +1,47 @@
+-- The JSON forms of the packets that tell something along the track: 21, gradients, and 27, speeds.
+-- The keys are the standard's names of variables in small letters (SUBSET-026, 7.4.2), in byte
+-- order; `elements` and `differences` name lists, and `nc` is NC_CDDIFF or NC_DIFF.
+use Rattle.std.specs.Prelude.{ℕ, [], ◌∷◌, codes}
+use Rattle.etcs_bits.specs.Number.{worth}
+use Rattle.etcs_bits.specs.Variables.{dir_number, scale_number}
+use Rattle.etcs_bits.specs.declared.direction.Dir.{Dir}
+use Rattle.etcs_profile.specs.Profile.{Profile}
+use Rattle.etcs_profile.specs.declared.gradient.GradientElement.{GradientElement}
+use Rattle.etcs_profile.specs.declared.speed.Difference.{Difference}
+use Rattle.etcs_profile.specs.declared.speed.SpeedElement.{SpeedElement}
+use Rattle.serde_json.specs.Data.{Data}
+use Rattle.balisecheck.specs.Forms.{always, array_of, object_of, whole}
+
+-- a gradient from one place on
+abbrev pub gradient_element_form : GradientElement → Data
+gradient_element_form e = object_of (
+    always (codes "d_gradient") (whole e.distance)
+    ∷ always (codes "g_a") (whole e.gradient)
+    ∷ always (codes "q_gdir") (whole (worth e.uphill))
+    ∷ [])
+
+-- another speed for some trains
+abbrev pub difference_form : Difference → Data
+difference_form d = object_of (
+    always (codes "nc") (whole d.category)
+    ∷ always (codes "q_diff") (whole d.kind)
+    ∷ always (codes "v_diff") (whole d.speed)
+    ∷ [])
+
+-- a speed from one place on
+abbrev pub speed_element_form : SpeedElement → Data
+speed_element_form e = object_of (
+    always (codes "d_static") (whole e.distance)
+    ∷ always (codes "differences") (array_of difference_form e.differences)
+    ∷ always (codes "q_front") (whole (worth e.front))
+    ∷ always (codes "v_static") (whole e.speed)
+    ∷ [])
+
+-- packet k, a direction and a profile
+abbrev pub profile_form : {X : Type 0} → ℕ → (X → Data) → Dir × Profile X → Data
+profile_form k form p = object_of (
+    always (codes "elements") (array_of form (p.1.first ∷ p.1.further))
+    ∷ always (codes "nid_packet") (whole k)
+    ∷ always (codes "q_dir") (whole (dir_number p.0))
+    ∷ always (codes "q_scale") (whole (scale_number p.1.scale))
+    ∷ [])

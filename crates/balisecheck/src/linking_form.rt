@@ -1,0 +1,37 @@
+//! The form of packet 5.
+
+use crate::form::{Form, count, send_first_and, send_member, send_optional};
+use etcs_packet::{Link, Linking};
+use serde::Serializer;
+
+impl Form for Link {
+    ghost use Rattle.balisecheck.specs.PacketForms.{link_form};
+
+    ghost form = { link_form };
+
+    fn send<S: Serializer>(&self, out: &mut S) -> Result<(), S::Error> {
+        out.begin_map(Some(5 + count(&self.country)))?;
+        send_member(out, "d_link", &self.distance)?;
+        send_member(out, "nid_bg", &self.group)?;
+        send_optional(out, "nid_c", &self.country)?;
+        send_member(out, "q_linkorientation", &self.nominal)?;
+        send_member(out, "q_linkreaction", &self.reaction)?;
+        send_member(out, "q_locacc", &self.accuracy)?;
+        out.end_map()
+    }
+}
+
+impl Form for Linking {
+    ghost use Rattle.balisecheck.specs.PacketForms.{linking_form};
+
+    ghost form = { linking_form };
+
+    fn send<S: Serializer>(&self, out: &mut S) -> Result<(), S::Error> {
+        out.begin_map(Some(4))?;
+        send_first_and(out, "links", self.first(), self.further())?;
+        send_member(out, "nid_packet", &5)?;
+        send_member(out, "q_dir", &self.dir())?;
+        send_member(out, "q_scale", &self.scale())?;
+        out.end_map()
+    }
+}

@@ -1,0 +1,37 @@
+//! The forms of the packets from track to train.
+
+use crate::form::{Form, send_member};
+use etcs_packet::{CoverMarker, TrackPacket};
+use serde::Serializer;
+
+impl Form for CoverMarker {
+    ghost use Rattle.balisecheck.specs.PacketForms.{cover_form};
+
+    ghost form = { cover_form };
+
+    fn send<S: Serializer>(&self, out: &mut S) -> Result<(), S::Error> {
+        out.begin_map(Some(2))?;
+        send_member(out, "nid_packet", &0)?;
+        send_member(out, "nid_vbcmk", &self.marker)?;
+        out.end_map()
+    }
+}
+
+/// A packet is sent in the form of its number, a packet of no known layout as bits.
+impl Form for TrackPacket {
+    ghost use Rattle.balisecheck.specs.PacketForms.{packet_form};
+
+    ghost form = { packet_form };
+
+    fn send<S: Serializer>(&self, out: &mut S) -> Result<(), S::Error> {
+        match self {
+            TrackPacket::Cover(packet) => packet.send(out),
+            TrackPacket::Linking(packet) => packet.send(out),
+            TrackPacket::Authority(packet) => packet.send(out),
+            TrackPacket::Gradient(packet) => packet.send(out),
+            TrackPacket::Speed(packet) => packet.send(out),
+            TrackPacket::Transition(packet) => packet.send(out),
+            TrackPacket::Raw(packet) => packet.send(out),
+        }
+    }
+}
