@@ -6,3 +6,4 @@ pub mod RunLemmas
 pub mod CommandLemmas
 pub mod FormLemmas
 pub mod BitTextLemmas
+pub mod FloatLemmas
