@@ -141,7 +141,7 @@ refuses_packets() {
     # The same packet in a long telegram: an L_PACKET of 780, up to the last bit, and of 781.
     refuses 'no end at 830 end 830' "a1007f802000cb2186$zeros$zeros$zeros$zeros$zeros"
     refuses 'short at 73 end 830' "a1007f802000cb218680${zeros:2}$zeros$zeros$zeros$zeros"
-    # Packet 5: 31 further groups, of which the third ends behind the telegram.
+    # Packet 5: 31 further groups, of which the third has no room.
     refuses 'short at 197 end 210' "a1007f802000c1531fa0000000003e${zeros:14}"
     # Q_DIR of the second packet is 3.
     refuses 'spare at 131 end 133' "${long/d002a8/d002b8}"
