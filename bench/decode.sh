@@ -1,9 +1,12 @@
 #!/usr/bin/env bash
-# Measures `balisecheck decode` beside bench/decode.py, ten lines of Python: bench/decode.sh [COUNT..]
+# Measures `balisecheck decode`: bench/decode.sh [COUNT..]
 #
-# For each count of telegrams (100,000 and 1,000,000 if none is given) both read the same file and
-# have to write the same bytes. Then a line of a million digits has to be refused. The first failure
-# ends the run with status 1. A million telegrams take 300 MB of the temporary folder.
+# For each count of telegrams of 210 bits with a header alone (100,000 and 1,000,000 if none is given)
+# it stands beside bench/decode.py, ten lines of Python: both read the same file and have to write the
+# same bytes. Then half as many telegrams of 830 bits, filled with packets: what it writes has to be
+# what bench/packets.py chose to put in. At last a line of a million digits has to be refused. The
+# first failure ends the run with status 1. The counts above take 2 GB of the temporary folder, which
+# TMPDIR names.
 #
 # BALISECHECK names another program to measure.
 set -euo pipefail
@@ -24,25 +27,45 @@ measure() {
     read -r status elapsed processor memory < <(python3 "$here/measure.py" "$@")
 }
 
-# row NAME LINES: prints what was measured last.
-row() {
-    [ "$status" -eq 0 ] || fail "$1 ended with status $status"
-    rate=$(awk -v lines="$2" -v elapsed="$elapsed" 'BEGIN { print int(lines / elapsed) }')
-    printf '%-18s %9s %9s %11s %13s %12s\n' "$1" "$2" "$rate" "$elapsed" "$processor" "$memory"
+heading() {
+    echo "$1"
+    printf '%-18s %9s %9s %9s %11s %13s %12s\n' \
+        '' lines lines/s MB/s 'elapsed, s' 'processor, s' 'memory, MiB'
 }
 
-# compare LINES
+# row NAME: prints what was measured last, of a command that read the telegrams.
+row() {
+    local lines bytes
+    [ "$status" -eq 0 ] || fail "$1 ended with status $status"
+    read -r lines bytes < <(wc -lc <"$room/telegrams")
+    rates=$(awk -v lines="$lines" -v bytes="$bytes" -v elapsed="$elapsed" \
+        'BEGIN { printf "%9d %9.2f", lines / elapsed, bytes / 1000000 / elapsed }')
+    printf '%-18s %9s %s %11s %13s %12s\n' "$1" "$lines" "$rates" "$elapsed" "$processor" "$memory"
+}
+
+# compare LINES: telegrams of 210 bits.
 compare() {
     python3 "$here/telegrams.py" "$1" >"$room/telegrams"
     measure "$room/telegrams" "$room/of_program" "$program" decode
-    row 'balisecheck decode' "$1"
+    row 'balisecheck decode'
     of_program=$elapsed
     measure "$room/telegrams" "$room/of_python" python3 "$here/decode.py"
-    row 'bench/decode.py' "$1"
+    row 'bench/decode.py'
     cmp "$room/of_program" "$room/of_python" || fail 'the outputs differ'
     [ "$(wc -l <"$room/of_program")" -eq "$1" ] || fail 'a line is missing'
     ratio=$(awk -v a="$elapsed" -v b="$of_program" 'BEGIN { printf "%.1f", a / b }')
     printf 'the outputs are the same; Python took %s times as long\n\n' "$ratio"
+}
+
+# compare_packets LINES: telegrams of 830 bits. No second decoder stands beside these: what has to come
+# out is known from how they were made.
+compare_packets() {
+    python3 "$here/packets.py" "$1" "$room/wanted" >"$room/telegrams"
+    measure "$room/telegrams" "$room/of_program" "$program" decode
+    row 'balisecheck decode'
+    cmp "$room/of_program" "$room/wanted" || fail 'the packets are not those that were put in'
+    [ "$(wc -l <"$room/of_program")" -eq "$1" ] || fail 'a line is missing'
+    printf 'the packets are those that were put in\n\n'
 }
 
 refuse_long_line() {
@@ -59,8 +82,12 @@ refuse_long_line() {
 
 echo "$(uname -m), $(nproc) processors, load $(cut -d' ' -f1 /proc/loadavg), $(python3 --version)"
 echo
-printf '%-18s %9s %9s %11s %13s %12s\n' '' lines lines/s 'elapsed, s' 'processor, s' 'memory, MiB'
+heading 'telegrams of 210 bits with a header alone'
 for count; do
     compare "$count"
+done
+heading 'telegrams of 830 bits filled with packets'
+for count; do
+    compare_packets $(((count + 1) / 2))
 done
 refuse_long_line

@@ -35,10 +35,23 @@ answers() {
     )"
 }
 
+# form USER_BITS PACKETS: the line of a telegram of group 1 in country 1.
+form() {
+    printf '{"m_dup":0,"m_mcount":255,"m_version":33,"n_pig":0,"n_total":0,"nid_bg":1,"nid_c":1,'
+    printf '"packets":[%s],"q_link":1,"user_bits":%s}' "$2" "$1"
+}
+
 ones=ffffffffffffffffffffffffffffffffffffff
+zeros=${ones//f/0}
 telegram=a1007f802000ff${ones}c0
-json='{"m_dup":0,"m_mcount":255,"m_version":33,"n_pig":0,"n_total":0,"nid_bg":1,"nid_c":1,"packets":[],"q_link":1,"user_bits":210}
-'
+json=$(form 210 '')$'\n'
+# 830 bits: an authority, then a gradient profile and a speed profile that end where it ends.
+authority='{"end_speed":0,"end_timeout":1023,"l_endsection":1000,"nid_packet":12,"q_dir":1,"q_scale":1,"sections":[],"v_main":20}'
+gradients='{"elements":[{"d_gradient":0,"g_a":5,"q_gdir":1},{"d_gradient":100,"g_a":255,"q_gdir":0}],"nid_packet":21,"q_dir":1,"q_scale":2}'
+speeds='{"elements":[{"d_static":0,"differences":[],"q_front":0,"v_static":20},{"d_static":10000,"differences":[],"q_front":0,"v_static":127}],"nid_packet":27,"q_dir":1,"q_scale":0}'
+profiles=a1007f802000c31024a5007fe007d002a813a000105080647f8da0560000140029c43f81
+long=$profiles${ones:18}$ones$ones${ones}fc
+long_json=$(form 830 "$authority,$gradients,$speeds")$'\n'
 usage='refused: usage is balisecheck check, decode [--radio] or encode [--radio]
 '
 device='balisecheck: device
@@ -55,8 +68,43 @@ decodes() {
     answers "upper case" 0 "$json" '' decode <<<"${telegram^^}"
     answers "a line that ends in a carriage return" 0 "$json" '' decode <<<"$telegram"$'\r'
     answers "no line end" 0 "$json" '' decode < <(printf '%s' "$telegram")
-    answers "the fill is ignored" 0 "$json" '' decode <<<"a1007f802000ffc0${ones//f/0}"
-    answers "the example" 0 "$json" '' decode <"$here/../examples/header-only.txt"
+    answers "the fill is ignored" 0 "$json" '' decode <<<"a1007f802000ffc0$zeros"
+}
+
+decodes_packets() {
+    local end_mark='{"elements":[{"d_gradient":0,"g_a":255,"q_gdir":0}],"nid_packet":21,"q_dir":1,"q_scale":2}'
+    answers "a profile of an end mark alone" 0 "$(form 210 "$end_mark")"$'\n' '' \
+        decode <<<"a1007f802000c5501b40001fe0${ones:12}c0"
+    answers "a long telegram" 0 "$long_json" '' decode <<<"$long"
+    answers "a long telegram in upper case" 0 "$long_json" '' decode <<<"${long^^}"
+    answers "the fill of a long telegram is ignored" 0 "$long_json" '' \
+        decode <<<"${profiles}fe${zeros:18}$zeros$zeros$zeros"
+    answers "short and long telegrams" 0 "$json$long_json$json" '' \
+        decode <<<"$telegram"$'\n'"$long"$'\n'"$telegram"
+}
+
+# Each example with the lines beside it that have to be written. Without any the pattern itself is the
+# name, which fails.
+decodes_examples() {
+    local wanted name got
+    for wanted in "$here"/../examples/*.json; do
+        name=$(basename "$wanted" .json)
+        "$program" decode <"${wanted%.json}.txt" >"$room/stdout" 2>"$room/stderr"
+        got=$?
+        count "the example $name" "$(
+            [ "$got" -eq 0 ] || echo "status $got in place of 0"
+            cmp "$wanted" "$room/stdout" 2>&1
+            cat "$room/stderr"
+        )"
+    done
+}
+
+refuses_examples() {
+    local examples=$here/../examples
+    answers "the example pad-bits-set" 2 "${json}refused: line 3: pad bits set"$'\n' '' \
+        decode < <(cat "$examples/pad-bits-set.txt")
+    answers "the example spare-mark" 2 'refused: line 1: spare at 15 end 17'$'\n' '' \
+        decode < <(cat "$examples/spare-mark.txt")
 }
 
 # refuses WHY LINE
@@ -73,9 +121,30 @@ refuses_lines() {
     refuses 'loop at 8 end 9' "a1807f802000ff${ones}c0"
     refuses 'down-link at 0 end 1' "21007f802000ff${ones}c0"
     refuses 'spare at 15 end 17' "a101ff802000ff${ones}c0"
-    refuses 'unsupported at 50 end 58' "a1007f802000c5501b40001fe0${ones:12}c0"
+    refuses 'pad bits set' "${long%c}d"
+    refuses 'pad bits set' "${long%c}e"
+    refuses 'wrong size' "${long}00"
+    refuses 'wrong size' "${long%fc}"
+    refuses 'spare at 15 end 17' "a101ff80${long:8}"
     answers "the lines before a refused one" 2 "${json}refused: line 3: pad bits set"$'\n' '' \
         decode <<<"$telegram"$'\n\n'"${telegram%0}1"
+}
+
+# A fault in a packet, with its place in the telegram.
+refuses_packets() {
+    # Packet 21: an L_PACKET of 55 where there are 54 bits.
+    refuses 'length at 60 end 104' "a1007f802000c5501bc0001fe0${ones:12}c0"
+    # Packet 44: an L_PACKET of 160, up to the last bit, of 161, and of 22, less than its head has.
+    refuses 'no end at 210 end 210' "a1007f802000cb2050${zeros:2}"
+    refuses 'short at 73 end 210' "a1007f802000cb205080${zeros:4}"
+    refuses 'length at 60 end 73' "a1007f802000cb200b${zeros:2}"
+    # The same packet in a long telegram: an L_PACKET of 780, up to the last bit, and of 781.
+    refuses 'no end at 830 end 830' "a1007f802000cb2186$zeros$zeros$zeros$zeros$zeros"
+    refuses 'short at 73 end 830' "a1007f802000cb218680${zeros:2}$zeros$zeros$zeros$zeros"
+    # Packet 5: 31 further groups, of which the third has no room.
+    refuses 'short at 197 end 210' "a1007f802000c1531fa0000000003e${zeros:14}"
+    # Q_DIR of the second packet is 3.
+    refuses 'spare at 131 end 133' "${long/d002a8/d002b8}"
 }
 
 refuses_words() {
@@ -122,7 +191,11 @@ memory_is_refused() {
 }
 
 decodes
+decodes_packets
+decodes_examples
+refuses_examples
 refuses_lines
+refuses_packets
 refuses_words
 writes_all
 devices_fail
