@@ -13,7 +13,7 @@ use std::alloc::{AllocError, Global};
 fn json_line(alloc: Global, telegram: &Telegram) -> Result<String, AllocError>
     ensures { IfOk result (λ s. string_bytes s ≡ json_line_of telegram.now) }
 {
-    // Numbers and lists always have a JSON text, so only memory can run out.
+    // Numbers, texts and lists always have a JSON text, so only memory can run out.
     let Ok(mut line) = serde_json::to_string(alloc, &Sent(telegram)) else {
         return Err(AllocError);
     };

@@ -1,6 +1,7 @@
 //! What no clause says: worked lines from outside, and devices that fail at each call in turn.
 
 mod devices;
+mod forms;
 
 use crate::counted::Counted;
 use crate::error::RunError;
