@@ -4,7 +4,8 @@
 //! status. Its contract says what is written for every input; `specs/Output.antt` defines that text
 //! and `specs/Ran.antt` what is promised of it. `main` adds the arguments and standard input and
 //! output, of which no contract can speak. Read `program.rt` first, then `decoding.rt`,
-//! `text_lines.rt` and `telegram_lines.rt`. The commands `check` and `encode` are left out so far.
+//! `text_lines.rt` and `telegram_lines.rt`; `form.rt` and `packet_form.rt` say what packets are as
+//! JSON. The commands `check` and `encode` are left out so far.
 #![tactic(auto)]
 
 mod authority_form;
