@@ -1,6 +1,13 @@
 //! What no contract says: outside vectors, and that memory that is there suffices.
 
+mod built;
+mod faults;
+mod known;
+mod lists;
+mod parts;
 mod sample;
+mod spelled;
+mod track;
 
 use crate::{Stop, is_end, next_item, next_whole, read_items, read_whole, write_items};
 use etcs_bits::{Bits, Cursor, DecodeError, Fault, FaultKind, Layout, Memory, Plain};
