@@ -76,7 +76,7 @@ fn a_level_transition_has_31_further_levels_at_most(rt: HostRuntime) -> Result<(
 }
 
 #[test]
-fn the_longest_packets_come_back(rt: HostRuntime) -> Result<(), Fail> {
+fn packets_of_32_parts_come_back(rt: HostRuntime) -> Result<(), Fail> {
     let alloc = rt.alloc();
     let bits = written(alloc, &linking(alloc, 31)??)?;
     let (again, end) = read_one::<Linking>(alloc, &bits)?;
@@ -98,7 +98,7 @@ fn is_barred(number: u8) -> bool {
 }
 
 #[test]
-fn numbers_of_known_packets_are_not_kept_as_bits(rt: HostRuntime) -> Result<(), Fail> {
+fn every_other_number_is_kept_as_bits(rt: HostRuntime) -> Result<(), Fail> {
     let alloc = rt.alloc();
     for number in 0..=255u8 {
         let made = RawPacket::new(number, Dir::Reverse, body(alloc, 3)?);
@@ -114,7 +114,7 @@ fn numbers_of_known_packets_are_not_kept_as_bits(rt: HostRuntime) -> Result<(), 
 }
 
 #[test]
-fn known_numbers_are_all_refused(rt: HostRuntime) -> Result<(), Fail> {
+fn the_numbers_of_known_packets_are_not_kept_as_bits(rt: HostRuntime) -> Result<(), Fail> {
     let alloc = rt.alloc();
     for number in [0, 5, 12, 15, 21, 27, 41, 255] {
         let made = RawPacket::new(number, Dir::Both, Bits::new(alloc));

@@ -114,20 +114,29 @@ fn eight_bits_may_be_an_end_mark(rt: HostRuntime) -> Result<(), Fail> {
     Ok(())
 }
 
+// The packets behind the first three bits.
+fn packets_behind_three(alloc: Global, bits: &Bits, stop: Stop) -> Found {
+    let mut cur = Cursor::new(bits);
+    let _three = cur.take(3);
+    let found = read_packets(alloc, &mut cur, stop);
+    (found, cur.at())
+}
+
 #[test]
 fn the_first_fault_of_a_list_is_told(rt: HostRuntime) -> Result<(), Fail> {
     let alloc = rt.alloc();
     // Behind packet 5: Q_DIR 3, and a length of 22.
     let heads = [
-        (["00101100", "11", "0000000010111"], fault(77, 79, Spare)),
-        (["00101100", "10", "0000000010110"], fault(79, 92, Length)),
+        (["00101100", "11", "0000000010111"], fault(80, 82, Spare)),
+        (["00101100", "10", "0000000010110"], fault(82, 95, Length)),
     ];
     for (head, wanted) in heads {
-        let mut bits = spelled(alloc, &LINKING)?;
+        let mut bits = spelled(alloc, &["101"])?;
+        push_fields(&mut bits, &LINKING)?;
         push_fields(&mut bits, &head)?;
         push_digits(&mut bits, END)?;
-        let (found, at) = packets(alloc, &bits, Stop::Telegram);
-        assert_eq!(rt; (found.err(), at), (wanted, 0));
+        let (found, at) = packets_behind_three(alloc, &bits, Stop::Telegram);
+        assert_eq!(rt; (found.err(), at), (wanted, 3));
     }
     Ok(())
 }

@@ -99,20 +99,18 @@ fn a_packet_holds_by_its_direction(rt: HostRuntime) -> Result<(), Fail> {
 #[test]
 fn packets_of_different_kinds_are_different(rt: HostRuntime) -> Result<(), Fail> {
     let alloc = rt.alloc();
-    for i in 0..KINDS.len() {
-        is_only(&rt, alloc, i)?;
+    for fields in KINDS {
+        is_same_alone(&rt, alloc, &packet(alloc, fields)?)?;
     }
     Ok(())
 }
 
-// The packet of this kind is the same as itself, and as no other.
-fn is_only(rt: &impl Abort, alloc: Global, kind: usize) -> Result<(), Fail> {
-    for i in 0..KINDS.len() {
-        if kind < KINDS.len() {
-            let this = packet(alloc, KINDS[kind])?;
-            let that = packet(alloc, KINDS[i])?;
-            assert_eq!(rt; this.same(&that), i == kind, "{i} and {kind}");
-        }
+// The packet is the same as the one of its number, and as no other.
+fn is_same_alone(rt: &impl Abort, alloc: Global, this: &TrackPacket) -> Result<(), Fail> {
+    for fields in KINDS {
+        let that = packet(alloc, fields)?;
+        let (one, other) = (this.number(), that.number());
+        assert_eq!(rt; this.same(&that), one == other, "{one} and {other}");
     }
     Ok(())
 }
