@@ -8,9 +8,8 @@ use Rattle.etcs_bits.proofs.NumberLemmas.{length-num}
 use Rattle.etcs_bits.proofs.StandLemmas.{length-join, place_in}
 use Rattle.etcs_bits.specs.declared.fault.DecodeError.{DecodeError}
 use Rattle.etcs_bits.specs.declared.fault.DecodeError.TheVariants as errors
-use Rattle.etcs_bits.specs.declared.fault.Fault.{Fault}
 use Rattle.etcs_bits.specs.Number.{num}
-use Rattle.etcs_bits.specs.Rows.{alone, AreAllowed, join, width}
+use Rattle.etcs_bits.specs.Rows.{alone, AreAllowed, join}
 use Rattle.etcs_bits.specs.Layout.{Fails}
 use Rattle.etcs_packet.specs.declared.stop.Stop.TheVariants as stops
 use Rattle.etcs_packet.specs.declared.track.TrackPacket.{TrackPacket}
@@ -29,7 +28,7 @@ use Rattle.etcs_telegram.specs.declared.size.Size.TheVariants.{Short, Long}
 use Rattle.etcs_telegram.specs.Header.{header_fields, header_rows, header_of, header_are_rows, header_record}
 use Rattle.etcs_telegram.specs.Record.{Telegram}
 use Rattle.etcs_telegram.specs.Sizes.{user_bits, size_of}
-use Rattle.etcs_telegram.specs.Telegram.{IsTelegram, IsEncoding, IsTooBig, front_bits, canonical_bits, used_bits, size_by, telegram_by, telegram_of}
+use Rattle.etcs_telegram.specs.Telegram.{IsTelegram, IsEncoding, IsTooBig, front_bits, canonical_bits, used_bits, size_by, telegram_of}
 use Rattle.etcs_telegram.proofs.FillLemmas.{length-ones}
 
 -- ---- sizes

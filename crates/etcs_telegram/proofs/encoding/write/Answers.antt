@@ -1,7 +1,4 @@
-use Rattle.std.proofs.Common.{◌≡◌, ◌≤◌, ◌∙◌, ◌++◌, ◌-◌, refl, sym, ap, subst, length, ℕ, arith, Bool, List, replicate, true}
-use Rattle.std.specs.List.{flat_map}
-use Rattle.etcs_packet.specs.Track.{track_rows}
-use Rattle.etcs_bits.specs.Rows.{AreAllowed, join}
+use Rattle.std.proofs.Common.{◌≡◌, ◌≤◌, ◌∙◌, ◌++◌, ◌-◌, refl, sym, ap, subst, length, ℕ, arith, replicate, true}
 use Rattle.etcs_telegram.specs.Record.{Telegram}
 use Rattle.etcs_telegram.specs.Sizes.{user_bits}
 use Rattle.etcs_telegram.specs.Telegram.{IsEncoding, front_bits, used_bits}

@@ -1,7 +1,6 @@
-use Rattle.std.proofs.Common.{◌≡◌, ◌<◌, ◌-◌, ◌∙◌, false, true, length, get_or, sym, ap, subst, List, Bool, arith}
-use Rattle.etcs_telegram.specs.Sizes.{byte_count, size_in}
+use Rattle.std.proofs.Common.{◌-◌, ◌∙◌, length, sym, subst, List, Bool, arith}
+use Rattle.etcs_telegram.specs.Sizes.{byte_count}
 use Rattle.etcs_telegram.specs.Telegram.{IsTelegramFault, IsNoTelegram}
-use Rattle.etcs_telegram.specs.Text.{pads_with_zeros}
 use Rattle.etcs_telegram.proofs.TextLemmas.{size_counts, padded_when, set_when, of_its_size}
 use Rattle.etcs_telegram.proofs.text.telegram_in.Goals as goal
 
