@@ -1,21 +1,64 @@
 -- Telegrams, their bits and their texts belong to one another.
-use Rattle.std.proofs.Common.{◌≡◌, ℕ, suc, ◌+◌, ◌*◌, ◌-◌, Bool, true, false, List, [], ◌∷◌, ◌++◌, length, take, drop, Some, Ok, refl, sym, ap, ap₂, subst, ◌∙◌, arith, length-append}
+use Rattle.std.proofs.Common.{◌≡◌, ℕ, suc, ◌+◌, ◌*◌, ◌-◌, Bool, true, false, List, [], ◌∷◌, ◌++◌, length, take, drop, Some, Ok, refl, sym, ap, ap₂, subst, ◌∙◌, arith, length-append, Result, Err}
 use Rattle.std.proofs.lemmas.Bool.{eq-eqb}
 use Rattle.std.proofs.lemmas.List.{take_at, drop_at, length-replicate}
 use Rattle.hex.specs.Hex.{decode_of, encode_lower, IsBytes}
 use Rattle.hex.proofs.HexLemmas.{decode_of-ok, decode_of-encode_lower}
 use Rattle.etcs_bits.specs.Number.{num, num_of_bits, bits_of_bytes}
 use Rattle.etcs_bits.proofs.NumberLemmas.{length-num, num_of_bits-small, bits_of_bytes-cons, length-bits_of_bytes}
+use Rattle.etcs_bits.specs.declared.fault.Fault.{Fault}
+use Rattle.etcs_bits.specs.Reading.{◌>>=◌}
+use Rattle.etcs_bits.specs.Rows.{Place}
+use Rattle.etcs_packet.specs.declared.stop.Stop.TheVariants as stops
+use Rattle.etcs_packet.specs.declared.track.TrackPacket.{TrackPacket}
+use Rattle.etcs_packet.specs.Listed.{track_fields}
+use Rattle.etcs_packet.specs.Track.{track_rows, track_of, track_are_rows, track_record}
+use Rattle.etcs_packet.specs.Whole.{start, whole_at, whole_of}
+use Rattle.etcs_packet.proofs.WholeLemmas.{none_whole, whole_fault_is_read, whole_fault_is_told}
+use Rattle.etcs_telegram.specs.declared.header.Header.{Header}
+use Rattle.etcs_telegram.specs.Header.{header_fields, header_rows, header_of, header_are_rows, header_record}
 use Rattle.etcs_telegram.specs.Record.{Telegram}
 use Rattle.etcs_telegram.specs.Sizes.{user_bits, byte_count, pad_count, size_in}
-use Rattle.etcs_telegram.specs.Telegram.{IsTelegram, telegram_of}
+use Rattle.etcs_telegram.specs.Telegram.{IsTelegram, IsTelegramFault, IsNoTelegram, IsEncoding, telegram_by, telegram_of}
 use Rattle.etcs_telegram.specs.Text.{IsTelegramText, IsCanonicalText, telegram_of_text, pads_with_zeros, user_bits_in, no_pads}
-use Rattle.etcs_telegram.proofs.TelegramLemmas.{telegram_meaning, encoding_telegram, canonical_length}
+use Rattle.etcs_telegram.proofs.TelegramLemmas.{headed, telegram_meaning, encoding_telegram, canonical_length}
 use Rattle.etcs_telegram.proofs.TextLemmas.{size_in_back, whole_bytes, pads_divide}
 
 -- what is decoded is one telegram
 pub one_meaning : (t u : Telegram) (bits : List Bool) → telegram_of bits ≡ Ok t → telegram_of bits ≡ Ok u → t ≡ u
 one_meaning t u bits a b = let same = sym a ∙ b in cc
+
+-- ---- faults
+
+-- reading a header and its packets
+abbrev read_at : List Bool → Result ((Header × List TrackPacket) × Place) Fault
+read_at bits = whole_at stops.Telegram header_fields header_of track_fields track_of (start bits)
+
+-- what reading gives, without the place
+abbrev told : ℕ → Result ((Header × List TrackPacket) × Place) Fault → Result Telegram Fault
+told n read = telegram_by n (read >>= λ r. Ok r.0)
+
+meant : (bits : List Bool) → telegram_of bits ≡ told (length bits) (read_at bits)
+unfolding telegram_of whole_of
+meant bits = refl
+
+only_fault : (n : ℕ) (r : Result ((Header × List TrackPacket) × Place) Fault) (f : Fault) → told n r ≡ Err f → r ≡ Err f
+only_fault n (Ok read) f is = absurd cc
+only_fault n (Err g) f is = let same : g ≡ f = cc in ap Err same
+
+pub fault_meant : (bits : List Bool) (f : Fault) → IsTelegramFault bits f → telegram_of bits ≡ Err f
+fault_meant bits f x =
+    let read = whole_fault_is_read header_of track_of stops.Telegram header_fields track_fields (start bits) f headed (omega arith) x in
+    meant bits ∙ ap (told (length bits)) read
+
+pub meant_fault : (bits : List Bool) (f : Fault) → telegram_of bits ≡ Err f → IsTelegramFault bits f
+meant_fault bits f is =
+    whole_fault_is_told header_of track_of stops.Telegram header_fields track_fields (start bits) f (omega arith)
+    (only_fault (length bits) (read_at bits) f (sym (meant bits) ∙ is))
+
+pub fault_none : (bits : List Bool) (f : Fault) → IsTelegramFault bits f → IsNoTelegram bits f
+fault_none bits f x =
+    none_whole header_rows header_of track_rows track_of stops.Telegram header_fields track_fields (start bits) f headed header_are_rows header_record track_are_rows track_record (omega arith) x
 
 -- ---- texts
 

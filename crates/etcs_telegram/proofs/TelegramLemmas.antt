@@ -1,5 +1,5 @@
 -- What bits mean, and which bits are a telegram.
-use Rattle.std.proofs.Common.{◌≡◌, ℕ, ◌+◌, ◌-◌, ◌≤◌, true, false, Bool, List, [], ◌++◌, length, replicate, Option, Some, None, Result, Ok, Err, refl, sym, ap, ◌∙◌, ◌==◌, ◌↔◌, if◌then◌else◌, arith, append_assoc}
+use Rattle.std.proofs.Common.{◌≡◌, ℕ, ◌+◌, ◌-◌, ◌≤◌, true, false, Bool, List, [], ◌++◌, length, replicate, Option, Some, None, Result, Ok, Err, refl, sym, ap, ◌∙◌, ◌==◌, ◌↔◌, ◌⊎◌, ◌<◌, inl, inr, if◌then◌else◌, arith, append_assoc}
 use Rattle.std.specs.Prelude.{IsErrOf}
 use Rattle.std.specs.List.{flat_map}
 use Rattle.std.proofs.lemmas.Bool.{eqb-true}
@@ -14,18 +14,19 @@ use Rattle.etcs_bits.specs.Layout.{Fails}
 use Rattle.etcs_packet.specs.declared.stop.Stop.TheVariants as stops
 use Rattle.etcs_packet.specs.declared.track.TrackPacket.{TrackPacket}
 use Rattle.etcs_packet.specs.Laws.{HasNoMark}
-use Rattle.etcs_packet.specs.Lists.{IsHeaded}
+use Rattle.etcs_packet.specs.Lists.{IsHeaded, ends}
 use Rattle.etcs_packet.specs.Listed.{track_fields}
 use Rattle.etcs_packet.specs.Track.{track_rows, track_of, track_are_rows, track_record}
 use Rattle.etcs_packet.specs.Whole.{BeginsWith, start, whole_of}
 use Rattle.etcs_packet.proofs.WholeLemmas.{whole_is_read, means_whole}
-use Rattle.etcs_packet.proofs.WrittenLemmas.{mark_ends, whole_written}
+use Rattle.etcs_packet.proofs.WrittenLemmas.{ends_only, mark_ends, whole_spelled, whole_written}
 use Rattle.etcs_telegram.specs.declared.error.EncodeError.{EncodeError}
 use Rattle.etcs_telegram.specs.declared.error.EncodeError.TheVariants as encode_errors
 use Rattle.etcs_telegram.specs.declared.header.Header.{Header}
 use Rattle.etcs_telegram.specs.declared.size.Size.{Size}
 use Rattle.etcs_telegram.specs.declared.size.Size.TheVariants.{Short, Long}
 use Rattle.etcs_telegram.specs.Header.{header_fields, header_rows, header_of, header_are_rows, header_record}
+use Rattle.etcs_telegram.specs.Laws.{AreSpelledOut}
 use Rattle.etcs_telegram.specs.Record.{Telegram}
 use Rattle.etcs_telegram.specs.Sizes.{user_bits, size_of}
 use Rattle.etcs_telegram.specs.Telegram.{IsTelegram, IsEncoding, IsTooBig, front_bits, canonical_bits, used_bits, size_by, telegram_of}
@@ -150,18 +151,64 @@ is_encoding t front bits fits header packets is filled = record {
       ∙ ap (λ n. front_bits t ++ replicate (user_bits t.size - n) true) (front_width t);
 }
 
+-- bits that are spelled out are the telegram
+pub spelled_telegram : (t : Telegram) (bits : List Bool) → AreSpelledOut t bits → IsTelegram t bits
+spelled_telegram t bits x =
+    let header = join (header_rows t.header) in
+    let packets = join (flat_map track_rows t.packets) in
+    let parts = x.are ∙ append_assoc header (packets ++ num 8 255) x.fill ∙ ap (λ (xs : List Bool). header ++ xs) (append_assoc packets (num 8 255) x.fill) in
+    let whole = whole_written header_rows track_rows t.header t.packets stops.Telegram track_fields (num 8 255 ++ x.fill) bits headed no_mark track_are_rows x.header x.packets (mark_ends stops.Telegram x.fill) parts in
+    record {
+      count = x.count;
+      begins = record { end = place_in bits (length header + length packets); whole = whole };
+    }
+
+-- behind the packets of a telegram stands the end mark
+mark_of : (rest : List Bool) → ((stops.Telegram ≡ stops.Message) × (length rest < 8)) ⊎ ((fill : List Bool) × (rest ≡ num 8 255 ++ fill))
+    → (fill : List Bool) × (rest ≡ num 8 255 ++ fill)
+mark_of rest (inl few) = absurd (let other = few.0 in cc)
+mark_of rest (inr mark) = mark
+
+marked : (rest : List Bool) → ends stops.Telegram (start rest) ≡ true → (fill : List Bool) × (rest ≡ num 8 255 ++ fill)
+marked rest over = mark_of rest (ends_only stops.Telegram rest over)
+
+-- and the other way round
+pub telegram_spelled : (t : Telegram) (bits : List Bool) → IsTelegram t bits → AreSpelledOut t bits
+telegram_spelled t bits x =
+    let header = join (header_rows t.header) in
+    let packets = join (flat_map track_rows t.packets) in
+    let parts = whole_spelled header_rows track_rows t.header t.packets stops.Telegram bits x.begins in
+    let mark = marked parts.rest parts.over in
+    record {
+      fill = mark.0;
+      count = x.count;
+      header = parts.first;
+      packets = parts.items;
+      are =
+          parts.are ∙ ap (λ (xs : List Bool). header ++ (packets ++ xs)) mark.1
+          ∙ ap (λ (xs : List Bool). header ++ xs) (sym (append_assoc packets (num 8 255) mark.0))
+          ∙ sym (append_assoc header (packets ++ num 8 255) mark.0);
+    }
+
+-- a telegram that is spelled out fits
+spelled_fits : (t : Telegram) (bits : List Bool) → AreSpelledOut t bits → used_bits t ≤ user_bits t.size
+spelled_fits t bits x = omega (arith, ap length x.are, length-append (front_bits t) x.fill, front_width t, x.count)
+
+pub decoded_encoded : (t : Telegram) (bits : List Bool) → IsTelegram t bits → IsEncoding t (canonical_bits t)
+decoded_encoded t bits x =
+    let parts = telegram_spelled t bits x in
+    record { fits = spelled_fits t bits parts; header = parts.header; packets = parts.packets; canonical = refl }
+
 -- an encoding is the telegram
 pub encoding_telegram : (t : Telegram) (bits : List Bool) → IsEncoding t bits → IsTelegram t bits
 encoding_telegram t bits x =
-    let header = join (header_rows t.header) in
-    let packets = join (flat_map track_rows t.packets) in
-    let ones = replicate (user_bits t.size - used_bits t) true in
-    let parts = x.canonical ∙ append_assoc header (packets ++ num 8 255) ones ∙ ap (λ (xs : List Bool). header ++ xs) (append_assoc packets (num 8 255) ones) in
-    let whole = whole_written header_rows track_rows t.header t.packets stops.Telegram track_fields (num 8 255 ++ ones) bits headed no_mark track_are_rows x.header x.packets (mark_ends stops.Telegram ones) parts in
-    record {
+    spelled_telegram t bits (record {
+      fill = replicate (user_bits t.size - used_bits t) true;
       count = ap length x.canonical ∙ canonical_length t x.fits;
-      begins = record { end = place_in bits (length header + length packets); whole = whole };
-    }
+      header = x.header;
+      packets = x.packets;
+      are = x.canonical;
+    })
 
 -- where a telegram fits, only memory can be wanting
 pub only_memory : {X : Type 0} (r : Result X EncodeError) (t : Telegram) → used_bits t ≤ user_bits t.size

@@ -1,13 +1,42 @@
 -- What holds of telegrams, their bits and their texts, whatever reads or writes them.
-use Rattle.std.specs.Prelude.{◌≡◌, ℕ, List, Bool, Ok}
+use Rattle.std.specs.Prelude.{◌≡◌, ◌↔◌, ◌++◌, ℕ, List, Bool, length, Ok, Err}
+use Rattle.std.specs.List.{flat_map}
+use Rattle.etcs_bits.specs.Rows.{AreAllowed}
+use Rattle.etcs_bits.specs.declared.fault.Fault.{Fault}
+use Rattle.etcs_packet.specs.Track.{track_rows}
 use Rattle.etcs_telegram.specs.Record.{Telegram}
-use Rattle.etcs_telegram.specs.Telegram.{IsTelegram, IsEncoding, telegram_of}
+use Rattle.etcs_telegram.specs.Header.{header_rows}
+use Rattle.etcs_telegram.specs.Sizes.{user_bits}
+use Rattle.etcs_telegram.specs.Telegram.{IsTelegram, IsTelegramFault, IsNoTelegram, IsEncoding, canonical_bits, front_bits, telegram_of}
 use Rattle.etcs_telegram.specs.Text.{IsTelegramText, IsCanonicalText, telegram_of_text}
 
 -- Bits that are a telegram mean it: so they are one telegram alone.
 abbrev pub TelegramsAreDecoded : Type 0
 TelegramsAreDecoded =
     (t : Telegram) (bits : List Bool) → IsTelegram t bits → telegram_of bits ≡ Ok t
+
+-- A fault is told of bits exactly where they mean it: so they have one at most. And then they are no
+-- telegram, nor are any bits of the same number with the same first `end` bits.
+pub record FaultsAreMeant : Type 0 where
+  pub fault : (bits : List Bool) (f : Fault) → IsTelegramFault bits f ↔ (telegram_of bits ≡ Err f)
+  pub none : (bits : List Bool) (f : Fault) → IsTelegramFault bits f → IsNoTelegram bits f
+
+-- The bits are the telegram's header, its packets, the end mark and a fill, as many as its size has,
+-- and none of its numbers is spare.
+pub record AreSpelledOut (t : Telegram) (bits : List Bool) : Type 0 where
+  pub fill : List Bool
+  pub count : length bits ≡ user_bits t.size
+  pub header : AreAllowed (header_rows t.header)
+  pub packets : AreAllowed (flat_map track_rows t.packets)
+  pub are : bits ≡ front_bits t ++ fill
+
+-- Bits are a telegram exactly where they are it spelled out.
+abbrev pub TelegramsAreSpelledOut : Type 0
+TelegramsAreSpelledOut = (t : Telegram) (bits : List Bool) → IsTelegram t bits ↔ AreSpelledOut t bits
+
+-- A telegram that bits are is not too big: it has an encoding, its canonical bits.
+abbrev pub DecodedIsEncoded : Type 0
+DecodedIsEncoded = (t : Telegram) (bits : List Bool) → IsTelegram t bits → IsEncoding t (canonical_bits t)
 
 -- The encoding of a telegram is that telegram.
 abbrev pub EncodingsAreTelegrams : Type 0

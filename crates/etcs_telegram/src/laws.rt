@@ -1,11 +1,28 @@
 //! What holds of telegrams, their bits and their texts, as contracts of calls that do nothing: laws
 //! for users.
 
-ghost use Rattle.etcs_telegram.specs.Laws.{EncodedIsDecoded, EncodingsAreOneToOne, EncodingsAreTelegrams, TelegramsAreDecoded, TextsAreOneToOne, TextsAreRead, WrittenIsRead};
+ghost use Rattle.etcs_telegram.specs.Laws.{DecodedIsEncoded, EncodedIsDecoded, EncodingsAreOneToOne, EncodingsAreTelegrams, FaultsAreMeant, TelegramsAreDecoded, TelegramsAreSpelledOut, TextsAreOneToOne, TextsAreRead, WrittenIsRead};
 
 /// Bits that are a telegram mean it, so they are one telegram alone.
 pub fn telegrams_are_decoded()
     ensures { TelegramsAreDecoded }
+{}
+
+/// A fault is told of bits exactly where they mean it, and then they are no telegram, nor are any
+/// bits of the same number with the same first `end` bits.
+pub fn faults_are_meant()
+    ensures { FaultsAreMeant }
+{}
+
+/// Bits are a telegram exactly where they are its header, its packets, the end mark and a fill, as
+/// many as its size has, and none of its numbers is spare.
+pub fn telegrams_are_spelled_out()
+    ensures { TelegramsAreSpelledOut }
+{}
+
+/// What was decoded is never too big: its encoding is the same bits with ones as the fill.
+pub fn what_is_decoded_is_encoded()
+    ensures { DecodedIsEncoded }
 {}
 
 /// The encoding of a telegram is that telegram.
