@@ -1,6 +1,7 @@
 -- The JSON form of a movement authority, packets 12 and 15. The keys are the standard's names of
 -- variables in small letters (SUBSET-026, 7.4.2), in byte order; those of lists and parts are this
--- project's, and so are `end_speed` and `end_timeout`, V_LOA and T_LOA. A qualifier is not written:
+-- project's, and so are `end_speed` and `end_timeout`, V_LOA and T_LOA. A bit that
+-- only says whether something follows is not written:
 -- the key of what it qualifies is there or not.
 use Rattle.std.specs.Prelude.{List, [], ◌∷◌, codes}
 use Rattle.etcs_bits.specs.Variables.{dir_number, scale_number}
@@ -14,7 +15,7 @@ use Rattle.etcs_profile.specs.declared.overlap.Overlap.{Overlap}
 use Rattle.serde_json.specs.Data.{Data}
 use Rattle.balisecheck.specs.Forms.{Entry, always, array_of, maybe, object_of, whole}
 
--- until when a section may be entered
+-- for how long a section may be entered, and where its timer is stopped
 abbrev pub section_timer_form : SectionTimer → Data
 section_timer_form t = object_of (
     always (codes "d_sectiontimerstoploc") (whole t.stop)
@@ -28,7 +29,7 @@ section_form s = object_of (
     ∷ maybe (codes "section_timer") section_timer_form s.timer
     ∷ [])
 
--- until when the end section is given
+-- for how long the end section is given, and where its timer is started
 abbrev pub end_timer_form : EndTimer → Data
 end_timer_form t = object_of (
     always (codes "d_endtimerstartloc") (whole t.start)

@@ -1,6 +1,7 @@
 -- The JSON form of each packet from track to train. The keys are the standard's names of variables
 -- in small letters (SUBSET-026, 7.4.2), in byte order; `links`, `transitions` and `body` are this
--- project's. Lists hold the first item and the N_ITER further ones, and qualifiers are not written.
+-- project's. Lists hold the first item and the N_ITER further ones, and a bit that only says whether
+-- something follows is not written.
 use Rattle.std.specs.Prelude.{ℕ, ◌+◌, List, [], ◌∷◌, length, Option, Some, None, codes}
 use Rattle.etcs_bits.specs.Level.{level_number}
 use Rattle.etcs_bits.specs.Number.{worth}
@@ -57,7 +58,8 @@ national_system levels.L1 = None
 national_system levels.L2 = None
 national_system levels.L3 = None
 
--- a level in which a train may run on; the national system only at level NTC
+-- a level of the order, the first of which that a train can is its next; the national system only
+-- at level NTC
 abbrev pub order_form : LevelOrder → Data
 order_form o = object_of (
     always (codes "l_ackleveltr") (whole o.acknowledge)

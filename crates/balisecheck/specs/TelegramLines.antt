@@ -1,6 +1,7 @@
 -- A telegram as a line of text. What is accepted becomes one JSON object, its keys in byte order
--- and without blanks; what is refused becomes the reason, in words and numbers. The keys and the
--- words are this project's.
+-- and without blanks; what is refused becomes the reason, in words and numbers. The keys are
+-- the standard's names of variables in small letters, but `packets` and `user_bits`, which are this
+-- project's, as the words are.
 use Rattle.std.specs.Prelude.{◌≡◌, ◌++◌, ℕ, List, [], ◌∷◌, codes, decimal, Result, Ok, Err}
 use Rattle.etcs_bits.specs.Number.{worth}
 use Rattle.etcs_bits.specs.Variables.{dup_number, version_number}
@@ -49,7 +50,7 @@ kind_words kinds.MessageKind = codes "message kind"
 kind_words kinds.NoAuthority = codes "no authority"
 kind_words kinds.NoReport = codes "no report"
 
--- what is wrong, where its field begins, and by which bit it is decided
+-- what is wrong, where its field begins, and how many bits decide it
 abbrev pub fault_words : Fault → List ℕ
 fault_words fault = kind_words fault.why
     ++ (codes " at " ++ (decimal fault.at ++ (codes " end " ++ decimal fault.end)))
@@ -76,7 +77,7 @@ line_for (Err why) = Err why
 unfoldable pub meaning_of : List ℕ → Result (List ℕ) TextError
 meaning_of text = line_for (telegram_of_text text)
 
--- why there is no JSON line: as memory ran out, or for the line's own reason
+-- why there is no JSON line: because memory ran out, or for the line's own reason
 abbrev pub Refuses : TextError → Result (List ℕ) TextError → Type 0
 Refuses errors.Memory meaning = Unit {0}
 Refuses why meaning = meaning ≡ Err why

@@ -17,8 +17,8 @@ fn user_bit_count(size: Size) -> u32
     }
 }
 
-/// A telegram is one JSON object, whose keys are the standard's variable names in small letters, in
-/// byte order.
+/// A telegram is one JSON object, its keys in byte order: the standard's variable names in small
+/// letters, and this project's `packets` and `user_bits`.
 impl Form for Telegram {
     ghost use Rattle.balisecheck.specs.TelegramLines.{telegram_form};
 

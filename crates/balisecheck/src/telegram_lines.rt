@@ -54,7 +54,7 @@ fn kind_text(kind: FaultKind) -> &'static str
     }
 }
 
-// Why a text is no telegram, in words. Of `Memory` nothing is said but that there is none.
+// Why a text is no telegram, in words. `Memory` is no such reason: the call fails then.
 #[tactic(auto, unfolding(crate::specs::TelegramLines::reason_of))]
 fn reason(alloc: Global, why: &TextError) -> Result<String, AllocError>
     ensures { IfOk result (λ s. string_bytes s ≡ reason_of why.now) }

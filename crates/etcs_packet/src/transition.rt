@@ -9,7 +9,8 @@ use etcs_profile::{BuildError, Packet};
 use std::alloc::Global;
 use std::marker::Model;
 
-/// A level in which a train may run on (SUBSET-026, 5.10 and 7.4.2): 18 bits, and 8 for level NTC.
+/// A level of an order, of which a train goes to the first that it can (SUBSET-026, 5.10 and 7.4.2):
+/// 18 bits, and 8 more for level NTC.
 #[derive(Clone, Copy, Debug, PartialEq, Eq)]
 pub struct LevelOrder {
     /// M_LEVELTR, 3 bits, and NID_NTC, 8 bits, at level NTC: the level.

@@ -1,11 +1,12 @@
-//! The packets that carry distances (SUBSET-026, 7.4.2): how far a train may run, and what is known
-//! of the track there.
+//! Movement authorities and profiles of the track, packets 12, 15, 21 and 27 (SUBSET-026, 7.4.2): how
+//! far a train may run, and what is known of the track there.
 //!
 //! [`Authority`] is the movement authority, packets 12 and 15; [`Authority::end`] says how far the
 //! train may run. [`Gradient`], packet 21, and [`SpeedProfile`], packet 27, are each a [`Packet`] of
 //! [`Elements`]; [`Packet::reach`] says how far they tell the track. Read `packet.rt`, `elements.rt`
 //! and `gradient.rt` first, with the files of the same names in `specs/`, then `authority.rt`. The
-//! crate stands on [`etcs_bits::Layout`]. Left out: what the two have to do with one another.
+//! crate stands on [`etcs_bits::Layout`]. Left out: all other packets, and
+//! whether an authority and the profiles fit together.
 #![tactic(auto)]
 
 mod authority;

@@ -62,7 +62,7 @@ pub record IsEncoding (t : Telegram) (bits : List Bool) : Type 0 where
 
 -- ---- as a function
 
--- the size of so many bits
+-- the size of 210 bits, or of 830
 abbrev pub size_by : ℕ → Size
 size_by n = if n == 210 then Short else Long
 

@@ -10,11 +10,11 @@ use etcs_bits::{Bits, DecodeError};
 use etcs_packet::{Stop, read_whole};
 use std::alloc::Global;
 
-/// The telegram that 210 or 830 user bits spell. What comes behind the end mark is ignored.
+/// The telegram that 210 or 830 user bits spell (SUBSET-026, 8.4.2). What comes behind the end mark
+/// is ignored.
 ///
 /// A fault is the first one of the bits, and then no telegram is spelled, in any input of the same
-/// length with the same first `end` bits. If memory runs out, a fault may go unseen. SUBSET-026,
-/// 8.4.2.
+/// length with the same first `end` bits. If memory runs out, a fault may go unseen.
 pub fn decode(alloc: Global, bits: &Bits) -> Result<Telegram, DecodeError>
     requires { AreUserBits bits.now }
     ensures ok { IfOk result (λ t. IsTelegram t bits.now) }

@@ -22,7 +22,7 @@ fn fill(bits: &mut Bits, len: usize) -> Result<(), Memory>
     Ok(())
 }
 
-// How many bits the header, the packets and the end mark have.
+// How many bits the header, the packets and the end mark have; `u64::MAX` where they have more.
 fn used_width(telegram: &Telegram) -> u64
     ensures { result ≡ min (used_bits telegram.now) u64.MAX }
 {
