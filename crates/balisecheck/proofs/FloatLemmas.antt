@@ -2,15 +2,8 @@
 use Rattle.std.proofs.Common.{◌≡◌, ℕ, List, [], ◌∷◌, Option, Some, None, false, refl}
 use Rattle.std.proofs.lemmas.Bool.{or_from}
 use Rattle.etcs_bits.specs.declared.direction.Dir.{Dir}
-use Rattle.etcs_packet.specs.Transition.{Body}
-use Rattle.etcs_packet.specs.declared.linking.Link.{Link}
-use Rattle.etcs_packet.specs.declared.track.TrackPacket.{TrackPacket}
 use Rattle.etcs_packet.specs.declared.track.TrackPacket.TheVariants as packets
-use Rattle.etcs_packet.specs.declared.transition.LevelOrder.{LevelOrder}
-use Rattle.etcs_profile.specs.Authority.{Permission}
 use Rattle.etcs_profile.specs.Profile.{Profile}
-use Rattle.etcs_profile.specs.declared.section.Section.{Section}
-use Rattle.etcs_profile.specs.declared.speed.SpeedElement.{SpeedElement}
 use Rattle.etcs_telegram.specs.Record.{Telegram}
 use Rattle.serde_json.specs.Data.{Data}
 use Rattle.serde_json.specs.Written.{has_float, items_have_float, members_have_float}

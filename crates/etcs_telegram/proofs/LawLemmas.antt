@@ -19,7 +19,7 @@ use Rattle.etcs_telegram.specs.declared.header.Header.{Header}
 use Rattle.etcs_telegram.specs.Header.{header_fields, header_rows, header_of, header_are_rows, header_record}
 use Rattle.etcs_telegram.specs.Record.{Telegram}
 use Rattle.etcs_telegram.specs.Sizes.{user_bits, byte_count, pad_count, size_in}
-use Rattle.etcs_telegram.specs.Telegram.{IsTelegram, IsTelegramFault, IsNoTelegram, IsEncoding, telegram_by, telegram_of}
+use Rattle.etcs_telegram.specs.Telegram.{IsTelegram, IsTelegramFault, IsNoTelegram, telegram_by, telegram_of}
 use Rattle.etcs_telegram.specs.Text.{IsTelegramText, IsCanonicalText, telegram_of_text, pads_with_zeros, user_bits_in, no_pads}
 use Rattle.etcs_telegram.proofs.TelegramLemmas.{headed, telegram_meaning, encoding_telegram, canonical_length}
 use Rattle.etcs_telegram.proofs.TextLemmas.{size_in_back, whole_bytes, pads_divide}

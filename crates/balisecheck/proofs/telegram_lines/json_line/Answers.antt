@@ -1,4 +1,4 @@
-use Rattle.std.proofs.Common.{◌≡◌, rules, refl, string_bytes}
+use Rattle.std.proofs.Common.{◌≡◌, rules, string_bytes}
 use Rattle.serde_json.proofs.FreeTexts.{text_of_value}
 use Rattle.serde_json.specs.Written.{compact_text}
 use Rattle.balisecheck.specs.TelegramLines.{json_line_of, telegram_form}
