@@ -11,7 +11,8 @@ use Rattle.etcs_bits.specs.Fault.{lack, Tells, IsFault}
 use Rattle.etcs_bits.specs.Reading.{forward, field_at, rows_at}
 use Rattle.etcs_bits.proofs.NumberLemmas.{length-num}
 use Rattle.etcs_bits.proofs.BindLemmas.{ok_is, err_is}
-use Rattle.etcs_bits.proofs.StandLemmas.{place_in, join-append, length-join, allowed_first, allowed_second, same_position, stands_parts, stands_within, stands_moved}
+use Rattle.etcs_bits.proofs.StandLemmas.{place_in, join-append, length-join, same_position, stands_parts, stands_within, stands_moved}
+use Rattle.etcs_bits.specs.RowLemmas.{allowed_first, allowed_second}
 use Rattle.etcs_bits.proofs.ReadingLemmas.{taken_again, closed_again, closed_told, field_again, spelled_is_read}
 
 abbrev given : List Row → Place → Result (List Row × Place) Fault

@@ -10,7 +10,8 @@ use Rattle.etcs_bits.specs.Rows.{Row, Place, AreAllowed, join, width}
 use Rattle.etcs_bits.specs.Fields.{Fields, times}
 use Rattle.etcs_bits.specs.Reading.{◌>>=◌, rows_at}
 use Rattle.etcs_bits.specs.Layout.{Fails}
-use Rattle.etcs_bits.proofs.StandLemmas.{join-append, allowed_first, allowed_second}
+use Rattle.etcs_bits.proofs.StandLemmas.{join-append}
+use Rattle.etcs_bits.specs.RowLemmas.{allowed_first, allowed_second}
 use Rattle.etcs_bits.proofs.WidthLemmas.{width_both}
 
 -- ---- the items up to one, that one, and those behind it

@@ -11,7 +11,8 @@ use Rattle.etcs_bits.specs.Fault.{short, lack, refused, Tells, IsFault}
 use Rattle.etcs_bits.specs.Reading.{◌>>=◌, forward, taken, taken_or_closed, field_at, rows_at}
 use Rattle.etcs_bits.proofs.NumberLemmas.{length-num, num_of_bits-lt}
 use Rattle.etcs_bits.proofs.BindLemmas.{bind_ok, bind_err, pass_ok, pass_err, stop_ok, stop_err, ok_is, err_is, after_stop}
-use Rattle.etcs_bits.proofs.StandLemmas.{join-append, length-join, allowed-append, allowed_first, allowed_second, same_position, stands_nothing, stands_then, stands_parts, stands_within, number_stands, standing_number}
+use Rattle.etcs_bits.proofs.StandLemmas.{join-append, length-join, allowed-append, same_position, stands_nothing, stands_then, stands_parts, stands_within, number_stands, standing_number}
+use Rattle.etcs_bits.specs.RowLemmas.{allowed_first, allowed_second}
 
 -- ---- one field
 

@@ -18,14 +18,6 @@ pub allowed-append : (xs ys : List Row) → AreAllowed xs → AreAllowed ys → 
 allowed-append [] ys a b = b
 allowed-append (r ∷ xs) ys a b = (a.0, allowed-append xs ys a.1 b)
 
-pub allowed_first : (xs ys : List Row) → AreAllowed (xs ++ ys) → AreAllowed xs
-allowed_first [] ys a = tt
-allowed_first (r ∷ xs) ys a = (a.0, allowed_first xs ys a.1)
-
-pub allowed_second : (xs ys : List Row) → AreAllowed (xs ++ ys) → AreAllowed ys
-allowed_second [] ys a = a
-allowed_second (r ∷ xs) ys a = allowed_second xs ys a.1
-
 -- ---- places
 
 abbrev pub place_in : List Bool → ℕ → Place

@@ -1,8 +1,9 @@
 -- Proofs of the laws of `Layout` for records that are made of others.
-use Rattle.std.specs.Prelude.{◌≡◌, ℕ, List, [], ◌∷◌, length, refl, Some, None}
+use Rattle.std.specs.Prelude.{◌≡◌, ℕ, zero, suc, ◌+◌, List, [], ◌∷◌, ◌++◌, length, refl, Some, None}
 use Rattle.std.specs.List.{flat_map}
-use Rattle.std.proofs.Common.{ap, ap₂}
-use Rattle.etcs_bits.specs.Rows.{Row, alone}
+use Rattle.std.proofs.Common.{ap, ap₂, sym, arith}
+use Rattle.etcs_bits.specs.Rows.{Row, AreAllowed, alone, width}
+use Rattle.etcs_bits.specs.RowLemmas.{allowed_first, allowed_second}
 use Rattle.etcs_bits.specs.Fields.{Fields, ◌▹◌, sized, option, times, counted, AreRowsOf}
 use Rattle.etcs_bits.specs.CutLemmas.{cut_whole}
 use Rattle.etcs_bits.specs.Combined.{qualifier, n_iter, pair_rows, pair_of, option_rows, option_of, counted_rows, items_of, counted_of, body_rows, body_of}
@@ -14,6 +15,11 @@ HaveFields {X} fields rows = (x : X) → AreRowsOf fields (rows x)
 -- each record is the one of its rows
 abbrev pub AreOf : {X : Type 0} → (List Row → X) → (X → List Row) → Type 0
 AreOf {X} of rows = (x : X) → of (rows x) ≡ x
+
+-- each whole list of allowed rows is that of a record
+abbrev pub HaveRecords : {X : Type 0} → Fields → (X → List Row) → Type 0
+HaveRecords {X} fields rows =
+    (r : List Row) → AreRowsOf fields r → AreAllowed r → (x : X) × (rows x ≡ r)
 
 -- ---- a pair
 
@@ -33,6 +39,14 @@ pair_record {A = A} {B = B} a rows_a rows_b of_a of_b have is_a is_b p =
     rw (cut_whole a (rows_a p.0) (rows_b p.1) (have p.0))
     (ap₂ (λ (x : A) (y : B). pair x y) (is_a p.0) (is_b p.1))
 
+pub pair_records : {A B : Type 0} (a b : Fields) (rows_a : A → List Row) (rows_b : B → List Row)
+    → HaveRecords a rows_a → HaveRecords b rows_b → HaveRecords (a ▹ b) (pair_rows rows_a rows_b)
+pair_records a b rows_a rows_b all_a all_b r (first, second, e, v, w) allowed =
+    let both : AreAllowed (first ++ second) = rw (← e) allowed in
+    let x = all_a first v (allowed_first first second both) in
+    let y = all_b second w (allowed_second first second both) in
+    ((x.0, y.0), rw (e, x.1, y.1) refl)
+
 -- ---- an option
 
 pub option_are_rows : {X : Type 0} (fields : Fields) (rows : X → List Row)
@@ -46,6 +60,16 @@ pub option_record : {X : Type 0} (rows : X → List Row) (of : List Row → X)
 unfolding alone
 option_record rows of is None = refl
 option_record rows of is (Some x) = ap Some (is x)
+
+pub option_records : {X : Type 0} (fields : Fields) (rows : X → List Row)
+    → HaveRecords fields rows → HaveRecords (option qualifier fields) (option_rows rows)
+unfolding alone
+option_records fields rows all r (zero, more, e, w) allowed = (None, rw (e, w) refl)
+option_records fields rows all r (suc zero, more, e, w) allowed =
+    let x = all more w (rw e at allowed).1 in
+    (Some x.0, rw (e, x.1) refl)
+option_records fields rows all r (suc (suc n), more, e, w) allowed =
+    absurd (omega (arith, (rw e at allowed).0.0))
 
 -- ---- a counted list
 
@@ -75,6 +99,24 @@ pub counted_record : {X : Type 0} (fields : Fields) (rows : X → List Row) (of 
 unfolding alone
 counted_record fields rows of have is xs = items_are fields rows of have is xs
 
+-- so many records, whose rows are these
+items_with : {X : Type 0} (fields : Fields) (rows : X → List Row) → HaveRecords fields rows
+    → (n : ℕ) (r : List Row) → AreRowsOf (times n fields) r → AreAllowed r
+    → (xs : List X) × (length xs ≡ n) × (flat_map rows xs ≡ r)
+items_with fields rows all zero r w allowed = ([], refl, sym w)
+items_with fields rows all (suc n) r (first, second, e, v, w) allowed =
+    let both : AreAllowed (first ++ second) = rw (← e) allowed in
+    let x = all first v (allowed_first first second both) in
+    let xs = items_with fields rows all n second w (allowed_second first second both) in
+    (x.0 ∷ xs.0, ap suc xs.1, rw (e, x.1, xs.2) refl)
+
+pub counted_records : {X : Type 0} (fields : Fields) (rows : X → List Row)
+    → HaveRecords fields rows → HaveRecords (counted n_iter fields) (counted_rows rows)
+unfolding alone
+counted_records fields rows all r (n, more, e, w) allowed =
+    let xs = items_with fields rows all n more w (rw e at allowed).1 in
+    (xs.0, rw (e, xs.1, xs.2) refl)
+
 -- ---- a packet's body
 
 pub body_are_rows : {X : Type 0} (before : ℕ) (fields : Fields) (rows : X → List Row)
@@ -86,3 +128,11 @@ pub body_record : {X : Type 0} (before : ℕ) (rows : X → List Row) (of : List
     → AreOf of rows → AreOf (body_of of) (body_rows before rows)
 unfolding alone
 body_record before rows of is x = is x
+
+pub body_records : {X : Type 0} (before : ℕ) (fields : Fields) (rows : X → List Row)
+    → HaveRecords fields rows → HaveRecords (sized before fields) (body_rows before rows)
+unfolding alone
+body_records before fields rows all r (more, e, w) allowed =
+    let x = all more w (rw e at allowed).1 in
+    let count : width r ≡ 13 + width more = ap width e in
+    (x.0, rw (x.1, e, count) refl)

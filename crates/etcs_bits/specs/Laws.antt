@@ -1,11 +1,12 @@
 -- What holds of every record that is laid out in fields, whatever reads or writes it, and which
 -- numbers a variable has.
-use Rattle.std.specs.Prelude.{◌≡◌, ◌↔◌, ℕ, ◌≤◌, ◌<◌, ◌^◌, List, Bool, ◌++◌, length}
+use Rattle.std.specs.Prelude.{◌≡◌, ◌↔◌, ℕ, ◌≤◌, ◌<◌, ◌^◌, List, Bool, ◌++◌, length, Ok}
 use Rattle.etcs_bits.specs.declared.fault.Fault.{Fault}
 use Rattle.etcs_bits.specs.Number.{num, num_of_bits}
 use Rattle.etcs_bits.specs.Rows.{Variable, Row, row, Place, IsAllowed, AreAllowed, join, IsSpelled}
 use Rattle.etcs_bits.specs.Fields.{Fields}
 use Rattle.etcs_bits.specs.Fault.{IsFault, NoneBegins}
+use Rattle.etcs_bits.specs.Reading.{rows_at}
 
 -- A place spells at most one record, and it has one end.
 abbrev pub SpellsOneRecord : {X : Type 0} → (X → List Row) → Type 0
@@ -29,6 +30,13 @@ abbrev pub TellsOneFault : Fields → Type 0
 TellsOneFault fields =
     (p : Place) (f g : Fault) → p.at ≤ length p.bits
     → IsFault fields p f → IsFault fields p g → f ≡ g
+
+-- A record is spelled exactly where reading gives it, and up to the place where that ends.
+abbrev pub IsReadAsSpelled : {X : Type 0} → Fields → (X → List Row) → (List Row → X) → Type 0
+IsReadAsSpelled {X} fields rows record_of =
+    (p q : Place) (v : X) → p.at ≤ length p.bits
+    → IsSpelled (rows v) p q
+    ↔ ((r : List Row) × (rows_at fields p ≡ Ok (r, q)) × (record_of r ≡ v))
 
 -- The records with these rows are laid out in these fields: each of the four holds of them.
 pub record AreLaidOut {X : Type 0} (fields : Fields) (rows : X → List Row) : Type 0 where

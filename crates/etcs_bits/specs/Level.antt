@@ -1,12 +1,16 @@
 -- The level of M_LEVELTR and M_LEVEL: three bits, and behind level NTC the national system that
 -- supervises the train (SUBSET-026, 7.5.1).
-use Rattle.std.specs.Prelude.{◌≡◌, ℕ, ◌==◌, nat_lt, if◌then◌else◌, false, List, [], ◌++◌, refl}
+use Rattle.std.specs.Prelude.{◌≡◌, ℕ, zero, suc, ◌==◌, nat_lt, if◌then◌else◌, false, List, [], ◌∷◌, ◌++◌, refl}
+use Rattle.std.proofs.Common.{sym, ◌∙◌, arith}
+use Rattle.std.proofs.lemmas.Bool.{ltb-true}
 use Rattle.etcs_bits.specs.declared.fault.FaultKind.TheVariants.{Spare}
 use Rattle.etcs_bits.specs.declared.level.Level.{Level}
 use Rattle.etcs_bits.specs.declared.level.Level.TheVariants as levels
-use Rattle.etcs_bits.specs.Rows.{Variable, Row, alone, number_at}
+use Rattle.etcs_bits.specs.Rows.{Variable, Row, row, alone, number_at, IsAllowed}
 use Rattle.etcs_bits.specs.Fields.{Fields, nothing, field, one, AreRowsOf}
 use Rattle.etcs_bits.specs.Variables.{plain}
+use Rattle.etcs_bits.specs.CombinedLemmas.{HaveFields, AreOf, HaveRecords}
+use Rattle.etcs_bits.specs.LaidLemmas.{IsLaid}
 
 -- M_LEVELTR and M_LEVEL, 3 bits: 0 to 4 are levels, 5 to 7 are spare
 abbrev pub m_level : Variable
@@ -49,7 +53,7 @@ level_of rows = level_of_numbers (number_at 0 rows) (number_at 1 rows)
 
 -- ---- proofs of the laws of `Layout`
 
-pub level_are_rows : (v : Level) → AreRowsOf level_fields (level_rows v)
+level_are_rows : HaveFields level_fields level_rows
 unfolding alone
 level_are_rows levels.L0 = (0, [], refl, refl)
 level_are_rows (levels.Ntc ntc) = (1, alone nid_ntc ntc, refl, (ntc, [], refl, refl))
@@ -57,10 +61,31 @@ level_are_rows levels.L1 = (2, [], refl, refl)
 level_are_rows levels.L2 = (3, [], refl, refl)
 level_are_rows levels.L3 = (4, [], refl, refl)
 
-pub level_record : (v : Level) → level_of (level_rows v) ≡ v
+level_record : AreOf level_of level_rows
 unfolding alone
 level_record levels.L0 = refl
 level_record (levels.Ntc ntc) = refl
 level_record levels.L1 = refl
 level_record levels.L2 = refl
 level_record levels.L3 = refl
+
+-- the level of a number that is allowed and of what stands behind it
+level_here : (n : ℕ) (more : List Row) → IsAllowed (row m_level n)
+    → AreRowsOf (if n == 1 then one nid_ntc else nothing) more
+    → (v : Level) × (level_rows v ≡ row m_level n ∷ more)
+unfolding alone
+level_here zero more allowed w = (levels.L0, rw w refl)
+level_here (suc zero) more allowed (ntc, end, e, none) = (levels.Ntc ntc, rw (e, none) refl)
+level_here (suc (suc zero)) more allowed w = (levels.L1, rw w refl)
+level_here (suc (suc (suc zero))) more allowed w = (levels.L2, rw w refl)
+level_here (suc (suc (suc (suc zero)))) more allowed w = (levels.L3, rw w refl)
+level_here (suc (suc (suc (suc (suc n))))) more allowed w =
+    absurd (omega (arith, ltb-true (suc (suc (suc (suc (suc n))))) 5 allowed.1))
+
+level_records : HaveRecords level_fields level_rows
+level_records r (n, more, e, w) allowed =
+    let v = level_here n more (rw e at allowed).0 w in
+    (v.0, v.1 ∙ sym e)
+
+pub level_laid : IsLaid level_fields level_rows level_of
+level_laid = record { have = level_are_rows; is = level_record; all = level_records }

@@ -6,12 +6,12 @@ pub mod Reading
 pub mod Layout
 pub mod Cut
 pub mod CutLemmas
+pub mod Laws
 pub mod Variables
 pub mod RowLemmas
 pub mod VariableLemmas
 pub mod Combined
 pub mod CombinedLemmas
+pub mod LaidLemmas
 pub mod Identity
 pub mod Level
-pub mod Laws
-pub mod LaidLemmas

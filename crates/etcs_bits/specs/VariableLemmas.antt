@@ -1,6 +1,7 @@
--- Proofs of the laws of `Layout` that the variable types give. A trait's laws may cite only specs.
-use Rattle.std.specs.Prelude.{◌≡◌, ℕ, Bool, true, false, refl}
-use Rattle.std.proofs.Common.{ap, ◌∙◌}
+-- Which numbers variables have whose numbers have names, and the value of each.
+use Rattle.std.proofs.Common.{◌≡◌, ℕ, zero, suc, ◌⊎◌, Bool, true, false, refl, sym, arith, rules, inl, inr, eqb}
+use Rattle.std.specs.Prelude.{◌||◌}
+use Rattle.std.proofs.lemmas.Bool.{ltb-true, eqb-true}
 use Rattle.etcs_bits.specs.declared.transmission.Transmission.{Transmission}
 use Rattle.etcs_bits.specs.declared.transmission.Transmission.TheVariants as transmissions
 use Rattle.etcs_bits.specs.declared.medium.Medium.{Medium}
@@ -14,8 +15,14 @@ use Rattle.etcs_bits.specs.declared.direction.Dir.TheVariants as dirs
 use Rattle.etcs_bits.specs.declared.duplicate.Dup.{Dup}
 use Rattle.etcs_bits.specs.declared.duplicate.Dup.TheVariants as dups
 use Rattle.etcs_bits.specs.Number.{worth}
-use Rattle.etcs_bits.specs.Rows.{Variable, alone, number_at}
-use Rattle.etcs_bits.specs.Variables.{transmission_number, transmission_of, medium_number, medium_of, m_version, version_number, version_of, m_dup, dup_number, dup_of, q_scale, scale_number, scale_of, q_dir, dir_number, dir_of, plain, flag_of}
+use Rattle.etcs_bits.specs.Rows.{Variable, row, alone, number_at, IsAllowed}
+use Rattle.etcs_bits.specs.Variables.{plain, q_updown, transmission_number, transmission_of, q_media, medium_number, medium_of, m_version, version_number, version_of, m_dup, dup_number, dup_of, q_scale, scale_number, scale_of, q_dir, dir_number, dir_of, flag_of}
+use Rattle.etcs_bits.specs.Laws.{IsNumberOf, HasValues}
+
+-- one of two tests passes
+pub either : (a b : Bool) → (a || b) ≡ true → (a ≡ true) ⊎ (b ≡ true)
+either true b e = inl refl
+either false b e = inr e
 
 -- the number of the only row
 pub number_alone : (x : Variable) (n : ℕ) → number_at 0 (alone x n) ≡ n
@@ -51,21 +58,113 @@ pub flag_back : (b : Bool) → flag_of (worth b) ≡ b
 flag_back true = refl
 flag_back false = refl
 
--- ---- and so each is the one of its row
+-- ---- and which numbers are those of a value
 
-pub version_record : (v : Version)
-    → version_of (number_at 0 (alone m_version (version_number v))) ≡ v
-version_record v = ap version_of (number_alone m_version (version_number v)) ∙ version_back v
+flag_value : (n : ℕ) → IsAllowed (row (plain 1) n) → IsNumberOf worth n
+flag_value zero allowed = (false, refl)
+flag_value (suc zero) allowed = (true, refl)
+flag_value (suc (suc n)) allowed = absurd (omega (arith, allowed.0))
 
-pub dup_record : (v : Dup) → dup_of (number_at 0 (alone m_dup (dup_number v))) ≡ v
-dup_record v = ap dup_of (number_alone m_dup (dup_number v)) ∙ dup_back v
+flag_allowed : (n : ℕ) → IsNumberOf worth n → IsAllowed (row (plain 1) n)
+flag_allowed n (true, e) = rw (← e) (search rules)
+flag_allowed n (false, e) = rw (← e) (search rules)
 
-pub scale_record : (v : Scale)
-    → scale_of (number_at 0 (alone q_scale (scale_number v))) ≡ v
-scale_record v = ap scale_of (number_alone q_scale (scale_number v)) ∙ scale_back v
+pub flags_have_values : HasValues (plain 1) 1 worth flag_of
+flags_have_values = record {
+  numbers = record { width = refl; numbers = λ n. (flag_value n, flag_allowed n) };
+  back = flag_back;
+}
 
-pub dir_record : (v : Dir) → dir_of (number_at 0 (alone q_dir (dir_number v))) ≡ v
-dir_record v = ap dir_of (number_alone q_dir (dir_number v)) ∙ dir_back v
+transmission_allowed : (n : ℕ) → IsNumberOf transmission_number n → IsAllowed (row q_updown n)
+transmission_allowed n (transmissions.TrackToTrain, e) = rw (← e) (search rules)
 
-pub flag_record : (b : Bool) → flag_of (number_at 0 (alone (plain 1) (worth b))) ≡ b
-flag_record b = ap flag_of (number_alone (plain 1) (worth b)) ∙ flag_back b
+pub transmissions_have_values : HasValues q_updown 1 transmission_number transmission_of
+transmissions_have_values = record {
+  numbers = record {
+    width = refl;
+    numbers = λ n. (λ allowed. (transmissions.TrackToTrain, sym (eqb-true n 1 allowed.1)), transmission_allowed n);
+  };
+  back = transmission_back;
+}
+
+medium_allowed : (n : ℕ) → IsNumberOf medium_number n → IsAllowed (row q_media n)
+medium_allowed n (media.Balise, e) = rw (← e) (search rules)
+
+pub media_have_values : HasValues q_media 1 medium_number medium_of
+media_have_values = record {
+  numbers = record {
+    width = refl;
+    numbers = λ n. (λ allowed. (media.Balise, sym (eqb-true n 0 allowed.1)), medium_allowed n);
+  };
+  back = medium_back;
+}
+
+version_value : (n : ℕ) → IsAllowed (row m_version n) → IsNumberOf version_number n
+version_value n allowed = elim (either (eqb n 32) (eqb n 33) allowed.1) [
+  | inl e ↦ (versions.V2_0, sym (eqb-true n 32 e))
+  | inr e ↦ (versions.V2_1, sym (eqb-true n 33 e))
+]
+
+version_allowed : (n : ℕ) → IsNumberOf version_number n → IsAllowed (row m_version n)
+version_allowed n (versions.V2_0, e) = rw (← e) (search rules)
+version_allowed n (versions.V2_1, e) = rw (← e) (search rules)
+
+pub versions_have_values : HasValues m_version 7 version_number version_of
+versions_have_values = record {
+  numbers = record { width = refl; numbers = λ n. (version_value n, version_allowed n) };
+  back = version_back;
+}
+
+dup_value : (n : ℕ) → IsAllowed (row m_dup n) → IsNumberOf dup_number n
+dup_value zero allowed = (dups.Single, refl)
+dup_value (suc zero) allowed = (dups.Next, refl)
+dup_value (suc (suc zero)) allowed = (dups.Previous, refl)
+dup_value (suc (suc (suc n))) allowed =
+    absurd (omega (arith, ltb-true (suc (suc (suc n))) 3 allowed.1))
+
+dup_allowed : (n : ℕ) → IsNumberOf dup_number n → IsAllowed (row m_dup n)
+dup_allowed n (dups.Single, e) = rw (← e) (search rules)
+dup_allowed n (dups.Next, e) = rw (← e) (search rules)
+dup_allowed n (dups.Previous, e) = rw (← e) (search rules)
+
+pub marks_have_values : HasValues m_dup 2 dup_number dup_of
+marks_have_values = record {
+  numbers = record { width = refl; numbers = λ n. (dup_value n, dup_allowed n) };
+  back = dup_back;
+}
+
+scale_value : (n : ℕ) → IsAllowed (row q_scale n) → IsNumberOf scale_number n
+scale_value zero allowed = (scales.TenCentimetres, refl)
+scale_value (suc zero) allowed = (scales.Metre, refl)
+scale_value (suc (suc zero)) allowed = (scales.TenMetres, refl)
+scale_value (suc (suc (suc n))) allowed =
+    absurd (omega (arith, ltb-true (suc (suc (suc n))) 3 allowed.1))
+
+scale_allowed : (n : ℕ) → IsNumberOf scale_number n → IsAllowed (row q_scale n)
+scale_allowed n (scales.TenCentimetres, e) = rw (← e) (search rules)
+scale_allowed n (scales.Metre, e) = rw (← e) (search rules)
+scale_allowed n (scales.TenMetres, e) = rw (← e) (search rules)
+
+pub scales_have_values : HasValues q_scale 2 scale_number scale_of
+scales_have_values = record {
+  numbers = record { width = refl; numbers = λ n. (scale_value n, scale_allowed n) };
+  back = scale_back;
+}
+
+dir_value : (n : ℕ) → IsAllowed (row q_dir n) → IsNumberOf dir_number n
+dir_value zero allowed = (dirs.Reverse, refl)
+dir_value (suc zero) allowed = (dirs.Nominal, refl)
+dir_value (suc (suc zero)) allowed = (dirs.Both, refl)
+dir_value (suc (suc (suc n))) allowed =
+    absurd (omega (arith, ltb-true (suc (suc (suc n))) 3 allowed.1))
+
+dir_allowed : (n : ℕ) → IsNumberOf dir_number n → IsAllowed (row q_dir n)
+dir_allowed n (dirs.Reverse, e) = rw (← e) (search rules)
+dir_allowed n (dirs.Nominal, e) = rw (← e) (search rules)
+dir_allowed n (dirs.Both, e) = rw (← e) (search rules)
+
+pub directions_have_values : HasValues q_dir 2 dir_number dir_of
+directions_have_values = record {
+  numbers = record { width = refl; numbers = λ n. (dir_value n, dir_allowed n) };
+  back = dir_back;
+}

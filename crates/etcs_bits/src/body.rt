@@ -64,7 +64,7 @@ impl<const BEFORE: u32, T: Layout> Layout for Body<BEFORE, T> {
     ghost use Rattle.etcs_bits.specs.Rows.{AreAllowed};
     ghost use Rattle.etcs_bits.specs.Fields.{sized};
     ghost use Rattle.etcs_bits.specs.Combined.{body_rows, body_of};
-    ghost use Rattle.etcs_bits.specs.CombinedLemmas.{body_are_rows, body_record};
+    ghost use Rattle.etcs_bits.specs.LaidLemmas.{body_laid};
 
     ghost rows = { body_rows BEFORE T.rows };
 
@@ -75,9 +75,7 @@ impl<const BEFORE: u32, T: Layout> Layout for Body<BEFORE, T> {
     // Its type keeps its numbers in range.
     ghost fit = { λ _. Unit {0} };
 
-    ghost are_rows = { body_are_rows BEFORE T.fields T.rows T.are_rows };
-
-    ghost is_record = { body_record BEFORE T.rows T.record_of T.is_record };
+    ghost laid = { body_laid BEFORE T.laid };
 
     fn is_allowed(&self) -> bool {
         let _content = &self.content;

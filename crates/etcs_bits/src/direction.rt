@@ -56,9 +56,8 @@ impl Dir {
 impl Layout for Dir {
     ghost use Rattle.etcs_bits.specs.Rows.{alone, number_at};
     ghost use Rattle.etcs_bits.specs.Fields.{one};
-    ghost use Rattle.etcs_bits.specs.RowLemmas.{alone_rows};
     ghost use Rattle.etcs_bits.specs.Variables.{q_dir, dir_number, dir_of};
-    ghost use Rattle.etcs_bits.specs.VariableLemmas.{dir_record};
+    ghost use Rattle.etcs_bits.specs.LaidLemmas.{dir_laid};
 
     ghost rows = { λ v. alone q_dir (dir_number v) };
 
@@ -69,9 +68,7 @@ impl Layout for Dir {
     // Its type keeps its numbers in range.
     ghost fit = { λ _. Unit {0} };
 
-    ghost are_rows = { λ v. alone_rows q_dir (dir_number v) };
-
-    ghost is_record = { dir_record };
+    ghost laid = { dir_laid };
 
     fn is_allowed(&self) -> bool {
         // Each value of the type has a number that is allowed.

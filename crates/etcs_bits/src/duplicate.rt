@@ -56,9 +56,8 @@ impl Dup {
 impl Layout for Dup {
     ghost use Rattle.etcs_bits.specs.Rows.{alone, number_at};
     ghost use Rattle.etcs_bits.specs.Fields.{one};
-    ghost use Rattle.etcs_bits.specs.RowLemmas.{alone_rows};
     ghost use Rattle.etcs_bits.specs.Variables.{m_dup, dup_number, dup_of};
-    ghost use Rattle.etcs_bits.specs.VariableLemmas.{dup_record};
+    ghost use Rattle.etcs_bits.specs.LaidLemmas.{dup_laid};
 
     ghost rows = { λ v. alone m_dup (dup_number v) };
 
@@ -69,9 +68,7 @@ impl Layout for Dup {
     // Its type keeps its numbers in range.
     ghost fit = { λ _. Unit {0} };
 
-    ghost are_rows = { λ v. alone_rows m_dup (dup_number v) };
-
-    ghost is_record = { dup_record };
+    ghost laid = { dup_laid };
 
     fn is_allowed(&self) -> bool {
         // Each value of the type has a number that is allowed.

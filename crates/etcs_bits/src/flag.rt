@@ -14,9 +14,8 @@ impl Layout for bool {
     ghost use Rattle.etcs_bits.specs.Number.{worth};
     ghost use Rattle.etcs_bits.specs.Rows.{alone, number_at};
     ghost use Rattle.etcs_bits.specs.Fields.{one};
-    ghost use Rattle.etcs_bits.specs.RowLemmas.{alone_rows};
     ghost use Rattle.etcs_bits.specs.Variables.{plain, flag_of};
-    ghost use Rattle.etcs_bits.specs.VariableLemmas.{flag_record};
+    ghost use Rattle.etcs_bits.specs.LaidLemmas.{flag_laid};
 
     ghost rows = { λ b. alone (plain 1) (worth b) };
 
@@ -27,9 +26,7 @@ impl Layout for bool {
     // Its type keeps its numbers in range.
     ghost fit = { λ _. Unit {0} };
 
-    ghost are_rows = { λ b. alone_rows (plain 1) (worth b) };
-
-    ghost is_record = { flag_record };
+    ghost laid = { flag_laid };
 
     fn is_allowed(&self) -> bool {
         // Each value of the type has a number that is allowed.

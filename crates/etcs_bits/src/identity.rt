@@ -20,7 +20,7 @@ pub struct Identity {
 }
 
 impl Layout for Identity {
-    ghost use Rattle.etcs_bits.specs.Identity.{identity_rows, identity_fields, identity_of, identity_are_rows, identity_record};
+    ghost use Rattle.etcs_bits.specs.Identity.{identity_rows, identity_fields, identity_of, identity_laid};
 
     ghost rows = { identity_rows };
 
@@ -31,9 +31,7 @@ impl Layout for Identity {
     // Its type keeps its numbers in range.
     ghost fit = { λ _. Unit {0} };
 
-    ghost are_rows = { identity_are_rows };
-
-    ghost is_record = { identity_record };
+    ghost laid = { identity_laid };
 
     #[tactic(auto, using(crate::proofs::PutLemmas::allowed_both))]
     fn is_allowed(&self) -> bool {

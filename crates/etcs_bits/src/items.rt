@@ -111,7 +111,7 @@ impl<T: Layout> Layout for Items<T> {
     ghost use Rattle.etcs_bits.specs.Reading.{rows_at};
     ghost use Rattle.etcs_bits.specs.Layout.{Gives};
     ghost use Rattle.etcs_bits.specs.Combined.{n_iter, counted_rows, counted_of};
-    ghost use Rattle.etcs_bits.specs.CombinedLemmas.{counted_are_rows, counted_record};
+    ghost use Rattle.etcs_bits.specs.LaidLemmas.{counted_laid};
 
     ghost rows = { counted_rows T.rows };
 
@@ -121,9 +121,7 @@ impl<T: Layout> Layout for Items<T> {
 
     ghost fit = { λ l. (length l ≤ 31) × AllByRecursion T.fit l };
 
-    ghost are_rows = { counted_are_rows T.fields T.rows T.are_rows };
-
-    ghost is_record = { counted_record T.fields T.rows T.record_of T.are_rows T.is_record };
+    ghost laid = { counted_laid T.laid };
 
     fn is_allowed(&self) -> bool {
         self.items.len() < 32 && are_allowed(self.items.as_slice())

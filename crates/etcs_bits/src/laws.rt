@@ -3,7 +3,7 @@
 //! [`records_are_laid_out`].
 
 ghost use Rattle.std.specs.Prelude.{ℕ, ◌≤◌, ◌<◌, ◌^◌, ◌⊎◌};
-ghost use Rattle.etcs_bits.specs.Laws.{SpellsOneRecord, NoSpellingBegins, FaultMeansNone, TellsOneFault, NumbersAreBits, AreLaidOut, HasNumbers, IsNumberOf, HasValues};
+ghost use Rattle.etcs_bits.specs.Laws.{IsReadAsSpelled, SpellsOneRecord, NoSpellingBegins, FaultMeansNone, TellsOneFault, NumbersAreBits, AreLaidOut, HasNumbers, IsNumberOf, HasValues};
 ghost use Rattle.etcs_bits.specs.Number.{worth};
 ghost use Rattle.etcs_bits.specs.Rows.{alone};
 ghost use Rattle.etcs_bits.specs.Fields.{◌▹◌, one, option, counted, sized};
@@ -27,6 +27,12 @@ use crate::transmission::Transmission;
 use crate::version::Version;
 
 // ---- every record
+
+/// A record is spelled exactly where reading, as a function of the bits, gives it, and up to the
+/// place where that ends.
+pub fn a_record_is_read_as_it_is_spelled<T: Layout>()
+    ensures { IsReadAsSpelled T.fields T.rows T.record_of }
+{}
 
 /// A place spells at most one record, and it has one end.
 pub fn a_place_spells_one_record<T: Layout>()
@@ -128,7 +134,7 @@ pub fn free_bits_have_all_numbers()
 {}
 
 /// A flag has one bit, whose two numbers are its values.
-#[tactic(auto, using(crate::proofs::ValueLemmas::flags_have_values))]
+#[tactic(auto, using(crate::specs::VariableLemmas::flags_have_values))]
 pub fn flags_have_their_numbers()
     ensures numbers { HasValues (plain 1) 1 worth flag_of }
     ensures laid_out { AreLaidOut (one (plain 1)) (λ b. alone (plain 1) (worth b)) }
@@ -137,7 +143,7 @@ pub fn flags_have_their_numbers()
 }
 
 /// Q_UPDOWN has one bit; the direction that is read has its number.
-#[tactic(auto, using(crate::proofs::ValueLemmas::transmissions_have_values))]
+#[tactic(auto, using(crate::specs::VariableLemmas::transmissions_have_values))]
 pub fn transmissions_have_their_numbers()
     ensures numbers { HasValues q_updown 1 transmission_number transmission_of }
     ensures laid_out { AreLaidOut (one q_updown) (λ v. alone q_updown (transmission_number v)) }
@@ -146,7 +152,7 @@ pub fn transmissions_have_their_numbers()
 }
 
 /// Q_MEDIA has one bit; the medium that is read has its number.
-#[tactic(auto, using(crate::proofs::ValueLemmas::media_have_values))]
+#[tactic(auto, using(crate::specs::VariableLemmas::media_have_values))]
 pub fn media_have_their_numbers()
     ensures numbers { HasValues q_media 1 medium_number medium_of }
     ensures laid_out { AreLaidOut (one q_media) (λ v. alone q_media (medium_number v)) }
@@ -155,7 +161,7 @@ pub fn media_have_their_numbers()
 }
 
 /// M_VERSION has seven bits; the versions that are read have their numbers.
-#[tactic(auto, using(crate::proofs::ValueLemmas::versions_have_values))]
+#[tactic(auto, using(crate::specs::VariableLemmas::versions_have_values))]
 pub fn versions_have_their_numbers()
     ensures numbers { HasValues m_version 7 version_number version_of }
     ensures laid_out { AreLaidOut (one m_version) (λ v. alone m_version (version_number v)) }
@@ -164,7 +170,7 @@ pub fn versions_have_their_numbers()
 }
 
 /// M_DUP has two bits; each mark has its number, and no other is allowed.
-#[tactic(auto, using(crate::proofs::ValueLemmas::marks_have_values))]
+#[tactic(auto, using(crate::specs::VariableLemmas::marks_have_values))]
 pub fn marks_have_their_numbers()
     ensures numbers { HasValues m_dup 2 dup_number dup_of }
     ensures laid_out { AreLaidOut (one m_dup) (λ v. alone m_dup (dup_number v)) }
@@ -173,7 +179,7 @@ pub fn marks_have_their_numbers()
 }
 
 /// Q_SCALE has two bits; each unit has its number, and no other is allowed.
-#[tactic(auto, using(crate::proofs::ValueLemmas::scales_have_values))]
+#[tactic(auto, using(crate::specs::VariableLemmas::scales_have_values))]
 pub fn scales_have_their_numbers()
     ensures numbers { HasValues q_scale 2 scale_number scale_of }
     ensures laid_out { AreLaidOut (one q_scale) (λ v. alone q_scale (scale_number v)) }
@@ -182,7 +188,7 @@ pub fn scales_have_their_numbers()
 }
 
 /// Q_DIR has two bits; each direction has its number, and no other is allowed.
-#[tactic(auto, using(crate::proofs::ValueLemmas::directions_have_values))]
+#[tactic(auto, using(crate::specs::VariableLemmas::directions_have_values))]
 pub fn directions_have_their_numbers()
     ensures numbers { HasValues q_dir 2 dir_number dir_of }
     ensures laid_out { AreLaidOut (one q_dir) (λ v. alone q_dir (dir_number v)) }

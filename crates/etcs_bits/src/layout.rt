@@ -2,9 +2,10 @@
 
 ghost use Rattle.std.specs.Prelude.{◌≡◌, ◌↔◌, ◌++◌, min, List, IsTrue, IfOk, OnOk, OnErr};
 ghost use Rattle.etcs_bits.specs.Rows.{Row, AreAllowed, join, width, IsSpelled};
-ghost use Rattle.etcs_bits.specs.Fields.{Fields, AreRowsOf};
+ghost use Rattle.etcs_bits.specs.Fields.{Fields};
 ghost use Rattle.etcs_bits.specs.Fault.{IsFault, NoneBegins};
 ghost use Rattle.etcs_bits.specs.Reading.{rows_at};
+ghost use Rattle.etcs_bits.specs.LaidLemmas.{IsLaid};
 ghost use Rattle.etcs_bits.specs.Layout.{Gives, IfFault, Puts};
 
 use crate::bits::Bits;
@@ -82,9 +83,7 @@ pub trait Layout: Drop {
         Ok(value)
     }
 
-    /// The rows of a record are a whole list of its fields.
-    ghost are_rows: { (v : Self) → AreRowsOf fields (rows v) };
-
-    /// A record is the one of its rows, so two records with the same rows are one.
-    ghost is_record: { (v : Self) → record_of (rows v) ≡ v };
+    /// The rows of a record are a whole list of its fields; a record is the one of its rows, so two
+    /// records with the same rows are one; each whole list of allowed rows is that of a record.
+    ghost laid: { IsLaid fields rows record_of };
 }

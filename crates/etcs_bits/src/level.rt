@@ -47,7 +47,7 @@ impl Level {
 
 #[tactic(auto, using(crate::proofs::PutLemmas::puts_bits), unfolding(crate::specs::Rows::alone))]
 impl Layout for Level {
-    ghost use Rattle.etcs_bits.specs.Level.{level_rows, level_fields, level_of, level_are_rows, level_record};
+    ghost use Rattle.etcs_bits.specs.Level.{level_rows, level_fields, level_of, level_laid};
 
     ghost rows = { level_rows };
 
@@ -58,9 +58,7 @@ impl Layout for Level {
     // Its type keeps its numbers in range.
     ghost fit = { λ _. Unit {0} };
 
-    ghost are_rows = { level_are_rows };
-
-    ghost is_record = { level_record };
+    ghost laid = { level_laid };
 
     fn is_allowed(&self) -> bool {
         // Each value of the type has numbers that are allowed: a u8 fits in NID_NTC.

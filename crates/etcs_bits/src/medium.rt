@@ -48,9 +48,8 @@ impl Medium {
 impl Layout for Medium {
     ghost use Rattle.etcs_bits.specs.Rows.{alone, number_at};
     ghost use Rattle.etcs_bits.specs.Fields.{one};
-    ghost use Rattle.etcs_bits.specs.RowLemmas.{alone_rows};
     ghost use Rattle.etcs_bits.specs.Variables.{q_media, medium_number, medium_of};
-    ghost use Rattle.etcs_bits.specs.VariableLemmas.{medium_back};
+    ghost use Rattle.etcs_bits.specs.LaidLemmas.{medium_laid};
 
     ghost rows = { λ v. alone q_media (medium_number v) };
 
@@ -61,9 +60,7 @@ impl Layout for Medium {
     // Its type keeps its numbers in range.
     ghost fit = { λ _. Unit {0} };
 
-    ghost are_rows = { λ v. alone_rows q_media (medium_number v) };
-
-    ghost is_record = { medium_back };
+    ghost laid = { medium_laid };
 
     fn is_allowed(&self) -> bool {
         // Each value of the type has a number that is allowed.

@@ -15,7 +15,7 @@ impl<T: Layout> Layout for Option<T> {
     ghost use Rattle.std.specs.Prelude.{IfSome};
     ghost use Rattle.etcs_bits.specs.Fields.{option};
     ghost use Rattle.etcs_bits.specs.Combined.{qualifier, option_rows, option_of};
-    ghost use Rattle.etcs_bits.specs.CombinedLemmas.{option_are_rows, option_record};
+    ghost use Rattle.etcs_bits.specs.LaidLemmas.{option_laid};
 
     ghost rows = { option_rows T.rows };
 
@@ -25,9 +25,7 @@ impl<T: Layout> Layout for Option<T> {
 
     ghost fit = { λ o. IfSome o T.fit };
 
-    ghost are_rows = { option_are_rows T.fields T.rows T.are_rows };
-
-    ghost is_record = { option_record T.rows T.record_of T.is_record };
+    ghost laid = { option_laid T.laid };
 
     fn is_allowed(&self) -> bool {
         match self {

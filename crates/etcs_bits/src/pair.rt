@@ -14,7 +14,7 @@ use std::alloc::Global;
 impl<A: Layout, B: Layout> Layout for (A, B) {
     ghost use Rattle.etcs_bits.specs.Fields.{◌▹◌};
     ghost use Rattle.etcs_bits.specs.Combined.{pair_rows, pair_of};
-    ghost use Rattle.etcs_bits.specs.CombinedLemmas.{pair_are_rows, pair_record};
+    ghost use Rattle.etcs_bits.specs.LaidLemmas.{pair_laid};
 
     ghost rows = { pair_rows A.rows B.rows };
 
@@ -24,10 +24,7 @@ impl<A: Layout, B: Layout> Layout for (A, B) {
 
     ghost fit = { λ p. A.fit p.0 × B.fit p.1 };
 
-    ghost are_rows = { pair_are_rows A.fields B.fields A.rows B.rows A.are_rows B.are_rows };
-
-    ghost is_record = { pair_record A.fields A.rows B.rows A.record_of B.record_of A.are_rows
-        A.is_record B.is_record };
+    ghost laid = { pair_laid A.laid B.laid };
 
     fn is_allowed(&self) -> bool {
         self.0.is_allowed() && self.1.is_allowed()

@@ -86,9 +86,8 @@ impl<const W: u32> Plain<W> {
 impl<const W: u32> Layout for Plain<W> {
     ghost use Rattle.etcs_bits.specs.Rows.{alone, number_at};
     ghost use Rattle.etcs_bits.specs.Fields.{one};
-    ghost use Rattle.etcs_bits.specs.RowLemmas.{alone_rows};
     ghost use Rattle.etcs_bits.specs.Variables.{plain};
-    ghost use Rattle.etcs_bits.specs.VariableLemmas.{number_alone};
+    ghost use Rattle.etcs_bits.specs.LaidLemmas.{alone_laid};
 
     ghost rows = { λ p. alone (plain W) p };
 
@@ -99,9 +98,7 @@ impl<const W: u32> Layout for Plain<W> {
     // Its type keeps its numbers in range.
     ghost fit = { λ _. Unit {0} };
 
-    ghost are_rows = { λ p. alone_rows (plain W) p };
-
-    ghost is_record = { λ p. number_alone (plain W) p };
+    ghost laid = { alone_laid (plain W) };
 
     fn is_allowed(&self) -> bool {
         let _number = self.number();

@@ -81,9 +81,8 @@ impl<const W: u32, const LAST: u32, const FROM: u32> Ranged<W, LAST, FROM> {
 impl<const W: u32, const LAST: u32, const FROM: u32> Layout for Ranged<W, LAST, FROM> {
     ghost use Rattle.etcs_bits.specs.Rows.{alone, number_at};
     ghost use Rattle.etcs_bits.specs.Fields.{one};
-    ghost use Rattle.etcs_bits.specs.RowLemmas.{alone_rows};
     ghost use Rattle.etcs_bits.specs.Variables.{ranged};
-    ghost use Rattle.etcs_bits.specs.VariableLemmas.{number_alone};
+    ghost use Rattle.etcs_bits.specs.LaidLemmas.{alone_laid};
 
     ghost rows = { λ p. alone (ranged W LAST FROM) p };
 
@@ -94,9 +93,7 @@ impl<const W: u32, const LAST: u32, const FROM: u32> Layout for Ranged<W, LAST, 
     // Its type keeps its numbers in range.
     ghost fit = { λ _. Unit {0} };
 
-    ghost are_rows = { λ p. alone_rows (ranged W LAST FROM) p };
-
-    ghost is_record = { λ p. number_alone (ranged W LAST FROM) p };
+    ghost laid = { alone_laid (ranged W LAST FROM) };
 
     fn is_allowed(&self) -> bool {
         let _number = self.number();

@@ -56,9 +56,8 @@ impl Scale {
 impl Layout for Scale {
     ghost use Rattle.etcs_bits.specs.Rows.{alone, number_at};
     ghost use Rattle.etcs_bits.specs.Fields.{one};
-    ghost use Rattle.etcs_bits.specs.RowLemmas.{alone_rows};
     ghost use Rattle.etcs_bits.specs.Variables.{q_scale, scale_number, scale_of};
-    ghost use Rattle.etcs_bits.specs.VariableLemmas.{scale_record};
+    ghost use Rattle.etcs_bits.specs.LaidLemmas.{scale_laid};
 
     ghost rows = { λ v. alone q_scale (scale_number v) };
 
@@ -69,9 +68,7 @@ impl Layout for Scale {
     // Its type keeps its numbers in range.
     ghost fit = { λ _. Unit {0} };
 
-    ghost are_rows = { λ v. alone_rows q_scale (scale_number v) };
-
-    ghost is_record = { scale_record };
+    ghost laid = { scale_laid };
 
     fn is_allowed(&self) -> bool {
         // Each value of the type has a number that is allowed.

@@ -48,9 +48,8 @@ impl Transmission {
 impl Layout for Transmission {
     ghost use Rattle.etcs_bits.specs.Rows.{alone, number_at};
     ghost use Rattle.etcs_bits.specs.Fields.{one};
-    ghost use Rattle.etcs_bits.specs.RowLemmas.{alone_rows};
     ghost use Rattle.etcs_bits.specs.Variables.{q_updown, transmission_number, transmission_of};
-    ghost use Rattle.etcs_bits.specs.VariableLemmas.{transmission_back};
+    ghost use Rattle.etcs_bits.specs.LaidLemmas.{transmission_laid};
 
     ghost rows = { λ v. alone q_updown (transmission_number v) };
 
@@ -61,9 +60,7 @@ impl Layout for Transmission {
     // Its type keeps its numbers in range.
     ghost fit = { λ _. Unit {0} };
 
-    ghost are_rows = { λ v. alone_rows q_updown (transmission_number v) };
-
-    ghost is_record = { transmission_back };
+    ghost laid = { transmission_laid };
 
     fn is_allowed(&self) -> bool {
         // Each value of the type has a number that is allowed.

@@ -52,9 +52,8 @@ impl Version {
 impl Layout for Version {
     ghost use Rattle.etcs_bits.specs.Rows.{alone, number_at};
     ghost use Rattle.etcs_bits.specs.Fields.{one};
-    ghost use Rattle.etcs_bits.specs.RowLemmas.{alone_rows};
     ghost use Rattle.etcs_bits.specs.Variables.{m_version, version_number, version_of};
-    ghost use Rattle.etcs_bits.specs.VariableLemmas.{version_record};
+    ghost use Rattle.etcs_bits.specs.LaidLemmas.{version_laid};
 
     ghost rows = { λ v. alone m_version (version_number v) };
 
@@ -65,9 +64,7 @@ impl Layout for Version {
     // Its type keeps its numbers in range.
     ghost fit = { λ _. Unit {0} };
 
-    ghost are_rows = { λ v. alone_rows m_version (version_number v) };
-
-    ghost is_record = { version_record };
+    ghost laid = { version_laid };
 
     fn is_allowed(&self) -> bool {
         // Each value of the type has a number that is allowed.

@@ -9,12 +9,14 @@ use Rattle.etcs_bits.specs.Rows.{Row, Place}
 use Rattle.etcs_bits.specs.Fields.{Fields, AreRowsOf}
 use Rattle.etcs_bits.specs.Fault.{IsFault, NoneBegins}
 use Rattle.etcs_bits.specs.Layout.{Fails, OfFault}
+use Rattle.etcs_bits.specs.LaidLemmas.{IsLaid}
+use Rattle.etcs_bits.proofs.LayoutLemmas.{rows_again}
 use Rattle.etcs_bits.proofs.StandLemmas.{place_in}
 use Rattle.etcs_packet.specs.declared.stop.Stop.{Stop}
 use Rattle.etcs_packet.specs.Lists.{IsHeaded, ends, Stand, IsStep, NoStep, NoneStand, Follow, IsListFault, items_at}
 use Rattle.etcs_packet.proofs.EndLemmas.{settled, told_past}
 use Rattle.etcs_packet.proofs.FollowLemmas.{follow_more, list_fault_stays}
-use Rattle.etcs_packet.proofs.ItemLemmas.{follow_is_read, list_fault_is_read}
+use Rattle.etcs_packet.proofs.ItemLemmas.{follow_is_read, read_follows, list_fault_is_read}
 
 -- ---- one step
 
@@ -89,14 +91,29 @@ map_back rows of (x ∷ xs) back =
     let rest = map_back rows of xs back in cc
 
 -- A list that stands is what reading gives.
-pub stand_is_read : {X : Type 0} (rows : X → List Row) (of : List Row → X) (xs : List X) (stop : Stop)
-    (fields : Fields) (p q : Place) → IsHeaded fields → ((x : X) → AreRowsOf fields (rows x))
-    → ((x : X) → of (rows x) ≡ x) → p.at ≤ length p.bits → Stand stop rows xs p q
-    → items_at stop fields of p ≡ Ok (xs, q)
-stand_is_read rows of xs stop fields p q head are_rows back within s =
-    let listed = stand_follow rows xs stop fields p q are_rows s in
+pub stand_is_read : {X : Type 0} {fields : Fields} {rows : X → List Row} {of : List Row → X}
+    → IsLaid fields rows of → (xs : List X) (stop : Stop) (p q : Place) → IsHeaded fields
+    → p.at ≤ length p.bits → Stand stop rows xs p q → items_at stop fields of p ≡ Ok (xs, q)
+stand_is_read {fields = fields} {rows = rows} {of = of} laid xs stop p q head within s =
+    let listed = stand_follow rows xs stop fields p q laid.have s in
     follow_is_read of (map rows xs) stop fields p q head within listed.follow listed.over
-    ∙ ap (λ ys. Ok (ys, q)) (map_back rows of xs back)
+    ∙ ap (λ ys. Ok (ys, q)) (map_back rows of xs laid.is)
+
+-- the records of rows that follow one another up to the end stand there
+follow_stands : {X : Type 0} {fields : Fields} {rows : X → List Row} {of : List Row → X}
+    → IsLaid fields rows of → (stop : Stop) (whole : List (List Row)) (p q : Place)
+    → Follow stop fields whole p q → ends stop q ≡ true → Stand stop rows (map of whole) p q
+follow_stands laid stop [] p q there over = (subst (λ (z : Place). ends stop z ≡ true) there over, there)
+follow_stands laid stop (r ∷ whole) p q (goes, (m, are, spelled, rest)) over =
+    (goes, (m, rw (rows_again laid r are spelled.allowed) spelled, follow_stands laid stop whole m q rest over))
+
+-- What reading gives stands.
+pub read_stands : {X : Type 0} {fields : Fields} {rows : X → List Row} {of : List Row → X}
+    → IsLaid fields rows of → (xs : List X) (stop : Stop) (p q : Place) → IsHeaded fields
+    → p.at ≤ length p.bits → items_at stop fields of p ≡ Ok (xs, q) → Stand stop rows xs p q
+read_stands {fields = fields} {rows = rows} {of = of} laid xs stop p q head within e =
+    let read = read_follows of stop fields p (xs, q) head within e in
+    subst (λ ys. Stand stop rows ys p q) read.are (follow_stands laid stop read.whole p q read.follow read.over)
 
 -- ---- a fault that is told
 

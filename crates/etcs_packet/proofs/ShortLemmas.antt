@@ -9,7 +9,7 @@ use Rattle.etcs_bits.specs.Rows.{Row, AreAllowed, alone, width}
 use Rattle.etcs_bits.specs.Combined.{pair_rows, option_rows, counted_rows}
 use Rattle.etcs_bits.specs.Variables.{nid_c, nid_bg}
 use Rattle.etcs_bits.specs.Level.{level_rows}
-use Rattle.etcs_bits.proofs.StandLemmas.{allowed_second}
+use Rattle.etcs_bits.specs.RowLemmas.{allowed_second}
 use Rattle.etcs_bits.proofs.WidthLemmas.{width_both}
 use Rattle.etcs_profile.specs.Packet.{packet_rows}
 use Rattle.etcs_profile.specs.Profile.{Profile}

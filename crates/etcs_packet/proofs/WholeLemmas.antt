@@ -1,5 +1,5 @@
 -- A head and its list: what stands is read, what is told is read, and there is one of them alone.
-use Rattle.std.proofs.Common.{◌≡◌, ◌≤◌, Bool, List, length, take, Result, Ok, Err, refl, sym, ap, ◌∙◌, arith, inl, inr}
+use Rattle.std.proofs.Common.{◌≡◌, ◌≤◌, Bool, List, length, take, Result, Ok, Err, refl, sym, ap, subst, ◌∙◌, arith, inl, inr}
 use Rattle.etcs_bits.specs.declared.fault.Fault.{Fault}
 use Rattle.etcs_bits.specs.declared.fault.DecodeError.{DecodeError}
 use Rattle.etcs_bits.specs.declared.fault.DecodeError.TheVariants as errors
@@ -8,7 +8,9 @@ use Rattle.etcs_bits.specs.Fields.{Fields, AreRowsOf}
 use Rattle.etcs_bits.specs.Fault.{IsFault}
 use Rattle.etcs_bits.specs.Reading.{◌>>=◌, rows_at}
 use Rattle.etcs_bits.specs.Layout.{Fails, Gives, OfFault}
-use Rattle.etcs_bits.proofs.BindLemmas.{bind_err}
+use Rattle.etcs_bits.proofs.BindLemmas.{bind_ok, bind_err, ok_is}
+use Rattle.etcs_bits.specs.LaidLemmas.{IsLaid}
+use Rattle.etcs_bits.proofs.LayoutLemmas.{rows_again}
 use Rattle.etcs_bits.proofs.StandLemmas.{place_in, stands_moved}
 use Rattle.etcs_bits.proofs.ReadingLemmas.{read_is_spelled, spelled_is_read, fault_is_told}
 use Rattle.etcs_bits.proofs.FaultLemmas.{told_is_given, fault_stays}
@@ -18,7 +20,7 @@ use Rattle.etcs_packet.specs.Whole.{start, IsWhole, IsWholeFault, NoneWhole, Mea
 use Rattle.etcs_packet.proofs.EndLemmas.{told_past, next_within}
 use Rattle.etcs_packet.proofs.FollowLemmas.{follow_forward, follow_within, list_fault_stays}
 use Rattle.etcs_packet.proofs.ItemLemmas.{list_fault_is_read, list_fault_is_told}
-use Rattle.etcs_packet.proofs.ListLemmas.{stand_is_read}
+use Rattle.etcs_packet.proofs.ListLemmas.{stand_is_read, read_stands}
 
 -- the list behind a head, and both
 abbrev then_items : {H X : Type 0} → Stop → (List Row → H) → Fields → (List Row → X)
@@ -39,16 +41,33 @@ unfolding whole_of
 of_bits stop head head_of item item_of bits = refl
 
 -- What stands is read.
-pub whole_is_read : {H X : Type 0} (head : H → List Row) (head_of : List Row → H) (rows : X → List Row)
-    (item_of : List Row → X) (stop : Stop) (header item : Fields) (h : H) (xs : List X) (p q : Place)
-    → IsHeaded item → ((v : H) → AreRowsOf header (head v)) → ((v : H) → head_of (head v) ≡ v)
-    → ((x : X) → AreRowsOf item (rows x)) → ((x : X) → item_of (rows x) ≡ x)
-    → p.at ≤ length p.bits → IsWhole stop head rows h xs p q
-    → whole_at stop header head_of item item_of p ≡ Ok ((h, xs), q)
-whole_is_read head head_of rows item_of stop header item h xs p q headed are_head back_head are_rows back within w =
-    let first = spelled_is_read header (head h) p w.middle within (are_head h) w.first in
-    let more = stand_is_read rows item_of xs stop item w.middle q headed are_rows back (next_within (head h) p w.middle within w.first) w.items in
-    both_at stop header head_of item item_of p ∙ rw (first, more, back_head h) refl
+pub whole_is_read : {H X : Type 0} {header item : Fields} {head : H → List Row} {head_of : List Row → H}
+    {rows : X → List Row} {item_of : List Row → X} → IsLaid header head head_of → IsLaid item rows item_of
+    → (stop : Stop) (h : H) (xs : List X) (p q : Place) → IsHeaded item → p.at ≤ length p.bits
+    → IsWhole stop head rows h xs p q → whole_at stop header head_of item item_of p ≡ Ok ((h, xs), q)
+whole_is_read {header = header} {item = item} {head = head} {head_of = head_of} {item_of = item_of} head_laid laid stop h xs p q headed within w =
+    let first = spelled_is_read header (head h) p w.middle within (head_laid.have h) w.first in
+    let more = stand_is_read laid xs stop w.middle q headed (next_within (head h) p w.middle within w.first) w.items in
+    let back = head_laid.is h in
+    both_at stop header head_of item item_of p ∙ rw (first, more, back) refl
+
+-- What reading gives stands.
+pub read_is_whole : {H X : Type 0} {header item : Fields} {head : H → List Row} {head_of : List Row → H}
+    {rows : X → List Row} {item_of : List Row → X} → IsLaid header head head_of → IsLaid item rows item_of
+    → (stop : Stop) (h : H) (xs : List X) (p q : Place) → IsHeaded item → p.at ≤ length p.bits
+    → whole_at stop header head_of item item_of p ≡ Ok ((h, xs), q) → IsWhole stop head rows h xs p q
+read_is_whole {H = H} {X = X} {header = header} {item = item} {head = head} {head_of = head_of} {rows = rows} {item_of = item_of} head_laid laid stop h xs p q headed within e =
+    let a = bind_ok (rows_at header p) (then_items stop head_of item item_of) ((h, xs), q) (sym (both_at stop header head_of item item_of p) ∙ e) in
+    let b = bind_ok (items_at stop item item_of a.0.1) (λ more. Ok ((head_of a.0.0, more.0), more.1)) ((h, xs), q) a.2 in
+    let same = ok_is ((head_of a.0.0, b.0.0), b.0.1) ((h, xs), q) b.2 in
+    let first = read_is_spelled header p a.0 within a.1 in
+    let items = read_stands laid b.0.0 stop a.0.1 b.0.1 headed (next_within a.0.0 p a.0.1 within first.spelled) b.1 in
+    let made : IsWhole stop head rows (head_of a.0.0) b.0.0 p b.0.1 = record {
+      middle = a.0.1;
+      first = rw (rows_again head_laid a.0.0 first.whole first.spelled.allowed) first.spelled;
+      items = items;
+    } in
+    subst (λ (y : (H × List X) × Place). IsWhole stop head rows y.0.0 y.0.1 p y.1) same made
 
 -- What is told is read.
 pub whole_fault_is_read : {H X : Type 0} (head_of : List Row → H) (item_of : List Row → X) (stop : Stop)
@@ -118,16 +137,15 @@ whole_fault_stays stop header item p f bits headed within len same (inr t) =
     })
 
 -- Where a fault is told, no whole stands.
-pub none_whole : {H X : Type 0} (head : H → List Row) (head_of : List Row → H) (rows : X → List Row)
-    (item_of : List Row → X) (stop : Stop) (header item : Fields) (p : Place) (f : Fault)
-    → IsHeaded item → ((v : H) → AreRowsOf header (head v)) → ((v : H) → head_of (head v) ≡ v)
-    → ((x : X) → AreRowsOf item (rows x)) → ((x : X) → item_of (rows x) ≡ x)
-    → p.at ≤ length p.bits → IsWholeFault stop header item p f → NoneWhole stop head rows p f
-none_whole head head_of rows item_of stop header item p f headed are_head back_head are_rows back within t =
+pub none_whole : {H X : Type 0} {header item : Fields} {head : H → List Row} {head_of : List Row → H}
+    {rows : X → List Row} {item_of : List Row → X} → IsLaid header head head_of → IsLaid item rows item_of
+    → (stop : Stop) (p : Place) (f : Fault) → IsHeaded item → p.at ≤ length p.bits
+    → IsWholeFault stop header item p f → NoneWhole stop head rows p f
+none_whole {header = header} {item = item} {head_of = head_of} {item_of = item_of} head_laid laid stop p f headed within t =
     λ bits len same h xs to w.
     let there = place_in bits p.at in
     let inside : there.at ≤ length there.bits = omega (arith, within, len) in
-    let reads = whole_is_read head head_of rows item_of stop header item h xs there to headed are_head back_head are_rows back inside w in
+    let reads = whole_is_read head_laid laid stop h xs there to headed inside w in
     let fails = whole_fault_is_read head_of item_of stop header item there f headed inside (whole_fault_stays stop header item p f bits headed within len same t) in
     cc
 
@@ -153,15 +171,12 @@ whole_fails head_of item_of errors.Memory stop header item p headed within t = t
 whole_fails head_of item_of (errors.Fault f) stop header item p headed within t =
     whole_fault_is_read head_of item_of stop header item p f headed within t
 
-pub none_of_whole : {H X : Type 0} (head : H → List Row) (head_of : List Row → H) (rows : X → List Row)
-    (item_of : List Row → X) (e : DecodeError) (stop : Stop) (header item : Fields) (p : Place)
-    → IsHeaded item → ((v : H) → AreRowsOf header (head v)) → ((v : H) → head_of (head v) ≡ v)
-    → ((x : X) → AreRowsOf item (rows x)) → ((x : X) → item_of (rows x) ≡ x)
-    → p.at ≤ length p.bits → OfFault e (λ f. IsWholeFault stop header item p f)
-    → OfFault e (λ f. NoneWhole stop head rows p f)
-none_of_whole head head_of rows item_of errors.Memory stop header item p headed are_head back_head are_rows back within t = tt
-none_of_whole head head_of rows item_of (errors.Fault f) stop header item p headed are_head back_head are_rows back within t =
-    none_whole head head_of rows item_of stop header item p f headed are_head back_head are_rows back within t
+pub none_of_whole : {H X : Type 0} {header item : Fields} {head : H → List Row} {head_of : List Row → H}
+    {rows : X → List Row} {item_of : List Row → X} → IsLaid header head head_of → IsLaid item rows item_of
+    → (e : DecodeError) (stop : Stop) (p : Place) → IsHeaded item → p.at ≤ length p.bits
+    → OfFault e (λ f. IsWholeFault stop header item p f) → OfFault e (λ f. NoneWhole stop head rows p f)
+none_of_whole head_laid laid errors.Memory stop p headed within t = tt
+none_of_whole head_laid laid (errors.Fault f) stop p headed within t = none_whole head_laid laid stop p f headed within t
 
 -- What reading gives at the beginning of bits, they mean.
 pub means_whole : {H X : Type 0} (stop : Stop) (head : Fields) (head_of : List Row → H) (item : Fields)

@@ -7,7 +7,8 @@ use Rattle.etcs_bits.specs.Number.{num, num_of_bits}
 use Rattle.etcs_bits.specs.Rows.{Row, Place, Stands, IsSpelled, AreAllowed, join}
 use Rattle.etcs_bits.specs.Fields.{Fields, nothing, field, ◌▹◌, sized, AreRowsOf}
 use Rattle.etcs_bits.proofs.NumberLemmas.{length-num, num_of_bits-small}
-use Rattle.etcs_bits.proofs.StandLemmas.{place_in, same_position, join-append, allowed-append, allowed_first, allowed_second, stands_nothing, stands_then, stands_within, number_stands, standing_number, stands_parts}
+use Rattle.etcs_bits.proofs.StandLemmas.{place_in, same_position, join-append, allowed-append, stands_nothing, stands_then, stands_within, number_stands, standing_number, stands_parts}
+use Rattle.etcs_bits.specs.RowLemmas.{allowed_first, allowed_second}
 use Rattle.etcs_packet.specs.declared.stop.Stop.{Stop}
 use Rattle.etcs_packet.specs.declared.stop.Stop.TheVariants as stops
 use Rattle.etcs_packet.specs.Lists.{IsHeaded, ends_short, ends, Stand}

@@ -1,9 +1,9 @@
 -- Packet 0, the virtual balise cover marker (SUBSET-026, 3.15.9 and 7.4.2): eight bits and six.
-use Rattle.std.specs.Prelude.{List, ◌++◌, refl}
+use Rattle.std.specs.Prelude.{ℕ, List, ◌++◌, refl}
+use Rattle.etcs_bits.specs.declared.fault.FaultKind.TheVariants.{Spare}
 use Rattle.etcs_bits.specs.Rows.{Variable, Row, alone, number_at}
 use Rattle.etcs_bits.specs.Fields.{Fields, one, ◌▹◌}
-use Rattle.etcs_bits.specs.CombinedLemmas.{HaveFields, AreOf}
-use Rattle.etcs_bits.specs.RowLemmas.{then_has, alone_has}
+use Rattle.etcs_bits.specs.LaidLemmas.{IsLaid, pair_laid, renamed_laid, found_laid, alone_laid, only_laid}
 use Rattle.etcs_bits.specs.Variables.{plain}
 use Rattle.etcs_profile.specs.Packet.{nid_packet}
 use Rattle.etcs_packet.specs.declared.cover.CoverMarker.{CoverMarker}
@@ -18,14 +18,18 @@ cover_fields = one (nid_packet 0) ▹ one nid_vbcmk
 abbrev pub cover_rows : CoverMarker → List Row
 cover_rows c = alone (nid_packet 0) 0 ++ alone nid_vbcmk c.marker
 
+-- a marker of its number, and that of two rows
+abbrev cover_with : Unit {0} × ℕ → CoverMarker
+cover_with p = record { marker = p.1 }
+
 abbrev pub cover_of : List Row → CoverMarker
 cover_of rows = record { marker = number_at 1 rows }
 
 -- ---- proofs of the laws of `Layout`
 
-pub cover_are_rows : HaveFields cover_fields cover_rows
-cover_are_rows c = (then_has (alone_has _ _) (alone_has _ _)).whole
-
-pub cover_record : AreOf cover_of cover_rows
+pub cover_laid : IsLaid cover_fields cover_rows cover_of
 unfolding alone
-cover_record c = refl
+cover_laid =
+    found_laid cover_of (λ _. refl)
+    (renamed_laid cover_with (λ c. (tt, c.marker)) (λ _. refl) (λ _. refl)
+    (pair_laid (only_laid 8 0 Spare tt (λ _. refl)) (alone_laid nid_vbcmk)))

@@ -1,6 +1,6 @@
 -- What holds of every list of packets, and of every head with its packets, whatever reads or writes
 -- them, where the packets are records whose table of fields begins with NID_PACKET.
-use Rattle.std.specs.Prelude.{◌≡◌, ◌+◌, ◌<◌, ◌≤◌, ◌↔◌, ◌⊎◌, Bool, true, false, List, ◌++◌, map, length, Ok, Err}
+use Rattle.std.specs.Prelude.{◌≡◌, ◌+◌, ◌<◌, ◌≤◌, ◌↔◌, ◌⊎◌, Bool, true, false, List, ◌++◌, length, Ok, Err}
 use Rattle.std.specs.List.{flat_map}
 use Rattle.etcs_bits.specs.declared.fault.Fault.{Fault}
 use Rattle.etcs_bits.specs.declared.fault.FaultKind.TheVariants.{NoEnd}
@@ -9,7 +9,7 @@ use Rattle.etcs_bits.specs.Rows.{Row, Place, AreAllowed, join, IsSpelled}
 use Rattle.etcs_bits.specs.Fields.{Fields, nothing, field, ◌▹◌, sized}
 use Rattle.etcs_packet.specs.declared.stop.Stop.{Stop}
 use Rattle.etcs_packet.specs.declared.stop.Stop.TheVariants as stops
-use Rattle.etcs_packet.specs.Lists.{Follow, IsListFault, NoneStand, Stand, ends, items_at}
+use Rattle.etcs_packet.specs.Lists.{IsListFault, NoneStand, Stand, ends, items_at}
 use Rattle.etcs_packet.specs.Whole.{AreSpelled, BeginsWith, IsWhole, IsWholeFault, NoneWhole, start, whole_at, whole_of}
 
 -- No record of the fields begins with eight ones, the NID_PACKET of the end mark.
@@ -31,11 +31,11 @@ pub record ListsEnd : Type 0 where
       → ((stop ≡ stops.Message) × (length rest < 8))
       ⊎ ((fill : List Bool) × (rest ≡ num 8 255 ++ fill))
 
--- A list that stands is what reading gives.
+-- A list stands exactly where reading gives it, and up to the place where that ends.
 abbrev pub ListIsRead : {X : Type 0} → (X → List Row) → (List Row → X) → Fields → Type 0
 ListIsRead {X} rows record_of fields =
     (stop : Stop) (xs : List X) (p q : Place) → p.at ≤ length p.bits
-    → Stand stop rows xs p q → items_at stop fields record_of p ≡ Ok (xs, q)
+    → Stand stop rows xs p q ↔ (items_at stop fields record_of p ≡ Ok (xs, q))
 
 -- A list that stands is the spellings of its records, one after the other, up to where it ends.
 abbrev pub StandIsSpelled : {X : Type 0} → (X → List Row) → Type 0
@@ -48,14 +48,6 @@ abbrev pub OneListStands : {X : Type 0} → (X → List Row) → Type 0
 OneListStands {X} rows =
     (stop : Stop) (xs ys : List X) (p q r : Place) → p.at ≤ length p.bits
     → Stand stop rows xs p q → Stand stop rows ys p r → (xs ≡ ys) × (q ≡ r)
-
--- What reading gives stands in its rows: whole lists of them follow one another up to the end.
-abbrev pub ReadIsSpelled : {X : Type 0} → (List Row → X) → Fields → Type 0
-ReadIsSpelled {X} record_of fields =
-    (stop : Stop) (xs : List X) (p q : Place) → p.at ≤ length p.bits
-    → items_at stop fields record_of p ≡ Ok (xs, q)
-    → (whole : List (List Row)) × (map record_of whole ≡ xs)
-    × Follow stop fields whole p q × (ends stop q ≡ true)
 
 -- A fault is told exactly where reading gives it: so a place tells one fault alone.
 abbrev pub ListFaultIsRead : {X : Type 0} → (List Row → X) → Fields → Type 0
@@ -86,13 +78,13 @@ WrittenStands {X} rows fields =
     → Stand stop rows xs (record { bits = bits; at = length front })
     (record { bits = bits; at = length front + length (join (flat_map rows xs)) })
 
--- A whole that stands is what reading gives.
+-- A whole stands exactly where reading gives it, and up to the place where that ends.
 abbrev pub WholeIsRead : {H X : Type 0}
     → (H → List Row) → (List Row → H) → Fields → (X → List Row) → (List Row → X) → Fields → Type 0
 WholeIsRead {H} {X} head head_of header rows record_of item =
     (stop : Stop) (h : H) (xs : List X) (p q : Place) → p.at ≤ length p.bits
     → IsWhole stop head rows h xs p q
-    → whole_at stop header head_of item record_of p ≡ Ok ((h, xs), q)
+    ↔ (whole_at stop header head_of item record_of p ≡ Ok ((h, xs), q))
 
 -- Bits begin with at most one head and list.
 abbrev pub OneWholeBegins : {H X : Type 0} → (H → List Row) → (X → List Row) → Type 0

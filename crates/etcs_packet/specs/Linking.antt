@@ -1,12 +1,10 @@
 -- Packet 5, linking (SUBSET-026, 3.4.4 and 7.4.2): which balise groups come next, and how far away.
-use Rattle.std.specs.Prelude.{ℕ, Bool, List, Option}
-use Rattle.std.proofs.Common.{ap}
+use Rattle.std.specs.Prelude.{ℕ, Bool, List, Option, refl}
 use Rattle.etcs_bits.specs.Number.{worth}
 use Rattle.etcs_bits.specs.Rows.{Variable, Row, alone, number_at}
 use Rattle.etcs_bits.specs.Fields.{Fields, one, ◌▹◌, option}
 use Rattle.etcs_bits.specs.Combined.{qualifier, pair_rows, pair_of, option_rows, option_of}
-use Rattle.etcs_bits.specs.CombinedLemmas.{HaveFields, AreOf}
-use Rattle.etcs_bits.specs.LaidLemmas.{IsLaid, alone_laid, flag_laid, pair_laid, option_laid}
+use Rattle.etcs_bits.specs.LaidLemmas.{IsLaid, pair_laid, option_laid, renamed_laid, alone_laid, flag_laid}
 use Rattle.etcs_bits.specs.Variables.{plain, ranged, nid_c, nid_bg, flag_of}
 use Rattle.etcs_packet.specs.declared.linking.Link.{Link}
 
@@ -82,11 +80,5 @@ parts_laid =
     pair_laid (alone_laid d_link) (pair_laid (option_laid (alone_laid nid_c)) (pair_laid (alone_laid nid_bg)
     (pair_laid flag_laid (pair_laid (alone_laid q_linkreaction) (alone_laid q_locacc)))))
 
-pub link_are_rows : HaveFields link_fields link_rows
-link_are_rows l = parts_laid.have (parts_of l)
-
-pub link_record : AreOf link_of link_rows
-link_record l = ap with_parts (parts_laid.is (parts_of l))
-
 pub link_laid : IsLaid link_fields link_rows link_of
-link_laid = record { have = link_are_rows; is = link_record }
+link_laid = renamed_laid with_parts parts_of (λ _. refl) (λ _. refl) parts_laid

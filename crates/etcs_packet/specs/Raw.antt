@@ -1,20 +1,21 @@
 -- A packet of any other number (SUBSET-026, 7.4.1): its head, and its body as bits.
-use Rattle.std.specs.Prelude.{◌≡◌, ℕ, ◌+◌, ◌-◌, Bool, true, false, List, [], ◌∷◌, length, drop, refl}
+use Rattle.std.specs.Prelude.{◌≡◌, ℕ, ◌+◌, ◌-◌, nat_le, Bool, true, false, List, [], ◌∷◌, length, drop, refl}
 use Rattle.std.proofs.Common.{sym, ap, ap₂, subst, ◌∙◌, arith}
 use Rattle.std.proofs.Math.Bool.{Bool-set}
+use Rattle.std.proofs.lemmas.Bool.{leb-true, le-leb}
 use Rattle.etcs_bits.specs.declared.direction.Dir.{Dir}
 use Rattle.etcs_bits.specs.Number.{num, num_of_bits}
-use Rattle.etcs_bits.specs.Rows.{Row, row, number_at}
+use Rattle.etcs_bits.specs.Rows.{Row, row, AreAllowed, alone, number_at}
 use Rattle.etcs_bits.specs.Fields.{Fields, field, one, ◌▹◌, AreRowsOf}
-use Rattle.etcs_bits.specs.CombinedLemmas.{HaveFields, AreOf}
-use Rattle.etcs_bits.specs.LaidLemmas.{IsLaid, laid, pair_laid}
+use Rattle.etcs_bits.specs.CombinedLemmas.{HaveFields, AreOf, HaveRecords}
+use Rattle.etcs_bits.specs.LaidLemmas.{IsLaid, pair_laid, dir_laid}
 use Rattle.etcs_bits.specs.Combined.{pair_rows, pair_of}
 use Rattle.etcs_bits.specs.Variables.{free, q_dir}
-use Rattle.etcs_bits.proofs.NumberLemmas.{num-num_of_bits}
-use Rattle.etcs_profile.specs.Packet.{dir_rows, dir_at, dir_laid}
+use Rattle.etcs_bits.proofs.NumberLemmas.{length-num, num_of_bits-small, num-num_of_bits}
+use Rattle.etcs_profile.specs.Packet.{dir_rows, dir_at}
 use Rattle.etcs_packet.specs.declared.raw.RawPacket.{RawPacket}
 use Rattle.etcs_packet.specs.Free.{free_rows}
-use Rattle.etcs_packet.specs.Numbers.{is_kept, nid_raw, l_raw}
+use Rattle.etcs_packet.specs.Numbers.{is_other, is_kept, nid_raw, l_raw}
 
 -- L_PACKET, which counts the 23 bits up to its own end and the body, and the body
 abbrev pub tail_rows : List Bool → List Row
@@ -68,14 +69,21 @@ tail_record bits =
     let back : (23 + length bits) - 23 ≡ length bits = omega arith in
     ap (λ (k : ℕ). num k (num_of_bits bits)) back ∙ num-num_of_bits bits
 
-rest_laid : IsLaid raw_rest_fields (pair_rows dir_rows tail_rows) (pair_of (one q_dir) dir_at tail_of)
-rest_laid = pair_laid dir_laid (laid tail_fields tail_rows tail_of tail_are_rows tail_record)
+tail_records : HaveRecords tail_fields tail_rows
+tail_records r (l, more, e, (m, end, is, none)) allowed =
+    let here = rw (e, is) at allowed in
+    let bits = length-num (l - 23) m in
+    let back : 23 + (l - 23) ≡ l = omega (arith, leb-true 23 l here.0.1) in
+    (num (l - 23) m, rw (e, is, none, bits, back, num_of_bits-small (l - 23) m here.1.0.0) refl)
 
-pub rest_are_rows : (dir : Dir) (body : List Bool) → AreRowsOf raw_rest_fields (raw_rest dir body)
-rest_are_rows dir body = rest_laid.have (dir, body)
+tail_laid : IsLaid tail_fields tail_rows tail_of
+tail_laid = record { have = tail_are_rows; is = tail_record; all = tail_records }
 
-pub raw_are_rows : HaveFields raw_fields raw_rows
-raw_are_rows r = (r.number, raw_rest r.dir r.body, refl, rest_are_rows r.dir r.body)
+pub raw_rest_laid : IsLaid raw_rest_fields (pair_rows dir_rows tail_rows) (pair_of (one q_dir) dir_at tail_of)
+raw_rest_laid = pair_laid dir_laid tail_laid
+
+raw_are_rows : HaveFields raw_fields raw_rows
+raw_are_rows r = (r.number, raw_rest r.dir r.body, refl, raw_rest_laid.have (r.dir, r.body))
 
 -- the parts of a packet make that packet
 raw_back : (n : ℕ) (dir : Dir) (body : List Bool) (h : is_kept n (length body) ≡ true) (b : Bool)
@@ -84,11 +92,33 @@ raw_back n dir body h true e =
     ap (λ (k : is_kept n (length body) ≡ true). raw n dir body k) (Bool-set (is_kept n (length body)) true e h)
 raw_back n dir body h false e = absurd (let both = sym h ∙ e in cc)
 
-pub raw_record : AreOf raw_of raw_rows
+raw_record : AreOf raw_of raw_rows
 raw_record r =
-    let parts = rest_laid.is (r.dir, r.body) in
+    let parts = raw_rest_laid.is (r.dir, r.body) in
     ap (λ (p : Dir × List Bool). raw_with r.number p) parts
     ∙ raw_back r.number r.dir r.body r.kept (is_kept r.number (length r.body)) refl
+
+-- rows that are allowed have a body that is short enough
+short_enough : (dir : Dir) (body : List Bool) → AreAllowed (raw_rest dir body) → nat_le (length body) 8168 ≡ true
+unfolding alone
+short_enough dir body allowed = le-leb (length body) 8168 (omega (arith, allowed.1.0.0))
+
+-- a packet of the rows that follow a number that is kept as bits
+pub raw_here : (n : ℕ) (more : List Row) → is_other n ≡ true → AreRowsOf raw_rest_fields more → AreAllowed more
+    → (v : RawPacket) × (raw_rows v ≡ row nid_raw n ∷ more)
+raw_here n more other w allowed =
+    let p = raw_rest_laid.all more w allowed in
+    let short = short_enough p.0.0 p.0.1 (rw p.1 allowed) in
+    (raw n p.0.0 p.0.1 (rw (other, short) refl), rw p.1 refl)
+
+raw_records : HaveRecords raw_fields raw_rows
+raw_records r (n, more, e, w) allowed =
+    let here = rw e at allowed in
+    let v = raw_here n more here.0.1 w here.1 in
+    (v.0, v.1 ∙ sym e)
+
+pub raw_laid : IsLaid raw_fields raw_rows raw_of
+raw_laid = record { have = raw_are_rows; is = raw_record; all = raw_records }
 
 -- raw packets with the same number, direction and body are one
 pub raw_parts : (v w : RawPacket) → v.number ≡ w.number → v.dir ≡ w.dir → v.body ≡ w.body → v ≡ w

@@ -1,29 +1,30 @@
 -- The packets from track to train: those whose layout is known, and all others.
-use Rattle.std.specs.Prelude.{◌≡◌, ℕ, ◌==◌, ◌||◌, ◌&&◌, if◌then◌else◌, nat_le, Bool, true, false, List, [], length, Option, Some, None, refl}
-use Rattle.std.proofs.Common.{ap, sym, ◌∙◌}
-use Rattle.std.proofs.lemmas.Bool.{ne_eqb}
+use Rattle.std.specs.Prelude.{◌≡◌, ℕ, ◌==◌, ◌||◌, ◌&&◌, not, if◌then◌else◌, nat_le, Bool, true, false, List, [], ◌∷◌, length, Option, Some, None, refl}
+use Rattle.std.proofs.Common.{ap, sym, subst, ◌∙◌, inl, inr}
+use Rattle.std.proofs.lemmas.Bool.{ne_eqb, eqb-true}
 use Rattle.etcs_bits.specs.declared.direction.Dir.{Dir}
-use Rattle.etcs_bits.specs.Rows.{Row, alone, number_at}
+use Rattle.etcs_bits.specs.Rows.{Row, row, AreAllowed, alone, number_at}
 use Rattle.etcs_bits.specs.Fields.{AreRowsOf}
-use Rattle.etcs_bits.specs.CombinedLemmas.{HaveFields, AreOf}
-use Rattle.etcs_bits.specs.LaidLemmas.{IsLaid, laid}
+use Rattle.etcs_bits.specs.CombinedLemmas.{HaveFields, AreOf, HaveRecords}
+use Rattle.etcs_bits.specs.LaidLemmas.{IsLaid, alone_laid}
+use Rattle.etcs_bits.specs.VariableLemmas.{either}
 use Rattle.etcs_profile.specs.declared.gradient.GradientElement.{GradientElement}
 use Rattle.etcs_profile.specs.declared.speed.SpeedElement.{SpeedElement}
 use Rattle.etcs_profile.specs.Profile.{Profile}
 use Rattle.etcs_packet.specs.declared.linking.Link.{Link}
 use Rattle.etcs_profile.specs.Packet.{rest_rows, rest_laid, packet_rows, packet_of, packet_laid}
 use Rattle.etcs_profile.specs.Elements.{elements_rows, elements_of, elements_laid}
-use Rattle.etcs_profile.specs.Authority.{Permission, with_main_rows, without_main_rows, with_main_laid, without_main_laid, authority_rows, rows_by, authority_of, authority_record}
-use Rattle.etcs_profile.specs.Gradient.{gradient_element_fields, gradient_element_rows, gradient_element_of, gradient_element_are_rows, gradient_element_record}
-use Rattle.etcs_profile.specs.Speed.{speed_element_fields, speed_element_rows, speed_element_of, speed_element_are_rows, speed_element_record}
+use Rattle.etcs_profile.specs.Authority.{Permission, with_main_rows, without_main_rows, level_1, level_2, with_main_laid, without_main_laid, authority_rows, rows_by, authority_of, authority_laid}
+use Rattle.etcs_profile.specs.Gradient.{gradient_element_fields, gradient_element_rows, gradient_element_of, gradient_element_laid}
+use Rattle.etcs_profile.specs.Speed.{speed_element_fields, speed_element_rows, speed_element_of, speed_element_laid}
 use Rattle.etcs_packet.specs.declared.run.Run.{Run}
 use Rattle.etcs_packet.specs.declared.track.TrackPacket.{TrackPacket}
 use Rattle.etcs_packet.specs.declared.track.TrackPacket.TheVariants as packets
 use Rattle.etcs_packet.specs.Linking.{link_fields, link_rows, link_of, link_laid}
 use Rattle.etcs_packet.specs.Transition.{Body, body_rows, body_of, body_laid}
-use Rattle.etcs_packet.specs.Cover.{nid_vbcmk, cover_rows, cover_of, cover_record}
-use Rattle.etcs_packet.specs.Raw.{raw_rest_fields, raw_rest, raw_rows, raw_of, rest_are_rows, raw_record}
-use Rattle.etcs_packet.specs.Numbers.{is_other, is_kept}
+use Rattle.etcs_packet.specs.Cover.{nid_vbcmk, cover_rows, cover_of, cover_laid}
+use Rattle.etcs_packet.specs.Raw.{raw_rest_fields, raw_rest, raw_rows, raw_of, raw_rest_laid, raw_here, raw_laid}
+use Rattle.etcs_packet.specs.Numbers.{is_known, is_other, is_kept, nid_track}
 use Rattle.etcs_packet.specs.Meant.{is_meant}
 use Rattle.etcs_packet.specs.Listed.{rest_by, track_fields, renamed}
 
@@ -97,12 +98,6 @@ holds run (packets.Raw p) = is_meant run p.dir
 
 -- ---- proofs of the laws of `Layout`
 
-gradient_laid : IsLaid gradient_element_fields gradient_element_rows gradient_element_of
-gradient_laid = laid gradient_element_fields gradient_element_rows gradient_element_of gradient_element_are_rows gradient_element_record
-
-speed_laid : IsLaid speed_element_fields speed_element_rows speed_element_of
-speed_laid = laid speed_element_fields speed_element_rows speed_element_of speed_element_are_rows speed_element_record
-
 cover_are_rows : HaveFields track_fields (λ c. renamed (cover_rows c))
 unfolding alone
 cover_are_rows c = (0, alone nid_vbcmk c.marker, refl, (c.marker, [], refl, refl))
@@ -110,6 +105,10 @@ cover_are_rows c = (0, alone nid_vbcmk c.marker, refl, (c.marker, [], refl, refl
 -- a number that is kept as bits is none of those that are known
 not_known : (n k : ℕ) → is_other n ≡ true → is_other k ≡ false → n == k ≡ false
 not_known n k other known = ne_eqb n k (λ same. absurd (let both = sym (ap is_other same) ∙ other in cc))
+
+not_true : (b : Bool) → not b ≡ true → b ≡ false
+not_true true h = absurd cc
+not_true false h = refl
 
 and_first : (a b : Bool) → a && b ≡ true → a ≡ true
 and_first true b h = refl
@@ -137,16 +136,16 @@ authority_are_rows (Some v) a =
 authority_are_rows None a =
     (15, rest_rows without_main_rows (a.dir, (a.scale, a.terms)), refl, without_main_laid.have (a.dir, (a.scale, a.terms)))
 
-pub track_are_rows : HaveFields track_fields track_rows
+track_are_rows : HaveFields track_fields track_rows
 unfolding alone
 track_are_rows (packets.Cover p) = cover_are_rows p
 track_are_rows (packets.Linking p) = (5, rest_rows (elements_rows link_rows) p, refl, (rest_laid (elements_laid link_laid)).have p)
 track_are_rows (packets.Authority p) = authority_are_rows p.main p
-track_are_rows (packets.Gradient p) = (21, rest_rows (elements_rows gradient_element_rows) p, refl, (rest_laid (elements_laid gradient_laid)).have p)
-track_are_rows (packets.Speed p) = (27, rest_rows (elements_rows speed_element_rows) p, refl, (rest_laid (elements_laid speed_laid)).have p)
+track_are_rows (packets.Gradient p) = (21, rest_rows (elements_rows gradient_element_rows) p, refl, (rest_laid (elements_laid gradient_element_laid)).have p)
+track_are_rows (packets.Speed p) = (27, rest_rows (elements_rows speed_element_rows) p, refl, (rest_laid (elements_laid speed_element_laid)).have p)
 track_are_rows (packets.Transition p) = (41, rest_rows body_rows p, refl, (rest_laid body_laid).have p)
 track_are_rows (packets.Raw p) =
-    (p.number, raw_rest p.dir p.body, refl, rw (rest_other p.number (other_of p.number (length p.body) p.kept)) (rest_are_rows p.dir p.body))
+    (p.number, raw_rest p.dir p.body, refl, rw (rest_other p.number (other_of p.number (length p.body) p.kept)) (raw_rest_laid.have (p.dir, p.body)))
 
 authority_back : (main : Option ℕ) (a : Permission) (b : Permission) → authority_of (rows_by main a) ≡ b
     → track_of (renamed (rows_by main a)) ≡ packets.Authority b
@@ -166,14 +165,108 @@ raw_back n rows other =
       not_known n 41 other refl,
     ) refl
 
-pub track_record : AreOf track_of track_rows
+track_record : AreOf track_of track_rows
 unfolding alone
-track_record (packets.Cover p) = ap packets.Cover (cover_record p)
+track_record (packets.Cover p) = ap packets.Cover (cover_laid.is p)
 track_record (packets.Linking p) = ap packets.Linking ((packet_laid 5 (elements_laid link_laid)).is p)
-track_record (packets.Authority p) = authority_back p.main p p (authority_record p)
-track_record (packets.Gradient p) = ap packets.Gradient ((packet_laid 21 (elements_laid gradient_laid)).is p)
-track_record (packets.Speed p) = ap packets.Speed ((packet_laid 27 (elements_laid speed_laid)).is p)
+track_record (packets.Authority p) = authority_back p.main p p (authority_laid.is p)
+track_record (packets.Gradient p) = ap packets.Gradient ((packet_laid 21 (elements_laid gradient_element_laid)).is p)
+track_record (packets.Speed p) = ap packets.Speed ((packet_laid 27 (elements_laid speed_element_laid)).is p)
 track_record (packets.Transition p) = ap packets.Transition ((packet_laid 41 body_laid).is p)
 track_record (packets.Raw p) =
     raw_back p.number (renamed (raw_rows p)) (other_of p.number (length p.body) p.kept)
-    ∙ ap packets.Raw (raw_record p)
+    ∙ ap packets.Raw (raw_laid.is p)
+
+-- The rows that may follow this NID_PACKET are those of a packet.
+abbrev HasPackets : ℕ → Type 0
+HasPackets n =
+    (more : List Row) → AreRowsOf (rest_by n) more → AreAllowed more
+    → (p : TrackPacket) × (track_rows p ≡ row nid_track n ∷ more)
+
+covers : HasPackets 0
+unfolding alone
+covers more w allowed =
+    let p = (alone_laid nid_vbcmk).all more w allowed in
+    (packets.Cover (record { marker = p.0 }), rw p.1 refl)
+
+linkings : HasPackets 5
+unfolding alone
+linkings more w allowed =
+    let p = (rest_laid (elements_laid link_laid)).all more w allowed in
+    (packets.Linking p.0, rw p.1 refl)
+
+authorities_12 : HasPackets 12
+unfolding alone
+authorities_12 more w allowed =
+    let p = with_main_laid.all more w allowed in
+    (packets.Authority (level_1 p.0), rw p.1 refl)
+
+authorities_15 : HasPackets 15
+unfolding alone
+authorities_15 more w allowed =
+    let p = without_main_laid.all more w allowed in
+    (packets.Authority (level_2 p.0), rw p.1 refl)
+
+gradients : HasPackets 21
+unfolding alone
+gradients more w allowed =
+    let p = (rest_laid (elements_laid gradient_element_laid)).all more w allowed in
+    (packets.Gradient p.0, rw p.1 refl)
+
+speeds : HasPackets 27
+unfolding alone
+speeds more w allowed =
+    let p = (rest_laid (elements_laid speed_element_laid)).all more w allowed in
+    (packets.Speed p.0, rw p.1 refl)
+
+transitions : HasPackets 41
+unfolding alone
+transitions more w allowed =
+    let p = (rest_laid body_laid).all more w allowed in
+    (packets.Transition p.0, rw p.1 refl)
+
+others : (n : ℕ) → is_other n ≡ true → HasPackets n
+others n other more w allowed =
+    let here : AreRowsOf raw_rest_fields more = rw (rest_other n other) at w in
+    let v = raw_here n more other here allowed in
+    (packets.Raw v.0, ap renamed v.1)
+
+-- the same of a number that a test finds
+found : (n k : ℕ) → n == k ≡ true → HasPackets k → HasPackets n
+found n k test = subst HasPackets (sym (eqb-true n k test))
+
+-- the number of a packet that is known
+known : (n : ℕ) → is_known n ≡ true → HasPackets n
+known n test = elim (either _ _ test) [
+  | inl e ↦ found n 0 e covers
+  | inr t ↦ elim (either _ _ t) [
+    | inl e ↦ found n 5 e linkings
+    | inr t ↦ elim (either _ _ t) [
+      | inl e ↦ found n 12 e authorities_12
+      | inr t ↦ elim (either _ _ t) [
+        | inl e ↦ found n 15 e authorities_15
+        | inr t ↦ elim (either _ _ t) [
+          | inl e ↦ found n 21 e gradients
+          | inr t ↦ elim (either _ _ t) [
+            | inl e ↦ found n 27 e speeds
+            | inr e ↦ found n 41 e transitions
+          ]
+        ]
+      ]
+    ]
+  ]
+]
+
+-- any number but the end mark's is that of a packet
+numbered : (n : ℕ) (b : Bool) → is_known n ≡ b → not (n == 255) ≡ true → HasPackets n
+numbered n true here not_end = known n here
+numbered n false here not_end = others n (rw (here, not_true (n == 255) not_end) refl)
+
+track_records : HaveRecords track_fields track_rows
+track_records r (n, more, e, w) allowed =
+    let here = rw e at allowed in
+    let p = numbered n (is_known n) refl here.0.1 more w here.1 in
+    (p.0, p.1 ∙ sym e)
+
+pub track_laid : IsLaid track_fields track_rows track_of
+track_laid = record { have = track_are_rows; is = track_record; all = track_records }

@@ -1,17 +1,15 @@
 -- Packet 41, level transition order (SUBSET-026, 5.10 and 7.4.2): in which level a train has to run,
 -- and from where on.
-use Rattle.std.specs.Prelude.{ℕ, List}
-use Rattle.std.proofs.Common.{ap}
+use Rattle.std.specs.Prelude.{ℕ, List, refl}
 use Rattle.etcs_bits.specs.declared.level.Level.{Level}
 use Rattle.etcs_bits.specs.declared.scale.Scale.{Scale}
 use Rattle.etcs_bits.specs.Rows.{Variable, Row, alone, number_at}
 use Rattle.etcs_bits.specs.Fields.{Fields, one, ◌▹◌, counted}
 use Rattle.etcs_bits.specs.Combined.{n_iter, pair_rows, pair_of, counted_rows, counted_of}
-use Rattle.etcs_bits.specs.CombinedLemmas.{HaveFields, AreOf}
-use Rattle.etcs_bits.specs.LaidLemmas.{IsLaid, laid, alone_laid, pair_laid, counted_laid}
-use Rattle.etcs_bits.specs.Level.{level_fields, level_rows, level_of, level_are_rows, level_record}
+use Rattle.etcs_bits.specs.LaidLemmas.{IsLaid, pair_laid, counted_laid, renamed_laid, alone_laid, scale_laid}
+use Rattle.etcs_bits.specs.Level.{level_fields, level_rows, level_of, level_laid}
 use Rattle.etcs_bits.specs.Variables.{plain, q_scale}
-use Rattle.etcs_profile.specs.Elements.{scale_rows, scale_at, scale_laid}
+use Rattle.etcs_profile.specs.Elements.{scale_rows, scale_at}
 use Rattle.etcs_packet.specs.declared.transition.LevelOrder.{LevelOrder}
 
 -- D_LEVELTR, 15 bits: the distance to the place of the change; 32,767 is now
@@ -54,17 +52,10 @@ body_of rows =
 
 -- ---- proofs of the laws of `Layout`
 
-level_order_laid : IsLaid order_fields (pair_rows level_rows (alone l_ackleveltr)) (pair_of level_fields level_of (number_at 0))
-level_order_laid = pair_laid (laid level_fields level_rows level_of level_are_rows level_record) (alone_laid l_ackleveltr)
-
-pub order_are_rows : HaveFields order_fields order_rows
-order_are_rows o = level_order_laid.have (o.level, o.acknowledge)
-
-pub order_record : AreOf order_of order_rows
-order_record o = ap order_with (level_order_laid.is (o.level, o.acknowledge))
-
 pub order_laid : IsLaid order_fields order_rows order_of
-order_laid = record { have = order_are_rows; is = order_record }
+order_laid =
+    renamed_laid order_with (λ o. (o.level, o.acknowledge)) (λ _. refl) (λ _. refl)
+    (pair_laid level_laid (alone_laid l_ackleveltr))
 
 pub body_laid : IsLaid body_fields body_rows body_of
 body_laid = pair_laid scale_laid (pair_laid (alone_laid d_leveltr) (pair_laid order_laid (counted_laid order_laid)))

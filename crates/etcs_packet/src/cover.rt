@@ -13,7 +13,7 @@ pub struct CoverMarker {
 }
 
 impl Layout for CoverMarker {
-    ghost use Rattle.etcs_packet.specs.Cover.{cover_rows, cover_fields, cover_of, cover_are_rows, cover_record};
+    ghost use Rattle.etcs_packet.specs.Cover.{cover_rows, cover_fields, cover_of, cover_laid};
 
     ghost rows = { cover_rows };
 
@@ -24,9 +24,7 @@ impl Layout for CoverMarker {
     // Its type keeps its number in range.
     ghost fit = { λ _. Unit {0} };
 
-    ghost are_rows = { cover_are_rows };
-
-    ghost is_record = { cover_record };
+    ghost laid = { cover_laid };
 
     #[tactic(auto, using(etcs_bits::proofs::PutLemmas::allowed_both))]
     fn is_allowed(&self) -> bool {

@@ -2,7 +2,7 @@
 //! that do nothing: laws for users.
 
 ghost use Rattle.etcs_packet.specs.Lists.{IsHeaded};
-ghost use Rattle.etcs_packet.specs.Laws.{ListFaultIsRead, ListFaultMeansNone, ListIsRead, ListsEnd, NoEndIsTold, OneListStands, OneWholeBegins, ReadIsSpelled, StandIsSpelled, WholeFaultIsRead, WholeFaultMeansNone, WholeIsRead, WholeIsSpelled, WrittenIsReadBack, WrittenStands};
+ghost use Rattle.etcs_packet.specs.Laws.{ListFaultIsRead, ListFaultMeansNone, ListIsRead, ListsEnd, NoEndIsTold, OneListStands, OneWholeBegins, StandIsSpelled, WholeFaultIsRead, WholeFaultMeansNone, WholeIsRead, WholeIsSpelled, WrittenIsReadBack, WrittenStands};
 
 use etcs_bits::Layout;
 
@@ -11,7 +11,7 @@ pub fn lists_end()
     ensures { ListsEnd }
 {}
 
-/// A list that stands is what reading gives.
+/// A list stands exactly where reading gives it, and up to the place where that ends.
 pub fn a_list_is_read<T: Layout>()
     requires { IsHeaded T.fields }
     ensures { ListIsRead T.rows T.record_of T.fields }
@@ -26,12 +26,6 @@ pub fn a_place_has_one_list<T: Layout>()
 /// A list that stands is the spellings of its packets, one after the other.
 pub fn a_list_is_its_spellings<T: Layout>()
     ensures { StandIsSpelled T.rows }
-{}
-
-/// What reading gives stands in its rows, up to the end of the list.
-pub fn what_is_read_is_spelled<T: Layout>()
-    requires { IsHeaded T.fields }
-    ensures { ReadIsSpelled T.record_of T.fields }
 {}
 
 /// A list's fault is told exactly where reading gives it.
@@ -59,7 +53,7 @@ pub fn written_packets_are_a_list<T: Layout>()
     ensures { WrittenStands T.rows T.fields }
 {}
 
-/// A whole that stands is what reading gives.
+/// A whole stands exactly where reading gives it, and up to the place where that ends.
 pub fn a_whole_is_read<H: Layout, T: Layout>()
     requires { IsHeaded T.fields }
     ensures { WholeIsRead H.rows H.record_of H.fields T.rows T.record_of T.fields }

@@ -34,7 +34,7 @@ pub struct Link {
 }
 
 impl Layout for Link {
-    ghost use Rattle.etcs_packet.specs.Linking.{link_rows, link_fields, link_of, link_are_rows, link_record};
+    ghost use Rattle.etcs_packet.specs.Linking.{link_rows, link_fields, link_of, link_laid};
 
     ghost rows = { link_rows };
 
@@ -45,9 +45,7 @@ impl Layout for Link {
     // Its types keep their numbers in range.
     ghost fit = { λ _. Unit {0} };
 
-    ghost are_rows = { link_are_rows };
-
-    ghost is_record = { link_record };
+    ghost laid = { link_laid };
 
     #[tactic(auto, using(etcs_bits::proofs::PutLemmas::allowed_both, etcs_bits::proofs::FitLemmas::some_fit))]
     fn is_allowed(&self) -> bool {
@@ -175,7 +173,6 @@ impl Linking {
 }
 
 impl Layout for Linking {
-    ghost use Rattle.etcs_bits.specs.LaidLemmas.{laid};
     ghost use Rattle.etcs_profile.specs.Packet.{packet_rows, packet_fields, packet_of, packet_laid};
     ghost use Rattle.etcs_profile.specs.Elements.{elements_rows, elements_fields, elements_of, elements_laid};
     ghost use Rattle.etcs_packet.specs.Linking.{link_rows, link_fields, link_of, link_laid};
@@ -189,9 +186,7 @@ impl Layout for Linking {
     // Its type keeps its numbers in range.
     ghost fit = { λ _. Unit {0} };
 
-    ghost are_rows = { (packet_laid 5 (elements_laid link_laid)).have };
-
-    ghost is_record = { (packet_laid 5 (elements_laid link_laid)).is };
+    ghost laid = { packet_laid 5 (elements_laid link_laid) };
 
     fn is_allowed(&self) -> bool {
         self.packet.is_allowed()

@@ -91,7 +91,7 @@ impl RawPacket {
 }
 
 impl Layout for RawPacket {
-    ghost use Rattle.etcs_packet.specs.Raw.{raw_rows, raw_fields, raw_of, raw_are_rows, raw_record};
+    ghost use Rattle.etcs_packet.specs.Raw.{raw_rows, raw_fields, raw_of, raw_laid};
 
     ghost rows = { raw_rows };
 
@@ -102,9 +102,7 @@ impl Layout for RawPacket {
     // Its type keeps number and body in range.
     ghost fit = { λ _. Unit {0} };
 
-    ghost are_rows = { raw_are_rows };
-
-    ghost is_record = { raw_record };
+    ghost laid = { raw_laid };
 
     fn is_allowed(&self) -> bool {
         let _number = self.number();

@@ -170,7 +170,7 @@ impl TrackPacket {
 }
 
 impl Layout for TrackPacket {
-    ghost use Rattle.etcs_packet.specs.Track.{track_rows, track_of, track_are_rows, track_record};
+    ghost use Rattle.etcs_packet.specs.Track.{track_rows, track_of, track_laid};
 
     ghost rows = { track_rows };
 
@@ -181,9 +181,7 @@ impl Layout for TrackPacket {
     // Its types keep their numbers in range.
     ghost fit = { λ _. Unit {0} };
 
-    ghost are_rows = { track_are_rows };
-
-    ghost is_record = { track_record };
+    ghost laid = { track_laid };
 
     fn is_allowed(&self) -> bool {
         self.is_sound()

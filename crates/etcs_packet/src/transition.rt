@@ -21,7 +21,7 @@ pub struct LevelOrder {
 }
 
 impl Layout for LevelOrder {
-    ghost use Rattle.etcs_packet.specs.Transition.{order_rows, order_fields, order_of, order_are_rows, order_record};
+    ghost use Rattle.etcs_packet.specs.Transition.{order_rows, order_fields, order_of, order_laid};
 
     ghost rows = { order_rows };
 
@@ -32,9 +32,7 @@ impl Layout for LevelOrder {
     // Its types keep their numbers in range.
     ghost fit = { λ _. Unit {0} };
 
-    ghost are_rows = { order_are_rows };
-
-    ghost is_record = { order_record };
+    ghost laid = { order_laid };
 
     #[tactic(auto, using(etcs_bits::proofs::PutLemmas::allowed_both))]
     fn is_allowed(&self) -> bool {
@@ -163,9 +161,7 @@ impl Layout for Transition {
     // Its type keeps its numbers in range.
     ghost fit = { λ _. Unit {0} };
 
-    ghost are_rows = { (packet_laid 41 body_laid).have };
-
-    ghost is_record = { (packet_laid 41 body_laid).is };
+    ghost laid = { packet_laid 41 body_laid };
 
     fn is_allowed(&self) -> bool {
         self.packet.is_allowed()

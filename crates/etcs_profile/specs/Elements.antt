@@ -1,15 +1,12 @@
 -- A scale, a first element and further ones: the body of the packets that tell something along the
 -- track, each element from its distance on (SUBSET-026, 7.4.2).
-use Rattle.std.specs.Prelude.{ℕ, Bool, List, ◌∷◌}
-use Rattle.std.proofs.Common.{ap}
+use Rattle.std.specs.Prelude.{ℕ, Bool, List, ◌∷◌, refl}
 use Rattle.etcs_bits.specs.declared.scale.Scale.{Scale}
 use Rattle.etcs_bits.specs.Rows.{Row, alone, number_at}
 use Rattle.etcs_bits.specs.Fields.{Fields, one, ◌▹◌, counted}
 use Rattle.etcs_bits.specs.Combined.{n_iter, pair_rows, pair_of, counted_rows, counted_of}
-use Rattle.etcs_bits.specs.LaidLemmas.{IsLaid, pair_laid, counted_laid}
-use Rattle.etcs_bits.specs.RowLemmas.{alone_rows}
+use Rattle.etcs_bits.specs.LaidLemmas.{IsLaid, pair_laid, counted_laid, renamed_laid, scale_laid}
 use Rattle.etcs_bits.specs.Variables.{q_scale, scale_number, scale_of}
-use Rattle.etcs_bits.specs.VariableLemmas.{scale_record}
 use Rattle.etcs_profile.specs.Profile.{Profile}
 use Rattle.etcs_profile.specs.declared.reach.Reach.{Reach}
 use Rattle.etcs_profile.specs.Reach.{way_to_mark, reach_of}
@@ -59,15 +56,9 @@ elements_reach distance marked e =
 
 -- ---- proofs of the laws of `Layout`
 
-pub scale_laid : IsLaid (one q_scale) scale_rows scale_at
-scale_laid = record { have = λ (s : Scale). alone_rows q_scale (scale_number s); is = scale_record }
-
 pub elements_laid : {X : Type 0} {element : Fields} {rows : X → List Row} {of : List Row → X}
     → IsLaid element rows of
     → IsLaid (elements_fields element) (elements_rows rows) (elements_of element of)
 elements_laid v =
-    let parts = pair_laid scale_laid (pair_laid v (counted_laid v)) in
-    record {
-      have = λ e. parts.have (e.scale, (e.first, e.further));
-      is = λ e. ap (λ p. elements_with p) (parts.is (e.scale, (e.first, e.further)));
-    }
+    renamed_laid elements_with (λ e. (e.scale, (e.first, e.further))) (λ _. refl) (λ _. refl)
+    (pair_laid scale_laid (pair_laid v (counted_laid v)))

@@ -1,10 +1,11 @@
 -- Packet 21, gradients (SUBSET-026, 7.4.2): from each place on how steep the track is.
-use Rattle.std.specs.Prelude.{◌≡◌, List, ◌++◌}
+use Rattle.std.specs.Prelude.{ℕ, Bool, List, ◌++◌, refl}
 use Rattle.std.proofs.Common.{ap}
 use Rattle.etcs_bits.specs.Number.{worth}
 use Rattle.etcs_bits.specs.Rows.{Variable, Row, alone, number_at}
-use Rattle.etcs_bits.specs.Fields.{Fields, one, ◌▹◌, AreRowsOf}
-use Rattle.etcs_bits.specs.RowLemmas.{then_has, alone_has}
+use Rattle.etcs_bits.specs.Fields.{Fields, one, ◌▹◌}
+use Rattle.etcs_bits.specs.CombinedLemmas.{AreOf}
+use Rattle.etcs_bits.specs.LaidLemmas.{IsLaid, pair_laid, renamed_laid, found_laid, alone_laid, flag_laid}
 use Rattle.etcs_bits.specs.Variables.{plain, flag_of}
 use Rattle.etcs_bits.specs.VariableLemmas.{flag_back}
 use Rattle.etcs_profile.specs.declared.gradient.GradientElement.{GradientElement}
@@ -30,7 +31,10 @@ abbrev pub gradient_element_rows : GradientElement → List Row
 gradient_element_rows e =
     alone d_gradient e.distance ++ (alone q_gdir (worth e.uphill) ++ alone g_a e.gradient)
 
--- the element of three rows
+-- an element of three values, and that of three rows
+abbrev gradient_element_with : ℕ × (Bool × ℕ) → GradientElement
+gradient_element_with p = record { distance = p.0; uphill = p.1.0; gradient = p.1.1 }
+
 abbrev pub gradient_element_of : List Row → GradientElement
 gradient_element_of rows = record {
   distance = number_at 0 rows;
@@ -40,12 +44,13 @@ gradient_element_of rows = record {
 
 -- ---- proofs of the laws of `Layout`
 
-pub gradient_element_are_rows : (e : GradientElement)
-    → AreRowsOf gradient_element_fields (gradient_element_rows e)
-gradient_element_are_rows e = (then_has (alone_has _ _) (then_has (alone_has _ _) (alone_has _ _))).whole
-
-pub gradient_element_record : (e : GradientElement)
-    → gradient_element_of (gradient_element_rows e) ≡ e
+gradient_element_record : AreOf gradient_element_of gradient_element_rows
 unfolding alone
 gradient_element_record e =
     ap (λ u. record { distance = e.distance; uphill = u; gradient = e.gradient }) (flag_back e.uphill)
+
+pub gradient_element_laid : IsLaid gradient_element_fields gradient_element_rows gradient_element_of
+gradient_element_laid =
+    found_laid gradient_element_of gradient_element_record
+    (renamed_laid gradient_element_with (λ e. (e.distance, (e.uphill, e.gradient))) (λ _. refl) (λ _. refl)
+    (pair_laid (alone_laid d_gradient) (pair_laid flag_laid (alone_laid g_a))))

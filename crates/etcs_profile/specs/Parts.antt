@@ -1,13 +1,10 @@
 -- The parts of a movement authority, packets 12 and 15 (SUBSET-026, 3.8 and 7.4.2): sections and
 -- timers, danger point and overlap.
 use Rattle.std.specs.Prelude.{ℕ, List, Option, ◌++◌, refl}
-use Rattle.std.proofs.Common.{ap}
 use Rattle.etcs_bits.specs.Rows.{Variable, Row, alone, number_at}
 use Rattle.etcs_bits.specs.Fields.{Fields, one, ◌▹◌, option}
 use Rattle.etcs_bits.specs.Combined.{qualifier, pair_rows, pair_of, option_rows, option_of}
-use Rattle.etcs_bits.specs.CombinedLemmas.{HaveFields, AreOf}
-use Rattle.etcs_bits.specs.LaidLemmas.{IsLaid, alone_laid, pair_laid, option_laid}
-use Rattle.etcs_bits.specs.RowLemmas.{then_has, alone_has}
+use Rattle.etcs_bits.specs.LaidLemmas.{IsLaid, pair_laid, option_laid, renamed_laid, found_laid, alone_laid}
 use Rattle.etcs_bits.specs.Variables.{plain, ranged}
 use Rattle.etcs_profile.specs.declared.section.Section.{Section}
 use Rattle.etcs_profile.specs.declared.section.SectionTimer.{SectionTimer}
@@ -37,6 +34,10 @@ section_timer_fields = one time ▹ one distance
 abbrev pub section_timer_rows : SectionTimer → List Row
 section_timer_rows t = alone time t.time ++ alone distance t.stop
 
+-- a timer of its two numbers, and that of two rows
+abbrev section_timer_with : ℕ × ℕ → SectionTimer
+section_timer_with p = record { time = p.0; stop = p.1 }
+
 abbrev pub section_timer_of : List Row → SectionTimer
 section_timer_of rows = record { time = number_at 0 rows; stop = number_at 1 rows }
 
@@ -63,6 +64,10 @@ end_timer_fields = one time ▹ one distance
 abbrev pub end_timer_rows : EndTimer → List Row
 end_timer_rows t = alone time t.time ++ alone distance t.start
 
+-- a timer of its two numbers, and that of two rows
+abbrev end_timer_with : ℕ × ℕ → EndTimer
+end_timer_with p = record { time = p.0; start = p.1 }
+
 abbrev pub end_timer_of : List Row → EndTimer
 end_timer_of rows = record { time = number_at 0 rows; start = number_at 1 rows }
 
@@ -73,6 +78,10 @@ danger_point_fields = one distance ▹ one release_speed
 
 abbrev pub danger_point_rows : DangerPoint → List Row
 danger_point_rows p = alone distance p.distance ++ alone release_speed p.release_speed
+
+-- a danger point of its two numbers, and that of two rows
+abbrev danger_point_with : ℕ × ℕ → DangerPoint
+danger_point_with p = record { distance = p.0; release_speed = p.1 }
 
 abbrev pub danger_point_of : List Row → DangerPoint
 danger_point_of rows = record { distance = number_at 0 rows; release_speed = number_at 1 rows }
@@ -87,6 +96,15 @@ overlap_rows o =
     alone distance o.start
     ++ (alone time o.time ++ (alone distance o.length ++ alone release_speed o.release_speed))
 
+-- an overlap of its four numbers, and that of four rows
+abbrev overlap_with : ℕ × (ℕ × (ℕ × ℕ)) → Overlap
+overlap_with p = record {
+  start = p.0;
+  time = p.1.0;
+  length = p.1.1.0;
+  release_speed = p.1.1.1;
+}
+
 abbrev pub overlap_of : List Row → Overlap
 overlap_of rows = record {
   start = number_at 0 rows;
@@ -97,56 +115,36 @@ overlap_of rows = record {
 
 -- ---- proofs of the laws of `Layout`
 
-pub section_timer_are_rows : HaveFields section_timer_fields section_timer_rows
-section_timer_are_rows t = (then_has (alone_has _ _) (alone_has _ _)).whole
-
-pub section_timer_record : AreOf section_timer_of section_timer_rows
-unfolding alone
-section_timer_record t = refl
-
-pub end_timer_are_rows : HaveFields end_timer_fields end_timer_rows
-end_timer_are_rows t = (then_has (alone_has _ _) (alone_has _ _)).whole
-
-pub end_timer_record : AreOf end_timer_of end_timer_rows
-unfolding alone
-end_timer_record t = refl
-
-pub danger_point_are_rows : HaveFields danger_point_fields danger_point_rows
-danger_point_are_rows p = (then_has (alone_has _ _) (alone_has _ _)).whole
-
-pub danger_point_record : AreOf danger_point_of danger_point_rows
-unfolding alone
-danger_point_record p = refl
-
-pub overlap_are_rows : HaveFields overlap_fields overlap_rows
-overlap_are_rows o =
-    (then_has (alone_has _ _) (then_has (alone_has _ _) (then_has (alone_has _ _) (alone_has _ _)))).whole
-
-pub overlap_record : AreOf overlap_of overlap_rows
-unfolding alone
-overlap_record o = refl
-
 pub section_timer_laid : IsLaid section_timer_fields section_timer_rows section_timer_of
-section_timer_laid = record { have = section_timer_are_rows; is = section_timer_record }
+unfolding alone
+section_timer_laid =
+    found_laid section_timer_of (λ _. refl)
+    (renamed_laid section_timer_with (λ t. (t.time, t.stop)) (λ _. refl) (λ _. refl)
+    (pair_laid (alone_laid time) (alone_laid distance)))
 
 pub end_timer_laid : IsLaid end_timer_fields end_timer_rows end_timer_of
-end_timer_laid = record { have = end_timer_are_rows; is = end_timer_record }
+unfolding alone
+end_timer_laid =
+    found_laid end_timer_of (λ _. refl)
+    (renamed_laid end_timer_with (λ t. (t.time, t.start)) (λ _. refl) (λ _. refl)
+    (pair_laid (alone_laid time) (alone_laid distance)))
 
 pub danger_point_laid : IsLaid danger_point_fields danger_point_rows danger_point_of
-danger_point_laid = record { have = danger_point_are_rows; is = danger_point_record }
+unfolding alone
+danger_point_laid =
+    found_laid danger_point_of (λ _. refl)
+    (renamed_laid danger_point_with (λ p. (p.distance, p.release_speed)) (λ _. refl) (λ _. refl)
+    (pair_laid (alone_laid distance) (alone_laid release_speed)))
 
 pub overlap_laid : IsLaid overlap_fields overlap_rows overlap_of
-overlap_laid = record { have = overlap_are_rows; is = overlap_record }
-
-parts_laid : IsLaid section_fields (pair_rows (alone distance) (option_rows section_timer_rows))
-    (pair_of (one distance) (number_at 0) (option_of section_timer_of))
-parts_laid = pair_laid (alone_laid distance) (option_laid section_timer_laid)
-
-pub section_are_rows : HaveFields section_fields section_rows
-section_are_rows s = parts_laid.have (s.length, s.timer)
-
-pub section_record : AreOf section_of section_rows
-section_record s = ap section_with (parts_laid.is (s.length, s.timer))
+unfolding alone
+overlap_laid =
+    found_laid overlap_of (λ _. refl)
+    (renamed_laid overlap_with (λ o. (o.start, (o.time, (o.length, o.release_speed)))) (λ _. refl) (λ _. refl)
+    (pair_laid (alone_laid distance) (pair_laid (alone_laid time)
+    (pair_laid (alone_laid distance) (alone_laid release_speed)))))
 
 pub section_laid : IsLaid section_fields section_rows section_of
-section_laid = record { have = section_are_rows; is = section_record }
+section_laid =
+    renamed_laid section_with (λ s. (s.length, s.timer)) (λ _. refl) (λ _. refl)
+    (pair_laid (alone_laid distance) (option_laid section_timer_laid))

@@ -1,12 +1,12 @@
 -- Packet 27, static speed profile (SUBSET-026, 7.4.2): from each place on how fast trains may go.
-use Rattle.std.specs.Prelude.{◌≡◌, Bool, List, ◌++◌, drop, refl}
+use Rattle.std.specs.Prelude.{ℕ, Bool, List, ◌++◌, drop, refl}
 use Rattle.std.proofs.Common.{ap₂}
 use Rattle.etcs_bits.specs.Number.{worth}
 use Rattle.etcs_bits.specs.Rows.{Variable, Row, alone, number_at}
-use Rattle.etcs_bits.specs.Fields.{Fields, one, ◌▹◌, counted, AreRowsOf}
-use Rattle.etcs_bits.specs.RowLemmas.{HasRows, then_has, alone_has}
+use Rattle.etcs_bits.specs.Fields.{Fields, one, ◌▹◌, counted}
 use Rattle.etcs_bits.specs.Combined.{n_iter, counted_rows, counted_of}
-use Rattle.etcs_bits.specs.CombinedLemmas.{counted_are_rows, counted_record}
+use Rattle.etcs_bits.specs.CombinedLemmas.{AreOf}
+use Rattle.etcs_bits.specs.LaidLemmas.{IsLaid, pair_laid, counted_laid, renamed_laid, found_laid, alone_laid, flag_laid}
 use Rattle.etcs_bits.specs.Variables.{plain, ranged, flag_of}
 use Rattle.etcs_bits.specs.VariableLemmas.{flag_back}
 use Rattle.etcs_profile.specs.declared.speed.Difference.{Difference}
@@ -43,6 +43,9 @@ difference_fields = one q_diff ▹ one nc_diff ▹ one v_diff
 abbrev pub difference_rows : Difference → List Row
 difference_rows d = alone q_diff d.kind ++ (alone nc_diff d.category ++ alone v_diff d.speed)
 
+abbrev difference_with : ℕ × (ℕ × ℕ) → Difference
+difference_with p = record { kind = p.0; category = p.1.0; speed = p.1.1 }
+
 abbrev pub difference_of : List Row → Difference
 difference_of rows = record {
   kind = number_at 0 rows;
@@ -61,7 +64,15 @@ speed_element_rows e =
     ++ (alone q_front (worth e.front)
     ++ counted_rows difference_rows e.differences))
 
--- the element of rows
+-- an element of its parts, and that of rows
+abbrev speed_element_with : ℕ × (ℕ × (Bool × List Difference)) → SpeedElement
+speed_element_with p = record {
+  distance = p.0;
+  speed = p.1.0;
+  front = p.1.1.0;
+  differences = p.1.1.1;
+}
+
 abbrev pub speed_element_of : List Row → SpeedElement
 speed_element_of rows = record {
   distance = number_at 0 rows;
@@ -72,23 +83,22 @@ speed_element_of rows = record {
 
 -- ---- proofs of the laws of `Layout`
 
-pub difference_are_rows : (d : Difference) → AreRowsOf difference_fields (difference_rows d)
-difference_are_rows d = (then_has (alone_has _ _) (then_has (alone_has _ _) (alone_has _ _))).whole
-
-pub difference_record : (d : Difference) → difference_of (difference_rows d) ≡ d
+pub difference_laid : IsLaid difference_fields difference_rows difference_of
 unfolding alone
-difference_record d = refl
+difference_laid =
+    found_laid difference_of (λ _. refl)
+    (renamed_laid difference_with (λ d. (d.kind, (d.category, d.speed))) (λ _. refl) (λ _. refl)
+    (pair_laid (alone_laid q_diff) (pair_laid (alone_laid nc_diff) (alone_laid v_diff))))
 
-differences_have : (ds : List Difference) → HasRows (counted n_iter difference_fields) (counted_rows difference_rows ds)
-differences_have ds = record { whole = counted_are_rows difference_fields difference_rows difference_are_rows ds }
-
-pub speed_element_are_rows : (e : SpeedElement)
-    → AreRowsOf speed_element_fields (speed_element_rows e)
-speed_element_are_rows e =
-    (then_has (alone_has _ _) (then_has (alone_has _ _) (then_has (alone_has _ _) (differences_have e.differences)))).whole
-
-pub speed_element_record : (e : SpeedElement) → speed_element_of (speed_element_rows e) ≡ e
+speed_element_record : AreOf speed_element_of speed_element_rows
 unfolding alone
 speed_element_record e =
     ap₂ (λ (f : Bool) (ds : List Difference). record { distance = e.distance; speed = e.speed; front = f; differences = ds })
-    (flag_back e.front) (counted_record difference_fields difference_rows difference_of difference_are_rows difference_record e.differences)
+    (flag_back e.front) ((counted_laid difference_laid).is e.differences)
+
+pub speed_element_laid : IsLaid speed_element_fields speed_element_rows speed_element_of
+speed_element_laid =
+    found_laid speed_element_of speed_element_record
+    (renamed_laid speed_element_with (λ e. (e.distance, (e.speed, (e.front, e.differences)))) (λ _. refl) (λ _. refl)
+    (pair_laid (alone_laid d_static) (pair_laid (alone_laid v_static)
+    (pair_laid flag_laid (counted_laid difference_laid)))))

@@ -1,12 +1,10 @@
 -- What packets 12 and 15 have in common: how far and under which conditions a train may run
 -- (SUBSET-026, 3.8 and 7.4.2).
-use Rattle.std.specs.Prelude.{ℕ, List, Option}
-use Rattle.std.proofs.Common.{ap}
+use Rattle.std.specs.Prelude.{ℕ, List, Option, refl}
 use Rattle.etcs_bits.specs.Rows.{Variable, Row, alone, number_at}
 use Rattle.etcs_bits.specs.Fields.{Fields, one, ◌▹◌, option, counted}
 use Rattle.etcs_bits.specs.Combined.{qualifier, n_iter, pair_rows, pair_of, option_rows, option_of, counted_rows, counted_of}
-use Rattle.etcs_bits.specs.CombinedLemmas.{HaveFields, AreOf}
-use Rattle.etcs_bits.specs.LaidLemmas.{IsLaid, alone_laid, pair_laid, option_laid, counted_laid}
+use Rattle.etcs_bits.specs.LaidLemmas.{IsLaid, pair_laid, option_laid, counted_laid, renamed_laid, alone_laid}
 use Rattle.etcs_bits.specs.Variables.{ranged}
 use Rattle.etcs_profile.specs.declared.section.Section.{Section}
 use Rattle.etcs_profile.specs.declared.section.SectionTimer.{SectionTimer}
@@ -127,11 +125,5 @@ parts_laid =
     pair_laid (alone_laid speed) (pair_laid (alone_laid time) (pair_laid (counted_laid section_laid)
     (pair_laid (alone_laid distance) options_laid)))
 
-pub terms_are_rows : HaveFields terms_fields terms_rows
-terms_are_rows c = parts_laid.have (parts_of c)
-
-pub terms_record : AreOf terms_of terms_rows
-terms_record c = ap with_parts (parts_laid.is (parts_of c))
-
 pub terms_laid : IsLaid terms_fields terms_rows terms_of
-terms_laid = record { have = terms_are_rows; is = terms_record }
+terms_laid = renamed_laid with_parts parts_of (λ _. refl) (λ _. refl) parts_laid

@@ -233,7 +233,7 @@ impl Authority {
 
 #[tactic(auto, using(etcs_bits::proofs::PutLemmas::puts_bits), unfolding(etcs_bits::specs::Rows::alone))]
 impl Layout for Authority {
-    ghost use Rattle.etcs_profile.specs.Authority.{authority_rows, authority_fields, authority_of, authority_are_rows, authority_record};
+    ghost use Rattle.etcs_profile.specs.Authority.{authority_rows, authority_fields, authority_of, authority_laid};
 
     ghost rows = { authority_rows };
 
@@ -244,9 +244,7 @@ impl Layout for Authority {
     // Its types keep their numbers in range.
     ghost fit = { λ _. Unit {0} };
 
-    ghost are_rows = { authority_are_rows };
-
-    ghost is_record = { authority_record };
+    ghost laid = { authority_laid };
 
     fn is_allowed(&self) -> bool {
         match &self.packet {

@@ -14,7 +14,7 @@ pub struct DangerPoint {
 }
 
 impl Layout for DangerPoint {
-    ghost use Rattle.etcs_profile.specs.Parts.{danger_point_rows, danger_point_fields, danger_point_of, danger_point_are_rows, danger_point_record};
+    ghost use Rattle.etcs_profile.specs.Parts.{danger_point_rows, danger_point_fields, danger_point_of, danger_point_laid};
 
     ghost rows = { danger_point_rows };
 
@@ -25,9 +25,7 @@ impl Layout for DangerPoint {
     // Its types keep their numbers in range.
     ghost fit = { λ _. Unit {0} };
 
-    ghost are_rows = { danger_point_are_rows };
-
-    ghost is_record = { danger_point_record };
+    ghost laid = { danger_point_laid };
 
     #[tactic(auto, using(etcs_bits::proofs::PutLemmas::allowed_both))]
     fn is_allowed(&self) -> bool {

@@ -114,7 +114,6 @@ impl<T: Element> Elements<T> {
 #[tactic(auto, using(etcs_bits::proofs::PutLemmas::puts_then, etcs_bits::proofs::PutLemmas::keeps_front, etcs_bits::proofs::PutLemmas::allowed_both))]
 impl<T: Layout> Layout for Elements<T> {
     ghost use Rattle.std.specs.List.{AllByRecursion};
-    ghost use Rattle.etcs_bits.specs.LaidLemmas.{laid};
     ghost use Rattle.etcs_profile.specs.Elements.{elements_rows, elements_fields, elements_of, elements_laid};
 
     ghost rows = { elements_rows T.rows };
@@ -125,9 +124,7 @@ impl<T: Layout> Layout for Elements<T> {
 
     ghost fit = { λ e. T.fit e.first × AllByRecursion T.fit e.further };
 
-    ghost are_rows = { (elements_laid (laid T.fields T.rows T.record_of T.are_rows T.is_record)).have };
-
-    ghost is_record = { (elements_laid (laid T.fields T.rows T.record_of T.are_rows T.is_record)).is };
+    ghost laid = { elements_laid T.laid };
 
     fn is_allowed(&self) -> bool {
         self.scale.is_allowed() && self.first.is_allowed() && self.further.is_allowed()

@@ -14,7 +14,7 @@ pub struct EndTimer {
 }
 
 impl Layout for EndTimer {
-    ghost use Rattle.etcs_profile.specs.Parts.{end_timer_rows, end_timer_fields, end_timer_of, end_timer_are_rows, end_timer_record};
+    ghost use Rattle.etcs_profile.specs.Parts.{end_timer_rows, end_timer_fields, end_timer_of, end_timer_laid};
 
     ghost rows = { end_timer_rows };
 
@@ -25,9 +25,7 @@ impl Layout for EndTimer {
     // Its types keep their numbers in range.
     ghost fit = { λ _. Unit {0} };
 
-    ghost are_rows = { end_timer_are_rows };
-
-    ghost is_record = { end_timer_record };
+    ghost laid = { end_timer_laid };
 
     #[tactic(auto, using(etcs_bits::proofs::PutLemmas::allowed_both))]
     fn is_allowed(&self) -> bool {

@@ -50,7 +50,7 @@ pub struct GradientElement {
 }
 
 impl Layout for GradientElement {
-    ghost use Rattle.etcs_profile.specs.Gradient.{gradient_element_rows, gradient_element_fields, gradient_element_of, gradient_element_are_rows, gradient_element_record};
+    ghost use Rattle.etcs_profile.specs.Gradient.{gradient_element_rows, gradient_element_fields, gradient_element_of, gradient_element_laid};
 
     ghost rows = { gradient_element_rows };
 
@@ -61,9 +61,7 @@ impl Layout for GradientElement {
     // Its types keep their numbers in range.
     ghost fit = { λ _. Unit {0} };
 
-    ghost are_rows = { gradient_element_are_rows };
-
-    ghost is_record = { gradient_element_record };
+    ghost laid = { gradient_element_laid };
 
     #[tactic(auto, using(etcs_bits::proofs::PutLemmas::allowed_both))]
     fn is_allowed(&self) -> bool {

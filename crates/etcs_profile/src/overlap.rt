@@ -19,7 +19,7 @@ pub struct Overlap {
 }
 
 impl Layout for Overlap {
-    ghost use Rattle.etcs_profile.specs.Parts.{overlap_rows, overlap_fields, overlap_of, overlap_are_rows, overlap_record};
+    ghost use Rattle.etcs_profile.specs.Parts.{overlap_rows, overlap_fields, overlap_of, overlap_laid};
 
     ghost rows = { overlap_rows };
 
@@ -30,9 +30,7 @@ impl Layout for Overlap {
     // Its types keep their numbers in range.
     ghost fit = { λ _. Unit {0} };
 
-    ghost are_rows = { overlap_are_rows };
-
-    ghost is_record = { overlap_record };
+    ghost laid = { overlap_laid };
 
     #[tactic(auto, using(etcs_bits::proofs::PutLemmas::allowed_both))]
     fn is_allowed(&self) -> bool {

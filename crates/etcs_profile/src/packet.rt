@@ -58,7 +58,6 @@ impl<const N: u32, T: Layout> Packet<N, T> {
 #[tactic(auto, using(etcs_bits::proofs::PutLemmas::puts_then, etcs_bits::proofs::PutLemmas::keeps_front, etcs_bits::proofs::PutLemmas::allowed_both))]
 impl<const N: u32, T: Layout> Layout for Packet<N, T> {
     ghost use Rattle.std.specs.Prelude.{◌<◌};
-    ghost use Rattle.etcs_bits.specs.LaidLemmas.{laid};
     ghost use Rattle.etcs_profile.specs.Packet.{packet_rows, packet_fields, packet_of, packet_laid};
 
     ghost rows = { packet_rows N T.rows };
@@ -69,9 +68,7 @@ impl<const N: u32, T: Layout> Layout for Packet<N, T> {
 
     ghost fit = { λ _. N < 256 };
 
-    ghost are_rows = { (packet_laid N (laid T.fields T.rows T.record_of T.are_rows T.is_record)).have };
-
-    ghost is_record = { (packet_laid N (laid T.fields T.rows T.record_of T.are_rows T.is_record)).is };
+    ghost laid = { packet_laid N T.laid };
 
     fn is_allowed(&self) -> bool {
         let number = Number::<N>;

@@ -14,7 +14,7 @@ pub struct Section {
 }
 
 impl Layout for Section {
-    ghost use Rattle.etcs_profile.specs.Parts.{section_rows, section_fields, section_of, section_are_rows, section_record};
+    ghost use Rattle.etcs_profile.specs.Parts.{section_rows, section_fields, section_of, section_laid};
 
     ghost rows = { section_rows };
 
@@ -25,9 +25,7 @@ impl Layout for Section {
     // Its types keep their numbers in range.
     ghost fit = { λ _. Unit {0} };
 
-    ghost are_rows = { section_are_rows };
-
-    ghost is_record = { section_record };
+    ghost laid = { section_laid };
 
     #[tactic(auto, using(etcs_bits::proofs::PutLemmas::allowed_both, etcs_bits::proofs::FitLemmas::some_fit))]
     fn is_allowed(&self) -> bool {
@@ -69,7 +67,7 @@ pub struct SectionTimer {
 }
 
 impl Layout for SectionTimer {
-    ghost use Rattle.etcs_profile.specs.Parts.{section_timer_rows, section_timer_fields, section_timer_of, section_timer_are_rows, section_timer_record};
+    ghost use Rattle.etcs_profile.specs.Parts.{section_timer_rows, section_timer_fields, section_timer_of, section_timer_laid};
 
     ghost rows = { section_timer_rows };
 
@@ -80,9 +78,7 @@ impl Layout for SectionTimer {
     // Its types keep their numbers in range.
     ghost fit = { λ _. Unit {0} };
 
-    ghost are_rows = { section_timer_are_rows };
-
-    ghost is_record = { section_timer_record };
+    ghost laid = { section_timer_laid };
 
     #[tactic(auto, using(etcs_bits::proofs::PutLemmas::allowed_both))]
     fn is_allowed(&self) -> bool {

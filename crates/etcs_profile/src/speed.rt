@@ -55,7 +55,7 @@ pub struct Difference {
 }
 
 impl Layout for Difference {
-    ghost use Rattle.etcs_profile.specs.Speed.{difference_rows, difference_fields, difference_of, difference_are_rows, difference_record};
+    ghost use Rattle.etcs_profile.specs.Speed.{difference_rows, difference_fields, difference_of, difference_laid};
 
     ghost rows = { difference_rows };
 
@@ -66,9 +66,7 @@ impl Layout for Difference {
     // Its types keep their numbers in range.
     ghost fit = { λ _. Unit {0} };
 
-    ghost are_rows = { difference_are_rows };
-
-    ghost is_record = { difference_record };
+    ghost laid = { difference_laid };
 
     #[tactic(auto, using(etcs_bits::proofs::PutLemmas::allowed_both))]
     fn is_allowed(&self) -> bool {
@@ -123,7 +121,7 @@ pub struct SpeedElement {
 }
 
 impl Layout for SpeedElement {
-    ghost use Rattle.etcs_profile.specs.Speed.{speed_element_rows, speed_element_fields, speed_element_of, speed_element_are_rows, speed_element_record};
+    ghost use Rattle.etcs_profile.specs.Speed.{speed_element_rows, speed_element_fields, speed_element_of, speed_element_laid};
 
     ghost rows = { speed_element_rows };
 
@@ -134,9 +132,7 @@ impl Layout for SpeedElement {
     // Its types keep its numbers in range, but for the count of differences.
     ghost fit = { λ e. length e.differences ≤ 31 };
 
-    ghost are_rows = { speed_element_are_rows };
-
-    ghost is_record = { speed_element_record };
+    ghost laid = { speed_element_laid };
 
     #[tactic(auto, using(etcs_bits::proofs::PutLemmas::allowed_both, etcs_bits::proofs::FitLemmas::all_fit))]
     fn is_allowed(&self) -> bool {

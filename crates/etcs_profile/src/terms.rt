@@ -35,7 +35,7 @@ impl Model for Terms {
 }
 
 impl Layout for Terms {
-    ghost use Rattle.etcs_profile.specs.Terms.{terms_rows, terms_fields, terms_of, terms_are_rows, terms_record};
+    ghost use Rattle.etcs_profile.specs.Terms.{terms_rows, terms_fields, terms_of, terms_laid};
 
     ghost rows = { terms_rows };
 
@@ -46,9 +46,7 @@ impl Layout for Terms {
     // Its types keep their numbers in range.
     ghost fit = { λ _. Unit {0} };
 
-    ghost are_rows = { terms_are_rows };
-
-    ghost is_record = { terms_record };
+    ghost laid = { terms_laid };
 
     #[tactic(auto, using(etcs_bits::proofs::PutLemmas::allowed_both, etcs_bits::proofs::FitLemmas::some_fit, etcs_bits::proofs::FitLemmas::all_fit))]
     fn is_allowed(&self) -> bool {

@@ -1,34 +1,38 @@
 -- Telegrams, their bits and their texts belong to one another.
-use Rattle.std.proofs.Common.{◌≡◌, ℕ, suc, ◌+◌, ◌*◌, ◌-◌, Bool, true, false, List, [], ◌∷◌, ◌++◌, length, take, drop, Some, Ok, refl, sym, ap, ap₂, subst, ◌∙◌, arith, length-append, Result, Err}
+use Rattle.std.proofs.Common.{◌≡◌, ℕ, suc, ◌+◌, ◌*◌, ◌-◌, Bool, true, false, List, [], ◌∷◌, ◌++◌, length, take, drop, if◌then◌else◌, Option, Some, None, Ok, refl, sym, ap, ap₂, subst, ◌∙◌, arith, length-append, Result, Err}
 use Rattle.std.proofs.lemmas.Bool.{eq-eqb}
-use Rattle.std.proofs.lemmas.List.{take_at, drop_at, length-replicate}
+use Rattle.std.proofs.lemmas.List.{take_at, drop_at, length-take-le, length-replicate}
 use Rattle.hex.specs.Hex.{decode_of, encode_lower, IsBytes}
+use Rattle.hex.specs.declared.error.FromHexError.{FromHexError}
 use Rattle.hex.proofs.HexLemmas.{decode_of-ok, decode_of-encode_lower}
 use Rattle.etcs_bits.specs.Number.{num, num_of_bits, bits_of_bytes}
 use Rattle.etcs_bits.proofs.NumberLemmas.{length-num, num_of_bits-small, bits_of_bytes-cons, length-bits_of_bytes}
 use Rattle.etcs_bits.specs.declared.fault.Fault.{Fault}
 use Rattle.etcs_bits.specs.Reading.{◌>>=◌}
+use Rattle.etcs_bits.proofs.BindLemmas.{ok_is}
 use Rattle.etcs_bits.specs.Rows.{Place}
 use Rattle.etcs_packet.specs.declared.stop.Stop.TheVariants as stops
 use Rattle.etcs_packet.specs.declared.track.TrackPacket.{TrackPacket}
 use Rattle.etcs_packet.specs.Listed.{track_fields}
-use Rattle.etcs_packet.specs.Track.{track_rows, track_of, track_are_rows, track_record}
+use Rattle.etcs_packet.specs.Track.{track_of, track_laid}
 use Rattle.etcs_packet.specs.Whole.{start, whole_at, whole_of}
-use Rattle.etcs_packet.proofs.WholeLemmas.{none_whole, whole_fault_is_read, whole_fault_is_told}
+use Rattle.etcs_packet.proofs.WholeLemmas.{none_whole, read_is_whole, whole_fault_is_read, whole_fault_is_told}
 use Rattle.etcs_telegram.specs.declared.header.Header.{Header}
-use Rattle.etcs_telegram.specs.Header.{header_fields, header_rows, header_of, header_are_rows, header_record}
+use Rattle.etcs_telegram.specs.Header.{header_fields, header_of, header_laid}
+use Rattle.etcs_telegram.specs.declared.error.TextError.TheVariants as errors
+use Rattle.etcs_telegram.specs.declared.size.Size.{Size}
 use Rattle.etcs_telegram.specs.Record.{Telegram}
 use Rattle.etcs_telegram.specs.Sizes.{user_bits, byte_count, pad_count, size_in}
-use Rattle.etcs_telegram.specs.Telegram.{IsTelegram, IsTelegramFault, IsNoTelegram, telegram_by, telegram_of}
-use Rattle.etcs_telegram.specs.Text.{IsTelegramText, IsCanonicalText, telegram_of_text, pads_with_zeros, user_bits_in, no_pads}
-use Rattle.etcs_telegram.proofs.TelegramLemmas.{headed, telegram_meaning, encoding_telegram, canonical_length}
-use Rattle.etcs_telegram.proofs.TextLemmas.{size_in_back, whole_bytes, pads_divide}
+use Rattle.etcs_telegram.specs.Telegram.{AreUserBits, IsTelegram, IsTelegramFault, IsNoTelegram, size_by, telegram_by, telegram_of}
+use Rattle.etcs_telegram.specs.Text.{IsTelegramText, IsCanonicalText, ArePadded, of_bits, of_size, of_decoded, telegram_of_text, pads_with_zeros, user_bits_in, no_pads}
+use Rattle.etcs_telegram.proofs.TelegramLemmas.{headed, made, count_by, size_of_back, telegram_meaning, encoding_telegram, canonical_length}
+use Rattle.etcs_telegram.proofs.TextLemmas.{size_in_back, size_counts, whole_bytes, pads_divide, padded_when, of_its_size}
 
 -- what is decoded is one telegram
 pub one_meaning : (t u : Telegram) (bits : List Bool) → telegram_of bits ≡ Ok t → telegram_of bits ≡ Ok u → t ≡ u
 one_meaning t u bits a b = let same = sym a ∙ b in cc
 
--- ---- faults
+-- ---- what is read
 
 -- reading a header and its packets
 abbrev read_at : List Bool → Result ((Header × List TrackPacket) × Place) Fault
@@ -41,6 +45,33 @@ told n read = telegram_by n (read >>= λ r. Ok r.0)
 meant : (bits : List Bool) → telegram_of bits ≡ told (length bits) (read_at bits)
 unfolding telegram_of whole_of
 meant bits = refl
+
+-- what reading gives, where that is a telegram
+record IsToldOf (n : ℕ) (t : Telegram) (r : Result ((Header × List TrackPacket) × Place) Fault) : Type 0 where
+  pub size : size_by n ≡ t.size
+  pub end : Place
+  pub read : r ≡ Ok ((t.header, t.packets), end)
+
+told_of : (n : ℕ) (t : Telegram) (r : Result ((Header × List TrackPacket) × Place) Fault)
+    → told n r ≡ Ok t → IsToldOf n t r
+told_of n t (Ok read) is =
+    let same = ok_is (made (size_by n) read.0.0 read.0.1) t is in
+    subst (λ u. IsToldOf n u (Ok read)) same (record { size = refl; end = read.1; read = refl })
+told_of n t (Err f) is = absurd cc
+
+-- bits that mean a telegram are it, where they are as many as some telegram has
+pub means_telegram : (t : Telegram) (bits : List Bool) → AreUserBits bits → telegram_of bits ≡ Ok t → IsTelegram t bits
+means_telegram t bits count is =
+    let x = told_of (length bits) t (read_at bits) (sym (meant bits) ∙ is) in
+    record {
+      count = count_by (length bits) count ∙ ap user_bits x.size;
+      begins = record {
+        end = x.end;
+        whole = read_is_whole header_laid track_laid stops.Telegram t.header t.packets (start bits) x.end headed (omega arith) x.read;
+      };
+    }
+
+-- ---- faults
 
 only_fault : (n : ℕ) (r : Result ((Header × List TrackPacket) × Place) Fault) (f : Fault) → told n r ≡ Err f → r ≡ Err f
 only_fault n (Ok read) f is = absurd cc
@@ -58,9 +89,13 @@ meant_fault bits f is =
 
 pub fault_none : (bits : List Bool) (f : Fault) → IsTelegramFault bits f → IsNoTelegram bits f
 fault_none bits f x =
-    none_whole header_rows header_of track_rows track_of stops.Telegram header_fields track_fields (start bits) f headed header_are_rows header_record track_are_rows track_record (omega arith) x
+    none_whole header_laid track_laid stops.Telegram (start bits) f headed (omega arith) x
 
 -- ---- texts
+
+of_bits_ok : (r : Result Telegram Fault) (t : Telegram) → of_bits r ≡ Ok t → r ≡ Ok t
+of_bits_ok (Ok u) t is = let same : u ≡ t = cc in ap Ok same
+of_bits_ok (Err f) t is = absurd cc
 
 pub text_meaning : (t : Telegram) (text : List ℕ) → IsTelegramText t text → telegram_of_text text ≡ Ok t
 unfolding telegram_of_text
@@ -69,6 +104,41 @@ text_meaning t text x =
     let size : size_in (length x.bytes) ≡ Some t.size = ap size_in x.padded.count ∙ size_in_back t.size in
     let zeros : pads_with_zeros t.size x.bytes ≡ true = eq-eqb _ _ (pads_divide t.size x.bytes x.padded.count (in_range (byte_count t.size - 1)) x.padded.padding) in
     rw (x.decoded, size, zeros, telegram_meaning t (user_bits_in t.size x.bytes) x.telegram) refl
+
+-- the user bits of as many bytes as a telegram of this size has
+user_bits_count : (size : Size) (bytes : List ℕ) → length bytes ≡ byte_count size → length (user_bits_in size bytes) ≡ user_bits size
+user_bits_count size bytes count =
+    let whole = whole_bytes size in
+    length-take-le (user_bits size) (bits_of_bytes bytes) (omega (arith, length-bits_of_bytes bytes))
+
+-- the pad bits were looked at, and then the user bits were read
+read_in : (t : Telegram) (size : Size) (bytes : List ℕ) (zeros : Bool) → pads_with_zeros size bytes ≡ zeros
+    → (if zeros then of_bits (telegram_of (user_bits_in size bytes)) else Err errors.PadBits) ≡ Ok t
+    → (pads_with_zeros size bytes ≡ true) × (telegram_of (user_bits_in size bytes) ≡ Ok t)
+read_in t size bytes true zeros is = (zeros, of_bits_ok (telegram_of (user_bits_in size bytes)) t is)
+read_in t size bytes false zeros is = absurd cc
+
+sized_means : (t : Telegram) (bytes : List ℕ) (o : Option Size) → IsBytes bytes → size_in (length bytes) ≡ o
+    → of_size o bytes ≡ Ok t → ArePadded t.size bytes × IsTelegram t (user_bits_in t.size bytes)
+sized_means t bytes None in_range sized is = absurd cc
+sized_means t bytes (Some size) in_range sized is =
+    let read = read_in t size bytes (pads_with_zeros size bytes) refl is in
+    let count = size_counts (length bytes) size sized in
+    let bits = user_bits_count size bytes count in
+    let padded = padded_when size bytes count (in_range (byte_count size - 1)) read.0 in
+    let some : AreUserBits (user_bits_in size bytes) = rw (bits, size_of_back size) refl in
+    of_its_size t size (user_bits_in size bytes) bytes padded refl bits (means_telegram t (user_bits_in size bytes) some read.1)
+
+decoded_means : (t : Telegram) (text : List ℕ) (d : Result (List ℕ) FromHexError) → decode_of text ≡ d
+    → of_decoded d ≡ Ok t → IsTelegramText t text
+decoded_means t text (Ok bytes) decoded is =
+    let parts = sized_means t bytes (size_in (length bytes)) (decode_of-ok text bytes decoded).3 refl is in
+    record { bytes = bytes; decoded = decoded; padded = parts.0; telegram = parts.1 }
+decoded_means t text (Err e) decoded is = absurd cc
+
+pub means_text : (t : Telegram) (text : List ℕ) → telegram_of_text text ≡ Ok t → IsTelegramText t text
+unfolding telegram_of_text
+means_text t text is = decoded_means t text (decode_of text) refl is
 
 pub canonical_telegram_text : (t : Telegram) (text : List ℕ) → IsCanonicalText t text → IsTelegramText t text
 canonical_telegram_text t text x =

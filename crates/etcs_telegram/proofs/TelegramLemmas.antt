@@ -1,6 +1,6 @@
 -- What bits mean, and which bits are a telegram.
 use Rattle.std.proofs.Common.{◌≡◌, ℕ, ◌+◌, ◌-◌, ◌≤◌, true, false, Bool, List, [], ◌++◌, length, replicate, Option, Some, None, Result, Ok, Err, refl, sym, ap, ◌∙◌, ◌==◌, ◌↔◌, ◌⊎◌, ◌<◌, inl, inr, if◌then◌else◌, arith, append_assoc}
-use Rattle.std.specs.Prelude.{IsErrOf}
+use Rattle.std.specs.Prelude.{IsErrOf, IsSome}
 use Rattle.std.specs.List.{flat_map}
 use Rattle.std.proofs.lemmas.Bool.{eqb-true}
 use Rattle.std.proofs.lemmas.List.{length-append}
@@ -16,7 +16,7 @@ use Rattle.etcs_packet.specs.declared.track.TrackPacket.{TrackPacket}
 use Rattle.etcs_packet.specs.Laws.{HasNoMark}
 use Rattle.etcs_packet.specs.Lists.{IsHeaded, ends}
 use Rattle.etcs_packet.specs.Listed.{track_fields}
-use Rattle.etcs_packet.specs.Track.{track_rows, track_of, track_are_rows, track_record}
+use Rattle.etcs_packet.specs.Track.{track_rows, track_of, track_laid}
 use Rattle.etcs_packet.specs.Whole.{BeginsWith, start, whole_of}
 use Rattle.etcs_packet.proofs.WholeLemmas.{whole_is_read, means_whole}
 use Rattle.etcs_packet.proofs.WrittenLemmas.{ends_only, mark_ends, whole_spelled, whole_written}
@@ -25,11 +25,11 @@ use Rattle.etcs_telegram.specs.declared.error.EncodeError.TheVariants as encode_
 use Rattle.etcs_telegram.specs.declared.header.Header.{Header}
 use Rattle.etcs_telegram.specs.declared.size.Size.{Size}
 use Rattle.etcs_telegram.specs.declared.size.Size.TheVariants.{Short, Long}
-use Rattle.etcs_telegram.specs.Header.{header_fields, header_rows, header_of, header_are_rows, header_record}
+use Rattle.etcs_telegram.specs.Header.{header_fields, header_rows, header_of, header_laid}
 use Rattle.etcs_telegram.specs.Laws.{AreSpelledOut}
 use Rattle.etcs_telegram.specs.Record.{Telegram}
 use Rattle.etcs_telegram.specs.Sizes.{user_bits, size_of}
-use Rattle.etcs_telegram.specs.Telegram.{IsTelegram, IsEncoding, IsTooBig, front_bits, canonical_bits, used_bits, size_by, telegram_of}
+use Rattle.etcs_telegram.specs.Telegram.{AreUserBits, IsTelegram, IsEncoding, IsTooBig, front_bits, canonical_bits, used_bits, size_by, telegram_of}
 use Rattle.etcs_telegram.proofs.FillLemmas.{length-ones}
 
 -- ---- sizes
@@ -57,6 +57,18 @@ pub size_back : (size : Size) → size_by (user_bits size) ≡ size
 size_back Short = refl
 size_back Long = refl
 
+pub size_of_back : (size : Size) → size_of (user_bits size) ≡ Some size
+size_of_back Short = refl
+size_of_back Long = refl
+
+-- bits as many as some telegram has are as many as that of their size
+counts_some : (n : ℕ) (o : Option Size) → size_of n ≡ o → IsSome o → n ≡ user_bits (size_by n)
+counts_some n None is none = absurd cc
+counts_some n (Some size) is some = size_counts n size is ∙ ap user_bits (sym (size_found n size is))
+
+pub count_by : (n : ℕ) → IsSome (size_of n) → n ≡ user_bits (size_by n)
+count_by n some = counts_some n (size_of n) refl some
+
 pub few_bits : (size : Size) → user_bits size ≤ 830
 few_bits Short = omega arith
 few_bits Long = omega arith
@@ -75,11 +87,15 @@ pub begins_meaning : (h : Header) (packets : List TrackPacket) (bits : List Bool
     → whole_of stops.Telegram header_fields header_of track_fields track_of bits ≡ Ok (h, packets)
 begins_meaning h packets bits b =
     means_whole stops.Telegram header_fields header_of track_fields track_of bits (h, packets) b.end
-    (whole_is_read header_rows header_of track_rows track_of stops.Telegram header_fields track_fields h packets (start bits) b.end headed header_are_rows header_record track_are_rows track_record (omega arith) b.whole)
+    (whole_is_read header_laid track_laid stops.Telegram h packets (start bits) b.end headed (omega arith) b.whole)
 
 -- a telegram of these parts
 abbrev pub made : Size → Header → List TrackPacket → Telegram
 made size h packets = record { size = size; header = h; packets = packets }
+
+-- it has as many bits as a telegram
+pub telegram_bits : (t : Telegram) (bits : List Bool) → IsTelegram t bits → AreUserBits bits
+telegram_bits t bits x = rw (x.count, size_of_back t.size) refl
 
 pub telegram_meaning : (t : Telegram) (bits : List Bool) → IsTelegram t bits → telegram_of bits ≡ Ok t
 unfolding telegram_of
@@ -157,7 +173,7 @@ spelled_telegram t bits x =
     let header = join (header_rows t.header) in
     let packets = join (flat_map track_rows t.packets) in
     let parts = x.are ∙ append_assoc header (packets ++ num 8 255) x.fill ∙ ap (λ (xs : List Bool). header ++ xs) (append_assoc packets (num 8 255) x.fill) in
-    let whole = whole_written header_rows track_rows t.header t.packets stops.Telegram track_fields (num 8 255 ++ x.fill) bits headed no_mark track_are_rows x.header x.packets (mark_ends stops.Telegram x.fill) parts in
+    let whole = whole_written header_rows track_rows t.header t.packets stops.Telegram track_fields (num 8 255 ++ x.fill) bits headed no_mark track_laid.have x.header x.packets (mark_ends stops.Telegram x.fill) parts in
     record {
       count = x.count;
       begins = record { end = place_in bits (length header + length packets); whole = whole };

@@ -1,15 +1,18 @@
 -- The header of a telegram: 50 bits (SUBSET-026, 8.4.2).
-use Rattle.std.specs.Prelude.{◌≡◌, Bool, List, ◌++◌}
+use Rattle.std.specs.Prelude.{◌≡◌, ℕ, Bool, List, ◌++◌, refl}
 use Rattle.std.proofs.Common.{ap, ap₂, ◌∙◌}
+use Rattle.etcs_bits.specs.declared.fault.FaultKind.TheVariants.{Downlink, Loop}
+use Rattle.etcs_bits.specs.declared.identity.Identity.{Identity}
 use Rattle.etcs_bits.specs.declared.version.Version.{Version}
 use Rattle.etcs_bits.specs.declared.duplicate.Dup.{Dup}
 use Rattle.etcs_bits.specs.Number.{worth}
 use Rattle.etcs_bits.specs.Rows.{Row, alone, number_at}
-use Rattle.etcs_bits.specs.Fields.{Fields, one, ◌▹◌, AreRowsOf}
-use Rattle.etcs_bits.specs.RowLemmas.{HasRows, then_has, alone_has}
+use Rattle.etcs_bits.specs.Fields.{Fields, one, ◌▹◌}
+use Rattle.etcs_bits.specs.CombinedLemmas.{AreOf}
+use Rattle.etcs_bits.specs.LaidLemmas.{IsLaid, pair_laid, renamed_laid, found_laid, alone_laid, only_laid, flag_laid, version_laid, dup_laid}
 use Rattle.etcs_bits.specs.Variables.{q_updown, m_version, version_number, version_of, q_media, n_pig, n_total, m_dup, dup_number, dup_of, m_mcount, q_link, flag_of}
 use Rattle.etcs_bits.specs.VariableLemmas.{version_back, dup_back, flag_back}
-use Rattle.etcs_bits.specs.Identity.{identity_fields, identity_rows, identity_are_rows}
+use Rattle.etcs_bits.specs.Identity.{identity_fields, identity_rows, identity_laid}
 use Rattle.etcs_telegram.specs.declared.header.Header.{Header}
 
 -- which fields come, and in which order
@@ -52,16 +55,6 @@ header_of rows = record {
 
 -- ---- proofs of the laws of `Layout`
 
-has_rows : (h : Header) → HasRows header_fields (header_rows h)
-has_rows h =
-    then_has (alone_has _ _) (then_has (alone_has _ _) (then_has (alone_has _ _)
-    (then_has (alone_has _ _) (then_has (alone_has _ _) (then_has (alone_has _ _)
-    (then_has (alone_has _ _)
-    (then_has (record { whole = identity_are_rows h.identity }) (alone_has _ _))))))))
-
-pub header_are_rows : (h : Header) → AreRowsOf header_fields (header_rows h)
-header_are_rows h = (has_rows h).whole
-
 -- a header of other values for the variables that are no plain numbers
 abbrev changed : Header → Version → Dup → Bool → Header
 changed h v d l = record {
@@ -83,11 +76,34 @@ same_header h =
     (version_back h.version) (dup_back h.dup)
     ∙ ap (λ (l : Bool). changed h h.version h.dup l) (flag_back h.linked)
 
--- the header again, whatever rows follow
-pub header_front : (h : Header) (more : List Row) → header_of (header_rows h ++ more) ≡ h
-unfolding alone
-header_front h more = same_header h
-
-pub header_record : (h : Header) → header_of (header_rows h) ≡ h
+header_record : AreOf header_of header_rows
 unfolding alone
 header_record h = same_header h
+
+-- a header of its parts, in which Q_UPDOWN and Q_MEDIA say nothing
+abbrev Parts : Type 0
+Parts = Unit {0} × (Version × (Unit {0} × (ℕ × (ℕ × (Dup × (ℕ × (Identity × Bool)))))))
+
+abbrev with_parts : Parts → Header
+with_parts p = record {
+  version = p.1.0;
+  position = p.1.1.1.0;
+  total = p.1.1.1.1.0;
+  dup = p.1.1.1.1.1.0;
+  counter = p.1.1.1.1.1.1.0;
+  identity = p.1.1.1.1.1.1.1.0;
+  linked = p.1.1.1.1.1.1.1.1;
+}
+
+abbrev parts_of : Header → Parts
+parts_of h =
+    (tt, (h.version, (tt, (h.position, (h.total, (h.dup, (h.counter, (h.identity, h.linked))))))))
+
+pub header_laid : IsLaid header_fields header_rows header_of
+header_laid =
+    found_laid header_of header_record
+    (renamed_laid with_parts parts_of (λ _. refl) (λ _. refl)
+    (pair_laid (only_laid 1 1 Downlink tt (λ _. refl)) (pair_laid version_laid
+    (pair_laid (only_laid 1 0 Loop tt (λ _. refl)) (pair_laid (alone_laid n_pig)
+    (pair_laid (alone_laid n_total) (pair_laid dup_laid (pair_laid (alone_laid m_mcount)
+    (pair_laid identity_laid flag_laid)))))))))

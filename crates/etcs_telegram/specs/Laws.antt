@@ -7,13 +7,15 @@ use Rattle.etcs_packet.specs.Track.{track_rows}
 use Rattle.etcs_telegram.specs.Record.{Telegram}
 use Rattle.etcs_telegram.specs.Header.{header_rows}
 use Rattle.etcs_telegram.specs.Sizes.{user_bits}
-use Rattle.etcs_telegram.specs.Telegram.{IsTelegram, IsTelegramFault, IsNoTelegram, IsEncoding, canonical_bits, front_bits, telegram_of}
+use Rattle.etcs_telegram.specs.Telegram.{AreUserBits, IsTelegram, IsTelegramFault, IsNoTelegram, IsEncoding, canonical_bits, front_bits, telegram_of}
 use Rattle.etcs_telegram.specs.Text.{IsTelegramText, IsCanonicalText, telegram_of_text}
 
--- Bits that are a telegram mean it: so they are one telegram alone.
+-- Bits are a telegram exactly where they are as many as some telegram has and mean it: so they are
+-- one telegram at most.
 abbrev pub TelegramsAreDecoded : Type 0
 TelegramsAreDecoded =
-    (t : Telegram) (bits : List Bool) → IsTelegram t bits → telegram_of bits ≡ Ok t
+    (t : Telegram) (bits : List Bool)
+    → IsTelegram t bits ↔ (AreUserBits bits × (telegram_of bits ≡ Ok t))
 
 -- A fault is told of bits exactly where they mean it: so they have one at most. And then they are no
 -- telegram, nor are any bits of the same number with the same first `end` bits.
@@ -52,9 +54,9 @@ pub record EncodingsAreOneToOne : Type 0 where
       → IsEncoding t bits → IsEncoding u bits → t ≡ u
   pub encodings : (t : Telegram) (a b : List Bool) → IsEncoding t a → IsEncoding t b → a ≡ b
 
--- A text that is a telegram means it: so it is one telegram alone.
+-- A text is a telegram exactly where it means it: so it is one telegram at most.
 abbrev pub TextsAreRead : Type 0
-TextsAreRead = (t : Telegram) (text : List ℕ) → IsTelegramText t text → telegram_of_text text ≡ Ok t
+TextsAreRead = (t : Telegram) (text : List ℕ) → IsTelegramText t text ↔ (telegram_of_text text ≡ Ok t)
 
 -- The canonical text of a telegram is read again.
 abbrev pub WrittenIsRead : Type 0

@@ -27,7 +27,7 @@ pub struct Header {
 }
 
 impl Layout for Header {
-    ghost use Rattle.etcs_telegram.specs.Header.{header_rows, header_fields, header_of, header_are_rows, header_record};
+    ghost use Rattle.etcs_telegram.specs.Header.{header_rows, header_fields, header_of, header_laid};
 
     ghost rows = { header_rows };
 
@@ -38,9 +38,7 @@ impl Layout for Header {
     // Its types keep its numbers in range.
     ghost fit = { λ _. Unit {0} };
 
-    ghost are_rows = { header_are_rows };
-
-    ghost is_record = { header_record };
+    ghost laid = { header_laid };
 
     #[tactic(auto, using(etcs_bits::proofs::PutLemmas::allowed_both))]
     fn is_allowed(&self) -> bool {

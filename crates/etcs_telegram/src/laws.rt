@@ -3,7 +3,8 @@
 
 ghost use Rattle.etcs_telegram.specs.Laws.{DecodedIsEncoded, EncodedIsDecoded, EncodingsAreOneToOne, EncodingsAreTelegrams, FaultsAreMeant, TelegramsAreDecoded, TelegramsAreSpelledOut, TextsAreOneToOne, TextsAreRead, WrittenIsRead};
 
-/// Bits that are a telegram mean it, so they are one telegram alone.
+/// Bits are a telegram exactly where they are as many as some telegram has and mean it, so they are
+/// one telegram at most.
 pub fn telegrams_are_decoded()
     ensures { TelegramsAreDecoded }
 {}
@@ -40,7 +41,7 @@ pub fn encodings_are_one_to_one()
     ensures { EncodingsAreOneToOne }
 {}
 
-/// A text that is a telegram means it, so it is one telegram alone.
+/// A text is a telegram exactly where it means it, so it is one telegram at most.
 pub fn texts_are_read()
     ensures { TextsAreRead }
 {}

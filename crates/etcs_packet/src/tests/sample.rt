@@ -48,6 +48,7 @@ impl Layout for Sample {
     ghost use Rattle.etcs_bits.specs.RowLemmas.{alone_rows};
     ghost use Rattle.etcs_bits.specs.Variables.{plain};
     ghost use Rattle.etcs_bits.specs.VariableLemmas.{number_alone};
+    ghost use Rattle.etcs_bits.specs.LaidLemmas.{alone_laid};
 
     ghost rows = { λ s.
         row (record { width = 8; allows = λ n. nat_lt n 255; refusal = Spare; closes = true }) s.0
@@ -61,9 +62,13 @@ impl Layout for Sample {
     // Its types keep its numbers in range.
     ghost fit = { λ _. Unit {0} };
 
-    ghost are_rows = { λ s. (s.0, alone (plain 4) s.1, refl, alone_rows (plain 4) s.1) };
-
-    ghost is_record = { λ s. ap (λ n. (s.0, n)) (number_alone (plain 4) s.1) };
+    ghost laid = { record {
+      have = λ s. (s.0, alone (plain 4) s.1, refl, alone_rows (plain 4) s.1);
+      is = λ s. ap (λ n. (s.0, n)) (number_alone (plain 4) s.1);
+      all = λ r (n, more, e, w) allowed.
+          let m = (alone_laid (plain 4)).all more w (rw e at allowed).1 in
+          ((n, m.0), rw (e, m.1) refl);
+    } };
 
     fn is_allowed(&self) -> bool {
         self.number < 255 && self.more < 16

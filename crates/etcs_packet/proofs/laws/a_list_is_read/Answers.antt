@@ -1,7 +1,9 @@
-use Rattle.etcs_packet.proofs.ListLemmas.{stand_is_read}
+use Rattle.etcs_packet.proofs.ListLemmas.{stand_is_read, read_stands}
 use Rattle.etcs_packet.proofs.laws.a_list_is_read.Goals as goal
 
--- each record is read where it is spelled
+-- each record is read where it is spelled, and what is read of each is spelled
 pub returns : goal.returns
-returns g c = λ stop xs p q within stand.
-    stand_is_read g.T.Layout.rows g.T.Layout.record_of xs stop g.T.Layout.fields p q c.requires g.met.T.Layout.are_rows g.met.T.Layout.is_record within stand
+returns g c = λ stop xs p q within. (
+  λ stand. stand_is_read g.met.T.Layout.laid xs stop p q c.requires within stand,
+  λ read. read_stands g.met.T.Layout.laid xs stop p q c.requires within read,
+)

@@ -1,7 +1,9 @@
-use Rattle.etcs_packet.proofs.WholeLemmas.{whole_is_read}
+use Rattle.etcs_packet.proofs.WholeLemmas.{whole_is_read, read_is_whole}
 use Rattle.etcs_packet.proofs.laws.a_whole_is_read.Goals as goal
 
--- the head is read, and the list behind it
+-- the head and the list are each read where they are spelled, and spelled where they are read
 pub returns : goal.returns
-returns g c = λ stop h xs p q within whole.
-    whole_is_read g.H.Layout.rows g.H.Layout.record_of g.T.Layout.rows g.T.Layout.record_of stop g.H.Layout.fields g.T.Layout.fields h xs p q c.requires g.met.H.Layout.are_rows g.met.H.Layout.is_record g.met.T.Layout.are_rows g.met.T.Layout.is_record within whole
+returns g c = λ stop h xs p q within. (
+  λ whole. whole_is_read g.met.H.Layout.laid g.met.T.Layout.laid stop h xs p q c.requires within whole,
+  λ read. read_is_whole g.met.H.Layout.laid g.met.T.Layout.laid stop h xs p q c.requires within read,
+)

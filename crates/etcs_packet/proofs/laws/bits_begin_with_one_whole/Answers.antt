@@ -7,7 +7,7 @@ use Rattle.etcs_packet.proofs.laws.bits_begin_with_one_whole.Goals as goal
 -- both are what reading gives at the beginning
 pub returns : goal.returns
 returns g c = λ stop h k xs ys bits v w.
-    let first = whole_is_read g.H.Layout.rows g.H.Layout.record_of g.T.Layout.rows g.T.Layout.record_of stop g.H.Layout.fields g.T.Layout.fields h xs (start bits) v.end c.requires g.met.H.Layout.are_rows g.met.H.Layout.is_record g.met.T.Layout.are_rows g.met.T.Layout.is_record (omega arith) v.whole in
-    let second = whole_is_read g.H.Layout.rows g.H.Layout.record_of g.T.Layout.rows g.T.Layout.record_of stop g.H.Layout.fields g.T.Layout.fields k ys (start bits) w.end c.requires g.met.H.Layout.are_rows g.met.H.Layout.is_record g.met.T.Layout.are_rows g.met.T.Layout.is_record (omega arith) w.whole in
+    let first = whole_is_read g.met.H.Layout.laid g.met.T.Layout.laid stop h xs (start bits) v.end c.requires (omega arith) v.whole in
+    let second = whole_is_read g.met.H.Layout.laid g.met.T.Layout.laid stop k ys (start bits) w.end c.requires (omega arith) w.whole in
     let same = ok_is ((h, xs), v.end) ((k, ys), w.end) (sym first ∙ second) in
     (ap (λ z. z.0.0) same, ap (λ z. z.0.1) same)

@@ -24,8 +24,8 @@ returns-in_err-items-clause-none g c =
     let head = c.in_ok-head.head in
     let inside : c.args.cur.now.at ≤ length c.args.cur.now.bits = rw c.fork-ahead.ensures.same at c.fork-ahead.ensures.inside in
     let spelled : IsSpelled (g.H.Layout.rows head) c.args.cur.now c.read.new.cur = rw c.fork-ahead.ensures.same at c.in_ok-head.ensures.ok in
-    let told = later_fault e c.args.stop g.H.Layout.fields g.T.Layout.fields (g.H.Layout.rows head) c.args.cur.now c.read.new.cur (g.met.H.Layout.are_rows head) spelled c.in_err-items.ensures.fault in
-    rw (failed.1, failed.2) (none_of_whole g.H.Layout.rows g.H.Layout.record_of g.T.Layout.rows g.T.Layout.record_of e c.args.stop g.H.Layout.fields g.T.Layout.fields c.args.cur.now c.requires g.met.H.Layout.are_rows g.met.H.Layout.is_record g.met.T.Layout.are_rows g.met.T.Layout.is_record inside told)
+    let told = later_fault e c.args.stop g.H.Layout.fields g.T.Layout.fields (g.H.Layout.rows head) c.args.cur.now c.read.new.cur (g.met.H.Layout.laid.have head) spelled c.in_err-items.ensures.fault in
+    rw (failed.1, failed.2) (none_of_whole g.met.H.Layout.laid g.met.T.Layout.laid e c.args.stop c.args.cur.now c.requires inside told)
 
 -- and reading gives it
 pub returns-in_err-items-clause-exact : goal.returns-in_err-items-clause-exact
@@ -35,7 +35,7 @@ returns-in_err-items-clause-exact g c =
     let head = c.in_ok-head.head in
     let inside : c.args.cur.now.at ≤ length c.args.cur.now.bits = rw c.fork-ahead.ensures.same at c.fork-ahead.ensures.inside in
     let spelled : IsSpelled (g.H.Layout.rows head) c.args.cur.now c.read.new.cur = rw c.fork-ahead.ensures.same at c.in_ok-head.ensures.ok in
-    let told = later_fault e c.args.stop g.H.Layout.fields g.T.Layout.fields (g.H.Layout.rows head) c.args.cur.now c.read.new.cur (g.met.H.Layout.are_rows head) spelled c.in_err-items.ensures.fault in
+    let told = later_fault e c.args.stop g.H.Layout.fields g.T.Layout.fields (g.H.Layout.rows head) c.args.cur.now c.read.new.cur (g.met.H.Layout.laid.have head) spelled c.in_err-items.ensures.fault in
     rw (failed.1, failed.2) (whole_fails g.H.Layout.record_of g.T.Layout.record_of e c.args.stop g.H.Layout.fields g.T.Layout.fields c.args.cur.now c.requires inside told)
 
 -- a whole that stands is what reading gives
@@ -45,4 +45,4 @@ returns-clause-exact g c =
     let inside : c.args.cur.now.at ≤ length c.args.cur.now.bits = rw c.fork-ahead.ensures.same at c.fork-ahead.ensures.inside in
     let spelled : IsSpelled (g.H.Layout.rows head) c.args.cur.now c.read.new.cur = rw c.fork-ahead.ensures.same at c.in_ok-head.ensures.ok in
     let whole : IsWhole c.args.stop g.H.Layout.rows g.T.Layout.rows head c.in_ok-items.items.items c.args.cur.now c.read_items.new.cur = record { middle = c.read.new.cur; first = spelled; items = c.in_ok-items.ensures.ok } in
-    whole_is_read g.H.Layout.rows g.H.Layout.record_of g.T.Layout.rows g.T.Layout.record_of c.args.stop g.H.Layout.fields g.T.Layout.fields head c.in_ok-items.items.items c.args.cur.now c.read_items.new.cur c.requires g.met.H.Layout.are_rows g.met.H.Layout.is_record g.met.T.Layout.are_rows g.met.T.Layout.is_record inside whole
+    whole_is_read g.met.H.Layout.laid g.met.T.Layout.laid c.args.stop head c.in_ok-items.items.items c.args.cur.now c.read_items.new.cur c.requires inside whole
