@@ -45,7 +45,7 @@ order_whole : IsWhole order_form
 order_whole o = whole_maybe _ whole (λ n. refl) (national_system o.level) [] refl
 
 transition_whole : IsWhole transition_form
-transition_whole p = or_from _ _ (whole_items order_form order_whole (p.1.1.1.0 ∷ p.1.1.1.1)) refl
+transition_whole p = or_from _ _ (whole_items order_form order_whole (p.1.first ∷ p.1.further)) refl
 
 section_whole : IsWhole section_form
 section_whole s = whole_maybe _ section_timer_form (λ t. refl) s.timer [] refl

@@ -9,7 +9,7 @@ use Rattle.etcs_bits.specs.Variables.{dir_number, scale_number}
 use Rattle.etcs_bits.specs.declared.direction.Dir.{Dir}
 use Rattle.etcs_bits.specs.declared.level.Level.{Level}
 use Rattle.etcs_bits.specs.declared.level.Level.TheVariants as levels
-use Rattle.etcs_packet.specs.Transition.{Body}
+use Rattle.etcs_packet.specs.Transition.{Orders}
 use Rattle.etcs_packet.specs.declared.cover.CoverMarker.{CoverMarker}
 use Rattle.etcs_packet.specs.declared.linking.Link.{Link}
 use Rattle.etcs_packet.specs.declared.raw.RawPacket.{RawPacket}
@@ -68,13 +68,13 @@ order_form o = object_of (
     ∷ [])
 
 -- packet 41
-abbrev pub transition_form : Dir × Body → Data
+abbrev pub transition_form : Dir × Orders → Data
 transition_form p = object_of (
-    always (codes "d_leveltr") (whole p.1.1.0)
+    always (codes "d_leveltr") (whole p.1.distance)
     ∷ always (codes "nid_packet") (whole 41)
     ∷ always (codes "q_dir") (whole (dir_number p.0))
-    ∷ always (codes "q_scale") (whole (scale_number p.1.0))
-    ∷ always (codes "transitions") (array_of order_form (p.1.1.1.0 ∷ p.1.1.1.1))
+    ∷ always (codes "q_scale") (whole (scale_number p.1.scale))
+    ∷ always (codes "transitions") (array_of order_form (p.1.first ∷ p.1.further))
     ∷ [])
 
 -- a packet whose body is kept as bits; L_PACKET counts the 23 bits up to its own end too

@@ -17,7 +17,7 @@ use Rattle.etcs_profile.specs.Elements.{elements_rows}
 use Rattle.etcs_packet.specs.declared.linking.Link.{Link}
 use Rattle.etcs_packet.specs.declared.transition.LevelOrder.{LevelOrder}
 use Rattle.etcs_packet.specs.Linking.{link_rows, flag_rows, q_linkreaction, q_locacc}
-use Rattle.etcs_packet.specs.Transition.{Body, l_ackleveltr, order_rows, body_rows}
+use Rattle.etcs_packet.specs.Transition.{Orders, l_ackleveltr, order_rows, orders_rows}
 
 -- items of at most n bits, one after the other
 items_short : {X : Type 0} (rows : X → List Row) (n : ℕ) → ((x : X) → width (rows x) ≤ n)
@@ -61,14 +61,14 @@ links_short e few =
     omega (arith, few, link_short e.first, width_both (link_rows e.first) (counted_rows link_rows e.further), items_short link_rows 49 link_short e.further)
 
 -- a packet of level orders
-pub orders_short : (b : Body) → length b.1.1.1 ≤ 31 → 23 + width (body_rows b) ≤ 8191
+pub orders_short : (o : Orders) → length o.further ≤ 31 → 23 + width (orders_rows o) ≤ 8191
 unfolding alone
-orders_short b few =
-    omega (arith, few, order_short b.1.1.0, width_both (order_rows b.1.1.0) (counted_rows order_rows b.1.1.1), items_short order_rows 26 order_short b.1.1.1)
+orders_short o few =
+    omega (arith, few, order_short o.first, width_both (order_rows o.first) (counted_rows order_rows o.further), items_short order_rows 26 order_short o.further)
 
 -- five rows stand before the first order
-pub orders_few : (p : Dir × Body) → AreAllowed (packet_rows 41 body_rows p) → length p.1.1.1.1 < 32
+pub orders_few : (p : Dir × Orders) → AreAllowed (packet_rows 41 orders_rows p) → length p.1.further < 32
 unfolding alone
 orders_few p allowed =
-    let counted = allowed_second (order_rows p.1.1.1.0) (counted_rows order_rows p.1.1.1.1) allowed.1.1.1.1.1 in
+    let counted = allowed_second (order_rows p.1.first) (counted_rows order_rows p.1.further) allowed.1.1.1.1.1 in
     counted.0.0

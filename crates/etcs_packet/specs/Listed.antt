@@ -11,7 +11,7 @@ use Rattle.etcs_profile.specs.Authority.{with_main_fields, without_main_fields}
 use Rattle.etcs_profile.specs.Gradient.{gradient_element_fields}
 use Rattle.etcs_profile.specs.Speed.{speed_element_fields}
 use Rattle.etcs_packet.specs.Linking.{link_fields}
-use Rattle.etcs_packet.specs.Transition.{body_fields}
+use Rattle.etcs_packet.specs.Transition.{orders_fields}
 use Rattle.etcs_packet.specs.Cover.{nid_vbcmk}
 use Rattle.etcs_packet.specs.Raw.{raw_rest_fields}
 use Rattle.etcs_packet.specs.Numbers.{nid_track}
@@ -25,7 +25,7 @@ rest_by n =
     else (if n == 15 then rest_fields without_main_fields
     else (if n == 21 then rest_fields (elements_fields gradient_element_fields)
     else (if n == 27 then rest_fields (elements_fields speed_element_fields)
-    else (if n == 41 then rest_fields body_fields
+    else (if n == 41 then rest_fields orders_fields
     else raw_rest_fields))))))
 
 -- the fields of a packet of a list

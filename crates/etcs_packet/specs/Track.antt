@@ -21,7 +21,7 @@ use Rattle.etcs_packet.specs.declared.run.Run.{Run}
 use Rattle.etcs_packet.specs.declared.track.TrackPacket.{TrackPacket}
 use Rattle.etcs_packet.specs.declared.track.TrackPacket.TheVariants as packets
 use Rattle.etcs_packet.specs.Linking.{link_fields, link_rows, link_of, link_laid}
-use Rattle.etcs_packet.specs.Transition.{Body, body_rows, body_of, body_laid}
+use Rattle.etcs_packet.specs.Transition.{Orders, orders_rows, orders_of, orders_laid}
 use Rattle.etcs_packet.specs.Cover.{nid_vbcmk, cover_rows, cover_of, cover_laid}
 use Rattle.etcs_packet.specs.Raw.{raw_rest_fields, raw_rest, raw_rows, raw_of, raw_rest_laid, raw_here, raw_laid}
 use Rattle.etcs_packet.specs.Numbers.{is_known, is_other, is_kept, nid_track}
@@ -38,8 +38,8 @@ gradient_rows p = packet_rows 21 (elements_rows gradient_element_rows) p
 abbrev pub speed_rows : Dir × Profile SpeedElement → List Row
 speed_rows p = packet_rows 27 (elements_rows speed_element_rows) p
 
-abbrev pub transition_rows : Dir × Body → List Row
-transition_rows p = packet_rows 41 body_rows p
+abbrev pub transition_rows : Dir × Orders → List Row
+transition_rows p = packet_rows 41 orders_rows p
 
 -- the rows of a packet by itself
 abbrev pub own_rows : TrackPacket → List Row
@@ -63,7 +63,7 @@ track_by n rows =
     else (if (n == 12) || (n == 15) then packets.Authority (authority_of rows)
     else (if n == 21 then packets.Gradient (packet_of (elements_of gradient_element_fields gradient_element_of) rows)
     else (if n == 27 then packets.Speed (packet_of (elements_of speed_element_fields speed_element_of) rows)
-    else (if n == 41 then packets.Transition (packet_of body_of rows)
+    else (if n == 41 then packets.Transition (packet_of orders_of rows)
     else packets.Raw (raw_of rows))))))
 
 abbrev pub track_of : List Row → TrackPacket
@@ -143,7 +143,7 @@ track_are_rows (packets.Linking p) = (5, rest_rows (elements_rows link_rows) p, 
 track_are_rows (packets.Authority p) = authority_are_rows p.main p
 track_are_rows (packets.Gradient p) = (21, rest_rows (elements_rows gradient_element_rows) p, refl, (rest_laid (elements_laid gradient_element_laid)).have p)
 track_are_rows (packets.Speed p) = (27, rest_rows (elements_rows speed_element_rows) p, refl, (rest_laid (elements_laid speed_element_laid)).have p)
-track_are_rows (packets.Transition p) = (41, rest_rows body_rows p, refl, (rest_laid body_laid).have p)
+track_are_rows (packets.Transition p) = (41, rest_rows orders_rows p, refl, (rest_laid orders_laid).have p)
 track_are_rows (packets.Raw p) =
     (p.number, raw_rest p.dir p.body, refl, rw (rest_other p.number (other_of p.number (length p.body) p.kept)) (raw_rest_laid.have (p.dir, p.body)))
 
@@ -172,7 +172,7 @@ track_record (packets.Linking p) = ap packets.Linking ((packet_laid 5 (elements_
 track_record (packets.Authority p) = authority_back p.main p p (authority_laid.is p)
 track_record (packets.Gradient p) = ap packets.Gradient ((packet_laid 21 (elements_laid gradient_element_laid)).is p)
 track_record (packets.Speed p) = ap packets.Speed ((packet_laid 27 (elements_laid speed_element_laid)).is p)
-track_record (packets.Transition p) = ap packets.Transition ((packet_laid 41 body_laid).is p)
+track_record (packets.Transition p) = ap packets.Transition ((packet_laid 41 orders_laid).is p)
 track_record (packets.Raw p) =
     raw_back p.number (renamed (raw_rows p)) (other_of p.number (length p.body) p.kept)
     ∙ ap packets.Raw (raw_laid.is p)
@@ -222,7 +222,7 @@ speeds more w allowed =
 transitions : HasPackets 41
 unfolding alone
 transitions more w allowed =
-    let p = (rest_laid body_laid).all more w allowed in
+    let p = (rest_laid orders_laid).all more w allowed in
     (packets.Transition p.0, rw p.1 refl)
 
 others : (n : ℕ) → is_other n ≡ true → HasPackets n

@@ -35,20 +35,39 @@ order_of rows = order_with (pair_of level_fields level_of (number_at 0) rows)
 
 -- ---- the body: Q_SCALE, D_LEVELTR, an order, N_ITER and so many more
 
-abbrev pub body_fields : Fields
-body_fields = one q_scale ▹ one d_leveltr ▹ order_fields ▹ counted n_iter order_fields
+-- the scale, the distance to the place of the change, the order of highest priority and the others
+pub record Orders : Type 0 where
+  pub scale : Scale
+  pub distance : ℕ
+  pub first : LevelOrder
+  pub further : List LevelOrder
 
-abbrev pub Body : Type 0
-Body = Scale × (ℕ × (LevelOrder × List LevelOrder))
+-- orders of these parts
+abbrev pub orders : Scale → ℕ → LevelOrder → List LevelOrder → Orders
+orders scale distance first further =
+    record { scale = scale; distance = distance; first = first; further = further }
 
-abbrev pub body_rows : Body → List Row
-body_rows b =
-    pair_rows scale_rows (pair_rows (alone d_leveltr) (pair_rows order_rows (counted_rows order_rows))) b
+-- the parts, as pairs
+abbrev pub Parts : Type 0
+Parts = Scale × (ℕ × (LevelOrder × List LevelOrder))
 
-abbrev pub body_of : List Row → Body
-body_of rows =
+abbrev pub parts_of : Orders → Parts
+parts_of o = (o.scale, (o.distance, (o.first, o.further)))
+
+abbrev pub with_parts : Parts → Orders
+with_parts p = orders p.0 p.1.0 p.1.1.0 p.1.1.1
+
+abbrev pub orders_fields : Fields
+orders_fields = one q_scale ▹ one d_leveltr ▹ order_fields ▹ counted n_iter order_fields
+
+abbrev pub orders_rows : Orders → List Row
+orders_rows o =
+    pair_rows scale_rows (pair_rows (alone d_leveltr) (pair_rows order_rows (counted_rows order_rows))) (parts_of o)
+
+abbrev pub orders_of : List Row → Orders
+orders_of rows = with_parts (
     pair_of (one q_scale) scale_at (pair_of (one d_leveltr) (number_at 0)
-    (pair_of order_fields order_of (counted_of order_fields order_of))) rows
+    (pair_of order_fields order_of (counted_of order_fields order_of))) rows)
 
 -- ---- proofs of the laws of `Layout`
 
@@ -57,5 +76,7 @@ order_laid =
     renamed_laid order_with (λ o. (o.level, o.acknowledge)) (λ _. refl) (λ _. refl)
     (pair_laid level_laid (alone_laid l_ackleveltr))
 
-pub body_laid : IsLaid body_fields body_rows body_of
-body_laid = pair_laid scale_laid (pair_laid (alone_laid d_leveltr) (pair_laid order_laid (counted_laid order_laid)))
+pub orders_laid : IsLaid orders_fields orders_rows orders_of
+orders_laid =
+    renamed_laid with_parts parts_of (λ _. refl) (λ _. refl)
+    (pair_laid scale_laid (pair_laid (alone_laid d_leveltr) (pair_laid order_laid (counted_laid order_laid))))

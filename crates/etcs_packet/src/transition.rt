@@ -65,7 +65,7 @@ impl Same for LevelOrder {
 
 /// Packet 41, a level transition order: from where on a train has to run in another level, by
 /// priority (SUBSET-026, 5.10 and 7.4.2). Contracts see the direction, and scale, distance and
-/// levels.
+/// orders.
 #[derive(Debug, Drop)]
 pub struct Transition {
     packet: Packet<41, (Scale, (Distance, (LevelOrder, Items<LevelOrder>)))>,
@@ -73,15 +73,16 @@ pub struct Transition {
 
 impl Model for Transition {
     ghost use Rattle.etcs_bits.specs.declared.direction.Dir.{Dir};
-    ghost use Rattle.etcs_packet.specs.Transition.{Body};
+    ghost use Rattle.etcs_packet.specs.Transition.{Orders, with_parts};
 
-    ghost Value = { Dir × Body };
+    ghost Value = { Dir × Orders };
 
-    ghost view = { λ t. t.packet };
+    ghost view = { λ t. (t.packet.0, with_parts t.packet.1) };
 }
 
 impl Transition {
     ghost use Rattle.etcs_profile.specs.Built.{IsBuilt};
+    ghost use Rattle.etcs_packet.specs.Transition.{orders};
 
     /// The order for these levels, the one of highest priority first. Takes no memory; after a
     /// refusal the levels are gone.
@@ -94,7 +95,7 @@ impl Transition {
         first: LevelOrder,
         further: Vec<LevelOrder>,
     ) -> Result<Transition, BuildError>
-        ensures { IsBuilt result (dir, (scale, (d_leveltr, (first, further.items))))
+        ensures { IsBuilt result (dir, orders scale d_leveltr first further.items)
             (31 < length further.items) ⊥ }
     {
         if 31 < further.len() {
@@ -117,29 +118,28 @@ impl Transition {
 
     /// Q_SCALE: the unit of all distances.
     pub fn scale(&self) -> Scale
-        ensures { result ≡ self.now.1.0 }
+        ensures { result ≡ self.now.1.scale }
     {
         self.packet.body().0
     }
 
     /// D_LEVELTR: how far away the place of the change is, in the packet's scale; 32,767 is now.
     pub fn d_leveltr(&self) -> Distance
-        ensures { result ≡ self.now.1.1.0 }
+        ensures { result ≡ self.now.1.distance }
     {
         self.packet.body().1.0
     }
 
     /// The level of highest priority.
     pub fn first(&self) -> &LevelOrder
-        ensures { result.now ≡ self.now.1.1.1.0 }
+        ensures { result.now ≡ self.now.1.first }
     {
         &self.packet.body().1.1.0
     }
 
     /// The other levels, by priority; at most 31.
-    #[tactic(auto, using(crate::proofs::ShortLemmas::orders_few))]
     pub fn further(&self) -> &[LevelOrder]
-        ensures levels { result.now ≡ self.now.1.1.1.1 }
+        ensures levels { result.now ≡ self.now.1.further }
         ensures few { length result.now < 32 }
     {
         // Its type keeps N_ITER within five bits.
@@ -150,18 +150,18 @@ impl Transition {
 
 impl Layout for Transition {
     ghost use Rattle.etcs_profile.specs.Packet.{packet_rows, packet_fields, packet_of, packet_laid};
-    ghost use Rattle.etcs_packet.specs.Transition.{body_rows, body_fields, body_of, body_laid};
+    ghost use Rattle.etcs_packet.specs.Transition.{orders_rows, orders_fields, orders_of, orders_laid};
 
-    ghost rows = { packet_rows 41 body_rows };
+    ghost rows = { packet_rows 41 orders_rows };
 
-    ghost fields = { packet_fields 41 body_fields };
+    ghost fields = { packet_fields 41 orders_fields };
 
-    ghost record_of = { packet_of body_of };
+    ghost record_of = { packet_of orders_of };
 
     // Its type keeps its numbers in range.
     ghost fit = { λ _. Unit {0} };
 
-    ghost laid = { packet_laid 41 body_laid };
+    ghost laid = { packet_laid 41 orders_laid };
 
     fn is_allowed(&self) -> bool {
         self.packet.is_allowed()
