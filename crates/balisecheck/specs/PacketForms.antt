@@ -70,7 +70,7 @@ order_form o = object_of (
 -- packet 41
 abbrev pub transition_form : Dir × Orders → Data
 transition_form p = object_of (
-    always (codes "d_leveltr") (whole p.1.distance)
+    always (codes "d_leveltr") (whole p.1.d_leveltr)
     ∷ always (codes "nid_packet") (whole 41)
     ∷ always (codes "q_dir") (whole (dir_number p.0))
     ∷ always (codes "q_scale") (whole (scale_number p.1.scale))

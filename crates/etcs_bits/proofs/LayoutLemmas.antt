@@ -8,9 +8,9 @@ use Rattle.etcs_bits.specs.Fault.{IsFault, NoneBegins}
 use Rattle.etcs_bits.specs.Reading.{rows_at}
 use Rattle.etcs_bits.specs.Layout.{Fails, OfFault}
 use Rattle.etcs_bits.proofs.ReadingLemmas.{read_is_spelled, spelled_is_read, fault_is_told}
-use Rattle.etcs_bits.specs.Laws.{AreLaidOut, IsReadAsSpelled}
-use Rattle.etcs_bits.specs.LaidLemmas.{IsLaid}
-use Rattle.etcs_bits.proofs.FaultLemmas.{none_stands, one_reading, no_front, one_told}
+use Rattle.etcs_bits.specs.Laws.{AreLaidOut, IsReadAsSpelled, IsReadAsTold}
+use Rattle.etcs_bits.specs.LaidLemmas.{IsLayout}
+use Rattle.etcs_bits.proofs.FaultLemmas.{told_is_given, none_stands, one_reading, no_front, one_told}
 
 pub is_spelled : (fields : Fields) (rows : List Row) (p q : Place) → p.at ≤ length p.bits → rows_at fields p ≡ Ok (rows, q) → IsSpelled rows p q
 is_spelled fields rows p q within e = (read_is_spelled fields p (rows, q) within e).spelled
@@ -25,38 +25,42 @@ none_begins rows (errors.Fault f) fields p within are_rows fails =
     λ bits len front x to spelled. none_stands fields p f bits (rows x) to within len front (fault_is_told fields p f within fails) (are_rows x) spelled
 
 -- records with the same rows are one
-pub same_record : {X : Type 0} {fields : Fields} {rows : X → List Row} {of : List Row → X} → IsLaid fields rows of → (v w : X) → rows v ≡ rows w → v ≡ w
-same_record {of = of} laid v w e = sym (laid.is v) ∙ ap of e ∙ laid.is w
+pub same_record : {X : Type 0} {fields : Fields} {rows : X → List Row} {of : List Row → X} → IsLayout fields rows of → (v w : X) → rows v ≡ rows w → v ≡ w
+same_record {of = of} laid v w e = sym (laid.is_record v) ∙ ap of e ∙ laid.is_record w
 
 -- and so the laws hold of each layout
-pub laid_out : {X : Type 0} {fields : Fields} {rows : X → List Row} {of : List Row → X} → IsLaid fields rows of → AreLaidOut fields rows
+pub laid_out : {X : Type 0} {fields : Fields} {rows : X → List Row} {of : List Row → X} → IsLayout fields rows of → AreLaidOut fields rows
 laid_out {fields = fields} {rows = rows} laid = record {
   -- both lists of rows are what reading gives there
   one_record = λ p q r v w within first second.
-      let same = one_reading fields (rows v) (rows w) p q r within (laid.have v) (laid.have w) first second in
+      let same = one_reading fields (rows v) (rows w) p q r within (laid.are_rows v) (laid.are_rows w) first second in
       (same_record laid v w same.0, same.1);
   -- both stand at the front of one list of bits
   no_front = λ v w x y a b e.
-      let same = no_front fields (rows v) (rows w) x y (laid.have v) (laid.have w) a b e in
+      let same = no_front fields (rows v) (rows w) x y (laid.are_rows v) (laid.are_rows w) a b e in
       (same_record laid v w same.0, same.1);
   -- the fault stays in the other input, and reading gives one answer there
   fault_or_record = λ p f within t bits len front v to spelled.
-      none_stands fields p f bits (rows v) to within len front t (laid.have v) spelled;
+      none_stands fields p f bits (rows v) to within len front t (laid.are_rows v) spelled;
   -- each is what reading gives
   one_fault = λ p f h within t u. one_told fields p f h within t u;
 }
 
 -- whole lists of allowed rows are those of the record that they make
-pub rows_again : {X : Type 0} {fields : Fields} {rows : X → List Row} {of : List Row → X} → IsLaid fields rows of → (r : List Row) → AreRowsOf fields r → AreAllowed r → rows (of r) ≡ r
+pub rows_again : {X : Type 0} {fields : Fields} {rows : X → List Row} {of : List Row → X} → IsLayout fields rows of → (r : List Row) → AreRowsOf fields r → AreAllowed r → rows (of r) ≡ r
 rows_again {rows = rows} {of = of} laid r whole allowed =
-    let x = laid.all r whole allowed in
-    ap rows (ap of (sym x.1) ∙ laid.is x.0) ∙ x.1
+    let x = laid.has_record r whole allowed in
+    ap rows (ap of (sym x.1) ∙ laid.is_record x.0) ∙ x.1
 
 -- a record is spelled exactly where reading gives it
-pub read_as_spelled : {X : Type 0} {fields : Fields} {rows : X → List Row} {of : List Row → X} → IsLaid fields rows of → IsReadAsSpelled fields rows of
+pub read_as_spelled : {X : Type 0} {fields : Fields} {rows : X → List Row} {of : List Row → X} → IsLayout fields rows of → IsReadAsSpelled fields rows of
 read_as_spelled {fields = fields} {rows = rows} {of = of} laid p q v within = (
-  λ spelled. (rows v, spelled_is_read fields (rows v) p q within (laid.have v) spelled, laid.is v),
+  λ spelled. (rows v, spelled_is_read fields (rows v) p q within (laid.are_rows v) spelled, laid.is_record v),
   λ (r, read, is).
       let here = read_is_spelled fields p (r, q) within read in
       rw (sym (rows_again laid r here.whole here.spelled.allowed) ∙ ap rows is) at here.spelled,
 )
+
+-- and a fault is told exactly there
+pub read_as_told : (fields : Fields) → IsReadAsTold fields
+read_as_told fields p f within = (told_is_given fields p f within, fault_is_told fields p f within)

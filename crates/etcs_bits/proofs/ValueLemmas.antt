@@ -1,20 +1,15 @@
 -- Which numbers levels have, and variables whose numbers are ranges.
-use Rattle.std.proofs.Common.{◌≡◌, ℕ, zero, suc, ◌<◌, ◌≤◌, ◌^◌, ◌⊎◌, Bool, true, false, refl, arith, rules, inl, inr, leb}
+use Rattle.std.proofs.Common.{◌≡◌, ℕ, zero, suc, ◌<◌, ◌≤◌, ◌^◌, ◌⊎◌, true, refl, arith, rules, inl, inr, leb}
 use Rattle.std.specs.Prelude.{◌||◌, ◌&&◌}
-use Rattle.std.proofs.lemmas.Bool.{ltb-true, leb-true, le-leb}
+use Rattle.std.proofs.lemmas.Bool.{ltb-true, leb-true, le-leb, and_parts, or_cases, or_right}
 use Rattle.etcs_bits.specs.declared.level.Level.TheVariants as levels
 use Rattle.etcs_bits.specs.Rows.{row, alone, IsAllowed}
 use Rattle.etcs_bits.specs.Fields.{one}
 use Rattle.etcs_bits.proofs.LayoutLemmas.{laid_out}
 use Rattle.etcs_bits.specs.Variables.{plain, free, ranged}
-use Rattle.etcs_bits.specs.VariableLemmas.{either}
 use Rattle.etcs_bits.specs.LaidLemmas.{alone_laid}
 use Rattle.etcs_bits.specs.Level.{m_level, nid_ntc, level_number}
 use Rattle.etcs_bits.specs.Laws.{AreLaidOut, HasNumbers, IsNumberOf}
-
-both : (a b : Bool) → (a && b) ≡ true → (a ≡ true) × (b ≡ true)
-both true b e = (refl, e)
-both false b e = absurd cc
 
 level_value : (n : ℕ) → IsAllowed (row m_level n) → IsNumberOf level_number n
 level_value zero allowed = (levels.L0, refl)
@@ -44,7 +39,7 @@ ntcs_have_numbers = record {
 -- ---- variables whose numbers are ranges
 
 fits : (w : ℕ) → (leb 1 w && leb w 32) ≡ true → (1 ≤ w) × (w ≤ 32)
-fits w e = let parts = both (leb 1 w) (leb w 32) e in (leb-true 1 w parts.0, leb-true w 32 parts.1)
+fits w e = let parts = and_parts (leb 1 w) (leb w 32) e in (leb-true 1 w parts.0, leb-true w 32 parts.1)
 
 fitting : (w : ℕ) → 1 ≤ w → w ≤ 32 → (leb 1 w && leb w 32) ≡ true
 fitting w low high = rw (le-leb 1 w low, le-leb w 32 high) refl
@@ -65,25 +60,21 @@ pub free_laid_out : (w : ℕ) → AreLaidOut (one (free w)) (alone (free w))
 free_laid_out w = laid_out (alone_laid (free w))
 
 in_range : (n last from : ℕ) → (leb n last || leb from n) ≡ true → (n ≤ last) ⊎ (from ≤ n)
-in_range n last from e = elim (either (leb n last) (leb from n) e) [
+in_range n last from e = elim (or_cases (leb n last) (leb from n) e) [
   | inl low ↦ inl (leb-true n last low)
   | inr high ↦ inr (leb-true from n high)
 ]
 
-last_or : (b : Bool) → (b || true) ≡ true
-last_or true = refl
-last_or false = refl
-
 ranging : (n last from : ℕ) → (n ≤ last) ⊎ (from ≤ n) → (leb n last || leb from n) ≡ true
 ranging n last from (inl low) = rw (le-leb n last low) refl
-ranging n last from (inr high) = rw (le-leb from n high) (last_or (leb n last))
+ranging n last from (inr high) = rw (le-leb from n high) (or_right (leb n last) true refl)
 
 pub ranged_has_numbers : (w last from : ℕ) → HasNumbers (ranged w last from) w (λ n. (1 ≤ w) × (w ≤ 32) × (n < 2 ^ w) × ((n ≤ last) ⊎ (from ≤ n)))
 ranged_has_numbers w last from = record {
   width = refl;
   numbers = λ n. (
     λ allowed.
-        let parts = both (leb 1 w && leb w 32) (leb n last || leb from n) allowed.1 in
+        let parts = and_parts (leb 1 w && leb w 32) (leb n last || leb from n) allowed.1 in
         let within = fits w parts.0 in
         (within.0, within.1, allowed.0, in_range n last from parts.1),
     λ (low, high, small, ranges). (small, rw (fitting w low high) (ranging n last from ranges)),

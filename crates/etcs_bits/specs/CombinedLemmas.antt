@@ -1,10 +1,10 @@
 -- Proofs of the laws of `Layout` for records that are made of others.
 use Rattle.std.specs.Prelude.{◌≡◌, ℕ, zero, suc, ◌+◌, List, [], ◌∷◌, ◌++◌, length, refl, Some, None}
 use Rattle.std.specs.List.{flat_map}
-use Rattle.std.proofs.Common.{ap, ap₂, sym, arith}
-use Rattle.etcs_bits.specs.Rows.{Row, AreAllowed, alone, width}
+use Rattle.std.proofs.Common.{ap, ap₂, sym, ◌∙◌, arith}
+use Rattle.etcs_bits.specs.Rows.{Variable, Row, row, IsAllowed, AreAllowed, alone, width}
 use Rattle.etcs_bits.specs.RowLemmas.{allowed_first, allowed_second}
-use Rattle.etcs_bits.specs.Fields.{Fields, ◌▹◌, sized, option, times, counted, AreRowsOf}
+use Rattle.etcs_bits.specs.Fields.{Fields, field, ◌▹◌, sized, option, times, counted, AreRowsOf}
 use Rattle.etcs_bits.specs.CutLemmas.{cut_whole}
 use Rattle.etcs_bits.specs.Combined.{qualifier, n_iter, pair_rows, pair_of, option_rows, option_of, counted_rows, items_of, counted_of, body_rows, body_of}
 
@@ -16,10 +16,20 @@ HaveFields {X} fields rows = (x : X) → AreRowsOf fields (rows x)
 abbrev pub AreOf : {X : Type 0} → (List Row → X) → (X → List Row) → Type 0
 AreOf {X} of rows = (x : X) → of (rows x) ≡ x
 
--- each whole list of allowed rows is that of a record
+-- each whole list of allowed rows is the list of some record's rows
 abbrev pub HaveRecords : {X : Type 0} → Fields → (X → List Row) → Type 0
 HaveRecords {X} fields rows =
     (r : List Row) → AreRowsOf fields r → AreAllowed r → (x : X) × (rows x ≡ r)
+
+-- the same where a field's number decides what follows it
+pub field_records : {X : Type 0} {x : Variable} {rows : X → List Row} (next : ℕ → Fields)
+    → ((n : ℕ) (more : List Row) → IsAllowed (row x n) → AreRowsOf (next n) more → AreAllowed more
+    → (v : X) × (rows v ≡ row x n ∷ more))
+    → HaveRecords (field x next) rows
+field_records next here r (n, more, e, w) allowed =
+    let each = rw e at allowed in
+    let v = here n more each.0 w each.1 in
+    (v.0, v.1 ∙ sym e)
 
 -- ---- a pair
 

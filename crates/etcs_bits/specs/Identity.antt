@@ -3,7 +3,7 @@ use Rattle.std.specs.Prelude.{ℕ, List, ◌++◌, refl}
 use Rattle.etcs_bits.specs.declared.identity.Identity.{Identity}
 use Rattle.etcs_bits.specs.Rows.{Row, alone, number_at}
 use Rattle.etcs_bits.specs.Fields.{Fields, one, ◌▹◌}
-use Rattle.etcs_bits.specs.LaidLemmas.{IsLaid, pair_laid, renamed_laid, found_laid, alone_laid}
+use Rattle.etcs_bits.specs.LaidLemmas.{IsLayout, pair_laid, parted_laid, found_laid, alone_laid}
 use Rattle.etcs_bits.specs.Variables.{nid_c, nid_bg}
 
 -- which fields come
@@ -15,7 +15,7 @@ abbrev pub identity_rows : Identity → List Row
 identity_rows i = alone nid_c i.country ++ alone nid_bg i.group
 
 -- an identity of these numbers, and that of two rows
-abbrev pub identity : ℕ → ℕ → Identity
+abbrev identity : ℕ → ℕ → Identity
 identity country group = record { country = country; group = group }
 
 abbrev pub identity_of : List Row → Identity
@@ -23,9 +23,9 @@ identity_of rows = identity (number_at 0 rows) (number_at 1 rows)
 
 -- ---- proofs of the laws of `Layout`
 
-pub identity_laid : IsLaid identity_fields identity_rows identity_of
+pub identity_laid : IsLayout identity_fields identity_rows identity_of
 unfolding alone
 identity_laid =
     found_laid identity_of (λ _. refl)
-    (renamed_laid (λ p. identity p.0 p.1) (λ i. (i.country, i.group)) (λ _. refl) (λ _. refl)
+    (parted_laid (λ p. identity p.0 p.1) (λ i. (i.country, i.group)) (λ _. refl) (λ _. refl)
     (pair_laid (alone_laid nid_c) (alone_laid nid_bg)))

@@ -1,6 +1,6 @@
 -- What holds of every record that is laid out in fields, whatever reads or writes it, and which
 -- numbers a variable has.
-use Rattle.std.specs.Prelude.{◌≡◌, ◌↔◌, ℕ, ◌≤◌, ◌<◌, ◌^◌, List, Bool, ◌++◌, length, Ok}
+use Rattle.std.specs.Prelude.{◌≡◌, ◌↔◌, ℕ, ◌≤◌, ◌<◌, ◌^◌, List, Bool, ◌++◌, length, Ok, Err}
 use Rattle.etcs_bits.specs.declared.fault.Fault.{Fault}
 use Rattle.etcs_bits.specs.Number.{num, num_of_bits}
 use Rattle.etcs_bits.specs.Rows.{Variable, Row, row, Place, IsAllowed, AreAllowed, join, IsSpelled}
@@ -37,6 +37,11 @@ IsReadAsSpelled {X} fields rows record_of =
     (p q : Place) (v : X) → p.at ≤ length p.bits
     → IsSpelled (rows v) p q
     ↔ ((r : List Row) × (rows_at fields p ≡ Ok (r, q)) × (record_of r ≡ v))
+
+-- A fault is told exactly where reading gives it.
+abbrev pub IsReadAsTold : Fields → Type 0
+IsReadAsTold fields =
+    (p : Place) (f : Fault) → p.at ≤ length p.bits → IsFault fields p f ↔ (rows_at fields p ≡ Err f)
 
 -- The records with these rows are laid out in these fields: each of the four holds of them.
 pub record AreLaidOut {X : Type 0} (fields : Fields) (rows : X → List Row) : Type 0 where

@@ -1,7 +1,7 @@
 -- The level of M_LEVELTR and M_LEVEL: three bits, and behind level NTC the national system that
 -- supervises the train (SUBSET-026, 7.5.1).
 use Rattle.std.specs.Prelude.{◌≡◌, ℕ, zero, suc, ◌==◌, nat_lt, if◌then◌else◌, false, List, [], ◌∷◌, ◌++◌, refl}
-use Rattle.std.proofs.Common.{sym, ◌∙◌, arith}
+use Rattle.std.proofs.Common.{arith}
 use Rattle.std.proofs.lemmas.Bool.{ltb-true}
 use Rattle.etcs_bits.specs.declared.fault.FaultKind.TheVariants.{Spare}
 use Rattle.etcs_bits.specs.declared.level.Level.{Level}
@@ -9,8 +9,8 @@ use Rattle.etcs_bits.specs.declared.level.Level.TheVariants as levels
 use Rattle.etcs_bits.specs.Rows.{Variable, Row, row, alone, number_at, IsAllowed}
 use Rattle.etcs_bits.specs.Fields.{Fields, nothing, field, one, AreRowsOf}
 use Rattle.etcs_bits.specs.Variables.{plain}
-use Rattle.etcs_bits.specs.CombinedLemmas.{HaveFields, AreOf, HaveRecords}
-use Rattle.etcs_bits.specs.LaidLemmas.{IsLaid}
+use Rattle.etcs_bits.specs.CombinedLemmas.{HaveFields, AreOf, field_records}
+use Rattle.etcs_bits.specs.LaidLemmas.{IsLayout}
 
 -- M_LEVELTR and M_LEVEL, 3 bits: 0 to 4 are levels, 5 to 7 are spare
 abbrev pub m_level : Variable
@@ -82,10 +82,5 @@ level_here (suc (suc (suc (suc zero)))) more allowed w = (levels.L3, rw w refl)
 level_here (suc (suc (suc (suc (suc n))))) more allowed w =
     absurd (omega (arith, ltb-true (suc (suc (suc (suc (suc n))))) 5 allowed.1))
 
-level_records : HaveRecords level_fields level_rows
-level_records r (n, more, e, w) allowed =
-    let v = level_here n more (rw e at allowed).0 w in
-    (v.0, v.1 ∙ sym e)
-
-pub level_laid : IsLaid level_fields level_rows level_of
-level_laid = record { have = level_are_rows; is = level_record; all = level_records }
+pub level_laid : IsLayout level_fields level_rows level_of
+level_laid = record { are_rows = level_are_rows; is_record = level_record; has_record = field_records _ (λ n more here w _. level_here n more here w) }

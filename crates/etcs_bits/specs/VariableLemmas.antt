@@ -1,7 +1,6 @@
--- Which numbers variables have whose numbers have names, and the value of each.
-use Rattle.std.proofs.Common.{◌≡◌, ℕ, zero, suc, ◌⊎◌, Bool, true, false, refl, sym, arith, rules, inl, inr, eqb}
-use Rattle.std.specs.Prelude.{◌||◌}
-use Rattle.std.proofs.lemmas.Bool.{ltb-true, eqb-true}
+-- Variables whose numbers have names: which numbers they have, and the value of each.
+use Rattle.std.proofs.Common.{◌≡◌, ℕ, zero, suc, Bool, true, false, refl, sym, arith, rules, inl, inr, eqb}
+use Rattle.std.proofs.lemmas.Bool.{ltb-true, eqb-true, or_cases}
 use Rattle.etcs_bits.specs.declared.transmission.Transmission.{Transmission}
 use Rattle.etcs_bits.specs.declared.transmission.Transmission.TheVariants as transmissions
 use Rattle.etcs_bits.specs.declared.medium.Medium.{Medium}
@@ -19,20 +18,15 @@ use Rattle.etcs_bits.specs.Rows.{Variable, row, alone, number_at, IsAllowed}
 use Rattle.etcs_bits.specs.Variables.{plain, q_updown, transmission_number, transmission_of, q_media, medium_number, medium_of, m_version, version_number, version_of, m_dup, dup_number, dup_of, q_scale, scale_number, scale_of, q_dir, dir_number, dir_of, flag_of}
 use Rattle.etcs_bits.specs.Laws.{IsNumberOf, HasValues}
 
--- one of two tests passes
-pub either : (a b : Bool) → (a || b) ≡ true → (a ≡ true) ⊎ (b ≡ true)
-either true b e = inl refl
-either false b e = inr e
-
 -- the number of the only row
 pub number_alone : (x : Variable) (n : ℕ) → number_at 0 (alone x n) ≡ n
 unfolding alone
 number_alone x n = refl
 
-pub transmission_back : (v : Transmission) → transmission_of (transmission_number v) ≡ v
+transmission_back : (v : Transmission) → transmission_of (transmission_number v) ≡ v
 transmission_back transmissions.TrackToTrain = refl
 
-pub medium_back : (v : Medium) → medium_of (medium_number v) ≡ v
+medium_back : (v : Medium) → medium_of (medium_number v) ≡ v
 medium_back media.Balise = refl
 
 pub version_back : (v : Version) → version_of (version_number v) ≡ v
@@ -44,12 +38,12 @@ dup_back dups.Single = refl
 dup_back dups.Next = refl
 dup_back dups.Previous = refl
 
-pub scale_back : (v : Scale) → scale_of (scale_number v) ≡ v
+scale_back : (v : Scale) → scale_of (scale_number v) ≡ v
 scale_back scales.TenCentimetres = refl
 scale_back scales.Metre = refl
 scale_back scales.TenMetres = refl
 
-pub dir_back : (v : Dir) → dir_of (dir_number v) ≡ v
+dir_back : (v : Dir) → dir_of (dir_number v) ≡ v
 dir_back dirs.Reverse = refl
 dir_back dirs.Nominal = refl
 dir_back dirs.Both = refl
@@ -100,7 +94,7 @@ media_have_values = record {
 }
 
 version_value : (n : ℕ) → IsAllowed (row m_version n) → IsNumberOf version_number n
-version_value n allowed = elim (either (eqb n 32) (eqb n 33) allowed.1) [
+version_value n allowed = elim (or_cases (eqb n 32) (eqb n 33) allowed.1) [
   | inl e ↦ (versions.V2_0, sym (eqb-true n 32 e))
   | inr e ↦ (versions.V2_1, sym (eqb-true n 33 e))
 ]

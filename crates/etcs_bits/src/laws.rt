@@ -1,9 +1,9 @@
 //! What holds of every record and of every variable, as contracts of calls that do nothing: laws for
-//! users, over the definitions alone (`specs/Laws.antt`). Records of other crates have the laws of
-//! [`records_are_laid_out`].
+//! users, over the definitions alone (`specs/Laws.antt`). Records of other crates have those of every
+//! record, by [`Layout`].
 
 ghost use Rattle.std.specs.Prelude.{ℕ, ◌≤◌, ◌<◌, ◌^◌, ◌⊎◌};
-ghost use Rattle.etcs_bits.specs.Laws.{IsReadAsSpelled, SpellsOneRecord, NoSpellingBegins, FaultMeansNone, TellsOneFault, NumbersAreBits, AreLaidOut, HasNumbers, IsNumberOf, HasValues};
+ghost use Rattle.etcs_bits.specs.Laws.{IsReadAsSpelled, IsReadAsTold, SpellsOneRecord, NoSpellingBegins, FaultMeansNone, TellsOneFault, NumbersAreBits, AreLaidOut, HasNumbers, IsNumberOf, HasValues};
 ghost use Rattle.etcs_bits.specs.Number.{worth};
 ghost use Rattle.etcs_bits.specs.Rows.{alone};
 ghost use Rattle.etcs_bits.specs.Fields.{◌▹◌, one, option, counted, sized};
@@ -34,6 +34,11 @@ pub fn a_record_is_read_as_it_is_spelled<T: Layout>()
     ensures { IsReadAsSpelled T.fields T.rows T.record_of }
 {}
 
+/// A fault is told exactly where reading gives it.
+pub fn a_fault_is_read_as_it_is_told<T: Layout>()
+    ensures { IsReadAsTold T.fields }
+{}
+
 /// A place spells at most one record, and it has one end.
 pub fn a_place_spells_one_record<T: Layout>()
     ensures { SpellsOneRecord T.rows }
@@ -55,7 +60,7 @@ pub fn a_place_tells_one_fault<T: Layout>()
     ensures { TellsOneFault T.fields }
 {}
 
-/// Records are laid out in their fields: all four laws hold of them.
+/// Records are laid out in their fields: the four laws of spellings and faults hold of them.
 pub fn records_are_laid_out<T: Layout>()
     ensures { AreLaidOut T.fields T.rows }
 {

@@ -5,7 +5,7 @@ ghost use Rattle.etcs_bits.specs.Rows.{Row, AreAllowed, join, width, IsSpelled};
 ghost use Rattle.etcs_bits.specs.Fields.{Fields};
 ghost use Rattle.etcs_bits.specs.Fault.{IsFault, NoneBegins};
 ghost use Rattle.etcs_bits.specs.Reading.{rows_at};
-ghost use Rattle.etcs_bits.specs.LaidLemmas.{IsLaid};
+ghost use Rattle.etcs_bits.specs.LaidLemmas.{IsLayout};
 ghost use Rattle.etcs_bits.specs.Layout.{Gives, IfFault, Puts};
 
 use crate::bits::Bits;
@@ -26,7 +26,7 @@ pub trait Layout: Drop {
     /// Which fields come, and in which order.
     ghost fields: { Fields };
 
-    /// The record that has these rows.
+    /// The record that has these rows, where they are a whole list of allowed ones.
     ghost record_of: { List Row → Self };
 
     /// When each number of a record is allowed, in the record's own terms: always, where its types
@@ -84,6 +84,7 @@ pub trait Layout: Drop {
     }
 
     /// The rows of a record are a whole list of its fields; a record is the one of its rows, so two
-    /// records with the same rows are one; each whole list of allowed rows is that of a record.
-    ghost laid: { IsLaid fields rows record_of };
+    /// records with the same rows are one; each whole list of allowed rows is the list of some record's
+    /// rows.
+    ghost laid: { IsLayout fields rows record_of };
 }

@@ -9,7 +9,7 @@ use Rattle.etcs_bits.specs.Rows.{Row, Place}
 use Rattle.etcs_bits.specs.Fields.{Fields, AreRowsOf}
 use Rattle.etcs_bits.specs.Fault.{IsFault, NoneBegins}
 use Rattle.etcs_bits.specs.Layout.{Fails, OfFault}
-use Rattle.etcs_bits.specs.LaidLemmas.{IsLaid}
+use Rattle.etcs_bits.specs.LaidLemmas.{IsLayout}
 use Rattle.etcs_bits.proofs.LayoutLemmas.{rows_again}
 use Rattle.etcs_bits.proofs.StandLemmas.{place_in}
 use Rattle.etcs_packet.specs.declared.stop.Stop.{Stop}
@@ -92,16 +92,16 @@ map_back rows of (x ∷ xs) back =
 
 -- A list that stands is what reading gives.
 pub stand_is_read : {X : Type 0} {fields : Fields} {rows : X → List Row} {of : List Row → X}
-    → IsLaid fields rows of → (xs : List X) (stop : Stop) (p q : Place) → IsHeaded fields
+    → IsLayout fields rows of → (xs : List X) (stop : Stop) (p q : Place) → IsHeaded fields
     → p.at ≤ length p.bits → Stand stop rows xs p q → items_at stop fields of p ≡ Ok (xs, q)
 stand_is_read {fields = fields} {rows = rows} {of = of} laid xs stop p q head within s =
-    let listed = stand_follow rows xs stop fields p q laid.have s in
+    let listed = stand_follow rows xs stop fields p q laid.are_rows s in
     follow_is_read of (map rows xs) stop fields p q head within listed.follow listed.over
-    ∙ ap (λ ys. Ok (ys, q)) (map_back rows of xs laid.is)
+    ∙ ap (λ ys. Ok (ys, q)) (map_back rows of xs laid.is_record)
 
 -- the records of rows that follow one another up to the end stand there
 follow_stands : {X : Type 0} {fields : Fields} {rows : X → List Row} {of : List Row → X}
-    → IsLaid fields rows of → (stop : Stop) (whole : List (List Row)) (p q : Place)
+    → IsLayout fields rows of → (stop : Stop) (whole : List (List Row)) (p q : Place)
     → Follow stop fields whole p q → ends stop q ≡ true → Stand stop rows (map of whole) p q
 follow_stands laid stop [] p q there over = (subst (λ (z : Place). ends stop z ≡ true) there over, there)
 follow_stands laid stop (r ∷ whole) p q (goes, (m, are, spelled, rest)) over =
@@ -109,7 +109,7 @@ follow_stands laid stop (r ∷ whole) p q (goes, (m, are, spelled, rest)) over =
 
 -- What reading gives stands.
 pub read_stands : {X : Type 0} {fields : Fields} {rows : X → List Row} {of : List Row → X}
-    → IsLaid fields rows of → (xs : List X) (stop : Stop) (p q : Place) → IsHeaded fields
+    → IsLayout fields rows of → (xs : List X) (stop : Stop) (p q : Place) → IsHeaded fields
     → p.at ≤ length p.bits → items_at stop fields of p ≡ Ok (xs, q) → Stand stop rows xs p q
 read_stands {fields = fields} {rows = rows} {of = of} laid xs stop p q head within e =
     let read = read_follows of stop fields p (xs, q) head within e in

@@ -9,7 +9,7 @@ use Rattle.etcs_bits.specs.Fault.{IsFault}
 use Rattle.etcs_bits.specs.Reading.{◌>>=◌, rows_at}
 use Rattle.etcs_bits.specs.Layout.{Fails, Gives, OfFault}
 use Rattle.etcs_bits.proofs.BindLemmas.{bind_ok, bind_err, ok_is}
-use Rattle.etcs_bits.specs.LaidLemmas.{IsLaid}
+use Rattle.etcs_bits.specs.LaidLemmas.{IsLayout}
 use Rattle.etcs_bits.proofs.LayoutLemmas.{rows_again}
 use Rattle.etcs_bits.proofs.StandLemmas.{place_in, stands_moved}
 use Rattle.etcs_bits.proofs.ReadingLemmas.{read_is_spelled, spelled_is_read, fault_is_told}
@@ -42,18 +42,18 @@ of_bits stop head head_of item item_of bits = refl
 
 -- What stands is read.
 pub whole_is_read : {H X : Type 0} {header item : Fields} {head : H → List Row} {head_of : List Row → H}
-    {rows : X → List Row} {item_of : List Row → X} → IsLaid header head head_of → IsLaid item rows item_of
+    {rows : X → List Row} {item_of : List Row → X} → IsLayout header head head_of → IsLayout item rows item_of
     → (stop : Stop) (h : H) (xs : List X) (p q : Place) → IsHeaded item → p.at ≤ length p.bits
     → IsWhole stop head rows h xs p q → whole_at stop header head_of item item_of p ≡ Ok ((h, xs), q)
 whole_is_read {header = header} {item = item} {head = head} {head_of = head_of} {item_of = item_of} head_laid laid stop h xs p q headed within w =
-    let first = spelled_is_read header (head h) p w.middle within (head_laid.have h) w.first in
+    let first = spelled_is_read header (head h) p w.middle within (head_laid.are_rows h) w.first in
     let more = stand_is_read laid xs stop w.middle q headed (next_within (head h) p w.middle within w.first) w.items in
-    let back = head_laid.is h in
+    let back = head_laid.is_record h in
     both_at stop header head_of item item_of p ∙ rw (first, more, back) refl
 
 -- What reading gives stands.
 pub read_is_whole : {H X : Type 0} {header item : Fields} {head : H → List Row} {head_of : List Row → H}
-    {rows : X → List Row} {item_of : List Row → X} → IsLaid header head head_of → IsLaid item rows item_of
+    {rows : X → List Row} {item_of : List Row → X} → IsLayout header head head_of → IsLayout item rows item_of
     → (stop : Stop) (h : H) (xs : List X) (p q : Place) → IsHeaded item → p.at ≤ length p.bits
     → whole_at stop header head_of item item_of p ≡ Ok ((h, xs), q) → IsWhole stop head rows h xs p q
 read_is_whole {H = H} {X = X} {header = header} {item = item} {head = head} {head_of = head_of} {rows = rows} {item_of = item_of} head_laid laid stop h xs p q headed within e =
@@ -138,7 +138,7 @@ whole_fault_stays stop header item p f bits headed within len same (inr t) =
 
 -- Where a fault is told, no whole stands.
 pub none_whole : {H X : Type 0} {header item : Fields} {head : H → List Row} {head_of : List Row → H}
-    {rows : X → List Row} {item_of : List Row → X} → IsLaid header head head_of → IsLaid item rows item_of
+    {rows : X → List Row} {item_of : List Row → X} → IsLayout header head head_of → IsLayout item rows item_of
     → (stop : Stop) (p : Place) (f : Fault) → IsHeaded item → p.at ≤ length p.bits
     → IsWholeFault stop header item p f → NoneWhole stop head rows p f
 none_whole {header = header} {item = item} {head_of = head_of} {item_of = item_of} head_laid laid stop p f headed within t =
@@ -172,7 +172,7 @@ whole_fails head_of item_of (errors.Fault f) stop header item p headed within t 
     whole_fault_is_read head_of item_of stop header item p f headed within t
 
 pub none_of_whole : {H X : Type 0} {header item : Fields} {head : H → List Row} {head_of : List Row → H}
-    {rows : X → List Row} {item_of : List Row → X} → IsLaid header head head_of → IsLaid item rows item_of
+    {rows : X → List Row} {item_of : List Row → X} → IsLayout header head head_of → IsLayout item rows item_of
     → (e : DecodeError) (stop : Stop) (p : Place) → IsHeaded item → p.at ≤ length p.bits
     → OfFault e (λ f. IsWholeFault stop header item p f) → OfFault e (λ f. NoneWhole stop head rows p f)
 none_of_whole head_laid laid errors.Memory stop p headed within t = tt

@@ -49,7 +49,7 @@ OneListStands {X} rows =
     (stop : Stop) (xs ys : List X) (p q r : Place) → p.at ≤ length p.bits
     → Stand stop rows xs p q → Stand stop rows ys p r → (xs ≡ ys) × (q ≡ r)
 
--- A fault is told exactly where reading gives it: so a place tells one fault alone.
+-- A fault is told exactly where reading gives it: so a place tells one fault at most.
 abbrev pub ListFaultIsRead : {X : Type 0} → (List Row → X) → Fields → Type 0
 ListFaultIsRead {X} record_of fields =
     (stop : Stop) (p : Place) (f : Fault) → p.at ≤ length p.bits

@@ -4,7 +4,7 @@ use Rattle.etcs_bits.specs.Number.{worth}
 use Rattle.etcs_bits.specs.Rows.{Variable, Row, alone, number_at}
 use Rattle.etcs_bits.specs.Fields.{Fields, one, ◌▹◌, option}
 use Rattle.etcs_bits.specs.Combined.{qualifier, pair_rows, pair_of, option_rows, option_of}
-use Rattle.etcs_bits.specs.LaidLemmas.{IsLaid, pair_laid, option_laid, renamed_laid, alone_laid, flag_laid}
+use Rattle.etcs_bits.specs.LaidLemmas.{IsLayout, pair_laid, option_laid, parted_laid, alone_laid, flag_laid}
 use Rattle.etcs_bits.specs.Variables.{plain, ranged, nid_c, nid_bg, flag_of}
 use Rattle.etcs_packet.specs.declared.linking.Link.{Link}
 
@@ -70,7 +70,7 @@ link_of rows = with_parts (
 
 -- ---- proofs of the laws of `Layout`
 
-parts_laid : IsLaid link_fields
+parts_laid : IsLayout link_fields
     (pair_rows (alone d_link) (pair_rows (option_rows (alone nid_c)) (pair_rows (alone nid_bg)
     (pair_rows flag_rows (pair_rows (alone q_linkreaction) (alone q_locacc))))))
     (pair_of (one d_link) (number_at 0) (pair_of (option qualifier (one nid_c)) (option_of (number_at 0))
@@ -80,5 +80,5 @@ parts_laid =
     pair_laid (alone_laid d_link) (pair_laid (option_laid (alone_laid nid_c)) (pair_laid (alone_laid nid_bg)
     (pair_laid flag_laid (pair_laid (alone_laid q_linkreaction) (alone_laid q_locacc)))))
 
-pub link_laid : IsLaid link_fields link_rows link_of
-link_laid = renamed_laid with_parts parts_of (λ _. refl) (λ _. refl) parts_laid
+pub link_laid : IsLayout link_fields link_rows link_of
+link_laid = parted_laid with_parts parts_of (λ _. refl) (λ _. refl) parts_laid

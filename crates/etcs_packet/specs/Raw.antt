@@ -7,8 +7,8 @@ use Rattle.etcs_bits.specs.declared.direction.Dir.{Dir}
 use Rattle.etcs_bits.specs.Number.{num, num_of_bits}
 use Rattle.etcs_bits.specs.Rows.{Row, row, AreAllowed, alone, number_at}
 use Rattle.etcs_bits.specs.Fields.{Fields, field, one, ◌▹◌, AreRowsOf}
-use Rattle.etcs_bits.specs.CombinedLemmas.{HaveFields, AreOf, HaveRecords}
-use Rattle.etcs_bits.specs.LaidLemmas.{IsLaid, pair_laid, dir_laid}
+use Rattle.etcs_bits.specs.CombinedLemmas.{HaveFields, AreOf, HaveRecords, field_records}
+use Rattle.etcs_bits.specs.LaidLemmas.{IsLayout, pair_laid, dir_laid}
 use Rattle.etcs_bits.specs.Combined.{pair_rows, pair_of}
 use Rattle.etcs_bits.specs.Variables.{free, q_dir}
 use Rattle.etcs_bits.proofs.NumberLemmas.{length-num, num_of_bits-small, num-num_of_bits}
@@ -76,14 +76,14 @@ tail_records r (l, more, e, (m, end, is, none)) allowed =
     let back : 23 + (l - 23) ≡ l = omega (arith, leb-true 23 l here.0.1) in
     (num (l - 23) m, rw (e, is, none, bits, back, num_of_bits-small (l - 23) m here.1.0.0) refl)
 
-tail_laid : IsLaid tail_fields tail_rows tail_of
-tail_laid = record { have = tail_are_rows; is = tail_record; all = tail_records }
+tail_laid : IsLayout tail_fields tail_rows tail_of
+tail_laid = record { are_rows = tail_are_rows; is_record = tail_record; has_record = tail_records }
 
-pub raw_rest_laid : IsLaid raw_rest_fields (pair_rows dir_rows tail_rows) (pair_of (one q_dir) dir_at tail_of)
+pub raw_rest_laid : IsLayout raw_rest_fields (pair_rows dir_rows tail_rows) (pair_of (one q_dir) dir_at tail_of)
 raw_rest_laid = pair_laid dir_laid tail_laid
 
 raw_are_rows : HaveFields raw_fields raw_rows
-raw_are_rows r = (r.number, raw_rest r.dir r.body, refl, raw_rest_laid.have (r.dir, r.body))
+raw_are_rows r = (r.number, raw_rest r.dir r.body, refl, raw_rest_laid.are_rows (r.dir, r.body))
 
 -- the parts of a packet make that packet
 raw_back : (n : ℕ) (dir : Dir) (body : List Bool) (h : is_kept n (length body) ≡ true) (b : Bool)
@@ -94,7 +94,7 @@ raw_back n dir body h false e = absurd (let both = sym h ∙ e in cc)
 
 raw_record : AreOf raw_of raw_rows
 raw_record r =
-    let parts = raw_rest_laid.is (r.dir, r.body) in
+    let parts = raw_rest_laid.is_record (r.dir, r.body) in
     ap (λ (p : Dir × List Bool). raw_with r.number p) parts
     ∙ raw_back r.number r.dir r.body r.kept (is_kept r.number (length r.body)) refl
 
@@ -107,18 +107,16 @@ short_enough dir body allowed = le-leb (length body) 8168 (omega (arith, allowed
 pub raw_here : (n : ℕ) (more : List Row) → is_other n ≡ true → AreRowsOf raw_rest_fields more → AreAllowed more
     → (v : RawPacket) × (raw_rows v ≡ row nid_raw n ∷ more)
 raw_here n more other w allowed =
-    let p = raw_rest_laid.all more w allowed in
+    let p = raw_rest_laid.has_record more w allowed in
     let short = short_enough p.0.0 p.0.1 (rw p.1 allowed) in
     (raw n p.0.0 p.0.1 (rw (other, short) refl), rw p.1 refl)
 
-raw_records : HaveRecords raw_fields raw_rows
-raw_records r (n, more, e, w) allowed =
-    let here = rw e at allowed in
-    let v = raw_here n more here.0.1 w here.1 in
-    (v.0, v.1 ∙ sym e)
-
-pub raw_laid : IsLaid raw_fields raw_rows raw_of
-raw_laid = record { have = raw_are_rows; is = raw_record; all = raw_records }
+pub raw_laid : IsLayout raw_fields raw_rows raw_of
+raw_laid = record {
+  are_rows = raw_are_rows;
+  is_record = raw_record;
+  has_record = field_records (λ _. raw_rest_fields) (λ n more here w allowed. raw_here n more here.1 w allowed);
+}
 
 -- raw packets with the same number, direction and body are one
 pub raw_parts : (v w : RawPacket) → v.number ≡ w.number → v.dir ≡ w.dir → v.body ≡ w.body → v ≡ w

@@ -1,13 +1,12 @@
 -- The packets from track to train: those whose layout is known, and all others.
-use Rattle.std.specs.Prelude.{◌≡◌, ℕ, ◌==◌, ◌||◌, ◌&&◌, not, if◌then◌else◌, nat_le, Bool, true, false, List, [], ◌∷◌, length, Option, Some, None, refl}
+use Rattle.std.specs.Prelude.{◌≡◌, ℕ, ◌==◌, ◌||◌, not, if◌then◌else◌, nat_le, Bool, true, false, List, [], ◌∷◌, length, Option, Some, None, refl}
 use Rattle.std.proofs.Common.{ap, sym, subst, ◌∙◌, inl, inr}
-use Rattle.std.proofs.lemmas.Bool.{ne_eqb, eqb-true}
+use Rattle.std.proofs.lemmas.Bool.{ne_eqb, eqb-true, and_parts, not-true, or_cases}
 use Rattle.etcs_bits.specs.declared.direction.Dir.{Dir}
 use Rattle.etcs_bits.specs.Rows.{Row, row, AreAllowed, alone, number_at}
 use Rattle.etcs_bits.specs.Fields.{AreRowsOf}
-use Rattle.etcs_bits.specs.CombinedLemmas.{HaveFields, AreOf, HaveRecords}
-use Rattle.etcs_bits.specs.LaidLemmas.{IsLaid, alone_laid}
-use Rattle.etcs_bits.specs.VariableLemmas.{either}
+use Rattle.etcs_bits.specs.CombinedLemmas.{HaveFields, AreOf, field_records}
+use Rattle.etcs_bits.specs.LaidLemmas.{IsLayout, alone_laid}
 use Rattle.etcs_profile.specs.declared.gradient.GradientElement.{GradientElement}
 use Rattle.etcs_profile.specs.declared.speed.SpeedElement.{SpeedElement}
 use Rattle.etcs_profile.specs.Profile.{Profile}
@@ -106,16 +105,8 @@ cover_are_rows c = (0, alone nid_vbcmk c.marker, refl, (c.marker, [], refl, refl
 not_known : (n k : ℕ) → is_other n ≡ true → is_other k ≡ false → n == k ≡ false
 not_known n k other known = ne_eqb n k (λ same. absurd (let both = sym (ap is_other same) ∙ other in cc))
 
-not_true : (b : Bool) → not b ≡ true → b ≡ false
-not_true true h = absurd cc
-not_true false h = refl
-
-and_first : (a b : Bool) → a && b ≡ true → a ≡ true
-and_first true b h = refl
-and_first false b h = h
-
 pub other_of : (n bits : ℕ) → is_kept n bits ≡ true → is_other n ≡ true
-other_of n bits kept = and_first (is_other n) (nat_le bits 8168) kept
+other_of n bits kept = (and_parts (is_other n) (nat_le bits 8168) kept).0
 
 pub rest_other : (n : ℕ) → is_other n ≡ true → rest_by n ≡ raw_rest_fields
 rest_other n other =
@@ -132,20 +123,20 @@ rest_other n other =
 authority_are_rows : (main : Option ℕ) (a : Permission) → AreRowsOf track_fields (renamed (rows_by main a))
 unfolding alone
 authority_are_rows (Some v) a =
-    (12, rest_rows with_main_rows (a.dir, (a.scale, (v, a.terms))), refl, with_main_laid.have (a.dir, (a.scale, (v, a.terms))))
+    (12, rest_rows with_main_rows (a.dir, (a.scale, (v, a.terms))), refl, with_main_laid.are_rows (a.dir, (a.scale, (v, a.terms))))
 authority_are_rows None a =
-    (15, rest_rows without_main_rows (a.dir, (a.scale, a.terms)), refl, without_main_laid.have (a.dir, (a.scale, a.terms)))
+    (15, rest_rows without_main_rows (a.dir, (a.scale, a.terms)), refl, without_main_laid.are_rows (a.dir, (a.scale, a.terms)))
 
 track_are_rows : HaveFields track_fields track_rows
 unfolding alone
 track_are_rows (packets.Cover p) = cover_are_rows p
-track_are_rows (packets.Linking p) = (5, rest_rows (elements_rows link_rows) p, refl, (rest_laid (elements_laid link_laid)).have p)
+track_are_rows (packets.Linking p) = (5, rest_rows (elements_rows link_rows) p, refl, (rest_laid (elements_laid link_laid)).are_rows p)
 track_are_rows (packets.Authority p) = authority_are_rows p.main p
-track_are_rows (packets.Gradient p) = (21, rest_rows (elements_rows gradient_element_rows) p, refl, (rest_laid (elements_laid gradient_element_laid)).have p)
-track_are_rows (packets.Speed p) = (27, rest_rows (elements_rows speed_element_rows) p, refl, (rest_laid (elements_laid speed_element_laid)).have p)
-track_are_rows (packets.Transition p) = (41, rest_rows orders_rows p, refl, (rest_laid orders_laid).have p)
+track_are_rows (packets.Gradient p) = (21, rest_rows (elements_rows gradient_element_rows) p, refl, (rest_laid (elements_laid gradient_element_laid)).are_rows p)
+track_are_rows (packets.Speed p) = (27, rest_rows (elements_rows speed_element_rows) p, refl, (rest_laid (elements_laid speed_element_laid)).are_rows p)
+track_are_rows (packets.Transition p) = (41, rest_rows orders_rows p, refl, (rest_laid orders_laid).are_rows p)
 track_are_rows (packets.Raw p) =
-    (p.number, raw_rest p.dir p.body, refl, rw (rest_other p.number (other_of p.number (length p.body) p.kept)) (raw_rest_laid.have (p.dir, p.body)))
+    (p.number, raw_rest p.dir p.body, refl, rw (rest_other p.number (other_of p.number (length p.body) p.kept)) (raw_rest_laid.are_rows (p.dir, p.body)))
 
 authority_back : (main : Option ℕ) (a : Permission) (b : Permission) → authority_of (rows_by main a) ≡ b
     → track_of (renamed (rows_by main a)) ≡ packets.Authority b
@@ -167,15 +158,15 @@ raw_back n rows other =
 
 track_record : AreOf track_of track_rows
 unfolding alone
-track_record (packets.Cover p) = ap packets.Cover (cover_laid.is p)
-track_record (packets.Linking p) = ap packets.Linking ((packet_laid 5 (elements_laid link_laid)).is p)
-track_record (packets.Authority p) = authority_back p.main p p (authority_laid.is p)
-track_record (packets.Gradient p) = ap packets.Gradient ((packet_laid 21 (elements_laid gradient_element_laid)).is p)
-track_record (packets.Speed p) = ap packets.Speed ((packet_laid 27 (elements_laid speed_element_laid)).is p)
-track_record (packets.Transition p) = ap packets.Transition ((packet_laid 41 orders_laid).is p)
+track_record (packets.Cover p) = ap packets.Cover (cover_laid.is_record p)
+track_record (packets.Linking p) = ap packets.Linking ((packet_laid 5 (elements_laid link_laid)).is_record p)
+track_record (packets.Authority p) = authority_back p.main p p (authority_laid.is_record p)
+track_record (packets.Gradient p) = ap packets.Gradient ((packet_laid 21 (elements_laid gradient_element_laid)).is_record p)
+track_record (packets.Speed p) = ap packets.Speed ((packet_laid 27 (elements_laid speed_element_laid)).is_record p)
+track_record (packets.Transition p) = ap packets.Transition ((packet_laid 41 orders_laid).is_record p)
 track_record (packets.Raw p) =
     raw_back p.number (renamed (raw_rows p)) (other_of p.number (length p.body) p.kept)
-    ∙ ap packets.Raw (raw_laid.is p)
+    ∙ ap packets.Raw (raw_laid.is_record p)
 
 -- The rows that may follow this NID_PACKET are those of a packet.
 abbrev HasPackets : ℕ → Type 0
@@ -183,47 +174,40 @@ HasPackets n =
     (more : List Row) → AreRowsOf (rest_by n) more → AreAllowed more
     → (p : TrackPacket) × (track_rows p ≡ row nid_track n ∷ more)
 
+-- a case of the packets that has the same fields behind the number
+case_of : {X : Type 0} {rows : X → List Row} {of : List Row → X} (n : ℕ) (case : X → TrackPacket)
+    → IsLayout (rest_by n) rows of → ((x : X) → track_rows (case x) ≡ row nid_track n ∷ rows x) → HasPackets n
+case_of n case laid own more w allowed =
+    let x = laid.has_record more w allowed in
+    (case x.0, own x.0 ∙ ap (λ rows. row nid_track n ∷ rows) x.1)
+
 covers : HasPackets 0
 unfolding alone
-covers more w allowed =
-    let p = (alone_laid nid_vbcmk).all more w allowed in
-    (packets.Cover (record { marker = p.0 }), rw p.1 refl)
+covers = case_of 0 (λ m. packets.Cover (record { marker = m })) (alone_laid nid_vbcmk) (λ _. refl)
 
 linkings : HasPackets 5
 unfolding alone
-linkings more w allowed =
-    let p = (rest_laid (elements_laid link_laid)).all more w allowed in
-    (packets.Linking p.0, rw p.1 refl)
+linkings = case_of 5 (λ p. packets.Linking p) (rest_laid (elements_laid link_laid)) (λ _. refl)
 
 authorities_12 : HasPackets 12
 unfolding alone
-authorities_12 more w allowed =
-    let p = with_main_laid.all more w allowed in
-    (packets.Authority (level_1 p.0), rw p.1 refl)
+authorities_12 = case_of 12 (λ p. packets.Authority (level_1 p)) with_main_laid (λ _. refl)
 
 authorities_15 : HasPackets 15
 unfolding alone
-authorities_15 more w allowed =
-    let p = without_main_laid.all more w allowed in
-    (packets.Authority (level_2 p.0), rw p.1 refl)
+authorities_15 = case_of 15 (λ p. packets.Authority (level_2 p)) without_main_laid (λ _. refl)
 
 gradients : HasPackets 21
 unfolding alone
-gradients more w allowed =
-    let p = (rest_laid (elements_laid gradient_element_laid)).all more w allowed in
-    (packets.Gradient p.0, rw p.1 refl)
+gradients = case_of 21 (λ p. packets.Gradient p) (rest_laid (elements_laid gradient_element_laid)) (λ _. refl)
 
 speeds : HasPackets 27
 unfolding alone
-speeds more w allowed =
-    let p = (rest_laid (elements_laid speed_element_laid)).all more w allowed in
-    (packets.Speed p.0, rw p.1 refl)
+speeds = case_of 27 (λ p. packets.Speed p) (rest_laid (elements_laid speed_element_laid)) (λ _. refl)
 
 transitions : HasPackets 41
 unfolding alone
-transitions more w allowed =
-    let p = (rest_laid orders_laid).all more w allowed in
-    (packets.Transition p.0, rw p.1 refl)
+transitions = case_of 41 (λ p. packets.Transition p) (rest_laid orders_laid) (λ _. refl)
 
 others : (n : ℕ) → is_other n ≡ true → HasPackets n
 others n other more w allowed =
@@ -237,17 +221,17 @@ found n k test = subst HasPackets (sym (eqb-true n k test))
 
 -- the number of a packet that is known
 known : (n : ℕ) → is_known n ≡ true → HasPackets n
-known n test = elim (either _ _ test) [
+known n test = elim (or_cases _ _ test) [
   | inl e ↦ found n 0 e covers
-  | inr t ↦ elim (either _ _ t) [
+  | inr t ↦ elim (or_cases _ _ t) [
     | inl e ↦ found n 5 e linkings
-    | inr t ↦ elim (either _ _ t) [
+    | inr t ↦ elim (or_cases _ _ t) [
       | inl e ↦ found n 12 e authorities_12
-      | inr t ↦ elim (either _ _ t) [
+      | inr t ↦ elim (or_cases _ _ t) [
         | inl e ↦ found n 15 e authorities_15
-        | inr t ↦ elim (either _ _ t) [
+        | inr t ↦ elim (or_cases _ _ t) [
           | inl e ↦ found n 21 e gradients
-          | inr t ↦ elim (either _ _ t) [
+          | inr t ↦ elim (or_cases _ _ t) [
             | inl e ↦ found n 27 e speeds
             | inr e ↦ found n 41 e transitions
           ]
@@ -260,13 +244,11 @@ known n test = elim (either _ _ test) [
 -- any number but the end mark's is that of a packet
 numbered : (n : ℕ) (b : Bool) → is_known n ≡ b → not (n == 255) ≡ true → HasPackets n
 numbered n true here not_end = known n here
-numbered n false here not_end = others n (rw (here, not_true (n == 255) not_end) refl)
+numbered n false here not_end = others n (rw (here, not-true (n == 255) not_end) refl)
 
-track_records : HaveRecords track_fields track_rows
-track_records r (n, more, e, w) allowed =
-    let here = rw e at allowed in
-    let p = numbered n (is_known n) refl here.0.1 more w here.1 in
-    (p.0, p.1 ∙ sym e)
-
-pub track_laid : IsLaid track_fields track_rows track_of
-track_laid = record { have = track_are_rows; is = track_record; all = track_records }
+pub track_laid : IsLayout track_fields track_rows track_of
+track_laid = record {
+  are_rows = track_are_rows;
+  is_record = track_record;
+  has_record = field_records rest_by (λ n more here w allowed. numbered n (is_known n) refl here.1 more w allowed);
+}

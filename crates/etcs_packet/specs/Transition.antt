@@ -6,7 +6,7 @@ use Rattle.etcs_bits.specs.declared.scale.Scale.{Scale}
 use Rattle.etcs_bits.specs.Rows.{Variable, Row, alone, number_at}
 use Rattle.etcs_bits.specs.Fields.{Fields, one, ◌▹◌, counted}
 use Rattle.etcs_bits.specs.Combined.{n_iter, pair_rows, pair_of, counted_rows, counted_of}
-use Rattle.etcs_bits.specs.LaidLemmas.{IsLaid, pair_laid, counted_laid, renamed_laid, alone_laid, scale_laid}
+use Rattle.etcs_bits.specs.LaidLemmas.{IsLayout, pair_laid, counted_laid, parted_laid, alone_laid, scale_laid}
 use Rattle.etcs_bits.specs.Level.{level_fields, level_rows, level_of, level_laid}
 use Rattle.etcs_bits.specs.Variables.{plain, q_scale}
 use Rattle.etcs_profile.specs.Elements.{scale_rows, scale_at}
@@ -38,21 +38,21 @@ order_of rows = order_with (pair_of level_fields level_of (number_at 0) rows)
 -- the scale, the distance to the place of the change, the order of highest priority and the others
 pub record Orders : Type 0 where
   pub scale : Scale
-  pub distance : ℕ
+  pub d_leveltr : ℕ
   pub first : LevelOrder
   pub further : List LevelOrder
 
 -- orders of these parts
 abbrev pub orders : Scale → ℕ → LevelOrder → List LevelOrder → Orders
-orders scale distance first further =
-    record { scale = scale; distance = distance; first = first; further = further }
+orders scale d_leveltr first further =
+    record { scale = scale; d_leveltr = d_leveltr; first = first; further = further }
 
 -- the parts, as pairs
 abbrev pub Parts : Type 0
 Parts = Scale × (ℕ × (LevelOrder × List LevelOrder))
 
 abbrev pub parts_of : Orders → Parts
-parts_of o = (o.scale, (o.distance, (o.first, o.further)))
+parts_of o = (o.scale, (o.d_leveltr, (o.first, o.further)))
 
 abbrev pub with_parts : Parts → Orders
 with_parts p = orders p.0 p.1.0 p.1.1.0 p.1.1.1
@@ -71,12 +71,12 @@ orders_of rows = with_parts (
 
 -- ---- proofs of the laws of `Layout`
 
-pub order_laid : IsLaid order_fields order_rows order_of
+pub order_laid : IsLayout order_fields order_rows order_of
 order_laid =
-    renamed_laid order_with (λ o. (o.level, o.acknowledge)) (λ _. refl) (λ _. refl)
+    parted_laid order_with (λ o. (o.level, o.acknowledge)) (λ _. refl) (λ _. refl)
     (pair_laid level_laid (alone_laid l_ackleveltr))
 
-pub orders_laid : IsLaid orders_fields orders_rows orders_of
+pub orders_laid : IsLayout orders_fields orders_rows orders_of
 orders_laid =
-    renamed_laid with_parts parts_of (λ _. refl) (λ _. refl)
+    parted_laid with_parts parts_of (λ _. refl) (λ _. refl)
     (pair_laid scale_laid (pair_laid (alone_laid d_leveltr) (pair_laid order_laid (counted_laid order_laid))))

@@ -125,7 +125,7 @@ impl Transition {
 
     /// D_LEVELTR: how far away the place of the change is, in the packet's scale; 32,767 is now.
     pub fn d_leveltr(&self) -> Distance
-        ensures { result ≡ self.now.1.distance }
+        ensures { result ≡ self.now.1.d_leveltr }
     {
         self.packet.body().1.0
     }

@@ -1,18 +1,17 @@
 -- A movement authority, packets 12 and 15 (SUBSET-026, 3.8 and 7.4.2): how far a train may run. The
 -- two differ by V_MAIN, which packet 12 alone has.
 use Rattle.std.specs.Prelude.{◌≡◌, ℕ, ◌+◌, ◌*◌, ◌<◌, ◌⊎◌, ◌==◌, ◌||◌, if◌then◌else◌, false, IsTrue, List, ◌∷◌, Option, Some, None, ◌++◌, drop, refl, sum_by}
-use Rattle.std.proofs.Common.{ap, sym, ◌∙◌, inl, inr}
-use Rattle.std.proofs.lemmas.Bool.{eqb-true}
+use Rattle.std.proofs.Common.{ap, inl, inr}
+use Rattle.std.proofs.lemmas.Bool.{eqb-true, or_cases}
 use Rattle.etcs_bits.specs.declared.fault.FaultKind.TheVariants.{Spare}
 use Rattle.etcs_bits.specs.declared.direction.Dir.{Dir}
 use Rattle.etcs_bits.specs.declared.scale.Scale.{Scale}
 use Rattle.etcs_bits.specs.Rows.{Variable, Row, row, AreAllowed, alone, number_at, width}
 use Rattle.etcs_bits.specs.Fields.{Fields, one, field, ◌▹◌, AreRowsOf}
 use Rattle.etcs_bits.specs.Combined.{pair_rows, pair_of}
-use Rattle.etcs_bits.specs.CombinedLemmas.{HaveFields, AreOf, HaveRecords}
-use Rattle.etcs_bits.specs.LaidLemmas.{IsLaid, pair_laid, alone_laid, scale_laid}
+use Rattle.etcs_bits.specs.CombinedLemmas.{HaveFields, AreOf, field_records}
+use Rattle.etcs_bits.specs.LaidLemmas.{IsLayout, pair_laid, alone_laid, scale_laid}
 use Rattle.etcs_bits.specs.Variables.{q_scale}
-use Rattle.etcs_bits.specs.VariableLemmas.{either}
 use Rattle.etcs_profile.specs.Packet.{rest_fields, rest_rows, rest_laid, rest_of}
 use Rattle.etcs_profile.specs.Elements.{scale_rows, scale_at}
 use Rattle.etcs_profile.specs.Reach.{scale_factor}
@@ -106,26 +105,26 @@ IsAuthorityTooLong a = 8191 < width (authority_rows a)
 
 -- ---- proofs of the laws of `Layout`
 
-pub with_main_laid : IsLaid (rest_fields with_main_fields) (rest_rows with_main_rows) (rest_of with_main_of)
+pub with_main_laid : IsLayout (rest_fields with_main_fields) (rest_rows with_main_rows) (rest_of with_main_of)
 with_main_laid = rest_laid (pair_laid scale_laid (pair_laid (alone_laid speed) terms_laid))
 
-pub without_main_laid : IsLaid (rest_fields without_main_fields) (rest_rows without_main_rows) (rest_of without_main_of)
+pub without_main_laid : IsLayout (rest_fields without_main_fields) (rest_rows without_main_rows) (rest_of without_main_of)
 without_main_laid = rest_laid (pair_laid scale_laid terms_laid)
 
 are_rows_by : (main : Option ℕ) (a : Permission) → AreRowsOf authority_fields (rows_by main a)
 unfolding alone
 are_rows_by (Some v) a =
-    (12, rest_rows with_main_rows (a.dir, (a.scale, (v, a.terms))), refl, with_main_laid.have (a.dir, (a.scale, (v, a.terms))))
+    (12, rest_rows with_main_rows (a.dir, (a.scale, (v, a.terms))), refl, with_main_laid.are_rows (a.dir, (a.scale, (v, a.terms))))
 are_rows_by None a =
-    (15, rest_rows without_main_rows (a.dir, (a.scale, a.terms)), refl, without_main_laid.have (a.dir, (a.scale, a.terms)))
+    (15, rest_rows without_main_rows (a.dir, (a.scale, a.terms)), refl, without_main_laid.are_rows (a.dir, (a.scale, a.terms)))
 
 authority_are_rows : HaveFields authority_fields authority_rows
 authority_are_rows a = are_rows_by a.main a
 
 record_by : (main : Option ℕ) (a : Permission) → authority_of (rows_by main a) ≡ permission a.dir a.scale main a.terms
 unfolding alone
-record_by (Some v) a = ap level_1 (with_main_laid.is (a.dir, (a.scale, (v, a.terms))))
-record_by None a = ap level_2 (without_main_laid.is (a.dir, (a.scale, a.terms)))
+record_by (Some v) a = ap level_1 (with_main_laid.is_record (a.dir, (a.scale, (v, a.terms))))
+record_by None a = ap level_2 (without_main_laid.is_record (a.dir, (a.scale, a.terms)))
 
 authority_record : AreOf authority_of authority_rows
 authority_record a = record_by a.main a
@@ -137,25 +136,23 @@ records_by : (n : ℕ) (more : List Row) → (n ≡ 12) ⊎ (n ≡ 15)
 unfolding alone
 records_by n more (inl is) w allowed =
     let here : AreRowsOf (rest_fields with_main_fields) more = rw is at w in
-    let p = with_main_laid.all more here allowed in
+    let p = with_main_laid.has_record more here allowed in
     (level_1 p.0, rw (is, p.1) refl)
 records_by n more (inr is) w allowed =
     let here : AreRowsOf (rest_fields without_main_fields) more = rw is at w in
-    let p = without_main_laid.all more here allowed in
+    let p = without_main_laid.has_record more here allowed in
     (level_2 p.0, rw (is, p.1) refl)
 
 -- NID_PACKET is 12 or 15
-pub authority_number_is : (n : ℕ) → IsTrue (nid_authority.allows n) → (n ≡ 12) ⊎ (n ≡ 15)
-authority_number_is n allowed = elim (either (n == 12) (n == 15) allowed) [
+number_is : (n : ℕ) → IsTrue (nid_authority.allows n) → (n ≡ 12) ⊎ (n ≡ 15)
+number_is n allowed = elim (or_cases (n == 12) (n == 15) allowed) [
   | inl e ↦ inl (eqb-true n 12 e)
   | inr e ↦ inr (eqb-true n 15 e)
 ]
 
-authority_records : HaveRecords authority_fields authority_rows
-authority_records r (n, more, e, w) allowed =
-    let here = rw e at allowed in
-    let a = records_by n more (authority_number_is n here.0.1) w here.1 in
-    (a.0, a.1 ∙ sym e)
-
-pub authority_laid : IsLaid authority_fields authority_rows authority_of
-authority_laid = record { have = authority_are_rows; is = authority_record; all = authority_records }
+pub authority_laid : IsLayout authority_fields authority_rows authority_of
+authority_laid = record {
+  are_rows = authority_are_rows;
+  is_record = authority_record;
+  has_record = field_records authority_rest (λ n more here w allowed. records_by n more (number_is n here.1) w allowed);
+}

@@ -5,7 +5,7 @@ use Rattle.etcs_bits.specs.declared.scale.Scale.{Scale}
 use Rattle.etcs_bits.specs.Rows.{Row, alone, number_at}
 use Rattle.etcs_bits.specs.Fields.{Fields, one, ◌▹◌, counted}
 use Rattle.etcs_bits.specs.Combined.{n_iter, pair_rows, pair_of, counted_rows, counted_of}
-use Rattle.etcs_bits.specs.LaidLemmas.{IsLaid, pair_laid, counted_laid, renamed_laid, scale_laid}
+use Rattle.etcs_bits.specs.LaidLemmas.{IsLayout, pair_laid, counted_laid, parted_laid, scale_laid}
 use Rattle.etcs_bits.specs.Variables.{q_scale, scale_number, scale_of}
 use Rattle.etcs_profile.specs.Profile.{Profile}
 use Rattle.etcs_profile.specs.declared.reach.Reach.{Reach}
@@ -57,8 +57,8 @@ elements_reach distance marked e =
 -- ---- proofs of the laws of `Layout`
 
 pub elements_laid : {X : Type 0} {element : Fields} {rows : X → List Row} {of : List Row → X}
-    → IsLaid element rows of
-    → IsLaid (elements_fields element) (elements_rows rows) (elements_of element of)
+    → IsLayout element rows of
+    → IsLayout (elements_fields element) (elements_rows rows) (elements_of element of)
 elements_laid v =
-    renamed_laid elements_with (λ e. (e.scale, (e.first, e.further))) (λ _. refl) (λ _. refl)
+    parted_laid elements_with (λ e. (e.scale, (e.first, e.further))) (λ _. refl) (λ _. refl)
     (pair_laid scale_laid (pair_laid v (counted_laid v)))

@@ -5,7 +5,7 @@ use Rattle.etcs_bits.specs.Number.{worth}
 use Rattle.etcs_bits.specs.Rows.{Variable, Row, alone, number_at}
 use Rattle.etcs_bits.specs.Fields.{Fields, one, ◌▹◌}
 use Rattle.etcs_bits.specs.CombinedLemmas.{AreOf}
-use Rattle.etcs_bits.specs.LaidLemmas.{IsLaid, pair_laid, renamed_laid, found_laid, alone_laid, flag_laid}
+use Rattle.etcs_bits.specs.LaidLemmas.{IsLayout, pair_laid, parted_laid, found_laid, alone_laid, flag_laid}
 use Rattle.etcs_bits.specs.Variables.{plain, flag_of}
 use Rattle.etcs_bits.specs.VariableLemmas.{flag_back}
 use Rattle.etcs_profile.specs.declared.gradient.GradientElement.{GradientElement}
@@ -36,11 +36,8 @@ abbrev gradient_element_with : ℕ × (Bool × ℕ) → GradientElement
 gradient_element_with p = record { distance = p.0; uphill = p.1.0; gradient = p.1.1 }
 
 abbrev pub gradient_element_of : List Row → GradientElement
-gradient_element_of rows = record {
-  distance = number_at 0 rows;
-  uphill = flag_of (number_at 1 rows);
-  gradient = number_at 2 rows;
-}
+gradient_element_of rows =
+    gradient_element_with (number_at 0 rows, (flag_of (number_at 1 rows), number_at 2 rows))
 
 -- ---- proofs of the laws of `Layout`
 
@@ -49,8 +46,8 @@ unfolding alone
 gradient_element_record e =
     ap (λ u. record { distance = e.distance; uphill = u; gradient = e.gradient }) (flag_back e.uphill)
 
-pub gradient_element_laid : IsLaid gradient_element_fields gradient_element_rows gradient_element_of
+pub gradient_element_laid : IsLayout gradient_element_fields gradient_element_rows gradient_element_of
 gradient_element_laid =
     found_laid gradient_element_of gradient_element_record
-    (renamed_laid gradient_element_with (λ e. (e.distance, (e.uphill, e.gradient))) (λ _. refl) (λ _. refl)
+    (parted_laid gradient_element_with (λ e. (e.distance, (e.uphill, e.gradient))) (λ _. refl) (λ _. refl)
     (pair_laid (alone_laid d_gradient) (pair_laid flag_laid (alone_laid g_a))))

@@ -1,12 +1,11 @@
 -- A packet: its number, its direction, its length and its body (SUBSET-026, 7.4).
-use Rattle.std.specs.Prelude.{ℕ, List, ◌++◌, drop, refl}
+use Rattle.std.specs.Prelude.{◌≡◌, ℕ, List, ◌++◌, drop, refl}
 use Rattle.etcs_bits.specs.declared.fault.FaultKind.TheVariants.{Spare}
 use Rattle.etcs_bits.specs.declared.direction.Dir.{Dir}
 use Rattle.etcs_bits.specs.Rows.{Variable, Row, alone, number_at}
 use Rattle.etcs_bits.specs.Fields.{Fields, one, ◌▹◌, sized}
 use Rattle.etcs_bits.specs.Combined.{pair_rows, pair_of, body_rows, body_of}
-use Rattle.etcs_bits.specs.LaidLemmas.{IsLaid, pair_laid, body_laid, renamed_laid, found_laid, only_laid, dir_laid}
-use Rattle.etcs_bits.specs.RowLemmas.{alone_rows}
+use Rattle.etcs_bits.specs.LaidLemmas.{IsLayout, pair_laid, body_laid, parted_laid, found_laid, only_laid, dir_laid}
 use Rattle.etcs_bits.specs.Variables.{only, q_dir, dir_number, dir_of}
 
 -- NID_PACKET of a packet that is known: its own number
@@ -47,16 +46,21 @@ packet_of of rows = rest_of of (drop 1 rows)
 
 -- ---- proofs of the laws of `Layout`
 
+-- NID_PACKET of a packet that is known says nothing
+pub number_laid : {X : Type 0} (k : ℕ) (x : X) → ((y : X) → x ≡ y)
+    → IsLayout (one (nid_packet k)) (λ _. alone (nid_packet k) k) (λ _. x)
+number_laid k x same = only_laid 8 k Spare x same
+
 -- what follows NID_PACKET is laid out as the body is
 pub rest_laid : {X : Type 0} {fields : Fields} {rows : X → List Row} {of : List Row → X}
-    → IsLaid fields rows of → IsLaid (rest_fields fields) (rest_rows rows) (rest_of of)
+    → IsLayout fields rows of → IsLayout (rest_fields fields) (rest_rows rows) (rest_of of)
 rest_laid v = pair_laid dir_laid (body_laid 10 v)
 
 -- a packet is laid out as its body is
 pub packet_laid : {X : Type 0} (k : ℕ) {fields : Fields} {rows : X → List Row} {of : List Row → X}
-    → IsLaid fields rows of → IsLaid (packet_fields k fields) (packet_rows k rows) (packet_of of)
+    → IsLayout fields rows of → IsLayout (packet_fields k fields) (packet_rows k rows) (packet_of of)
 unfolding alone
 packet_laid {X = X} k {rows = rows} {of = of} v =
-    found_laid (packet_of of) (λ p. (rest_laid v).is p)
-    (renamed_laid (λ (p : Unit {0} × (Dir × X)). p.1) (λ p. (tt, p)) (λ _. refl) (λ _. refl)
-    (pair_laid (only_laid 8 k Spare tt (λ _. refl)) (rest_laid v)))
+    found_laid (packet_of of) (λ p. (rest_laid v).is_record p)
+    (parted_laid (λ (p : Unit {0} × (Dir × X)). p.1) (λ p. (tt, p)) (λ _. refl) (λ _. refl)
+    (pair_laid (number_laid k tt (λ _. refl)) (rest_laid v)))

@@ -4,7 +4,7 @@ use Rattle.std.specs.Prelude.{ℕ, List, Option, ◌++◌, refl}
 use Rattle.etcs_bits.specs.Rows.{Variable, Row, alone, number_at}
 use Rattle.etcs_bits.specs.Fields.{Fields, one, ◌▹◌, option}
 use Rattle.etcs_bits.specs.Combined.{qualifier, pair_rows, pair_of, option_rows, option_of}
-use Rattle.etcs_bits.specs.LaidLemmas.{IsLaid, pair_laid, option_laid, renamed_laid, found_laid, alone_laid}
+use Rattle.etcs_bits.specs.LaidLemmas.{IsLayout, pair_laid, option_laid, parted_laid, found_laid, alone_laid}
 use Rattle.etcs_bits.specs.Variables.{plain, ranged}
 use Rattle.etcs_profile.specs.declared.section.Section.{Section}
 use Rattle.etcs_profile.specs.declared.section.SectionTimer.{SectionTimer}
@@ -39,7 +39,7 @@ abbrev section_timer_with : ℕ × ℕ → SectionTimer
 section_timer_with p = record { time = p.0; stop = p.1 }
 
 abbrev pub section_timer_of : List Row → SectionTimer
-section_timer_of rows = record { time = number_at 0 rows; stop = number_at 1 rows }
+section_timer_of rows = section_timer_with (number_at 0 rows, number_at 1 rows)
 
 -- ---- a section: L_SECTION, Q_SECTIONTIMER and its timer
 
@@ -69,7 +69,7 @@ abbrev end_timer_with : ℕ × ℕ → EndTimer
 end_timer_with p = record { time = p.0; start = p.1 }
 
 abbrev pub end_timer_of : List Row → EndTimer
-end_timer_of rows = record { time = number_at 0 rows; start = number_at 1 rows }
+end_timer_of rows = end_timer_with (number_at 0 rows, number_at 1 rows)
 
 -- ---- a danger point: D_DP, V_RELEASEDP
 
@@ -84,7 +84,7 @@ abbrev danger_point_with : ℕ × ℕ → DangerPoint
 danger_point_with p = record { distance = p.0; release_speed = p.1 }
 
 abbrev pub danger_point_of : List Row → DangerPoint
-danger_point_of rows = record { distance = number_at 0 rows; release_speed = number_at 1 rows }
+danger_point_of rows = danger_point_with (number_at 0 rows, number_at 1 rows)
 
 -- ---- an overlap: D_STARTOL, T_OL, D_OL, V_RELEASEOL
 
@@ -106,45 +106,41 @@ overlap_with p = record {
 }
 
 abbrev pub overlap_of : List Row → Overlap
-overlap_of rows = record {
-  start = number_at 0 rows;
-  time = number_at 1 rows;
-  length = number_at 2 rows;
-  release_speed = number_at 3 rows;
-}
+overlap_of rows =
+    overlap_with (number_at 0 rows, (number_at 1 rows, (number_at 2 rows, number_at 3 rows)))
 
 -- ---- proofs of the laws of `Layout`
 
-pub section_timer_laid : IsLaid section_timer_fields section_timer_rows section_timer_of
+pub section_timer_laid : IsLayout section_timer_fields section_timer_rows section_timer_of
 unfolding alone
 section_timer_laid =
     found_laid section_timer_of (λ _. refl)
-    (renamed_laid section_timer_with (λ t. (t.time, t.stop)) (λ _. refl) (λ _. refl)
+    (parted_laid section_timer_with (λ t. (t.time, t.stop)) (λ _. refl) (λ _. refl)
     (pair_laid (alone_laid time) (alone_laid distance)))
 
-pub end_timer_laid : IsLaid end_timer_fields end_timer_rows end_timer_of
+pub end_timer_laid : IsLayout end_timer_fields end_timer_rows end_timer_of
 unfolding alone
 end_timer_laid =
     found_laid end_timer_of (λ _. refl)
-    (renamed_laid end_timer_with (λ t. (t.time, t.start)) (λ _. refl) (λ _. refl)
+    (parted_laid end_timer_with (λ t. (t.time, t.start)) (λ _. refl) (λ _. refl)
     (pair_laid (alone_laid time) (alone_laid distance)))
 
-pub danger_point_laid : IsLaid danger_point_fields danger_point_rows danger_point_of
+pub danger_point_laid : IsLayout danger_point_fields danger_point_rows danger_point_of
 unfolding alone
 danger_point_laid =
     found_laid danger_point_of (λ _. refl)
-    (renamed_laid danger_point_with (λ p. (p.distance, p.release_speed)) (λ _. refl) (λ _. refl)
+    (parted_laid danger_point_with (λ p. (p.distance, p.release_speed)) (λ _. refl) (λ _. refl)
     (pair_laid (alone_laid distance) (alone_laid release_speed)))
 
-pub overlap_laid : IsLaid overlap_fields overlap_rows overlap_of
+pub overlap_laid : IsLayout overlap_fields overlap_rows overlap_of
 unfolding alone
 overlap_laid =
     found_laid overlap_of (λ _. refl)
-    (renamed_laid overlap_with (λ o. (o.start, (o.time, (o.length, o.release_speed)))) (λ _. refl) (λ _. refl)
+    (parted_laid overlap_with (λ o. (o.start, (o.time, (o.length, o.release_speed)))) (λ _. refl) (λ _. refl)
     (pair_laid (alone_laid distance) (pair_laid (alone_laid time)
     (pair_laid (alone_laid distance) (alone_laid release_speed)))))
 
-pub section_laid : IsLaid section_fields section_rows section_of
+pub section_laid : IsLayout section_fields section_rows section_of
 section_laid =
-    renamed_laid section_with (λ s. (s.length, s.timer)) (λ _. refl) (λ _. refl)
+    parted_laid section_with (λ s. (s.length, s.timer)) (λ _. refl) (λ _. refl)
     (pair_laid (alone_laid distance) (option_laid section_timer_laid))

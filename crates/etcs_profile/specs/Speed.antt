@@ -6,7 +6,7 @@ use Rattle.etcs_bits.specs.Rows.{Variable, Row, alone, number_at}
 use Rattle.etcs_bits.specs.Fields.{Fields, one, ◌▹◌, counted}
 use Rattle.etcs_bits.specs.Combined.{n_iter, counted_rows, counted_of}
 use Rattle.etcs_bits.specs.CombinedLemmas.{AreOf}
-use Rattle.etcs_bits.specs.LaidLemmas.{IsLaid, pair_laid, counted_laid, renamed_laid, found_laid, alone_laid, flag_laid}
+use Rattle.etcs_bits.specs.LaidLemmas.{IsLayout, pair_laid, counted_laid, parted_laid, found_laid, alone_laid, flag_laid}
 use Rattle.etcs_bits.specs.Variables.{plain, ranged, flag_of}
 use Rattle.etcs_bits.specs.VariableLemmas.{flag_back}
 use Rattle.etcs_profile.specs.declared.speed.Difference.{Difference}
@@ -47,11 +47,7 @@ abbrev difference_with : ℕ × (ℕ × ℕ) → Difference
 difference_with p = record { kind = p.0; category = p.1.0; speed = p.1.1 }
 
 abbrev pub difference_of : List Row → Difference
-difference_of rows = record {
-  kind = number_at 0 rows;
-  category = number_at 1 rows;
-  speed = number_at 2 rows;
-}
+difference_of rows = difference_with (number_at 0 rows, (number_at 1 rows, number_at 2 rows))
 
 -- the fields and the rows of an element
 abbrev pub speed_element_fields : Fields
@@ -74,31 +70,32 @@ speed_element_with p = record {
 }
 
 abbrev pub speed_element_of : List Row → SpeedElement
-speed_element_of rows = record {
-  distance = number_at 0 rows;
-  speed = number_at 1 rows;
-  front = flag_of (number_at 2 rows);
-  differences = counted_of difference_fields difference_of (drop 3 rows);
-}
+speed_element_of rows = speed_element_with (
+  number_at 0 rows,
+  (
+    number_at 1 rows,
+    (flag_of (number_at 2 rows), counted_of difference_fields difference_of (drop 3 rows)),
+  ),
+)
 
 -- ---- proofs of the laws of `Layout`
 
-pub difference_laid : IsLaid difference_fields difference_rows difference_of
+pub difference_laid : IsLayout difference_fields difference_rows difference_of
 unfolding alone
 difference_laid =
     found_laid difference_of (λ _. refl)
-    (renamed_laid difference_with (λ d. (d.kind, (d.category, d.speed))) (λ _. refl) (λ _. refl)
+    (parted_laid difference_with (λ d. (d.kind, (d.category, d.speed))) (λ _. refl) (λ _. refl)
     (pair_laid (alone_laid q_diff) (pair_laid (alone_laid nc_diff) (alone_laid v_diff))))
 
 speed_element_record : AreOf speed_element_of speed_element_rows
 unfolding alone
 speed_element_record e =
     ap₂ (λ (f : Bool) (ds : List Difference). record { distance = e.distance; speed = e.speed; front = f; differences = ds })
-    (flag_back e.front) ((counted_laid difference_laid).is e.differences)
+    (flag_back e.front) ((counted_laid difference_laid).is_record e.differences)
 
-pub speed_element_laid : IsLaid speed_element_fields speed_element_rows speed_element_of
+pub speed_element_laid : IsLayout speed_element_fields speed_element_rows speed_element_of
 speed_element_laid =
     found_laid speed_element_of speed_element_record
-    (renamed_laid speed_element_with (λ e. (e.distance, (e.speed, (e.front, e.differences)))) (λ _. refl) (λ _. refl)
+    (parted_laid speed_element_with (λ e. (e.distance, (e.speed, (e.front, e.differences)))) (λ _. refl) (λ _. refl)
     (pair_laid (alone_laid d_static) (pair_laid (alone_laid v_static)
     (pair_laid flag_laid (counted_laid difference_laid)))))

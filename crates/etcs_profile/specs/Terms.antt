@@ -4,7 +4,7 @@ use Rattle.std.specs.Prelude.{ℕ, List, Option, refl}
 use Rattle.etcs_bits.specs.Rows.{Variable, Row, alone, number_at}
 use Rattle.etcs_bits.specs.Fields.{Fields, one, ◌▹◌, option, counted}
 use Rattle.etcs_bits.specs.Combined.{qualifier, n_iter, pair_rows, pair_of, option_rows, option_of, counted_rows, counted_of}
-use Rattle.etcs_bits.specs.LaidLemmas.{IsLaid, pair_laid, option_laid, counted_laid, renamed_laid, alone_laid}
+use Rattle.etcs_bits.specs.LaidLemmas.{IsLayout, pair_laid, option_laid, counted_laid, parted_laid, alone_laid}
 use Rattle.etcs_bits.specs.Variables.{ranged}
 use Rattle.etcs_profile.specs.declared.section.Section.{Section}
 use Rattle.etcs_profile.specs.declared.section.SectionTimer.{SectionTimer}
@@ -107,7 +107,7 @@ terms_of rows = with_parts (
 
 -- ---- proofs of the laws of `Layout`
 
-options_laid : IsLaid
+options_laid : IsLayout
     (option qualifier section_timer_fields ▹ option qualifier end_timer_fields
     ▹ option qualifier danger_point_fields ▹ option qualifier overlap_fields)
     option_parts_rows option_parts_of
@@ -115,7 +115,7 @@ options_laid =
     pair_laid (option_laid section_timer_laid) (pair_laid (option_laid end_timer_laid)
     (pair_laid (option_laid danger_point_laid) (option_laid overlap_laid)))
 
-parts_laid : IsLaid terms_fields
+parts_laid : IsLayout terms_fields
     (pair_rows (alone speed) (pair_rows (alone time) (pair_rows (counted_rows section_rows)
     (pair_rows (alone distance) option_parts_rows))))
     (pair_of (one speed) (number_at 0) (pair_of (one time) (number_at 0)
@@ -125,5 +125,5 @@ parts_laid =
     pair_laid (alone_laid speed) (pair_laid (alone_laid time) (pair_laid (counted_laid section_laid)
     (pair_laid (alone_laid distance) options_laid)))
 
-pub terms_laid : IsLaid terms_fields terms_rows terms_of
-terms_laid = renamed_laid with_parts parts_of (λ _. refl) (λ _. refl) parts_laid
+pub terms_laid : IsLayout terms_fields terms_rows terms_of
+terms_laid = parted_laid with_parts parts_of (λ _. refl) (λ _. refl) parts_laid

@@ -26,9 +26,7 @@ impl<const N: u32> Layout for Number<N> {
     ghost use Rattle.std.specs.Prelude.{◌<◌, refl};
     ghost use Rattle.etcs_bits.specs.Rows.{alone};
     ghost use Rattle.etcs_bits.specs.Fields.{one};
-    ghost use Rattle.etcs_profile.specs.Packet.{nid_packet};
-    ghost use Rattle.etcs_bits.specs.LaidLemmas.{only_laid};
-    ghost use Rattle.etcs_bits.specs.declared.fault.FaultKind.TheVariants.{Spare};
+    ghost use Rattle.etcs_profile.specs.Packet.{nid_packet, number_laid};
 
     ghost rows = { λ _. alone (nid_packet N) N };
 
@@ -38,7 +36,7 @@ impl<const N: u32> Layout for Number<N> {
 
     ghost fit = { λ _. N < 256 };
 
-    ghost laid = { only_laid 8 N Spare (record {}) (λ _. refl) };
+    ghost laid = { number_laid N (record {}) (λ _. refl) };
 
     fn is_allowed(&self) -> bool {
         N < 256

@@ -61,7 +61,7 @@ pub size_of_back : (size : Size) → size_of (user_bits size) ≡ Some size
 size_of_back Short = refl
 size_of_back Long = refl
 
--- bits as many as some telegram has are as many as that of their size
+-- bits as many as some telegram has are as many as a telegram of their size has
 counts_some : (n : ℕ) (o : Option Size) → size_of n ≡ o → IsSome o → n ≡ user_bits (size_by n)
 counts_some n None is none = absurd cc
 counts_some n (Some size) is some = size_counts n size is ∙ ap user_bits (sym (size_found n size is))
@@ -93,7 +93,7 @@ begins_meaning h packets bits b =
 abbrev pub made : Size → Header → List TrackPacket → Telegram
 made size h packets = record { size = size; header = h; packets = packets }
 
--- it has as many bits as a telegram
+-- the bits that are a telegram are as many as some telegram has
 pub telegram_bits : (t : Telegram) (bits : List Bool) → IsTelegram t bits → AreUserBits bits
 telegram_bits t bits x = rw (x.count, size_of_back t.size) refl
 
@@ -173,7 +173,7 @@ spelled_telegram t bits x =
     let header = join (header_rows t.header) in
     let packets = join (flat_map track_rows t.packets) in
     let parts = x.are ∙ append_assoc header (packets ++ num 8 255) x.fill ∙ ap (λ (xs : List Bool). header ++ xs) (append_assoc packets (num 8 255) x.fill) in
-    let whole = whole_written header_rows track_rows t.header t.packets stops.Telegram track_fields (num 8 255 ++ x.fill) bits headed no_mark track_laid.have x.header x.packets (mark_ends stops.Telegram x.fill) parts in
+    let whole = whole_written header_rows track_rows t.header t.packets stops.Telegram track_fields (num 8 255 ++ x.fill) bits headed no_mark track_laid.are_rows x.header x.packets (mark_ends stops.Telegram x.fill) parts in
     record {
       count = x.count;
       begins = record { end = place_in bits (length header + length packets); whole = whole };

@@ -9,7 +9,7 @@ use Rattle.etcs_bits.specs.Number.{worth}
 use Rattle.etcs_bits.specs.Rows.{Row, alone, number_at}
 use Rattle.etcs_bits.specs.Fields.{Fields, one, ◌▹◌}
 use Rattle.etcs_bits.specs.CombinedLemmas.{AreOf}
-use Rattle.etcs_bits.specs.LaidLemmas.{IsLaid, pair_laid, renamed_laid, found_laid, alone_laid, only_laid, flag_laid, version_laid, dup_laid}
+use Rattle.etcs_bits.specs.LaidLemmas.{IsLayout, pair_laid, parted_laid, found_laid, alone_laid, only_laid, flag_laid, version_laid, dup_laid}
 use Rattle.etcs_bits.specs.Variables.{q_updown, m_version, version_number, version_of, q_media, n_pig, n_total, m_dup, dup_number, dup_of, m_mcount, q_link, flag_of}
 use Rattle.etcs_bits.specs.VariableLemmas.{version_back, dup_back, flag_back}
 use Rattle.etcs_bits.specs.Identity.{identity_fields, identity_rows, identity_laid}
@@ -41,7 +41,7 @@ header_rows h =
     ++ (identity_rows h.identity
     ++ alone q_link (worth h.linked))))))))
 
--- the header that rows begin with
+-- the header of rows
 abbrev pub header_of : List Row → Header
 header_of rows = record {
   version = version_of (number_at 1 rows);
@@ -99,10 +99,10 @@ abbrev parts_of : Header → Parts
 parts_of h =
     (tt, (h.version, (tt, (h.position, (h.total, (h.dup, (h.counter, (h.identity, h.linked))))))))
 
-pub header_laid : IsLaid header_fields header_rows header_of
+pub header_laid : IsLayout header_fields header_rows header_of
 header_laid =
     found_laid header_of header_record
-    (renamed_laid with_parts parts_of (λ _. refl) (λ _. refl)
+    (parted_laid with_parts parts_of (λ _. refl) (λ _. refl)
     (pair_laid (only_laid 1 1 Downlink tt (λ _. refl)) (pair_laid version_laid
     (pair_laid (only_laid 1 0 Loop tt (λ _. refl)) (pair_laid (alone_laid n_pig)
     (pair_laid (alone_laid n_total) (pair_laid dup_laid (pair_laid (alone_laid m_mcount)

@@ -10,8 +10,8 @@ use Rattle.etcs_telegram.specs.Sizes.{user_bits}
 use Rattle.etcs_telegram.specs.Telegram.{AreUserBits, IsTelegram, IsTelegramFault, IsNoTelegram, IsEncoding, canonical_bits, front_bits, telegram_of}
 use Rattle.etcs_telegram.specs.Text.{IsTelegramText, IsCanonicalText, telegram_of_text}
 
--- Bits are a telegram exactly where they are as many as some telegram has and mean it: so they are
--- one telegram at most.
+-- Bits are a telegram exactly where they are as many as some telegram has and that telegram is what
+-- they mean: so they are one at most.
 abbrev pub TelegramsAreDecoded : Type 0
 TelegramsAreDecoded =
     (t : Telegram) (bits : List Bool)
@@ -54,7 +54,7 @@ pub record EncodingsAreOneToOne : Type 0 where
       → IsEncoding t bits → IsEncoding u bits → t ≡ u
   pub encodings : (t : Telegram) (a b : List Bool) → IsEncoding t a → IsEncoding t b → a ≡ b
 
--- A text is a telegram exactly where it means it: so it is one telegram at most.
+-- A text is a telegram exactly where that telegram is what it means: so it is one at most.
 abbrev pub TextsAreRead : Type 0
 TextsAreRead = (t : Telegram) (text : List ℕ) → IsTelegramText t text ↔ (telegram_of_text text ≡ Ok t)
 

@@ -3,8 +3,8 @@
 
 ghost use Rattle.etcs_telegram.specs.Laws.{DecodedIsEncoded, EncodedIsDecoded, EncodingsAreOneToOne, EncodingsAreTelegrams, FaultsAreMeant, TelegramsAreDecoded, TelegramsAreSpelledOut, TextsAreOneToOne, TextsAreRead, WrittenIsRead};
 
-/// Bits are a telegram exactly where they are as many as some telegram has and mean it, so they are
-/// one telegram at most.
+/// Bits are a telegram exactly where they are as many as some telegram has and that telegram is what
+/// they mean, so they are one at most.
 pub fn telegrams_are_decoded()
     ensures { TelegramsAreDecoded }
 {}
@@ -41,7 +41,7 @@ pub fn encodings_are_one_to_one()
     ensures { EncodingsAreOneToOne }
 {}
 
-/// A text is a telegram exactly where it means it, so it is one telegram at most.
+/// A text is a telegram exactly where that telegram is what it means, so it is one at most.
 pub fn texts_are_read()
     ensures { TextsAreRead }
 {}

@@ -63,10 +63,10 @@ impl Layout for Sample {
     ghost fit = { λ _. Unit {0} };
 
     ghost laid = { record {
-      have = λ s. (s.0, alone (plain 4) s.1, refl, alone_rows (plain 4) s.1);
-      is = λ s. ap (λ n. (s.0, n)) (number_alone (plain 4) s.1);
-      all = λ r (n, more, e, w) allowed.
-          let m = (alone_laid (plain 4)).all more w (rw e at allowed).1 in
+      are_rows = λ s. (s.0, alone (plain 4) s.1, refl, alone_rows (plain 4) s.1);
+      is_record = λ s. ap (λ n. (s.0, n)) (number_alone (plain 4) s.1);
+      has_record = λ r (n, more, e, w) allowed.
+          let m = (alone_laid (plain 4)).has_record more w (rw e at allowed).1 in
           ((n, m.0), rw (e, m.1) refl);
     } };
 

@@ -14,7 +14,7 @@ returns-in_err-item-clause-none g c =
     let e = c.in_err-item.field-0.0 in
     let told : OfFault e (λ f. IsListFault c.args.stop g.T.Layout.fields c.args.cur.now f) =
     list_fault g.T.Layout.rows e c.loop-found.found.items c.args.stop g.T.Layout.fields c.args.cur.now c.loop-found.ahead c.loop-found.invariant.follow c.in_err-item.ensures.fault in
-    rw (failed.1, failed.2) (none_of g.T.Layout.rows e c.args.stop g.T.Layout.fields c.args.cur.now c.requires g.met.T.Layout.laid.have c.loop-found.invariant.inside told)
+    rw (failed.1, failed.2) (none_of g.T.Layout.rows e c.args.stop g.T.Layout.fields c.args.cur.now c.requires g.met.T.Layout.laid.are_rows c.loop-found.invariant.inside told)
 
 -- and reading gives it
 pub returns-in_err-item-clause-exact : goal.returns-in_err-item-clause-exact
@@ -31,7 +31,7 @@ loop-found-smaller g c =
     let item = c.in-Some.item in
     let step : IsStep c.args.stop g.T.Layout.rows (Some item) c.loop-found.ahead c.next_item.new.cur = rw c.in-Some.is at c.in_ok-item.ensures.ok in
     let inside = follow_within c.args.stop g.T.Layout.fields (map g.T.Layout.rows c.loop-found.found.items) c.args.cur.now c.loop-found.ahead c.loop-found.invariant.inside c.loop-found.invariant.follow in
-    less_left g.T.Layout.fields (g.T.Layout.rows item) c.loop-found.ahead c.next_item.new.cur c.requires inside (g.met.T.Layout.laid.have item) step.1
+    less_left g.T.Layout.fields (g.T.Layout.rows item) c.loop-found.ahead c.next_item.new.cur c.requires inside (g.met.T.Layout.laid.are_rows item) step.1
 
 -- the packet that was read follows those before it
 pub loop-found-preserved : goal.loop-found-preserved
@@ -40,7 +40,7 @@ loop-found-preserved g c =
     let step : IsStep c.args.stop g.T.Layout.rows (Some item) c.loop-found.ahead c.next_item.new.cur = rw c.in-Some.is at c.in_ok-item.ensures.ok in
     record {
       inside = c.loop-found.invariant.inside;
-      follow = rw c.in_ok-push.ensures.items (goes_on g.T.Layout.rows c.loop-found.found.items item c.args.stop g.T.Layout.fields c.args.cur.now c.loop-found.ahead c.next_item.new.cur c.loop-found.invariant.follow (g.met.T.Layout.laid.have item) step);
+      follow = rw c.in_ok-push.ensures.items (goes_on g.T.Layout.rows c.loop-found.found.items item c.args.stop g.T.Layout.fields c.args.cur.now c.loop-found.ahead c.next_item.new.cur c.loop-found.invariant.follow (g.met.T.Layout.laid.are_rows item) step);
     }
 
 -- where none follows, the list ends

@@ -24,7 +24,7 @@ returns-in_err-items-clause-none g c =
     let head = c.in_ok-head.head in
     let inside : c.args.cur.now.at ≤ length c.args.cur.now.bits = rw c.fork-ahead.ensures.same at c.fork-ahead.ensures.inside in
     let spelled : IsSpelled (g.H.Layout.rows head) c.args.cur.now c.read.new.cur = rw c.fork-ahead.ensures.same at c.in_ok-head.ensures.ok in
-    let told = later_fault e c.args.stop g.H.Layout.fields g.T.Layout.fields (g.H.Layout.rows head) c.args.cur.now c.read.new.cur (g.met.H.Layout.laid.have head) spelled c.in_err-items.ensures.fault in
+    let told = later_fault e c.args.stop g.H.Layout.fields g.T.Layout.fields (g.H.Layout.rows head) c.args.cur.now c.read.new.cur (g.met.H.Layout.laid.are_rows head) spelled c.in_err-items.ensures.fault in
     rw (failed.1, failed.2) (none_of_whole g.met.H.Layout.laid g.met.T.Layout.laid e c.args.stop c.args.cur.now c.requires inside told)
 
 -- and reading gives it
@@ -35,7 +35,7 @@ returns-in_err-items-clause-exact g c =
     let head = c.in_ok-head.head in
     let inside : c.args.cur.now.at ≤ length c.args.cur.now.bits = rw c.fork-ahead.ensures.same at c.fork-ahead.ensures.inside in
     let spelled : IsSpelled (g.H.Layout.rows head) c.args.cur.now c.read.new.cur = rw c.fork-ahead.ensures.same at c.in_ok-head.ensures.ok in
-    let told = later_fault e c.args.stop g.H.Layout.fields g.T.Layout.fields (g.H.Layout.rows head) c.args.cur.now c.read.new.cur (g.met.H.Layout.laid.have head) spelled c.in_err-items.ensures.fault in
+    let told = later_fault e c.args.stop g.H.Layout.fields g.T.Layout.fields (g.H.Layout.rows head) c.args.cur.now c.read.new.cur (g.met.H.Layout.laid.are_rows head) spelled c.in_err-items.ensures.fault in
     rw (failed.1, failed.2) (whole_fails g.H.Layout.record_of g.T.Layout.record_of e c.args.stop g.H.Layout.fields g.T.Layout.fields c.args.cur.now c.requires inside told)
 
 -- a whole that stands is what reading gives
