@@ -1,14 +1,16 @@
 -- What holds of telegrams, their bits and their texts, whatever reads or writes them.
-use Rattle.std.specs.Prelude.{◌≡◌, ◌↔◌, ◌++◌, ℕ, List, Bool, length, Ok, Err}
+use Rattle.std.specs.Prelude.{◌≡◌, ◌≢◌, ◌↔◌, ◌++◌, ℕ, List, Bool, length, Ok, Err}
 use Rattle.std.specs.List.{flat_map}
 use Rattle.etcs_bits.specs.Rows.{AreAllowed}
 use Rattle.etcs_bits.specs.declared.fault.Fault.{Fault}
 use Rattle.etcs_packet.specs.Track.{track_rows}
+use Rattle.etcs_telegram.specs.declared.error.TextError.{TextError}
+use Rattle.etcs_telegram.specs.declared.error.TextError.TheVariants as errors
 use Rattle.etcs_telegram.specs.Record.{Telegram}
 use Rattle.etcs_telegram.specs.Header.{header_rows}
 use Rattle.etcs_telegram.specs.Sizes.{user_bits}
 use Rattle.etcs_telegram.specs.Telegram.{AreUserBits, IsTelegram, IsTelegramFault, IsNoTelegram, IsEncoding, canonical_bits, front_bits, telegram_of}
-use Rattle.etcs_telegram.specs.Text.{IsTelegramText, IsCanonicalText, telegram_of_text}
+use Rattle.etcs_telegram.specs.Text.{IsTelegramText, IsCanonicalText, IsReason, telegram_of_text}
 
 -- Bits are a telegram exactly where they are as many as some telegram has and that telegram is what
 -- they mean: so they are one at most.
@@ -57,6 +59,13 @@ pub record EncodingsAreOneToOne : Type 0 where
 -- A text is a telegram exactly where that telegram is what it means: so it is one at most.
 abbrev pub TextsAreRead : Type 0
 TextsAreRead = (t : Telegram) (text : List ℕ) → IsTelegramText t text ↔ (telegram_of_text text ≡ Ok t)
+
+-- A text is refused for a reason, other than want of memory, exactly where that is what it means: so
+-- it has one reason at most.
+abbrev pub ReasonsAreRead : Type 0
+ReasonsAreRead =
+    (e : TextError) (text : List ℕ) → e ≢ errors.Memory
+    → IsReason e text ↔ (telegram_of_text text ≡ Err e)
 
 -- The canonical text of a telegram is read again.
 abbrev pub WrittenIsRead : Type 0

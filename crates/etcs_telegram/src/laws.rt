@@ -1,7 +1,7 @@
 //! What holds of telegrams, their bits and their texts, as contracts of calls that do nothing: laws
 //! for users.
 
-ghost use Rattle.etcs_telegram.specs.Laws.{DecodedIsEncoded, EncodedIsDecoded, EncodingsAreOneToOne, EncodingsAreTelegrams, FaultsAreMeant, TelegramsAreDecoded, TelegramsAreSpelledOut, TextsAreOneToOne, TextsAreRead, WrittenIsRead};
+ghost use Rattle.etcs_telegram.specs.Laws.{DecodedIsEncoded, EncodedIsDecoded, EncodingsAreOneToOne, EncodingsAreTelegrams, FaultsAreMeant, ReasonsAreRead, TelegramsAreDecoded, TelegramsAreSpelledOut, TextsAreOneToOne, TextsAreRead, WrittenIsRead};
 
 /// Bits are a telegram exactly where they are as many as some telegram has and that telegram is what
 /// they mean, so they are one at most.
@@ -44,6 +44,12 @@ pub fn encodings_are_one_to_one()
 /// A text is a telegram exactly where that telegram is what it means, so it is one at most.
 pub fn texts_are_read()
     ensures { TextsAreRead }
+{}
+
+/// A text is refused for a reason, other than want of memory, exactly where that is what it means, so
+/// it has one reason at most.
+pub fn reasons_are_read()
+    ensures { ReasonsAreRead }
 {}
 
 /// The canonical text of a telegram is read again.

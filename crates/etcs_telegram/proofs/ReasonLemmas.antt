@@ -1,0 +1,115 @@
+-- What a text is refused for, and what it means.
+use Rattle.std.proofs.Common.{◌≡◌, ◌≢◌, ℕ, ◌-◌, Bool, true, false, List, length, if◌then◌else◌, Option, Some, None, Result, Ok, Err, refl, ap, subst, ◌∙◌}
+use Rattle.std.proofs.lemmas.Bool.{eq-eqb}
+use Rattle.hex.specs.Hex.{decode_of, IsBytes}
+use Rattle.hex.specs.declared.error.FromHexError.{FromHexError}
+use Rattle.hex.proofs.HexLemmas.{decode_of-ok}
+use Rattle.etcs_bits.specs.declared.fault.Fault.{Fault}
+use Rattle.etcs_telegram.specs.declared.error.TextError.{TextError}
+use Rattle.etcs_telegram.specs.declared.error.TextError.TheVariants as errors
+use Rattle.etcs_telegram.specs.declared.size.Size.{Size}
+use Rattle.etcs_telegram.specs.Record.{Telegram}
+use Rattle.etcs_telegram.specs.Sizes.{byte_count, size_in}
+use Rattle.etcs_telegram.specs.Telegram.{telegram_of}
+use Rattle.etcs_telegram.specs.Text.{IsHexadecimal, IsReason, IsReasonIn, HavePadSet, HaveFault, of_bits, of_size, of_bytes, of_decoded, telegram_of_text, pads_with_zeros, user_bits_in}
+use Rattle.etcs_telegram.proofs.LawLemmas.{fault_meant, meant_fault, fault_none}
+use Rattle.etcs_telegram.proofs.TextLemmas.{size_in_back, size_counts, none_counts, pads_divide, padded_when, set_when, failed_reason}
+
+-- ---- a reason is what the text means
+
+not_hex : (text : List ℕ) (d : Result (List ℕ) FromHexError) → decode_of text ≡ d
+    → (IsHexadecimal text → ⊥) → of_decoded d ≡ Err errors.NotHex
+not_hex text (Ok bytes) decoded not =
+    let digits = decode_of-ok text bytes decoded in
+    absurd (not (record { even = digits.0; digits = digits.1 }))
+not_hex text (Err e) decoded not = refl
+
+no_size : (bytes : List ℕ) (o : Option Size) → size_in (length bytes) ≡ o
+    → ((size : Size) → length bytes ≢ byte_count size) → of_size o bytes ≡ Err errors.WrongSize
+no_size bytes None sized none = refl
+no_size bytes (Some size) sized none = absurd (none size (size_counts (length bytes) size sized))
+
+-- where a pad bit is set, they are not all zeros
+not_zeros : (size : Size) (bytes : List ℕ) (zeros : Bool) → pads_with_zeros size bytes ≡ zeros
+    → IsBytes bytes → length bytes ≡ byte_count size → (x : HavePadSet bytes) → x.size ≡ size → zeros ≡ false
+not_zeros size bytes false is in_range count x same = refl
+not_zeros size bytes true is in_range count x same =
+    let padded = padded_when size bytes count (in_range (byte_count size - 1)) is in
+    absurd (x.set (rw same padded.padding))
+
+set_read : (bytes : List ℕ) → IsBytes bytes → HavePadSet bytes → of_bytes bytes ≡ Err errors.PadBits
+set_read bytes in_range x =
+    let size : size_in (length bytes) ≡ Some x.size = ap size_in x.count ∙ size_in_back x.size in
+    let other = not_zeros x.size bytes (pads_with_zeros x.size bytes) refl in_range x.count x refl in
+    rw (size, other) refl
+
+fault_read : (f : Fault) (bytes : List ℕ) → IsBytes bytes → HaveFault bytes f
+    → of_bytes bytes ≡ Err (errors.Fault f)
+fault_read f bytes in_range x =
+    let size : size_in (length bytes) ≡ Some x.size = ap size_in x.padded.count ∙ size_in_back x.size in
+    let zeros : pads_with_zeros x.size bytes ≡ true = eq-eqb _ _ (pads_divide x.size bytes x.padded.count (in_range (byte_count x.size - 1)) x.padded.padding) in
+    rw (size, zeros, fault_meant (user_bits_in x.size bytes) f x.first) refl
+
+pub reason_read : (e : TextError) (text : List ℕ) → e ≢ errors.Memory → IsReason e text → telegram_of_text text ≡ Err e
+unfolding telegram_of_text
+reason_read errors.Memory text other x = absurd (other refl)
+reason_read errors.NotHex text other x = not_hex text (decode_of text) refl x
+reason_read errors.WrongSize text other x =
+    rw x.decoded (no_size x.bytes (size_in (length x.bytes)) refl x.reason)
+reason_read errors.PadBits text other x =
+    rw x.decoded (set_read x.bytes (decode_of-ok text x.bytes x.decoded).3 x.reason)
+reason_read (errors.Fault f) text other x =
+    rw x.decoded (fault_read f x.bytes (decode_of-ok text x.bytes x.decoded).3 x.reason)
+
+-- ---- and what a text means is its reason
+
+read_fault : (e : TextError) (r : Result Telegram Fault) → of_bits r ≡ Err e
+    → (f : Fault) × (r ≡ Err f) × (errors.Fault f ≡ e)
+read_fault e (Ok t) is = absurd cc
+read_fault e (Err f) is = let same : errors.Fault f ≡ e = cc in (f, refl, same)
+
+read_in : (e : TextError) (size : Size) (bytes : List ℕ) (zeros : Bool) → pads_with_zeros size bytes ≡ zeros
+    → IsBytes bytes → length bytes ≡ byte_count size
+    → (if zeros then of_bits (telegram_of (user_bits_in size bytes)) else Err errors.PadBits) ≡ Err e
+    → IsReasonIn e bytes
+read_in e size bytes true zeros in_range count is =
+    let x = read_fault e (telegram_of (user_bits_in size bytes)) is in
+    let first = meant_fault (user_bits_in size bytes) x.0 x.1 in
+    let fault : HaveFault bytes x.0 = record {
+      size = size;
+      padded = padded_when size bytes count (in_range (byte_count size - 1)) zeros;
+      first = first;
+      none = fault_none (user_bits_in size bytes) x.0 first;
+    } in
+    subst (λ (y : TextError). IsReasonIn y bytes) x.2 fault
+read_in e size bytes false zeros in_range count is =
+    let same : errors.PadBits ≡ e = cc in
+    subst (λ (y : TextError). IsReasonIn y bytes) same (set_when size bytes count (in_range (byte_count size - 1)) zeros)
+
+read_sized : (e : TextError) (bytes : List ℕ) (o : Option Size) → IsBytes bytes → size_in (length bytes) ≡ o
+    → of_size o bytes ≡ Err e → IsReasonIn e bytes
+read_sized e bytes None in_range sized is =
+    let same : errors.WrongSize ≡ e = cc in
+    subst (λ (y : TextError). IsReasonIn y bytes) same (none_counts (length bytes) sized)
+read_sized e bytes (Some size) in_range sized is =
+    read_in e size bytes (pads_with_zeros size bytes) refl in_range (size_counts (length bytes) size sized) is
+
+-- the reason of bytes is that of the text that spells them
+of_text : (e : TextError) (text bytes : List ℕ) → decode_of text ≡ Ok bytes → IsReasonIn e bytes → IsReason e text
+of_text errors.Memory text bytes decoded x = tt
+of_text errors.NotHex text bytes decoded x = absurd x
+of_text errors.WrongSize text bytes decoded x = record { bytes = bytes; decoded = decoded; reason = x }
+of_text errors.PadBits text bytes decoded x = record { bytes = bytes; decoded = decoded; reason = x }
+of_text (errors.Fault f) text bytes decoded x = record { bytes = bytes; decoded = decoded; reason = x }
+
+read_decoded : (e : TextError) (text : List ℕ) (d : Result (List ℕ) FromHexError) → decode_of text ≡ d
+    → of_decoded d ≡ Err e → IsReason e text
+read_decoded e text (Ok bytes) decoded is =
+    of_text e text bytes decoded (read_sized e bytes (size_in (length bytes)) (decode_of-ok text bytes decoded).3 refl is)
+read_decoded e text (Err x) decoded is =
+    let same : errors.NotHex ≡ e = cc in
+    subst (λ (y : TextError). IsReason y text) same (failed_reason errors.NotHex text (x, decoded))
+
+pub read_reason : (e : TextError) (text : List ℕ) → telegram_of_text text ≡ Err e → IsReason e text
+unfolding telegram_of_text
+read_reason e text is = read_decoded e text (decode_of text) refl is
