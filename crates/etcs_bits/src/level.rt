@@ -15,7 +15,7 @@ use std::alloc::Global;
 /// fault.
 #[derive(Clone, Copy, Debug, PartialEq, Eq)]
 pub enum Level {
-    /// 0: level 0, where nothing but its top speed is supervised.
+    /// 0: level 0, where ETCS supervises no more than a ceiling speed.
     L0,
     /// 1: level NTC, and NID_NTC: the national system that supervises the train.
     Ntc(u8),

@@ -4,11 +4,12 @@ use etcs_bits::{Bits, Cursor, DecodeError, Layout, Memory, Plain, Same};
 use etcs_profile::Number;
 use std::alloc::Global;
 
-/// Packet 0, the virtual balise cover marker: a train that is told to cover this marker ignores the
-/// balise (SUBSET-026, 3.15.9 and 7.4.2). 14 bits; it has neither Q_DIR nor L_PACKET.
+/// Packet 0, the virtual balise cover marker: a train in which the cover of this number is set, for
+/// the header's country or region, ignores the telegram (SUBSET-026, 3.15.9 and 7.4.2). 14 bits; it
+/// has neither Q_DIR nor L_PACKET.
 #[derive(Clone, Copy, Debug, PartialEq, Eq)]
 pub struct CoverMarker {
-    /// NID_VBCMK, 6 bits: which marker it is.
+    /// NID_VBCMK, 6 bits: the number of the cover.
     pub marker: Plain<6>,
 }
 

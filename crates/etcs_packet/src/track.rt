@@ -19,7 +19,7 @@ use std::alloc::Global;
 /// A packet from track to train (SUBSET-026, 7.4.2).
 #[derive(Debug, Drop)]
 pub enum TrackPacket {
-    /// Packet 0: the balise is ignored by trains that cover its marker.
+    /// Packet 0: the telegram is ignored by trains in which this cover is set.
     Cover(CoverMarker),
     /// Packet 5: which balise groups come next.
     Linking(Linking),

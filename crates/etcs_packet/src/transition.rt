@@ -9,14 +9,14 @@ use etcs_profile::{BuildError, Packet};
 use std::alloc::Global;
 use std::marker::Model;
 
-/// A level of an order, of which a train goes to the first that it can (SUBSET-026, 5.10 and 7.4.2):
-/// 18 bits, and 8 more for level NTC.
+/// A level of an order, of which a train goes to the first that is available on board (SUBSET-026,
+/// 5.10 and 7.4.2): 18 bits, and 8 more for level NTC.
 #[derive(Clone, Copy, Debug, PartialEq, Eq)]
 pub struct LevelOrder {
     /// M_LEVELTR, 3 bits, and NID_NTC, 8 bits, at level NTC: the level.
     pub level: Level,
-    /// L_ACKLEVELTR, 15 bits: how long before the place of the change the driver may acknowledge it,
-    /// in the packet's scale.
+    /// L_ACKLEVELTR, 15 bits: the length of the area in which the driver may acknowledge the change,
+    /// which ends at its place, in the packet's scale.
     pub acknowledge: Distance,
 }
 

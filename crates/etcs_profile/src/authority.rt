@@ -18,7 +18,7 @@ use std::marker::Model;
 
 /// Packet 12, the movement authority of level 1, and packet 15, that of levels 2 and 3: how far a
 /// train may run, and under which conditions (SUBSET-026, 3.8 and 7.4.2). Packet 12 alone has
-/// V_MAIN, the speed with which the train may run on.
+/// V_MAIN, the signalling related speed restriction.
 #[derive(Debug, Drop)]
 pub struct Authority {
     packet: Numbered,
@@ -152,7 +152,7 @@ impl Authority {
         }
     }
 
-    /// V_MAIN, which packet 12 alone has: the speed with which the train may run on, in steps of
+    /// V_MAIN, which packet 12 alone has: the signalling related speed restriction, in steps of
     /// 5 km/h.
     pub fn main(&self) -> Option<Speed>
         ensures { result ≡ self.now.main }
@@ -192,7 +192,7 @@ impl Authority {
         self.terms().l_endsection
     }
 
-    /// Until when the end section may be entered, if that is limited.
+    /// For how long the end section is valid as a section, if that is limited.
     pub fn section_timer(&self) -> Option<SectionTimer>
         ensures { result ≡ self.now.terms.section_timer }
     {

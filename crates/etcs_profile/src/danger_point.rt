@@ -1,15 +1,15 @@
-//! The danger point behind a movement authority's end.
+//! The danger point beyond a movement authority's end.
 
 use etcs_bits::{Bits, Cursor, DecodeError, Distance, Layout, Memory, ReleaseSpeed, Same};
 use std::alloc::Global;
 
-/// The first place behind the end of the authority that may be dangerous (SUBSET-026, 3.8 and 7.4.2):
-/// 22 bits.
+/// The place beyond the end of the authority that the front of a train may reach without danger
+/// (SUBSET-026, 3.8 and 7.4.2): 22 bits.
 #[derive(Clone, Copy, Debug, PartialEq, Eq)]
 pub struct DangerPoint {
     /// D_DP, 15 bits: from the end of the authority to the danger point, in the packet's scale.
     pub distance: Distance,
-    /// V_RELEASEDP, 7 bits: how fast a train may come near.
+    /// V_RELEASEDP, 7 bits: up to which speed a train may approach the end before it.
     pub release_speed: ReleaseSpeed,
 }
 

@@ -1,9 +1,9 @@
-//! The overlap behind a movement authority's end.
+//! The overlap beyond a movement authority's end.
 
 use etcs_bits::{Bits, Cursor, DecodeError, Distance, Layout, Memory, ReleaseSpeed, Same, Time};
 use std::alloc::Global;
 
-/// The track behind the end of the authority that is kept free for a while (SUBSET-026, 3.8 and
+/// The track beyond the end of the authority that is kept free for a while (SUBSET-026, 3.8 and
 /// 7.4.2): 47 bits.
 #[derive(Clone, Copy, Debug, PartialEq, Eq)]
 pub struct Overlap {
@@ -14,7 +14,7 @@ pub struct Overlap {
     pub time: Time,
     /// D_OL, 15 bits: how long the overlap is beyond the end of the authority, in the packet's scale.
     pub length: Distance,
-    /// V_RELEASEOL, 7 bits: how fast a train may come near.
+    /// V_RELEASEOL, 7 bits: up to which speed a train may approach the end before it.
     pub release_speed: ReleaseSpeed,
 }
 

@@ -53,7 +53,7 @@ impl<const N: u32, T: Element> Packet<N, Elements<T>> {
         self.body().further()
     }
 
-    /// How far the profile tells the track: the sum of the distances up to and with the first
+    /// How far along the track the profile is given: the sum of the distances up to and with the first
     /// element that is marked as the end, in decimetres; open where none is marked.
     pub fn reach(&self) -> Reach
         ensures { result ≡ elements_reach T.distance_of T.marked self.now.1 }

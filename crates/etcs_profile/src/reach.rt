@@ -1,6 +1,6 @@
-//! How far a profile tells the track.
+//! How far along the track a profile is given.
 
-/// How far a profile tells the track, from the group that sends it on.
+/// How far along the track a profile is given, from the group that sends it on.
 #[derive(Clone, Copy, Debug, PartialEq, Eq)]
 pub enum Reach {
     /// So many decimetres: up to the first element that is marked as the end.

@@ -3,13 +3,13 @@
 use etcs_bits::{Bits, Cursor, DecodeError, Distance, Layout, Memory, Same, Time};
 use std::alloc::Global;
 
-/// A section of a movement authority: a stretch of track behind the one before it (SUBSET-026, 3.8
+/// A section of a movement authority: a stretch of track after the one before it (SUBSET-026, 3.8
 /// and 7.4.2). 16 bits, and 25 for a timer.
 #[derive(Clone, Copy, Debug, PartialEq, Eq)]
 pub struct Section {
     /// L_SECTION, 15 bits: how long it is, in the packet's scale.
     pub length: Distance,
-    /// Q_SECTIONTIMER, 1 bit, and until when the section may be entered, if that is limited.
+    /// Q_SECTIONTIMER, 1 bit, and for how long the section is valid, if that is limited.
     pub timer: Option<SectionTimer>,
 }
 
@@ -56,10 +56,11 @@ impl Same for Section {
     }
 }
 
-/// Until when a section may be entered (SUBSET-026, 3.8 and 7.4.2): 25 bits.
+/// For how long a section is valid (SUBSET-026, 3.8 and 7.4.2): 25 bits.
 #[derive(Clone, Copy, Debug, PartialEq, Eq)]
 pub struct SectionTimer {
-    /// T_SECTIONTIMER, 10 bits: for how long the section is given, in seconds; 1023 is no time-out.
+    /// T_SECTIONTIMER, 10 bits: for how long the section is valid, unless the train passes the place
+    /// where the timer is stopped first, in seconds; 1023 is no time-out.
     pub time: Time,
     /// D_SECTIONTIMERSTOPLOC, 15 bits: where the timer is stopped, from the beginning of the section
     /// on, in the packet's scale.

@@ -48,9 +48,10 @@ pub struct Difference {
     /// Q_DIFF, 2 bits: 0 by cant deficiency, 1 and 2 by another category of train (SUBSET-026,
     /// 7.5.1); 3 is spare.
     pub kind: Ranged<2, 2, 4>,
-    /// NC_CDDIFF where Q_DIFF is 0, NC_DIFF where it is 1 or 2, 4 bits: the category of train.
+    /// NC_CDDIFF where Q_DIFF is 0, NC_DIFF where it is 1 or 2, 4 bits: the category of train; no
+    /// number of it is refused.
     pub category: Plain<4>,
-    /// V_DIFF, 7 bits: the speed for it.
+    /// V_DIFF, 7 bits: the speed for trains of this category.
     pub speed: Speed,
 }
 
