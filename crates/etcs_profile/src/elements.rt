@@ -94,8 +94,8 @@ fn way_to_end<T: Element>(elements: &[T]) -> Option<u64>
 impl<T: Element> Elements<T> {
     ghost use Rattle.etcs_profile.specs.Elements.{elements_reach};
 
-    /// How far along the track the elements are given: the sum of the distances up to and with the first that
-    /// is marked as the end, in decimetres; open where none is marked.
+    /// How far along the track the elements are given: the sum of the distances up to and with the
+    /// first that is marked as the end, in decimetres; open where none is marked.
     pub fn reach(&self) -> Reach
         ensures { result ≡ elements_reach T.distance_of T.marked self.now }
     {

@@ -3,9 +3,9 @@
 //!
 //! [`Authority`] is the movement authority, packets 12 and 15; [`Authority::end`] says how far the
 //! train may run. [`Gradient`], packet 21, and [`SpeedProfile`], packet 27, are each a [`Packet`] of
-//! [`Elements`]; [`Packet::reach`] says how far along the track they are given. Read `packet.rt`, `elements.rt`
-//! and `gradient.rt` first, with the files of the same names in `specs/`, then `authority.rt`. The
-//! crate stands on [`etcs_bits::Layout`]. Left out: all other packets, and
+//! [`Elements`]; [`Packet::reach`] says how far along the track they are given. Read `packet.rt`,
+//! `elements.rt` and `gradient.rt` first, with the files of the same names in `specs/`, then
+//! `authority.rt`. The crate stands on [`etcs_bits::Layout`]. Left out: all other packets, and
 //! whether an authority and the profiles fit together.
 #![tactic(auto)]
 
