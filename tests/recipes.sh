@@ -14,6 +14,7 @@ room=$(mktemp -d)
 trap 'rm -rf "$room"' EXIT
 files=$room/files
 functions=$room/functions
+commands=$room/commands
 mkdir "$files"
 ln -s "$program" "$files/balisecheck"
 passed=0
@@ -97,13 +98,13 @@ runs_commands() {
         else
             wanted+=$text$'\n'
         fi
-    done < <(blocks console)
+    done <"$commands"
     writes "$command" "$wanted"
 }
 
 # ends_in FILE PATTERN: says so where the file's last line is another one.
 ends_in() {
-    tail -n 1 "$1" | grep -qx "$2" || { echo "$1 ends in:"; tail -n 1 "$1"; }
+    [[ $(tail -n 1 "$1") =~ ^$2$ ]] || { echo "$1 ends in:"; tail -n 1 "$1"; }
 }
 
 # mends FILE COMMAND: the file is refused as it is; mended it has the lines of the good one.
@@ -139,7 +140,7 @@ mends_files() {
 uses_files() {
     local file
     for file in faulty.txt lengths.txt batch.txt numbered.txt; do
-        count "$file is used" "$(blocks console | grep -q "^\$ .* $file" || echo 'it is not')"
+        count "$file is used" "$(grep -q "^\$ .* $file" "$commands" || echo 'it is not')"
     done
 }
 
@@ -149,6 +150,7 @@ to_mend=(*.txt)
 makes_other_files
 cd "$here" || exit 1
 blocks bash >"$functions"
+blocks console >"$commands"
 mends_files
 runs_commands
 uses_files
