@@ -8,8 +8,9 @@ set -uo pipefail
 
 here=$(cd "$(dirname "${BASH_SOURCE[0]}")" && pwd)
 document=$here/../docs/REFUSALS.md
-program=$(readlink -f -- "${BALISECHECK:-$here/../crates/balisecheck/out/balisecheck}")
-[ -x "$program" ] || { echo "the recipes: no program at ${BALISECHECK:-$program}" >&2; exit 1; }
+program=${BALISECHECK:-$here/../crates/balisecheck/out/balisecheck}
+[ -x "$program" ] || { echo "the recipes: no program at $program" >&2; exit 1; }
+program=$(readlink -f -- "$program")
 room=$(mktemp -d)
 trap 'rm -rf "$room"' EXIT
 files=$room/files
