@@ -1,13 +1,15 @@
 #!/usr/bin/env bash
 # Runs the recipes of docs/REFUSALS.md as they stand there, on files made here: the functions (blocks
 # marked `bash`), the commands with what they have to write (blocks marked `console`), and the commands
-# of the table that mend files. Each file made here has to be used there.
+# of the table that mend files. Each file made here has to be used there. The sums of L_PACKET in
+# docs/FORMATS.md are compared with the examples.
 #
 # BALISECHECK names the program. The exit status is 1 if a recipe failed.
 set -uo pipefail
 
 here=$(cd "$(dirname "${BASH_SOURCE[0]}")" && pwd)
 document=$here/../docs/REFUSALS.md
+formats=$here/../docs/FORMATS.md
 program=${BALISECHECK:-$here/../crates/balisecheck/out/balisecheck}
 [ -x "$program" ] || { echo "the recipes: no program at $program" >&2; exit 1; }
 program=$(readlink -f -- "$program")
@@ -145,6 +147,24 @@ uses_files() {
     done
 }
 
+# Each `.. examples/FILE.txt .. : SUM = L_PACKET` says how many bits the file's first packet has.
+sums_hold() {
+    local said file sum bits listed sums=0
+    while IFS= read -r said; do
+        file=${said%%\`*}
+        sum=${said##*: }
+        bits=${sum##* = }
+        sum=${sum%% = *}
+        listed=$(. "$functions"; list_packets 1 <"$here/../$file" | head -n 1)
+        sums=$((sums + 1))
+        count "$file: $sum = $bits" "$(
+            [ "$((${sum//×/*}))" -eq "$bits" ] || echo "the sum is $((${sum//×/*}))"
+            [ "${listed##*, }" = "$bits bits" ] || echo "$listed"
+        )"
+    done < <(grep -o 'examples/[^ ]*\.txt` [^.]*: [0-9 +×]* = [0-9]*' "$formats")
+    count 'each packet of a changing size has a sum' "$([ "$sums" -eq 7 ] || echo "$sums sums")"
+}
+
 cd "$files" || exit 1
 makes_files_to_mend
 to_mend=(*.txt)
@@ -155,5 +175,6 @@ blocks console >"$commands"
 mends_files
 runs_commands
 uses_files
+sums_hold
 echo "the recipes: $passed passed, $failed failed"
 [ "$failed" -eq 0 ]
