@@ -49,7 +49,7 @@ makes_files_to_mend() {
     local good=$room/good
     printf '%s\n\n%s\n%s\n' "$telegram" "$marked" "$spare" >"$good"
     printf '%s  \n \t \n\t%s\n%s\t\n' "$telegram" "$marked" "$spare" >blanks.txt
-    { printf '%s' "$mark"; cat "$good"; } >mark.txt
+    printf '%s\n\n%s\n%s\n' "$mark$telegram" "$mark$marked" "$spare" >mark.txt
     printf '%s # Stra\xdfe 7\n# \xc3\xa4, 0x10\n%s\t#\n%s#c0\n' "$telegram" "$marked" "$spare" >comments.txt
     printf '0x%s\n\n0X%s\n0x%s\n' "$telegram" "$marked" "$spare" >prefixed.txt
     sed '1s/../& /g; 3s/../:&/g; 4s/../&-/g' "$good" >spaced.txt
@@ -175,6 +175,7 @@ blocks console >"$commands"
 mends_files
 runs_commands
 uses_files
+writes 'all_refused missing.txt; echo "status $?"' $'status 3\n'
 sums_hold
 echo "the recipes: $passed passed, $failed failed"
 [ "$failed" -eq 0 ]
