@@ -139,6 +139,18 @@ mends_files() {
         "$(diff <(printf '%s\n' "${to_mend[@]}") <(printf '%s\n' "${rows[@]}" | sort))"
 }
 
+# UTF-16 in the other order of bytes, and without a mark.
+mends_utf16() {
+    local command
+    command=$(sed -n 's/^| `utf16.*| `\(.*\)` |$/\1/p' "$document")
+    { printf '\xfe\xff'; iconv -f UTF-8 -t UTF-16BE "$room/good"; } >"$files/utf16.txt"
+    mends utf16.txt "$command"
+    iconv -f UTF-8 -t UTF-16LE "$room/good" >"$files/utf16.txt"
+    mends utf16.txt "${command/UTF-16 /UTF-16LE }"
+    iconv -f UTF-8 -t UTF-16BE "$room/good" >"$files/utf16.txt"
+    mends utf16.txt "${command/UTF-16 /UTF-16BE }"
+}
+
 # Each of the other files is in a command.
 uses_files() {
     local file
@@ -173,6 +185,7 @@ cd "$here" || exit 1
 blocks bash >"$functions"
 blocks console >"$commands"
 mends_files
+mends_utf16
 runs_commands
 uses_files
 writes 'all_refused missing.txt; echo "status $?"' $'status 3\n'
