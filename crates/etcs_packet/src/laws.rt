@@ -34,8 +34,8 @@ pub fn a_list_fault_is_read<T: Layout>()
     ensures { ListFaultIsRead T.record_of T.fields }
 {}
 
-/// Where a telegram's packets have not ended and fewer than eight bits are left, no end mark can
-/// come: the fault is NoEnd, at that place.
+/// A list of a telegram that begins where fewer than eight bits are left has the fault NoEnd, at that
+/// place: no end mark can come.
 pub fn a_telegram_without_its_mark_has_no_end<T: Layout>()
     requires { IsHeaded T.fields }
     ensures { NoEndIsTold T.fields }
