@@ -14,6 +14,7 @@ ones=ffffffffffffffffffffffffffffffffffffff
 telegram=a1007f802000ff${ones}c0
 json='{"m_dup":0,"m_mcount":255,"m_version":33,"n_pig":0,"n_total":0,"nid_bg":1,"nid_c":1,'
 json+='"packets":[],"q_link":1,"user_bits":210}'
+version=$(sed -n 's/^## //p' "$here/../CHANGELOG.md" | head -n 1)
 
 # count NAME DIFFERENCE: an empty difference is a pass.
 count() {
@@ -43,7 +44,7 @@ says_nothing() {
 # copy: copies the tree, but neither its history nor a program that was built before.
 copy() {
     mkdir -p "$room/tree"
-    cp -a "$here/../balisecheck" "$here/../crates.txt" "$here/../crates" "$room/tree"
+    cp -a "$here/../balisecheck" "$here/../install.sh" "$here/../crates.txt" "$here/../crates" "$room/tree"
     [ ! -f "$here/../HANDLES" ] || cp -a "$here/../HANDLES" "$room/tree"
     rm -f "$room/tree/crates/balisecheck/out/balisecheck"
 }
@@ -58,7 +59,7 @@ needs_the_toolchain() {
 builds_once() {
     local difference began
     difference=$(starts 0 "$json"$'\n')
-    [ "$(tail -n 1 "$room/stderr")" = 'balisecheck: built' ] || difference+=$(tail -n 3 "$room/stderr")
+    [ "$(tail -n 1 "$room/stderr")" = "balisecheck: version $version is built" ] || difference+=$(tail -n 3 "$room/stderr")
     count 'the first use builds; standard output has the answer alone' "$difference"
     began=$SECONDS
     difference=$(starts 0 "$json"$'\n'; says_nothing)
@@ -73,6 +74,14 @@ takes_over() {
     sleep 1
     touch "$room/tree/crates/balisecheck/out/balisecheck"
     count 'a program that the gate has built is taken over' "$(starts 0 "$json"$'\n'; says_nothing)"
+}
+
+installs() {
+    "$room/tree/install.sh" "$room/prefix" 2>"$room/stderr"
+    count 'the program is put where it is wanted' "$(
+        "$room/prefix/bin/balisecheck" decode <<<"$telegram" | diff - <(echo "$json")
+        printf 'installed: %s\n' "$room/prefix/bin/balisecheck" | diff - "$room/stderr"
+    )"
 }
 
 builds_again() {
@@ -91,6 +100,7 @@ else
 fi
 builds_once
 takes_over
+installs
 builds_again
 echo "the start script: $passed passed, $failed failed"
 [ "$failed" -eq 0 ]
