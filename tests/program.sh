@@ -180,28 +180,27 @@ reads_over_blocks() {
     done
 }
 
+# What is said on standard error to a person whose words are a usual mistake.
+alone='balisecheck: this version has the command decode alone, without --radio
+'
+from_file='balisecheck: the input is standard input: balisecheck decode < FILE
+'
+
+# misunderstands STDERR: the words of each line of the standard input are no command.
+misunderstands() {
+    local stderr=$1 words
+    while read -r -a words; do
+        answers "the words ${words[*]}" 2 "$usage" "$stderr" "${words[@]}" <<<"$telegram"
+    done
+}
+
 understands_words() {
     answers 'words that end with two dashes' 0 "$json" '' decode -- <<<"$telegram"
     answers 'no word' 2 "$usage" '' <<<"$telegram"
-    while read -r -a words; do
-        answers "the words ${words[*]}" 2 "$usage" '' "${words[@]}" <<<"$telegram"
-    done <<'WORDS'
-check
-encode
-decode --radio
-decode decode
-decode more
-decode --help
-decode --radio=
-decode -- --radio
-check --radio
-help
---help
---version
---radio
---radio=
--- decode
-WORDS
+    misunderstands "$alone" < <(printf '%s\n' check encode 'decode --radio' 'check --radio')
+    misunderstands "$from_file" < <(printf '%s\n' 'decode decode' 'decode more' 'decode telegrams.txt')
+    misunderstands '' < <(printf '%s\n' 'decode --help' 'decode --radio=' 'decode -- --radio' help \
+        --help --version --radio --radio= '-- decode')
 }
 
 # More than the buffer before standard output holds, and a pipe that takes only what it has room for.
@@ -219,7 +218,7 @@ devices_fail() {
     fails 'a telegram and a full device' "$device" decode <<<"$telegram"
     fails 'a refused line and a full device' "$device" decode <<<zz
     fails 'a telegram, a refused line and a full device' "$device" decode <<<"$telegram"$'\nzz'
-    fails 'the usage line and a full device' "$device" check </dev/null
+    fails 'the usage line and a full device' "$device" help </dev/null
 }
 
 # A line that never ends, with little memory: the answers to the lines before it are written.
