@@ -1,13 +1,15 @@
 -- How a run over lines goes on, and how it ends. `output` is what it is to write for an input, and
 -- `left` what is left of that.
-use Rattle.std.proofs.Common.{◌≡◌, ◌+◌, ◌++◌, ℕ, Bool, true, false, List, [], Option, Result, Ok, Err, refl, sym, ap, ◌∙◌, append_assoc, take, drop, subst, arith}
+use Rattle.std.proofs.Common.{◌≡◌, ◌+◌, ◌++◌, ℕ, Bool, true, false, List, [], Option, Some, None, IfSome, Result, Ok, Err, inr, refl, sym, ap, ◌∙◌, append_assoc, take, drop, subst, arith}
 use Rattle.std.proofs.lemmas.List.{append-nil, take_all, take-append-drop}
-use Rattle.std.specs.Io.KnownBytes.{Appends, Consumes, Keeps}
-use Rattle.balisecheck.specs.LineReading.{MayFollow, Reads}
+use Rattle.std.specs.Io.KnownBytes.{Appends, Consumes, IsAtEnd, Keeps}
+use Rattle.balisecheck.specs.LineReading.{CountsDevice, MayFollow, Reads}
 use Rattle.balisecheck.specs.TextLines.{lines_of, trimmed}
 use Rattle.balisecheck.specs.Output.{Output, after_line, answers, decode_output, prepend}
-use Rattle.balisecheck.specs.Ran.{Puts, Ran, Tells, Turns}
+use Rattle.balisecheck.specs.Ran.{CountsOneDevice, Puts, Ran, Tells, Turns, Writes}
+use Rattle.balisecheck.specs.declared.counted.Counted.{Counted}
 use Rattle.balisecheck.specs.declared.error.RunError.{RunError}
+use Rattle.balisecheck.specs.declared.error.RunError.TheVariants.{Memory, Device}
 use Rattle.balisecheck.specs.declared.status.Status.{Status}
 use Rattle.balisecheck.specs.declared.status.Status.TheVariants.{Done}
 use Rattle.balisecheck.specs.declared.turn.Turn.TheVariants.{Next, Stop}
@@ -16,12 +18,12 @@ use Rattle.balisecheck.proofs.StreamLemmas.{Appends-kept, Appends-none, Appends-
 -- While lines are read: what was read and written so far, and what is left to tell of what is held
 -- and of what follows.
 pub record Running (remaining_old remaining_new contents_old contents_new : Option (List ℕ))
-    (has_ended : Bool) (output : List ℕ → Output) (left : List ℕ → Output) : Type 0 where
+    (ended : Bool) (output : List ℕ → Output) (left : List ℕ → Output) : Type 0 where
   pub bytes : List ℕ
   pub consumed : Consumes remaining_old remaining_new bytes
   pub text : List ℕ
   pub appended : Appends contents_old contents_new text
-  pub says : (rest : List ℕ) → MayFollow has_ended rest
+  pub says : (rest : List ℕ) → MayFollow ended rest
       → output (bytes ++ rest) ≡ prepend text (left rest)
 
 -- what is left to tell after n lines
@@ -72,11 +74,13 @@ module _ {r0 r r1 c0 c : Option (List ℕ)} {before after : Bool} {output : List
   -- nothing is left
   pub Running-end : (n : ℕ) → Running r0 r c0 c before output (left_of n held)
       → Reads r r1 before held line now after (Ok false) → (before ≡ true → after ≡ true)
-      → Ran r0 r1 c0 c after output (Ok Done)
+      → (after ≡ true → IsAtEnd r1) → Ran r0 r1 c0 c output (Ok Done)
   unfolding answers lines_of
-  Running-end n run read stays = record {
+  Running-end n run read stays met = record {
     bytes = run.bytes ++ read.bytes;
     consumed = Consumes-then r0 r r1 _ _ run.consumed read.consumed;
+    ended = after;
+    met = met;
     text = run.text;
     appended = run.appended;
     says = λ rest may.
@@ -91,10 +95,12 @@ module _ {r0 r r1 c0 c : Option (List ℕ)} {before after : Bool} {output : List
   -- a read failed, or the line was longer than memory
   pub Running-failed : {left : List ℕ → Output} {e : RunError} (x : RunError)
       → Running r0 r c0 c before output left → Reads r r1 before held line now after (Err e)
-      → (before ≡ true → after ≡ true) → Ran r0 r1 c0 c after output (Err x)
-  Running-failed {left} x run read stays = record {
+      → (before ≡ true → after ≡ true) → (after ≡ true → IsAtEnd r1) → Ran r0 r1 c0 c output (Err x)
+  Running-failed {left} x run read stays met = record {
     bytes = run.bytes ++ read.bytes;
     consumed = Consumes-then r0 r r1 _ _ run.consumed read.consumed;
+    ended = after;
+    met = met;
     text = run.text;
     appended = run.appended;
     says = λ rest may.
@@ -121,10 +127,12 @@ module _ {r0 r c0 c c1 : Option (List ℕ)} {ended : Bool} {output : List ℕ �
 
   -- the run stops at a line
   pub Running-stopped : {status : Status} → Turns c c1 after (Ok (Stop status))
-      → Ran r0 r c0 c1 ended output (Ok status)
-  Running-stopped turn = record {
+      → (ended ≡ true → IsAtEnd r) → Ran r0 r c0 c1 output (Ok status)
+  Running-stopped turn met = record {
     bytes = run.bytes;
     consumed = run.consumed;
+    ended = ended;
+    met = met;
     text = run.text ++ turn.text;
     appended = Appends-then c0 c c1 _ _ run.appended turn.appended;
     says = λ rest may. run.says rest may ∙ ap (prepend run.text) (turn.says (left rest));
@@ -132,10 +140,12 @@ module _ {r0 r c0 c c1 : Option (List ℕ)} {ended : Bool} {output : List ℕ �
 
   -- a write failed, or memory ran out
   pub Running-cut : {e : RunError} (x : RunError) → Turns c c1 after (Err e)
-      → Ran r0 r c0 c1 ended output (Err x)
-  Running-cut x turn = record {
+      → (ended ≡ true → IsAtEnd r) → Ran r0 r c0 c1 output (Err x)
+  Running-cut x turn met = record {
     bytes = run.bytes;
     consumed = run.consumed;
+    ended = ended;
+    met = met;
     text = run.text ++ turn.text;
     appended = Appends-then c0 c c1 _ _ run.appended turn.appended;
     says = λ rest may.
@@ -147,77 +157,123 @@ module _ {r0 r c0 c c1 : Option (List ℕ)} {ended : Bool} {output : List ℕ �
   }
 
 -- nothing was written since
-pub Ran-kept : {r0 r c0 c c1 : Option (List ℕ)} {ended : Bool} {output : List ℕ → Output}
-    {result : Result Status RunError} → Ran r0 r c0 c ended output result → Keeps c c1
-    → Ran r0 r c0 c1 ended output result
+pub Ran-kept : {r0 r c0 c c1 : Option (List ℕ)} {output : List ℕ → Output}
+    {result : Result Status RunError} → Ran r0 r c0 c output result → Keeps c c1
+    → Ran r0 r c0 c1 output result
 Ran-kept {c0} {c} {c1} ran keeps = record {
   bytes = ran.bytes;
   consumed = ran.consumed;
+  ended = ran.ended;
+  met = ran.met;
   text = ran.text ++ [];
   appended = Appends-then c0 c c1 _ _ ran.appended (Appends-kept c c1 keeps);
   says = λ rest may. rw (append-nil ran.text) (ran.says rest may);
 }
 
 -- what is a whole output is a beginning of it too
-pub Ran-failed : {r0 r c0 c : Option (List ℕ)} {ended : Bool} {output : List ℕ → Output}
-    {status : Status} (e : RunError) → Ran r0 r c0 c ended output (Ok status)
-    → Ran r0 r c0 c ended output (Err e)
+pub Ran-failed : {r0 r c0 c : Option (List ℕ)} {output : List ℕ → Output} {status : Status}
+    (e : RunError) → Ran r0 r c0 c output (Ok status) → Ran r0 r c0 c output (Err e)
 Ran-failed e ran = record {
   bytes = ran.bytes;
   consumed = ran.consumed;
+  ended = ran.ended;
+  met = ran.met;
   text = ran.text;
   appended = ran.appended;
   says = λ rest may. ([], ap (λ o. o.0) (ran.says rest may) ∙ sym (append-nil ran.text));
 }
 
 -- nothing was read or written
-pub Ran-nothing : {r c : Option (List ℕ)} {ended : Bool} {output : List ℕ → Output} (e : RunError)
-    → Ran r r c c ended output (Err e)
+pub Ran-nothing : {r c : Option (List ℕ)} {output : List ℕ → Output} (e : RunError)
+    → Ran r r c c output (Err e)
 Ran-nothing {r} {c} {output} e = record {
   bytes = [];
   consumed = Consumes-none r;
+  ended = false;
+  met = λ h. cc;
   text = [];
   appended = Appends-none c;
   says = λ rest may. ((output rest).0, refl);
 }
 
--- one line was written, whatever the input
-pub Ran-fixed : {r c c1 c2 : Option (List ℕ)} {ended : Bool} {bytes line : List ℕ} {status : Status}
-    {u : Unit {0}} → Puts c c1 bytes (Ok u) → bytes ≡ line → Keeps c1 c2
-    → Ran r r c c2 ended (λ _. (line, status)) (Ok status)
-Ran-fixed {r} {c} {c1} {c2} {bytes} {line} {status} puts is keeps = record {
+-- nothing was read, and what was written is the same whatever the input
+pub Ran-unread : {r c c1 : Option (List ℕ)} {output : Output} {result : Result Status RunError}
+    → Writes c c1 output result → Ran r r c c1 (λ _. output) result
+Ran-unread {r} writes = record {
   bytes = [];
   consumed = Consumes-none r;
-  text = take puts.count bytes ++ [];
-  appended = Appends-then c c1 c2 _ _ puts.appended (Appends-kept c1 c2 keeps);
-  says = λ rest may.
-      let whole : take puts.count bytes ≡ line =
-      take_all puts.count bytes (omega (arith, puts.whole)) ∙ is in
-      ap (λ s. (s, status)) (sym (append-nil _ ∙ whole));
-}
-
--- a beginning of that line was written
-pub Ran-begun : {r c c1 : Option (List ℕ)} {ended : Bool} {bytes line : List ℕ} {status : Status}
-    {result : Result (Unit {0}) RunError} (e : RunError) → Puts c c1 bytes result → bytes ≡ line
-    → Ran r r c c1 ended (λ _. (line, status)) (Err e)
-Ran-begun {r} {bytes} e puts is = record {
-  bytes = [];
-  consumed = Consumes-none r;
-  text = take puts.count bytes;
-  appended = puts.appended;
-  says = λ rest may. (drop puts.count bytes, sym (take-append-drop puts.count bytes ∙ is));
+  ended = false;
+  met = λ h. cc;
+  text = writes.text;
+  appended = writes.appended;
+  says = λ rest may. writes.says;
 }
 
 -- the same for an output that is the same
-pub Ran-as : {r0 r c0 c : Option (List ℕ)} {ended : Bool} {output other : List ℕ → Output}
+pub Ran-as : {r0 r c0 c : Option (List ℕ)} {output other : List ℕ → Output}
     {result : Result Status RunError} → ((s : List ℕ) → other s ≡ output s)
-    → Ran r0 r c0 c ended output result → Ran r0 r c0 c ended other result
+    → Ran r0 r c0 c output result → Ran r0 r c0 c other result
 Ran-as {result} same ran = record {
   bytes = ran.bytes;
   consumed = ran.consumed;
+  ended = ran.ended;
+  met = ran.met;
   text = ran.text;
   appended = ran.appended;
   says = λ rest may.
       let P : Output → Type 0 = Tells result ran.text in
       subst P (sym (same (ran.bytes ++ rest))) (ran.says rest may);
 }
+
+-- of a known input what was not read follows what was
+pub Ran-known : (remaining : Option (List ℕ)) {r c0 c : Option (List ℕ)} {output : List ℕ → Output}
+    {result : Result Status RunError} → Ran remaining r c0 c output result
+    → IfSome remaining (λ input. Writes c0 c (output input) result)
+Ran-known None ran = tt
+Ran-known (Some input) {r = None} ran = absurd ran.consumed
+Ran-known (Some input) {r = Some rest} {output} {result} ran = record {
+  text = ran.text;
+  appended = ran.appended;
+  says =
+      let P : List ℕ → Type 0 = λ s. Tells result ran.text (output s) in
+      subst P (sym ran.consumed) (ran.says rest ran.met);
+}
+
+-- one line was written whole
+pub Writes-whole : {c c1 c2 : Option (List ℕ)} {bytes line : List ℕ} {status : Status} {u : Unit {0}}
+    → Puts c c1 bytes (Ok u) → bytes ≡ line → Keeps c1 c2 → Writes c c2 (line, status) (Ok status)
+Writes-whole {c} {c1} {c2} {bytes} {line} {status} puts is keeps = record {
+  text = take puts.count bytes ++ [];
+  appended = Appends-then c c1 c2 _ _ puts.appended (Appends-kept c1 c2 keeps);
+  says =
+      let whole : take puts.count bytes ≡ line =
+      take_all puts.count bytes (omega (arith, puts.whole)) ∙ is in
+      ap (λ s. (s, status)) (sym (append-nil _ ∙ whole));
+}
+
+-- a beginning of that line was written
+pub Writes-begun : {c c1 : Option (List ℕ)} {bytes line : List ℕ} {status : Status}
+    {result : Result (Unit {0}) RunError} (e : RunError) → Puts c c1 bytes result → bytes ≡ line
+    → Writes c c1 (line, status) (Err e)
+Writes-begun {bytes} e puts is = record {
+  text = take puts.count bytes;
+  appended = puts.appended;
+  says = (drop puts.count bytes, sym (take-append-drop puts.count bytes ∙ is));
+}
+
+-- what is a whole output is a beginning of it too
+pub Writes-failed : {c c1 : Option (List ℕ)} {output : Output} {status : Status} (e : RunError)
+    → Writes c c1 output (Ok status) → Writes c c1 output (Err e)
+Writes-failed e writes = record {
+  text = writes.text;
+  appended = writes.appended;
+  says = ([], ap (λ o. o.0) writes.says ∙ sym (append-nil writes.text));
+}
+
+-- a device that failed is the writer, since the reader was not asked
+pub counts_at_writer : {R W X : Type 0} (result : Result X RunError) (reader : Counted R)
+    (old new : Counted W) → CountsDevice result old new
+    → CountsOneDevice result reader reader old new
+counts_at_writer (Ok x) reader old new counts = (refl, counts)
+counts_at_writer (Err Memory) reader old new counts = (refl, counts)
+counts_at_writer (Err Device) reader old new counts = inr (refl, counts)

@@ -15,7 +15,7 @@ use Rattle.etcs_profile.specs.declared.overlap.Overlap.{Overlap}
 use Rattle.serde_json.specs.Data.{Data}
 use Rattle.balisecheck.specs.Forms.{Entry, always, array_of, maybe, object_of, whole}
 
--- for how long a section may be entered, and where its timer is stopped
+-- for how long a section stays valid, and where its timer is stopped
 abbrev pub section_timer_form : SectionTimer → Data
 section_timer_form t = object_of (
     always (codes "d_sectiontimerstoploc") (whole t.stop)

@@ -1,7 +1,7 @@
 -- A reader or writer whose failed calls are counted: what it shows, and what each call does to its
 -- count and to its budget. A read for which the budget does not suffice counts as failed, and so
 -- does a write that takes none of what it was handed.
-use Rattle.std.specs.Prelude.{◌≡◌, ◌<◌, ◌+◌, ◌-◌, ◌^◌, ◌==◌, ◌&&◌, ◌||◌, ℕ, Bool, not, max, min, Result, Ok, Err, MatchResult}
+use Rattle.std.specs.Prelude.{◌≡◌, ◌<◌, ◌+◌, ◌-◌, ◌^◌, ℕ, Bool, max, min, Result, MatchResult}
 use Rattle.balisecheck.specs.declared.counted.Counted.{Counted}
 
 -- how many calls have failed
@@ -12,9 +12,9 @@ failures_of counted = counted.failures
 abbrev pub budget_of : {T : Type 0} → Counted T → ℕ
 budget_of counted = counted.budget
 
--- a read has met the end of the input
-abbrev pub has_ended : {T : Type 0} → Counted T → Bool
-has_ended counted = counted.has_ended
+-- all that was written has been flushed
+abbrev pub is_flushed : {T : Type 0} → Counted T → Bool
+is_flushed counted = counted.is_flushed
 
 -- the reader or writer that is counted
 abbrev pub inner_of : {T : Type 0} → Counted T → T
@@ -40,8 +40,3 @@ CountsFailure old new result =
 -- what a read with this much room takes of the budget
 abbrev pub cost_of : ℕ → ℕ
 cost_of room = max room 1
-
--- a read that gave nothing although there was room has met the end
-abbrev pub ended_after : {E : Type 0} → Bool → ℕ → Result ℕ E → Bool
-ended_after before room (Ok count) = before || (count == 0 && not (room == 0))
-ended_after before room (Err _) = before

@@ -1,8 +1,9 @@
 -- Reading line by line. Bytes come from the reader in blocks that are cut anywhere; some are held
--- until their line is whole. Once the end of the input was met nothing more is read.
+-- until their line is whole. Once the end of the input was met nothing more is read, since a reader
+-- such as a terminal may give more after an end.
 use Rattle.std.specs.Prelude.{◌≡◌, ◌++◌, ◌<◌, ◌≤◌, ◌+◌, ◌-◌, ℕ, Bool, true, false, List, [], ◌∷◌, length, take, drop, Option, Result, Ok, Err, IfOk}
-use Rattle.std.specs.Io.KnownBytes.{Consumes}
-use Rattle.balisecheck.specs.Counted.{CountsNone, CountsOne, budget_of, has_ended, inner_of}
+use Rattle.std.specs.Io.KnownBytes.{Consumes, IsAtEnd}
+use Rattle.balisecheck.specs.Counted.{CountsNone, CountsOne, budget_of, inner_of}
 use Rattle.balisecheck.specs.TextLines.{IsLine, lines_of}
 use Rattle.balisecheck.specs.declared.counted.Counted.{Counted}
 use Rattle.balisecheck.specs.declared.error.RunError.{RunError}
@@ -17,13 +18,25 @@ held_of lines = take (lines.to - lines.from) (drop lines.from lines.block.items)
 abbrev pub line_of : TextLines → List ℕ
 line_of lines = lines.line.items
 
+-- the end of the input was met
+abbrev pub has_ended : TextLines → Bool
+has_ended lines = lines.has_ended
+
+-- nothing was read yet
+abbrev pub IsFresh : TextLines → Type 0
+IsFresh lines = (held_of lines ≡ []) × (has_ended lines ≡ false)
+
 -- the rest may follow what was read: anything may, but nothing once the end was met
 abbrev pub MayFollow : Bool → List ℕ → Type 0
-MayFollow has_ended rest = has_ended ≡ true → rest ≡ []
+MayFollow ended rest = ended ≡ true → rest ≡ []
 
 -- an end that was met stays met
-abbrev pub StaysEnded : {R : Type 0} → Counted R → Counted R → Type 0
+abbrev pub StaysEnded : TextLines → TextLines → Type 0
 StaysEnded old new = has_ended old ≡ true → has_ended new ≡ true
+
+-- where the end was met, the reader has no byte left, if that is known
+abbrev pub IsEndMet : {R : Type 0} → (R → Option (List ℕ)) → Bool → Counted R → Type 0
+IsEndMet remaining ended reader = ended ≡ true → IsAtEnd (remaining (inner_of reader))
 
 -- a device that failed is counted once, and nothing else is
 abbrev pub CountsDevice : {X T : Type 0} → Result X RunError → Counted T → Counted T → Type 0
@@ -51,26 +64,26 @@ MovesTo (Ok false) old new = Grows old new (held_of old) × (held_of new ≡ [])
 -- the line is the first of what was held and read, whatever may follow; or there is no line, and
 -- the end was met
 abbrev pub GivesLine : Result Bool RunError → List ℕ → List ℕ → List ℕ → Bool → Type 0
-GivesLine (Err _) bytes line held has_ended = Unit {0}
-GivesLine (Ok true) bytes line held has_ended =
-    (rest : List ℕ) → MayFollow has_ended rest
+GivesLine (Err _) bytes line held ended = Unit {0}
+GivesLine (Ok true) bytes line held ended =
+    (rest : List ℕ) → MayFollow ended rest
     → lines_of (bytes ++ rest) ≡ line ∷ lines_of (held ++ rest)
-GivesLine (Ok false) bytes line held has_ended = (has_ended ≡ true) × (bytes ≡ []) × (held ≡ [])
+GivesLine (Ok false) bytes line held ended = (ended ≡ true) × (bytes ≡ []) × (held ≡ [])
 
 -- these bytes were read, none if the end was met before, and with those held they give a line
 pub record Reads (remaining_old remaining_new : Option (List ℕ)) (had_ended : Bool)
-    (held line now : List ℕ) (has_ended : Bool) (result : Result Bool RunError) : Type 0 where
+    (held line now : List ℕ) (ended : Bool) (result : Result Bool RunError) : Type 0 where
   pub bytes : List ℕ
   pub quiet : had_ended ≡ true → bytes ≡ []
   pub consumed : Consumes remaining_old remaining_new bytes
-  pub gives : GivesLine result (held ++ bytes) line now has_ended
+  pub gives : GivesLine result (held ++ bytes) line now ended
 
 -- a line was looked for
 abbrev pub ReadsLine : {R : Type 0} → (R → Option (List ℕ)) → Counted R → Counted R → TextLines → TextLines
     → Result Bool RunError → Type 0
 ReadsLine remaining reader_old reader_new old new result =
-    Reads (remaining (inner_of reader_old)) (remaining (inner_of reader_new)) (has_ended reader_old)
-    (held_of old) (line_of new) (held_of new) (has_ended reader_new) result
+    Reads (remaining (inner_of reader_old)) (remaining (inner_of reader_new)) (has_ended old)
+    (held_of old) (line_of new) (held_of new) (has_ended new) result
 
 -- a line that is found is paid for, by bytes that were held or by the budget
 abbrev pub SpendsLine : {R : Type 0} → Result Bool RunError → Counted R → Counted R → TextLines → TextLines

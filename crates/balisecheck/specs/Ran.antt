@@ -1,10 +1,11 @@
 -- What a run promises. With a status, what was written and the status are the output for every
 -- input that begins with what was read. Without one, what was written begins the text of each such
 -- output. The end of the input, once met, counts as read. Nothing is said of a reader that does not
--- tell its bytes, or of a writer that does not tell its contents.
-use Rattle.std.specs.Prelude.{◌≡◌, ◌≤◌, ◌++◌, ◌⊎◌, ℕ, Bool, List, take, length, Option, Result, Ok, Err, OnOk}
-use Rattle.std.specs.Io.KnownBytes.{Appends, Consumes}
-use Rattle.balisecheck.specs.Counted.{CountsNone, CountsOne, has_ended, inner_of}
+-- tell its bytes, or of a writer that does not tell its contents. Where the whole input is known, it
+-- is simpler: what was written, and the status, are the output of that input.
+use Rattle.std.specs.Prelude.{◌≡◌, ◌≤◌, ◌++◌, ◌⊎◌, ℕ, Bool, true, List, take, length, Option, Result, Ok, Err, IfSome, OnOk}
+use Rattle.std.specs.Io.KnownBytes.{Appends, Consumes, IsAtEnd}
+use Rattle.balisecheck.specs.Counted.{CountsNone, CountsOne, inner_of, is_flushed}
 use Rattle.balisecheck.specs.LineReading.{MayFollow}
 use Rattle.balisecheck.specs.Output.{Output, prepend}
 use Rattle.balisecheck.specs.declared.counted.Counted.{Counted}
@@ -19,23 +20,43 @@ abbrev pub Tells : Result Status RunError → List ℕ → Output → Type 0
 Tells (Ok status) text output = output ≡ (text, status)
 Tells (Err _) text output = (more : List ℕ) × (output.0 ≡ text ++ more)
 
--- these bytes were read, and this text was written: it tells the output for each input that begins
--- with them
+-- These bytes were read, perhaps up to the end of the input, and this text was written: it tells the
+-- output for each input that begins with these bytes, or with the end met is just these bytes. An end
+-- can be met only where no byte is left.
 pub record Ran (remaining_old remaining_new contents_old contents_new : Option (List ℕ))
-    (has_ended : Bool) (output : List ℕ → Output) (result : Result Status RunError) : Type 0 where
+    (output : List ℕ → Output) (result : Result Status RunError) : Type 0 where
   pub bytes : List ℕ
   pub consumed : Consumes remaining_old remaining_new bytes
+  pub ended : Bool
+  pub met : ended ≡ true → IsAtEnd remaining_new
   pub text : List ℕ
   pub appended : Appends contents_old contents_new text
-  pub says : (rest : List ℕ) → MayFollow has_ended rest → Tells result text (output (bytes ++ rest))
+  pub says : (rest : List ℕ) → MayFollow ended rest → Tells result text (output (bytes ++ rest))
 
 -- the run, from its reader to its writer
 abbrev pub Runs : {R W : Type 0} → (R → Option (List ℕ)) → (W → Option (List ℕ)) → Counted R
     → Counted R → Counted W → Counted W → (List ℕ → Output) → Result Status RunError → Type 0
 Runs remaining contents reader_old reader_new writer_old writer_new output result =
     Ran (remaining (inner_of reader_old)) (remaining (inner_of reader_new))
-    (contents (inner_of writer_old)) (contents (inner_of writer_new))
-    (has_ended reader_new) output result
+    (contents (inner_of writer_old)) (contents (inner_of writer_new)) output result
+
+-- a text was written that tells this output
+pub record Writes (old new : Option (List ℕ)) (output : Output) (result : Result Status RunError)
+    : Type 0 where
+  pub text : List ℕ
+  pub appended : Appends old new text
+  pub says : Tells result text output
+
+-- the run on a known input: what was written tells the output of that input
+abbrev pub Answers : {R W : Type 0} → (R → Option (List ℕ)) → (W → Option (List ℕ)) → Counted R
+    → Counted W → Counted W → (List ℕ → Output) → Result Status RunError → Type 0
+Answers remaining contents reader writer_old writer_new output result =
+    IfSome (remaining (inner_of reader)) (λ input.
+    Writes (contents (inner_of writer_old)) (contents (inner_of writer_new)) (output input) result)
+
+-- a status is answered only once all that was written is flushed
+abbrev pub EndsFlushed : {X W : Type 0} → Result X RunError → Counted W → Type 0
+EndsFlushed result writer = OnOk result (is_flushed writer ≡ true)
 
 -- a device that failed is counted once, at the reader or at the writer, and nothing else is
 abbrev pub CountsOneDevice : {R W X : Type 0} → Result X RunError → Counted R → Counted R

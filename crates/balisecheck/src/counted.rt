@@ -1,10 +1,10 @@
 //! `Counted`: a reader or writer whose failed calls are counted.
 
-ghost use Rattle.std.specs.Prelude.{◌≡◌, ◌<◌, ◌≤◌, ◌+◌, ◌-◌, ◌^◌, false, length, IfOk, IsErr};
+ghost use Rattle.std.specs.Prelude.{◌≡◌, ◌<◌, ◌≤◌, ◌+◌, ◌-◌, ◌^◌, false, length, IfOk, IsErr, is_ok};
 ghost use Rattle.std.specs.Io.{ReadsAtMost, WritesAtMost};
 ghost use Rattle.std.specs.Io.KnownBytes.{Keeps, ReadConsumes, WriteAppends};
-ghost use Rattle.balisecheck.specs.Counted.{CountsFailure, budget_of, cost_of, ended_after};
-ghost use Rattle.balisecheck.specs.Counted.{failures_of, has_ended, inner_of};
+ghost use Rattle.balisecheck.specs.Counted.{CountsFailure, budget_of, cost_of};
+ghost use Rattle.balisecheck.specs.Counted.{failures_of, inner_of, is_flushed};
 
 use std::io::{Error, ErrorKind, Read, Result, Write};
 
@@ -13,28 +13,31 @@ use std::io::{Error, ErrorKind, Read, Result, Write};
 /// It begins with a budget of 2^64 - 1 bytes to be read. Each read lowers it by the length of its
 /// buffer, or by 1 where that is 0; a read for which it does not suffice fails. So whoever reads on
 /// for as long as it gives something ends on every reader.
+///
+/// A writer knows besides whether all that was written through it has been flushed.
 #[derive(Drop)]
 pub struct Counted<T> {
     inner: T,
     failures: u64,
     budget: u64,
-    has_ended: bool,
+    is_flushed: bool,
 }
 
 impl<T> Counted<T> {
-    /// Of this reader or writer no call has failed yet, and nothing of the budget is spent.
+    /// Of this reader or writer no call has failed yet, and nothing of the budget is spent. It counts
+    /// as not flushed: it may hold back what was written before.
     #[inline]
     pub fn new(inner: T) -> Counted<T>
         ensures inner { inner_of result ≡ inner }
         ensures failures { failures_of result ≡ 0 }
         ensures budget { budget_of result ≡ 2 ^ 64 - 1 }
-        ensures ended { has_ended result ≡ false }
+        ensures flushed { is_flushed result ≡ false }
     {
         Counted {
             inner,
             failures: 0,
             budget: u64::MAX,
-            has_ended: false,
+            is_flushed: false,
         }
     }
 
@@ -55,12 +58,12 @@ impl<T> Counted<T> {
         self.budget
     }
 
-    /// Whether a read has met the end of the input. Later reads may give more, as at a terminal.
+    /// Whether the last call of the writer was a flush that succeeded.
     #[inline]
-    pub(crate) fn has_ended(&self) -> bool
-        ensures { result ≡ has_ended self.now }
+    pub(crate) fn is_flushed(&self) -> bool
+        ensures { result ≡ is_flushed self.now }
     {
-        self.has_ended
+        self.is_flushed
     }
 
     /// The reader or writer itself.
@@ -89,21 +92,16 @@ impl<R: Read> Read for Counted<R> {
         ensures spent { budget_of self.old < cost_of (length buf.old)
             → IsErr result × (inner_of self.new ≡ inner_of self.old)
             × (budget_of self.new ≡ budget_of self.old) }
-
-        ensures ended { has_ended self.new
-            ≡ ended_after (has_ended self.old) (length buf.old) result }
     {
-        let room = buf.len();
-        let cost = (room as u64).max(1);
+        let cost = (buf.len() as u64).max(1);
         if self.budget < cost {
             self.failures = self.failures.saturating_add(1);
             return Err(Error::other("the budget is spent"));
         }
         self.budget -= cost;
         let result = self.inner.read(buf);
-        match &result {
-            Ok(count) => self.has_ended = self.has_ended || (*count == 0 && room != 0),
-            Err(_) => self.failures = self.failures.saturating_add(1),
+        if result.is_err() {
+            self.failures = self.failures.saturating_add(1);
         }
         result
     }
@@ -120,7 +118,9 @@ impl<W: Write> Write for Counted<W> {
             (W.contents (inner_of self.new)) result buf.now }
         ensures counts { CountsFailure (failures_of self.old) (failures_of self.new) result }
         ensures takes { IfOk result (λ n. 0 < length buf.now → 0 < n) }
+        ensures unflushed { is_flushed self.new ≡ false }
     {
+        self.is_flushed = false;
         match self.inner.write(buf) {
             Ok(0) if !buf.is_empty() => {
                 self.failures = self.failures.saturating_add(1);
@@ -139,8 +139,10 @@ impl<W: Write> Write for Counted<W> {
     fn flush(&mut self) -> Result<()>
         ensures bytes { Keeps (W.contents (inner_of self.old)) (W.contents (inner_of self.new)) }
         ensures counts { CountsFailure (failures_of self.old) (failures_of self.new) result }
+        ensures flushed { is_flushed self.new ≡ is_ok result }
     {
         let result = self.inner.flush();
+        self.is_flushed = result.is_ok();
         if result.is_err() {
             self.failures = self.failures.saturating_add(1);
         }

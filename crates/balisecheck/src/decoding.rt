@@ -1,11 +1,11 @@
 //! `decode`: lines of hexadecimal text, each a telegram, to JSON lines.
 
-ghost use Rattle.std.specs.Prelude.{◌≡◌, []};
+ghost use Rattle.std.specs.Prelude.{◌≡◌, ◌≢◌};
 ghost use Rattle.balisecheck.specs.Counted.{CanCount, inner_of};
-ghost use Rattle.balisecheck.specs.LineReading.{CountsDevice, held_of, line_of};
+ghost use Rattle.balisecheck.specs.LineReading.{CountsDevice, IsFresh, line_of};
 ghost use Rattle.balisecheck.specs.TextLines.{trimmed};
 ghost use Rattle.balisecheck.specs.Output.{after_line, decode_output, told};
-ghost use Rattle.balisecheck.specs.Ran.{CountsOneDevice, Runs, Turns};
+ghost use Rattle.balisecheck.specs.Ran.{CountsOneDevice, EndsFlushed, Runs, Turns};
 ghost use Rattle.balisecheck.specs.TelegramLines.{meaning_of};
 
 use crate::counted::Counted;
@@ -37,7 +37,8 @@ fn refuse_line<W: Write>(
     why: &TextError,
     writer: &mut Counted<W>,
 ) -> Result<Turn, RunError>
-    requires { CanCount writer.old }
+    requires own { why.now ≢ TextError.Memory }
+    requires writes { CanCount writer.old }
     ensures turns { Turns (W.contents (inner_of writer.old)) (W.contents (inner_of writer.new))
         (told number (Err why.now)) result }
     ensures counts { CountsDevice result writer.old writer.new }
@@ -68,8 +69,10 @@ fn tell_line<W: Write>(
             put(writer, text.as_bytes())?;
             Ok(Turn::Next)
         }
-        Err(TextError::Memory) => Err(RunError::Memory),
-        Err(why) => refuse_line(alloc, number, &why, writer),
+        Err(why) => match why {
+            TextError::Memory => Err(RunError::Memory),
+            _ => refuse_line(alloc, number, &why, writer),
+        },
     }
 }
 
@@ -100,7 +103,7 @@ fn tell_lines<R: Read, W: Write>(
     reader: &mut Counted<R>,
     writer: &mut Counted<W>,
 ) -> Result<Status, RunError>
-    requires fresh { held_of lines.old ≡ [] }
+    requires fresh { IsFresh lines.old }
     requires reads { CanCount reader.old }
     requires writes { CanCount writer.old }
     ensures ran { Runs R.remaining W.contents reader.old reader.new writer.old writer.new
@@ -130,6 +133,7 @@ pub fn decode<R: Read, W: Write>(
     requires writes { CanCount writer.old }
     ensures ran { Runs R.remaining W.contents reader.old reader.new writer.old writer.new
         decode_output result }
+    ensures flushed { EndsFlushed result writer.new }
     ensures counts { CountsOneDevice result reader.old reader.new writer.old writer.new }
 {
     let mut lines = match TextLines::new(alloc) {

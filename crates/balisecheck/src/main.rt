@@ -8,6 +8,7 @@
 //! JSON. The commands `check` and `encode` are left out so far.
 #![tactic(auto)]
 
+mod advice;
 mod authority_form;
 mod bit_text;
 mod command;
@@ -31,6 +32,7 @@ mod text_lines;
 mod transition_form;
 mod turn;
 
+use crate::advice::advice_for;
 use crate::counted::Counted;
 use crate::error::RunError;
 use crate::program::run;
@@ -78,6 +80,9 @@ fn run_words(rt: &HostRuntime, words: &[String]) -> Result<Status, RunError> {
     let mut reader = Counted::new(rt.reader());
     let mut writer = Counted::new(buffered);
     let answer = run(alloc, words.as_slice(), &mut reader, &mut writer);
+    if let (Ok(Status::Refused), Some(text)) = (answer, advice_for(words.as_slice())) {
+        let _ = eprintln!(rt; "balisecheck: {text}");
+    }
     if answer.is_err() {
         // A run flushes only before a status, but what was written is to reach the output anyway.
         let _ = writer.flush();

@@ -4,7 +4,7 @@ ghost use Rattle.std.specs.Prelude.{◌≡◌, IfErr};
 ghost use Rattle.std.specs.Io.KnownBytes.{Keeps};
 ghost use Rattle.balisecheck.specs.Counted.{CanCount, inner_of};
 ghost use Rattle.balisecheck.specs.LineReading.{CountsDevice};
-ghost use Rattle.balisecheck.specs.Ran.{Puts};
+ghost use Rattle.balisecheck.specs.Ran.{EndsFlushed, Puts};
 
 use crate::counted::Counted;
 use crate::error::RunError;
@@ -33,6 +33,7 @@ pub fn put<W: Write>(writer: &mut Counted<W>, text: &[u8]) -> Result<(), RunErro
 pub fn finish<W: Write>(writer: &mut Counted<W>) -> Result<(), RunError>
     requires { CanCount writer.old }
     ensures kept { Keeps (W.contents (inner_of writer.old)) (W.contents (inner_of writer.new)) }
+    ensures flushed { EndsFlushed result writer.new }
     ensures counts { CountsDevice result writer.old writer.new }
     ensures device { IfErr result (λ e. e ≡ RunError.Device) }
 {

@@ -1,9 +1,11 @@
 //! `run`: the whole program, from words and a reader to a writer and a status.
 
-ghost use Rattle.std.specs.Prelude.{◌≡◌, map};
-ghost use Rattle.balisecheck.specs.Counted.{CanCount};
+ghost use Rattle.std.specs.Prelude.{◌≡◌, None, map};
+ghost use Rattle.balisecheck.specs.Command.{command_of};
+ghost use Rattle.balisecheck.specs.Counted.{CanCount, inner_of};
+ghost use Rattle.balisecheck.specs.LineReading.{CountsDevice};
 ghost use Rattle.balisecheck.specs.Output.{of_command, output_of, usage_line};
-ghost use Rattle.balisecheck.specs.Ran.{CountsOneDevice, Runs};
+ghost use Rattle.balisecheck.specs.Ran.{Answers, CountsOneDevice, EndsFlushed, Runs, Writes};
 
 use crate::command::{Command, read_command};
 use crate::counted::Counted;
@@ -16,15 +18,13 @@ use std::io::{Read, Write};
 
 const USAGE: &str = "refused: usage is balisecheck check, decode [--radio] or encode [--radio]\n";
 
-// Writes the usage line, and flushes the writer. Nothing is read.
-fn refuse_words<R: Read, W: Write>(
-    reader: &mut Counted<R>,
-    writer: &mut Counted<W>,
-) -> Result<Status, RunError>
+// Writes the usage line, and flushes the writer.
+fn refuse_words<W: Write>(writer: &mut Counted<W>) -> Result<Status, RunError>
     requires { CanCount writer.old }
-    ensures ran { Runs R.remaining W.contents reader.old reader.new writer.old writer.new
-        (λ _. (usage_line, Status.Refused)) result }
-    ensures counts { CountsOneDevice result reader.old reader.new writer.old writer.new }
+    ensures writes { Writes (W.contents (inner_of writer.old)) (W.contents (inner_of writer.new))
+        (usage_line, Status.Refused) result }
+    ensures flushed { EndsFlushed result writer.new }
+    ensures counts { CountsDevice result writer.old writer.new }
 {
     put(writer, USAGE.as_bytes())?;
     finish(writer)?;
@@ -42,24 +42,27 @@ fn obey<R: Read, W: Write>(
     requires writes { CanCount writer.old }
     ensures ran { Runs R.remaining W.contents reader.old reader.new writer.old writer.new
         (of_command command) result }
+    ensures unread { command ≡ None → reader.new ≡ reader.old }
+    ensures flushed { EndsFlushed result writer.new }
     ensures counts { CountsOneDevice result reader.old reader.new writer.old writer.new }
 {
     match command {
         Some(Command::Decode) => decode(alloc, reader, writer),
-        None => refuse_words(reader, writer),
+        None => refuse_words(writer),
     }
 }
 
 /// Runs the command that the words are, from the reader to the writer. The first word is the
-/// program's name; words that are no command give the usage line.
+/// program's name; words that are no command give the usage line, and then nothing is read.
 ///
-/// With a status, what is written and the status are the output for every input that begins with
-/// what was read, where the end of the input, once met, counts as read. The writer is flushed once,
-/// just before a status is answered.
+/// On a known input, what is written and the status are the output of that input. A run rests on
+/// what it read alone: they are the output of every input that begins with that, where the end of
+/// the input, once met, counts as read. The writer is flushed once, just before a status is
+/// answered.
 ///
 /// `Memory`: a request for memory was refused. `Device`: a read, a write or a flush failed, and the
 /// count of that one has risen by 1; nothing was called after it. In both cases what was written is
-/// a beginning of the output for each such input.
+/// a beginning of the output.
 pub fn run<'a, R: Read, W: Write>(
     alloc: Global,
     words: &'a [&'a str],
@@ -70,8 +73,15 @@ pub fn run<'a, R: Read, W: Write>(
     requires reads { CanCount reader.old }
     requires writes { CanCount writer.old }
 
+    // For a reader that holds its whole input and a writer that tells its contents.
+    ensures known { Answers R.remaining W.contents reader.old writer.old writer.new
+        (output_of (map (λ w. w.now) words.entry.now)) result }
+
+    // The same for every input that begins with what was read.
     ensures ran { Runs R.remaining W.contents reader.old reader.new writer.old writer.new
         (output_of (map (λ w. w.now) words.entry.now)) result }
+    ensures unread { command_of (map (λ w. w.now) words.entry.now) ≡ None → reader.new ≡ reader.old }
+    ensures flushed { EndsFlushed result writer.new }
 
     // Only a device that failed is counted, and `Device` is never answered for anything else.
     ensures counts { CountsOneDevice result reader.old reader.new writer.old writer.new }

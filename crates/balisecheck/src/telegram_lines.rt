@@ -1,6 +1,6 @@
 //! A telegram as a line of JSON, and the refusal of a line that is none.
 
-ghost use Rattle.std.specs.Prelude.{◌≡◌, Ok, IfOk, MatchResult, string_bytes};
+ghost use Rattle.std.specs.Prelude.{◌≡◌, ◌≢◌, Ok, IfOk, MatchResult, string_bytes};
 ghost use Rattle.balisecheck.specs.TelegramLines.{Refuses, json_line_of};
 ghost use Rattle.balisecheck.specs.TelegramLines.{kind_words, meaning_of, reason_of, refusal_of};
 
@@ -54,13 +54,14 @@ fn kind_text(kind: FaultKind) -> &'static str
     }
 }
 
-// Why a text is no telegram, in words. `Memory` is no such reason: the call fails then.
+// Why a text is no telegram, in words.
 #[tactic(auto, unfolding(crate::specs::TelegramLines::reason_of))]
 fn reason(alloc: Global, why: &TextError) -> Result<String, AllocError>
+    requires { why.now ≢ TextError.Memory }
     ensures { IfOk result (λ s. string_bytes s ≡ reason_of why.now) }
 {
     match why {
-        TextError::Memory => Err(AllocError),
+        TextError::Memory => unreachable!(),
         TextError::NotHex => format!(in alloc; "not hexadecimal"),
         TextError::WrongSize => format!(in alloc; "wrong size"),
         TextError::PadBits => format!(in alloc; "pad bits set"),
@@ -72,9 +73,11 @@ fn reason(alloc: Global, why: &TextError) -> Result<String, AllocError>
     }
 }
 
-/// The refusal of the line of this number, with its `\n`. Lines count from 1.
+/// The refusal of the line of this number, with its `\n`. Lines count from 1. That memory ran out is
+/// no reason to refuse a line.
 #[tactic(auto, unfolding(crate::specs::TelegramLines::refusal_of))]
 pub fn refusal(alloc: Global, number: u64, why: &TextError) -> Result<String, AllocError>
+    requires { why.now ≢ TextError.Memory }
     ensures { IfOk result (λ s. string_bytes s ≡ refusal_of number why.now) }
 {
     let reason = reason(alloc, why)?;

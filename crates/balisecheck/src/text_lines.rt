@@ -21,6 +21,8 @@ pub struct TextLines {
     from: usize,
     to: usize,
     line: Vec<u8>,
+    // Whether a read has met the end of the input.
+    has_ended: bool,
     ghost ordered: { from ≤ to },
     ghost within: { to ≤ vec_len block },
     ghost room: { 0 < vec_len block },
@@ -29,20 +31,21 @@ pub struct TextLines {
 impl TextLines {
     ghost use Rattle.std.specs.Prelude.{◌≡◌, true, [], length, IfOk, OnErr, IfErr};
     ghost use Rattle.std.specs.Io.KnownBytes.{Consumes, Keeps};
-    ghost use Rattle.balisecheck.specs.Counted.{CanCount, has_ended, inner_of};
-    ghost use Rattle.balisecheck.specs.LineReading.{CountsDevice, MovesTo, ReadsLine};
+    ghost use Rattle.balisecheck.specs.Counted.{CanCount, inner_of};
+    ghost use Rattle.balisecheck.specs.LineReading.{CountsDevice, IsEndMet, IsFresh, MovesTo, ReadsLine};
     ghost use Rattle.balisecheck.specs.LineReading.{SpendsAtLeast, SpendsLine, StaysEnded};
-    ghost use Rattle.balisecheck.specs.LineReading.{held_of, line_of};
+    ghost use Rattle.balisecheck.specs.LineReading.{has_ended, held_of, line_of};
 
     /// Nothing is read yet.
     pub fn new(alloc: Global) -> Result<TextLines, AllocError>
-        ensures { IfOk result (λ l. held_of l ≡ []) }
+        ensures { IfOk result (λ l. IsFresh l) }
     {
         Ok(TextLines {
             block: vec![in alloc; 0; ROOM]?,
             from: 0,
             to: 0,
             line: Vec::new(alloc),
+            has_ended: false,
         })
     }
 
@@ -58,6 +61,7 @@ impl TextLines {
     fn move_line(&mut self) -> Result<bool, RunError>
         ensures moves { MovesTo result self.old self.new }
         ensures memory { IfErr result (λ e. e ≡ RunError.Memory) }
+        ensures same_end { has_ended self.new ≡ has_ended self.old }
     {
         let held = &self.block[self.from..self.to];
         match memchr::memchr(b'\n', held) {
@@ -84,7 +88,7 @@ impl TextLines {
         ensures line { line_of self.new ≡ line_of self.old }
         ensures read { IfOk result (λ n. Consumes (R.remaining (inner_of reader.old))
             (R.remaining (inner_of reader.new)) (held_of self.new)
-            × (length (held_of self.new) ≡ n) × (n ≡ 0 → has_ended reader.new ≡ true)) }
+            × (length (held_of self.new) ≡ n) × (n ≡ 0 → has_ended self.new ≡ true)) }
         ensures spends { IfOk result (λ n. SpendsAtLeast n reader.old reader.new) }
 
         // Nothing is lost by a read that failed.
@@ -93,10 +97,13 @@ impl TextLines {
         ensures device { IfErr result (λ e. e ≡ RunError.Device) }
         ensures counts { CountsDevice result reader.old reader.new }
 
-        ensures quiet { has_ended reader.old ≡ true → IfOk result (λ n. n ≡ 0) }
-        ensures ended { StaysEnded reader.old reader.new }
+        // Only a reader that has no byte left meets its end.
+        ensures quiet { has_ended self.old ≡ true → IfOk result (λ n. n ≡ 0) }
+        ensures ended { StaysEnded self.old self.new }
+        ensures met { IsEndMet R.remaining (has_ended self.old) reader.old
+            → IsEndMet R.remaining (has_ended self.new) reader.new }
     {
-        if reader.has_ended() {
+        if self.has_ended {
             self.from = 0;
             self.to = 0;
             return Ok(0);
@@ -105,6 +112,7 @@ impl TextLines {
             Ok(count) => {
                 self.from = 0;
                 self.to = count;
+                self.has_ended = count == 0;
                 Ok(count)
             }
             Err(_) => Err(RunError::Device),
@@ -119,7 +127,9 @@ impl TextLines {
         requires { CanCount reader.old }
         ensures reads { ReadsLine R.remaining reader.old reader.new self.old self.new result }
         ensures counts { CountsDevice result reader.old reader.new }
-        ensures ended { StaysEnded reader.old reader.new }
+        ensures ended { StaysEnded self.old self.new }
+        ensures met { IsEndMet R.remaining (has_ended self.old) reader.old
+            → IsEndMet R.remaining (has_ended self.new) reader.new }
         ensures spends { SpendsLine result reader.old reader.new self.old self.new }
     {
         self.line.clear();

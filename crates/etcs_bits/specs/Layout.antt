@@ -32,6 +32,15 @@ abbrev pub IfFault : {X : Type 0} → Result X DecodeError → (Fault → Type 0
 IfFault (Ok x) P = Unit {0}
 IfFault (Err e) P = OfFault e P
 
+-- What has to hold where a call answered that memory ran out.
+abbrev pub OfMemory : DecodeError → Type 0 → Type 0
+OfMemory errors.Memory P = P
+OfMemory (errors.Fault f) P = Unit {0}
+
+abbrev pub IfMemory : {X : Type 0} → Result X DecodeError → Type 0 → Type 0
+IfMemory (Ok x) P = Unit {0}
+IfMemory (Err e) P = OfMemory e P
+
 -- the bits were added at the end; where memory ran out, perhaps only a part of them
 abbrev pub Puts : {X E : Type 0} → List Bool → Result X E → List Bool → List Bool → Type 0
 Puts bits (Ok x) old new = new ≡ old ++ bits

@@ -75,6 +75,8 @@ impl<const BEFORE: u32, T: Layout> Layout for Body<BEFORE, T> {
     // Its type keeps its numbers in range.
     ghost fit = { λ _. Unit {0} };
 
+    ghost grows = { T.grows };
+
     ghost laid = { body_laid BEFORE T.laid };
 
     fn is_allowed(&self) -> bool {

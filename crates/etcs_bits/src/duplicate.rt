@@ -68,6 +68,8 @@ impl Layout for Dup {
     // Its type keeps its numbers in range.
     ghost fit = { λ _. Unit {0} };
 
+    ghost grows = { ⊥ };
+
     ghost laid = { dup_laid };
 
     fn is_allowed(&self) -> bool {

@@ -26,6 +26,8 @@ impl Layout for bool {
     // Its type keeps its numbers in range.
     ghost fit = { λ _. Unit {0} };
 
+    ghost grows = { ⊥ };
+
     ghost laid = { flag_laid };
 
     fn is_allowed(&self) -> bool {

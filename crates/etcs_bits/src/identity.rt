@@ -31,6 +31,8 @@ impl Layout for Identity {
     // Its type keeps its numbers in range.
     ghost fit = { λ _. Unit {0} };
 
+    ghost grows = { ⊥ };
+
     ghost laid = { identity_laid };
 
     #[tactic(auto, using(crate::proofs::PutLemmas::allowed_both))]

@@ -1,11 +1,11 @@
 //! A list behind its count.
 
-ghost use Rattle.std.specs.Prelude.{◌≡◌, ◌↔◌, ◌≤◌, min, length, IsTrue, IfOk};
+ghost use Rattle.std.specs.Prelude.{◌≡◌, ◌↔◌, ◌<◌, ◌≤◌, min, length, IsTrue, IfOk};
 ghost use Rattle.std.specs.List.{AllByRecursion, flat_map};
 ghost use Rattle.etcs_bits.specs.Rows.{AreAllowed, join, width};
 ghost use Rattle.etcs_bits.specs.Fields.{times};
 ghost use Rattle.etcs_bits.specs.Reading.{rows_at};
-ghost use Rattle.etcs_bits.specs.Layout.{Gives, Puts};
+ghost use Rattle.etcs_bits.specs.Layout.{Gives, IfMemory, Puts};
 
 use crate::bits::Bits;
 use crate::cursor::Cursor;
@@ -95,6 +95,9 @@ fn scan_items<T: Layout>(
     ensures gives { Gives (λ v. flat_map T.rows v.items) result
         (rows_at (times count T.fields) cur.old) cur.new }
     ensures count { IfOk result (λ v. length v.items ≡ count) }
+
+    // Without an item no memory is asked for.
+    ensures memory { IfMemory result (0 < count) }
 {
     let mut items = Vec::new(alloc);
     'items: for _ in 0..count {
@@ -106,10 +109,11 @@ fn scan_items<T: Layout>(
 
 #[tactic(auto, using(crate::proofs::PutLemmas::puts_bits), unfolding(crate::specs::Rows::alone))]
 impl<T: Layout> Layout for Items<T> {
-    ghost use Rattle.std.specs.Prelude.{◌<◌, length, IfOk};
+    ghost use Rattle.std.specs.Prelude.{◌≡◌, ◌≢◌, ◌+◌, ◌<◌, length, Ok, Err, IfOk};
+    ghost use Rattle.etcs_bits.specs.Fault.{short};
     ghost use Rattle.etcs_bits.specs.Fields.{counted};
-    ghost use Rattle.etcs_bits.specs.Reading.{rows_at};
-    ghost use Rattle.etcs_bits.specs.Layout.{Gives};
+    ghost use Rattle.etcs_bits.specs.Reading.{forward, rows_at, taken};
+    ghost use Rattle.etcs_bits.specs.Layout.{Gives, IfMemory};
     ghost use Rattle.etcs_bits.specs.Combined.{n_iter, counted_rows, counted_of};
     ghost use Rattle.etcs_bits.specs.LaidLemmas.{counted_laid};
 
@@ -120,6 +124,8 @@ impl<T: Layout> Layout for Items<T> {
     ghost record_of = { counted_of T.fields T.record_of };
 
     ghost fit = { λ l. (length l ≤ 31) × AllByRecursion T.fit l };
+
+    ghost grows = { Unit {0} };
 
     ghost laid = { counted_laid T.laid };
 
@@ -142,6 +148,11 @@ impl<T: Layout> Layout for Items<T> {
 
         // The count has five bits.
         ensures few { IfOk result (λ l. length l < 32) }
+
+        // Memory is asked for behind a count alone, and not behind a count of none.
+        ensures short { length cur.old.bits < cur.old.at + 5
+            → result ≡ Err (DecodeError.Fault (short cur.old)) }
+        ensures memory { IfMemory result (taken 5 cur.old ≢ Ok (0, forward cur.old 5)) }
     {
         let count = cur.take(5)?;
         let items = scan_items(alloc, count, cur)?;

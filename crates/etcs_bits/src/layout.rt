@@ -6,7 +6,7 @@ ghost use Rattle.etcs_bits.specs.Fields.{Fields};
 ghost use Rattle.etcs_bits.specs.Fault.{IsFault, NoneBegins};
 ghost use Rattle.etcs_bits.specs.Reading.{rows_at};
 ghost use Rattle.etcs_bits.specs.LaidLemmas.{IsLayout};
-ghost use Rattle.etcs_bits.specs.Layout.{Gives, IfFault, Puts};
+ghost use Rattle.etcs_bits.specs.Layout.{Gives, IfFault, IfMemory, Puts};
 
 use crate::bits::Bits;
 use crate::cursor::Cursor;
@@ -33,6 +33,9 @@ pub trait Layout: Drop {
     /// keep them in range.
     ghost fit: { Self → Type 0 };
 
+    /// Whether reading a record may ask for memory: only where it holds a list or bits of its own.
+    ghost grows: { Type 0 };
+
     /// Whether each variable has a number that fits in its bits and is allowed. Takes no memory.
     fn is_allowed(&self) -> bool
         ensures allowed { IsTrue result ↔ AreAllowed (rows self.now) }
@@ -49,7 +52,8 @@ pub trait Layout: Drop {
 
     /// Reads on from the cursor. After an error it may stand anywhere: users call `read`.
     fn scan(alloc: Global, cur: &mut Cursor<'_>) -> Result<Self, DecodeError>
-        ensures { Gives rows result (rows_at fields cur.old) cur.new };
+        ensures gives { Gives rows result (rows_at fields cur.old) cur.new }
+        ensures memory { IfMemory result grows };
 
     /// Appends the spelling of a record that is allowed. If memory runs out, nothing is appended.
     final fn write(&self, out: &mut Bits) -> Result<(), Memory>
@@ -76,6 +80,9 @@ pub trait Layout: Drop {
         ensures fault { IfFault result (λ f. IsFault fields cur.old f) }
         ensures none { IfFault result (λ f. NoneBegins rows cur.old f) }
         ensures err { OnErr result (cur.new ≡ cur.old) }
+
+        // A record without a list never asks for memory.
+        ensures memory { IfMemory result grows }
     {
         let mut ahead = cur.fork();
         let value = Self::scan(alloc, &mut ahead)?;

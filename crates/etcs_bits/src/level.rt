@@ -58,6 +58,8 @@ impl Layout for Level {
     // Its type keeps its numbers in range.
     ghost fit = { λ _. Unit {0} };
 
+    ghost grows = { ⊥ };
+
     ghost laid = { level_laid };
 
     fn is_allowed(&self) -> bool {

@@ -60,6 +60,8 @@ impl Layout for Medium {
     // Its type keeps its numbers in range.
     ghost fit = { λ _. Unit {0} };
 
+    ghost grows = { ⊥ };
+
     ghost laid = { medium_laid };
 
     fn is_allowed(&self) -> bool {

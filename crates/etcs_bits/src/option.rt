@@ -25,6 +25,8 @@ impl<T: Layout> Layout for Option<T> {
 
     ghost fit = { λ o. IfSome o T.fit };
 
+    ghost grows = { T.grows };
+
     ghost laid = { option_laid T.laid };
 
     fn is_allowed(&self) -> bool {

@@ -12,6 +12,7 @@ use std::alloc::Global;
 /// first.
 #[tactic(auto, using(crate::proofs::PutLemmas::puts_then, crate::proofs::PutLemmas::allowed_both))]
 impl<A: Layout, B: Layout> Layout for (A, B) {
+    ghost use Rattle.std.specs.Prelude.{◌⊎◌};
     ghost use Rattle.etcs_bits.specs.Fields.{◌▹◌};
     ghost use Rattle.etcs_bits.specs.Combined.{pair_rows, pair_of};
     ghost use Rattle.etcs_bits.specs.LaidLemmas.{pair_laid};
@@ -23,6 +24,8 @@ impl<A: Layout, B: Layout> Layout for (A, B) {
     ghost record_of = { pair_of A.fields A.record_of B.record_of };
 
     ghost fit = { λ p. A.fit p.0 × B.fit p.1 };
+
+    ghost grows = { A.grows ⊎ B.grows };
 
     ghost laid = { pair_laid A.laid B.laid };
 

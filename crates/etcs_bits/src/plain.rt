@@ -98,6 +98,8 @@ impl<const W: u32> Layout for Plain<W> {
     // Its type keeps its numbers in range.
     ghost fit = { λ _. Unit {0} };
 
+    ghost grows = { ⊥ };
+
     ghost laid = { alone_laid (plain W) };
 
     fn is_allowed(&self) -> bool {

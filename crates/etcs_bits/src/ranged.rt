@@ -93,6 +93,8 @@ impl<const W: u32, const LAST: u32, const FROM: u32> Layout for Ranged<W, LAST, 
     // Its type keeps its numbers in range.
     ghost fit = { λ _. Unit {0} };
 
+    ghost grows = { ⊥ };
+
     ghost laid = { alone_laid (ranged W LAST FROM) };
 
     fn is_allowed(&self) -> bool {

@@ -68,6 +68,8 @@ impl Layout for Scale {
     // Its type keeps its numbers in range.
     ghost fit = { λ _. Unit {0} };
 
+    ghost grows = { ⊥ };
+
     ghost laid = { scale_laid };
 
     fn is_allowed(&self) -> bool {

@@ -60,6 +60,8 @@ impl Layout for Transmission {
     // Its type keeps its numbers in range.
     ghost fit = { λ _. Unit {0} };
 
+    ghost grows = { ⊥ };
+
     ghost laid = { transmission_laid };
 
     fn is_allowed(&self) -> bool {

@@ -64,6 +64,8 @@ impl Layout for Version {
     // Its type keeps its numbers in range.
     ghost fit = { λ _. Unit {0} };
 
+    ghost grows = { ⊥ };
+
     ghost laid = { version_laid };
 
     fn is_allowed(&self) -> bool {

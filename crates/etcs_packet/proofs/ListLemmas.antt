@@ -1,20 +1,20 @@
 -- A list of records, as a reader goes through it and as a user knows it.
-use Rattle.std.proofs.Common.{◌≡◌, ◌≤◌, Bool, true, false, List, [], ◌∷◌, ◌++◌, map, length, take, Option, Some, None, Result, Ok, Err, refl, sym, ap, subst, ◌∙◌, arith}
+use Rattle.std.proofs.Common.{◌≡◌, ◌+◌, ◌<◌, ◌≤◌, Bool, true, false, List, [], ◌∷◌, ◌++◌, map, length, take, Option, Some, None, Result, Ok, Err, refl, sym, ap, subst, ◌∙◌, arith}
 use Rattle.std.specs.Result.{is_err, OnOk}
 use Rattle.std.proofs.lemmas.List.{map-append}
 use Rattle.etcs_bits.specs.declared.fault.Fault.{Fault}
 use Rattle.etcs_bits.specs.declared.fault.DecodeError.{DecodeError}
 use Rattle.etcs_bits.specs.declared.fault.DecodeError.TheVariants as errors
-use Rattle.etcs_bits.specs.Rows.{Row, Place}
+use Rattle.etcs_bits.specs.Rows.{Row, Place, join}
 use Rattle.etcs_bits.specs.Fields.{Fields, AreRowsOf}
-use Rattle.etcs_bits.specs.Fault.{IsFault, NoneBegins}
+use Rattle.etcs_bits.specs.Fault.{IsFault, NoneBegins, lack}
 use Rattle.etcs_bits.specs.Layout.{Fails, OfFault}
 use Rattle.etcs_bits.specs.LaidLemmas.{IsLayout}
-use Rattle.etcs_bits.proofs.LayoutLemmas.{rows_again}
-use Rattle.etcs_bits.proofs.StandLemmas.{place_in}
+use Rattle.etcs_bits.proofs.LayoutLemmas.{laid_out, rows_again}
+use Rattle.etcs_bits.proofs.StandLemmas.{length-join, place_in, stands_within}
 use Rattle.etcs_packet.specs.declared.stop.Stop.{Stop}
 use Rattle.etcs_packet.specs.Lists.{IsHeaded, ends, Stand, IsStep, NoStep, NoneStand, Follow, IsListFault, items_at}
-use Rattle.etcs_packet.proofs.EndLemmas.{settled, told_past}
+use Rattle.etcs_packet.proofs.EndLemmas.{headed_wide, no_end_here, settled, told_past}
 use Rattle.etcs_packet.proofs.FollowLemmas.{follow_more, list_fault_stays}
 use Rattle.etcs_packet.proofs.ItemLemmas.{follow_is_read, read_follows, list_fault_is_read}
 
@@ -39,7 +39,32 @@ no_step rows errors.Memory stop fields p head within goes t none = tt
 no_step rows (errors.Fault f) stop fields p head within goes t none =
     λ bits len same o to s. no_step_here rows stop fields p f bits o to head within goes t none len same s
 
+-- too few bits for NID_PACKET
+pub lacks_step : {X : Type 0} {rows : X → List Row} {of : List Row → X} {fields : Fields}
+    → IsLayout fields rows of → (stop : Stop) (p : Place) → IsHeaded fields → p.at ≤ length p.bits
+    → ends stop p ≡ false → length p.bits < p.at + 8 → NoStep stop rows p (lack true p)
+lacks_step {rows = rows} {fields = fields} laid stop p head within goes few = λ bits len same o to s.
+    let told = no_end_here fields p head few in
+    no_step_here rows stop fields p (lack true p) bits o to head within goes told ((laid_out laid).fault_or_record p (lack true p) within told) len same s
+
 -- ---- the loop
+
+-- where too few bits are left for a record, none was found
+pub none_before : (stop : Stop) (fields : Fields) (whole : List (List Row)) (p q : Place)
+    → IsHeaded fields → p.at ≤ length p.bits → length p.bits < p.at + 8
+    → Follow stop fields whole p q → q ≡ p
+none_before stop fields [] p q head within few there = there
+none_before stop fields (r ∷ more) p q head within few (goes, (m, w, spelled, rest)) =
+    absurd (omega (arith, few, headed_wide fields r head w, length-join r, spelled.stands.past, stands_within (join r) p m within spelled.stands))
+
+abbrev failing : {A : Type 0} → DecodeError → Result A DecodeError
+failing e = Err e
+
+pub same_error : {A : Type 0} (d e : DecodeError) → failing {A = A} d ≡ failing {A = A} e → d ≡ e
+same_error d e is = cc
+
+pub no_error : {A C : Type 0} (x : A) (e : DecodeError) → Ok x ≡ failing {A = A} e → C
+no_error x e is = absurd cc
 
 -- one record more
 pub goes_on : {X : Type 0} (rows : X → List Row) (xs : List X) (x : X) (stop : Stop)

@@ -7,13 +7,13 @@ use Rattle.etcs_bits.specs.Rows.{Row, Place, IsSpelled, join}
 use Rattle.etcs_bits.specs.Fields.{Fields, AreRowsOf}
 use Rattle.etcs_bits.specs.Fault.{IsFault}
 use Rattle.etcs_bits.specs.Reading.{◌>>=◌, rows_at}
-use Rattle.etcs_bits.specs.Layout.{Fails, Gives, OfFault}
+use Rattle.etcs_bits.specs.Layout.{Fails, Gives, OfFault, OfMemory}
 use Rattle.etcs_bits.proofs.BindLemmas.{bind_ok, bind_err, ok_is}
 use Rattle.etcs_bits.specs.LaidLemmas.{IsLayout}
 use Rattle.etcs_bits.proofs.LayoutLemmas.{rows_again}
 use Rattle.etcs_bits.proofs.StandLemmas.{place_in, stands_moved}
 use Rattle.etcs_bits.proofs.ReadingLemmas.{read_is_spelled, spelled_is_read, fault_is_told}
-use Rattle.etcs_bits.proofs.FaultLemmas.{told_is_given, fault_stays}
+use Rattle.etcs_bits.proofs.FaultLemmas.{told_is_given, fault_stays, none_stands, one_told}
 use Rattle.etcs_packet.specs.declared.stop.Stop.{Stop}
 use Rattle.etcs_packet.specs.Lists.{IsHeaded, IsListFault, items_at}
 use Rattle.etcs_packet.specs.Whole.{start, IsWhole, IsWholeFault, NoneWhole, Means, whole_at, whole_of}
@@ -196,3 +196,20 @@ gives_means view (Ok y) stop head head_of item item_of bits q gives =
 gives_means view (Err errors.Memory) stop head head_of item item_of bits q gives = tt
 gives_means view (Err (errors.Fault f)) stop head head_of item item_of bits q gives =
     of_bits stop head head_of item item_of bits ∙ rw gives refl
+
+-- ---- the fault of a head is always answered
+
+-- Where a head without a list has a fault, that is what reading it answers.
+pub head_told : (e : DecodeError) (grows : Type 0) (header : Fields) (p : Place) (f : Fault)
+    → p.at ≤ length p.bits → OfFault e (λ g. IsFault header p g) → OfMemory e grows → (grows → ⊥)
+    → IsFault header p f → e ≡ errors.Fault f
+head_told errors.Memory grows header p f within told memory none fault = absurd (none memory)
+head_told (errors.Fault g) grows header p f within told memory none fault =
+    ap errors.Fault (one_told header p g f within told fault)
+
+-- A head that stands has none.
+pub head_stands : {H : Type 0} (header : Fields) (head : H → List Row) (h : H) (p q : Place)
+    (f : Fault) → p.at ≤ length p.bits → ((k : H) → AreRowsOf header (head k))
+    → IsSpelled (head h) p q → IsFault header p f → ⊥
+head_stands header head h p q f within are_rows spelled fault =
+    none_stands header p f p.bits (head h) q within refl refl fault (are_rows h) spelled

@@ -25,6 +25,8 @@ impl Layout for CoverMarker {
     // Its type keeps its number in range.
     ghost fit = { λ _. Unit {0} };
 
+    ghost grows = { ⊥ };
+
     ghost laid = { cover_laid };
 
     #[tactic(auto, using(etcs_bits::proofs::PutLemmas::allowed_both))]

@@ -34,7 +34,8 @@ pub fn a_list_fault_is_read<T: Layout>()
     ensures { ListFaultIsRead T.record_of T.fields }
 {}
 
-/// A telegram without an end mark: where fewer than eight bits are left, the fault is NoEnd.
+/// A list of a telegram that begins where fewer than eight bits are left has the fault NoEnd, at that
+/// place: no end mark can come.
 pub fn a_telegram_without_its_mark_has_no_end<T: Layout>()
     requires { IsHeaded T.fields }
     ensures { NoEndIsTold T.fields }

@@ -45,6 +45,8 @@ impl Layout for Link {
     // Its types keep their numbers in range.
     ghost fit = { λ _. Unit {0} };
 
+    ghost grows = { ⊥ };
+
     ghost laid = { link_laid };
 
     #[tactic(auto, using(etcs_bits::proofs::PutLemmas::allowed_both, etcs_bits::proofs::FitLemmas::some_fit))]
@@ -185,6 +187,8 @@ impl Layout for Linking {
 
     // Its type keeps its numbers in range.
     ghost fit = { λ _. Unit {0} };
+
+    ghost grows = { Unit {0} };
 
     ghost laid = { packet_laid 5 (elements_laid link_laid) };
 

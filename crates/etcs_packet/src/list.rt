@@ -1,14 +1,14 @@
 //! A list of packets, as a telegram and a message have one.
 
-ghost use Rattle.std.specs.Prelude.{◌≡◌, ◌≤◌, ◌++◌, length, false, IfOk, OnOk, OnErr};
+ghost use Rattle.std.specs.Prelude.{◌≡◌, ◌+◌, ◌<◌, ◌≤◌, ◌++◌, length, true, false, Err, IfOk, OnOk, OnErr};
 ghost use Rattle.std.specs.List.{flat_map};
 ghost use Rattle.etcs_bits.specs.Rows.{AreAllowed, join};
-ghost use Rattle.etcs_bits.specs.Fault.{IsFault};
+ghost use Rattle.etcs_bits.specs.Fault.{IsFault, lack};
 ghost use Rattle.etcs_bits.specs.Layout.{Gives, IfFault};
 ghost use Rattle.etcs_packet.specs.Lists.{IsHeaded, IsListFault, IsStep, NoStep, NoneStand, Stand, ends, items_at};
 
 use crate::stop::Stop;
-use etcs_bits::{Bits, Cursor, DecodeError, Layout, Memory};
+use etcs_bits::{Bits, Cursor, DecodeError, FaultKind, Layout, Memory, refused};
 use std::alloc::Global;
 
 /// Whether the list ends at the cursor. Takes no memory.
@@ -43,9 +43,16 @@ pub fn next_item<T: Layout>(
     ensures fault { IfFault result (λ f. (ends stop cur.old ≡ false) × IsFault T.fields cur.old f) }
     ensures none { IfFault result (λ f. NoStep stop T.rows cur.old f) }
     ensures err { OnErr result (cur.new ≡ cur.old) }
+
+    // That no end can come is always told: no memory is asked for.
+    ensures no_end { stop ≡ Stop.Telegram → length cur.old.bits < cur.old.at + 8
+        → result ≡ Err (DecodeError.Fault (lack true cur.old)) }
 {
     if is_end(cur, stop) {
         return Ok(None);
+    }
+    if cur.left() < 8 {
+        return Err(refused(cur.at(), cur, FaultKind::NoEnd));
     }
     let item = T::read(alloc, cur)?;
     Ok(Some(item))
@@ -72,6 +79,10 @@ pub fn read_items<T: Layout>(
     // The same as a function of the bits.
     ensures exact { Gives (λ v. v.items) result
         (items_at stop T.fields T.record_of cur.old) cur.new }
+
+    // That no end can come is always told: no memory is asked for.
+    ensures no_end { stop ≡ Stop.Telegram → length cur.old.bits < cur.old.at + 8
+        → result ≡ Err (DecodeError.Fault (lack true cur.old)) }
 {
     let mut ahead = cur.fork();
     let mut found = Vec::new(alloc);

@@ -1,8 +1,9 @@
 //! The packets of a telegram or of a message.
 
-ghost use Rattle.std.specs.Prelude.{◌≡◌, ◌++◌, IfOk, OnOk, OnErr};
+ghost use Rattle.std.specs.Prelude.{◌≡◌, ◌+◌, ◌<◌, ◌++◌, length, true, Err, IfOk, OnOk, OnErr};
 ghost use Rattle.std.specs.List.{flat_map};
 ghost use Rattle.etcs_bits.specs.Rows.{AreAllowed, join};
+ghost use Rattle.etcs_bits.specs.Fault.{lack};
 ghost use Rattle.etcs_bits.specs.Layout.{Gives, IfFault};
 ghost use Rattle.etcs_packet.specs.Lists.{IsListFault, NoneStand, Stand, items_at};
 ghost use Rattle.etcs_packet.specs.Listed.{track_fields};
@@ -33,6 +34,10 @@ pub fn read_packets(
 
     // The same as a function of the bits.
     ensures exact { Gives (λ v. v.items) result (items_at stop track_fields track_of cur.old) cur.new }
+
+    // That no end can come is always told: no memory is asked for.
+    ensures no_end { stop ≡ Stop.Telegram → length cur.old.bits < cur.old.at + 8
+        → result ≡ Err (DecodeError.Fault (lack true cur.old)) }
 {
     read_items(alloc, cur, stop)
 }

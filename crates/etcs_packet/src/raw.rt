@@ -2,7 +2,7 @@
 
 ghost use Rattle.std.specs.Prelude.{◌≡◌, ◌≢◌, ◌≤◌, ◌<◌, ◌+◌, length, true, IfOk, IfErr, IsOk, ◌↔◌};
 ghost use Rattle.etcs_bits.specs.Reading.{field_at};
-ghost use Rattle.etcs_bits.specs.Layout.{Gives, Puts};
+ghost use Rattle.etcs_bits.specs.Layout.{Gives, IfMemory, Puts};
 ghost use Rattle.etcs_bits.specs.Rows.{join};
 ghost use Rattle.etcs_packet.specs.Free.{free_rows};
 ghost use Rattle.etcs_packet.specs.Numbers.{is_kept, is_other, l_raw};
@@ -25,6 +25,9 @@ fn scan_length(cur: &mut Cursor<'_>) -> Result<u64, DecodeError>
     ensures gives { Gives (λ n. n) result (field_at l_raw cur.old) cur.new }
     ensures least { IfOk result (λ n. 23 ≤ n) }
     ensures most { IfOk result (λ n. n < 8192) }
+
+    // No memory is asked for.
+    ensures memory { IfMemory result ⊥ }
 {
     let at = cur.at();
     let length = cur.take(13)?;
@@ -101,6 +104,8 @@ impl Layout for RawPacket {
 
     // Its type keeps number and body in range.
     ghost fit = { λ _. Unit {0} };
+
+    ghost grows = { Unit {0} };
 
     ghost laid = { raw_laid };
 

@@ -2,7 +2,7 @@
 
 ghost use Rattle.std.specs.Prelude.{◌≡◌, ◌==◌, true, min, not, Ok, IfOk, IfErr};
 ghost use Rattle.etcs_bits.specs.Reading.{forward, rows_at, taken};
-ghost use Rattle.etcs_bits.specs.Layout.{Fails, Gives, Puts};
+ghost use Rattle.etcs_bits.specs.Layout.{Fails, Gives, IfMemory, Puts};
 ghost use Rattle.etcs_bits.specs.Rows.{AreAllowed, join, width};
 ghost use Rattle.etcs_packet.specs.Meant.{is_meant};
 ghost use Rattle.etcs_packet.specs.Listed.{IsListed, renamed, track_fields};
@@ -40,6 +40,9 @@ fn next_number(cur: &Cursor<'_>) -> Result<u64, DecodeError>
     ensures ok { IfOk result (λ n. (taken 8 cur.now ≡ Ok (n, forward cur.now 8))
         × (not (n == 255) ≡ true)) }
     ensures err { IfErr result (λ e. Fails e (rows_at track_fields cur.now)) }
+
+    // No memory is asked for.
+    ensures memory { IfMemory result ⊥ }
 {
     let at = cur.at();
     let mut ahead = cur.fork();
@@ -180,6 +183,8 @@ impl Layout for TrackPacket {
 
     // Its types keep their numbers in range.
     ghost fit = { λ _. Unit {0} };
+
+    ghost grows = { Unit {0} };
 
     ghost laid = { track_laid };
 

@@ -32,6 +32,8 @@ impl Layout for LevelOrder {
     // Its types keep their numbers in range.
     ghost fit = { λ _. Unit {0} };
 
+    ghost grows = { ⊥ };
+
     ghost laid = { order_laid };
 
     #[tactic(auto, using(etcs_bits::proofs::PutLemmas::allowed_both))]
@@ -160,6 +162,8 @@ impl Layout for Transition {
 
     // Its type keeps its numbers in range.
     ghost fit = { λ _. Unit {0} };
+
+    ghost grows = { Unit {0} };
 
     ghost laid = { packet_laid 41 orders_laid };
 

@@ -1,6 +1,8 @@
 //! A head and the packets behind it, as telegrams and messages are.
 
-ghost use Rattle.std.specs.Prelude.{◌≡◌, IfOk, OnErr};
+ghost use Rattle.std.specs.Prelude.{◌≡◌, Err, IfOk, OnErr};
+ghost use Rattle.etcs_bits.specs.declared.fault.Fault.{Fault};
+ghost use Rattle.etcs_bits.specs.Fault.{IsFault};
 ghost use Rattle.etcs_bits.specs.Layout.{Gives, IfFault};
 ghost use Rattle.etcs_packet.specs.Lists.{IsHeaded};
 ghost use Rattle.etcs_packet.specs.Whole.{BeginsWith, IsWhole, IsWholeFault, Means, NoneWhole, start, whole_at, whole_of};
@@ -31,6 +33,10 @@ pub fn next_whole<H: Layout, T: Layout>(
     // The same as a function of the bits.
     ensures exact { Gives (λ w. (w.0, w.1.items)) result
         (whole_at stop H.fields H.record_of T.fields T.record_of cur.old) cur.new }
+
+    // The fault of a head without a list is always told: reading one asks for no memory.
+    ensures head { (H.grows → ⊥) → (f : Fault) → IsFault H.fields cur.old f
+        → result ≡ Err (DecodeError.Fault f) }
 {
     let mut ahead = cur.fork();
     let head = H::read(alloc, &mut ahead)?;
@@ -58,6 +64,10 @@ pub fn read_whole<H: Layout, T: Layout>(
     // The same as a function of the bits.
     ensures exact { Means (λ w. (w.0, w.1.items)) result
         (whole_of stop H.fields H.record_of T.fields T.record_of bits.now) }
+
+    // The fault of a head without a list is always told: reading one asks for no memory.
+    ensures head { (H.grows → ⊥) → (f : Fault) → IsFault H.fields (start bits.now) f
+        → result ≡ Err (DecodeError.Fault f) }
 {
     let mut cur = Cursor::new(bits);
     next_whole(alloc, &mut cur, stop)

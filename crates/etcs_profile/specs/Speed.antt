@@ -20,7 +20,8 @@ d_static = plain 15
 abbrev pub v_static : Variable
 v_static = ranged 7 120 127
 
--- Q_FRONT, 1 bit: 1 where a rise of the speed is for the front of the train already
+-- Q_FRONT, 1 bit: whether the train's length delays the end of this element. At 0 its speed holds
+-- until the train's rear has passed the end, at 1 only until the train's front has
 abbrev pub q_front : Variable
 q_front = plain 1
 

@@ -244,6 +244,8 @@ impl Layout for Authority {
     // Its types keep their numbers in range.
     ghost fit = { λ _. Unit {0} };
 
+    ghost grows = { Unit {0} };
+
     ghost laid = { authority_laid };
 
     fn is_allowed(&self) -> bool {

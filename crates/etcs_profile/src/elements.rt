@@ -124,6 +124,8 @@ impl<T: Layout> Layout for Elements<T> {
 
     ghost fit = { λ e. T.fit e.first × AllByRecursion T.fit e.further };
 
+    ghost grows = { Unit {0} };
+
     ghost laid = { elements_laid T.laid };
 
     fn is_allowed(&self) -> bool {

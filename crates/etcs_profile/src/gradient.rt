@@ -61,6 +61,8 @@ impl Layout for GradientElement {
     // Its types keep their numbers in range.
     ghost fit = { λ _. Unit {0} };
 
+    ghost grows = { ⊥ };
+
     ghost laid = { gradient_element_laid };
 
     #[tactic(auto, using(etcs_bits::proofs::PutLemmas::allowed_both))]

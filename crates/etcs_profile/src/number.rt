@@ -36,6 +36,8 @@ impl<const N: u32> Layout for Number<N> {
 
     ghost fit = { λ _. N < 256 };
 
+    ghost grows = { ⊥ };
+
     ghost laid = { number_laid N (record {}) (λ _. refl) };
 
     fn is_allowed(&self) -> bool {

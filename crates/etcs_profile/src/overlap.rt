@@ -30,6 +30,8 @@ impl Layout for Overlap {
     // Its types keep their numbers in range.
     ghost fit = { λ _. Unit {0} };
 
+    ghost grows = { ⊥ };
+
     ghost laid = { overlap_laid };
 
     #[tactic(auto, using(etcs_bits::proofs::PutLemmas::allowed_both))]

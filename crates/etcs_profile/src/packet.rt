@@ -68,6 +68,8 @@ impl<const N: u32, T: Layout> Layout for Packet<N, T> {
 
     ghost fit = { λ _. N < 256 };
 
+    ghost grows = { T.grows };
+
     ghost laid = { packet_laid N T.laid };
 
     fn is_allowed(&self) -> bool {

@@ -25,6 +25,8 @@ impl Layout for Section {
     // Its types keep their numbers in range.
     ghost fit = { λ _. Unit {0} };
 
+    ghost grows = { ⊥ };
+
     ghost laid = { section_laid };
 
     #[tactic(auto, using(etcs_bits::proofs::PutLemmas::allowed_both, etcs_bits::proofs::FitLemmas::some_fit))]
@@ -78,6 +80,8 @@ impl Layout for SectionTimer {
 
     // Its types keep their numbers in range.
     ghost fit = { λ _. Unit {0} };
+
+    ghost grows = { ⊥ };
 
     ghost laid = { section_timer_laid };
 

@@ -67,6 +67,8 @@ impl Layout for Difference {
     // Its types keep their numbers in range.
     ghost fit = { λ _. Unit {0} };
 
+    ghost grows = { ⊥ };
+
     ghost laid = { difference_laid };
 
     #[tactic(auto, using(etcs_bits::proofs::PutLemmas::allowed_both))]
@@ -132,6 +134,8 @@ impl Layout for SpeedElement {
 
     // Its types keep its numbers in range, but for the count of differences.
     ghost fit = { λ e. length e.differences ≤ 31 };
+
+    ghost grows = { Unit {0} };
 
     ghost laid = { speed_element_laid };
 

@@ -46,6 +46,8 @@ impl Layout for Terms {
     // Its types keep their numbers in range.
     ghost fit = { λ _. Unit {0} };
 
+    ghost grows = { Unit {0} };
+
     ghost laid = { terms_laid };
 
     #[tactic(auto, using(etcs_bits::proofs::PutLemmas::allowed_both, etcs_bits::proofs::FitLemmas::some_fit, etcs_bits::proofs::FitLemmas::all_fit))]

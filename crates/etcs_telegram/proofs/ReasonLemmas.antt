@@ -1,19 +1,20 @@
 -- What a text is refused for, and what it means.
-use Rattle.std.proofs.Common.{◌≡◌, ◌≢◌, ℕ, ◌-◌, Bool, true, false, List, length, if◌then◌else◌, Option, Some, None, Result, Ok, Err, refl, ap, subst, ◌∙◌}
+use Rattle.std.proofs.Common.{◌≡◌, ◌≢◌, ◌↔◌, ℕ, ◌-◌, ◌*◌, Bool, arith, sym, IsErrOf, true, false, List, length, if◌then◌else◌, Option, Some, None, Result, Ok, Err, refl, ap, subst, ◌∙◌}
 use Rattle.std.proofs.lemmas.Bool.{eq-eqb}
 use Rattle.hex.specs.Hex.{decode_of, IsBytes}
 use Rattle.hex.specs.declared.error.FromHexError.{FromHexError}
-use Rattle.hex.proofs.HexLemmas.{decode_of-ok}
+use Rattle.hex.proofs.HexLemmas.{decode_of-digits, decode_of-ok}
 use Rattle.etcs_bits.specs.declared.fault.Fault.{Fault}
 use Rattle.etcs_telegram.specs.declared.error.TextError.{TextError}
 use Rattle.etcs_telegram.specs.declared.error.TextError.TheVariants as errors
 use Rattle.etcs_telegram.specs.declared.size.Size.{Size}
+use Rattle.etcs_telegram.specs.declared.size.Size.TheVariants.{Short, Long}
 use Rattle.etcs_telegram.specs.Record.{Telegram}
 use Rattle.etcs_telegram.specs.Sizes.{byte_count, size_in}
 use Rattle.etcs_telegram.specs.Telegram.{telegram_of}
-use Rattle.etcs_telegram.specs.Text.{IsHexadecimal, IsReason, IsReasonIn, HavePadSet, HaveFault, of_bits, of_size, of_bytes, of_decoded, telegram_of_text, pads_with_zeros, user_bits_in}
+use Rattle.etcs_telegram.specs.Text.{IsHexadecimal, IsReason, IsReasonIn, HavePadSet, HaveFault, of_bits, of_size, of_bytes, of_decoded, telegram_of_text, pads_with_zeros, user_bits_in, IsOfUserBits, IsReasonDecoded, IsTextMeaning, TextFails}
 use Rattle.etcs_telegram.proofs.LawLemmas.{fault_meant, meant_fault, fault_none}
-use Rattle.etcs_telegram.proofs.TextLemmas.{size_in_back, size_counts, none_counts, pads_divide, padded_when, set_when, failed_reason}
+use Rattle.etcs_telegram.proofs.TextLemmas.{size_in_back, size_counts, none_counts, pads_divide, padded_when, set_when, not_decoded}
 
 -- ---- a reason is what the text means
 
@@ -108,8 +109,111 @@ read_decoded e text (Ok bytes) decoded is =
     of_text e text bytes decoded (read_sized e bytes (size_in (length bytes)) (decode_of-ok text bytes decoded).3 refl is)
 read_decoded e text (Err x) decoded is =
     let same : errors.NotHex ≡ e = cc in
-    subst (λ (y : TextError). IsReason y text) same (failed_reason errors.NotHex text (x, decoded))
+    subst (λ (y : TextError). IsReason y text) same (not_decoded text x decoded)
 
 pub read_reason : (e : TextError) (text : List ℕ) → telegram_of_text text ≡ Err e → IsReason e text
 unfolding telegram_of_text
 read_reason e text is = read_decoded e text (decode_of text) refl is
+
+-- ---- what is told without memory
+
+-- what is looked for before the user bits
+abbrev pub IsEarly : TextError → Type 0
+IsEarly errors.Memory = ⊥
+IsEarly errors.NotHex = Unit {0}
+IsEarly errors.WrongSize = Unit {0}
+IsEarly errors.PadBits = Unit {0}
+IsEarly (errors.Fault f) = ⊥
+
+no_memory : (e : TextError) → IsEarly e → e ≢ errors.Memory
+no_memory errors.Memory early is = early
+no_memory errors.NotHex early is = absurd cc
+no_memory errors.WrongSize early is = absurd cc
+no_memory errors.PadBits early is = absurd cc
+no_memory (errors.Fault f) early is = absurd cc
+
+-- the user bits mean none of them
+not_early : (meaning : Result Telegram TextError) (e : TextError) → IsEarly e → meaning ≡ Err e
+    → IsOfUserBits meaning → ⊥
+not_early meaning errors.Memory early is of = early
+not_early meaning errors.NotHex early is of = rw is at of
+not_early meaning errors.WrongSize early is of = rw is at of
+not_early meaning errors.PadBits early is of = rw is at of
+not_early meaning (errors.Fault f) early is of = early
+
+-- what an answer says that the text means
+fails_so : (e : TextError) (meaning : Result Telegram TextError) → e ≢ errors.Memory
+    → TextFails e meaning → meaning ≡ Err e
+fails_so errors.Memory meaning other fails = absurd (other refl)
+fails_so errors.NotHex meaning other fails = fails
+fails_so errors.WrongSize meaning other fails = fails
+fails_so errors.PadBits meaning other fails = fails
+fails_so (errors.Fault f) meaning other fails = fails
+
+is_told : (r : Result Telegram TextError) (meaning : Result Telegram TextError) (e : TextError) → IsEarly e
+    → IsTextMeaning r meaning → (r ≡ Err errors.Memory → IsOfUserBits meaning) → meaning ≡ Err e → r ≡ Err e
+is_told (Ok t) meaning e early exact memory is = absurd cc
+is_told (Err errors.Memory) meaning e early exact memory is =
+    absurd (not_early meaning e early is (memory refl))
+is_told (Err errors.NotHex) meaning e early exact memory is = sym exact ∙ is
+is_told (Err errors.WrongSize) meaning e early exact memory is = sym exact ∙ is
+is_told (Err errors.PadBits) meaning e early exact memory is = sym exact ∙ is
+is_told (Err (errors.Fault f)) meaning e early exact memory is = sym exact ∙ is
+
+-- Each of them is answered exactly where it is so.
+told_early : (r : Result Telegram TextError) (text : List ℕ) (e : TextError) → IsEarly e
+    → IsTextMeaning r (telegram_of_text text)
+    → (r ≡ Err errors.Memory → IsOfUserBits (telegram_of_text text))
+    → IsErrOf r e ↔ IsReason e text
+told_early r text e early exact memory = (
+  λ is. read_reason e text (fails_so e (telegram_of_text text) (no_memory e early) (rw is at exact)),
+  λ reason. is_told r (telegram_of_text text) e early exact memory (reason_read e text (no_memory e early) reason),
+)
+
+-- a text means what its bytes mean
+pub decoded_means : (text bytes : List ℕ) → decode_of text ≡ Ok bytes → telegram_of_text text ≡ of_bytes bytes
+unfolding telegram_of_text
+decoded_means text bytes decoded = rw decoded refl
+
+-- what its bytes are answered
+pub told_in : (r : Result Telegram TextError) (e : TextError) (text bytes : List ℕ) → IsEarly e
+    → decode_of text ≡ Ok bytes → IsTextMeaning r (of_bytes bytes)
+    → (r ≡ Err errors.Memory → IsOfUserBits (of_bytes bytes)) → IsErrOf r e ↔ IsReason e text
+told_in r e text bytes early decoded exact memory =
+    let means = decoded_means text bytes decoded in
+    told_early r text e early (rw means exact) (rw means memory)
+
+-- one of them that was found is not another
+abbrev failing : TextError → Result Telegram TextError
+failing e = Err e
+
+pub told_apart : (found e : TextError) (text : List ℕ) → IsEarly e
+    → telegram_of_text text ≡ failing found → IsErrOf (failing found) e ↔ IsReason e text
+told_apart found e text early means = (
+  λ is. read_reason e text (means ∙ is),
+  λ reason. sym means ∙ reason_read e text (no_memory e early) reason,
+)
+
+pub not_hex_means : (text : List ℕ) → (IsHexadecimal text → ⊥) → telegram_of_text text ≡ Err errors.NotHex
+not_hex_means text not = reason_read errors.NotHex text (no_memory errors.NotHex tt) not
+
+pub other_size_means : (text : List ℕ) → IsReasonDecoded errors.WrongSize text
+    → telegram_of_text text ≡ Err errors.WrongSize
+other_size_means text x = reason_read errors.WrongSize text (no_memory errors.WrongSize tt) x
+
+-- what the user bits mean
+pub of_user_bits : (r : Result Telegram Fault) → IsOfUserBits (of_bits r)
+of_user_bits (Ok t) = tt
+of_user_bits (Err f) = tt
+
+-- a text of other digits
+pub other_size : (text : List ℕ) → IsHexadecimal text → length text ≢ 54 → length text ≢ 208
+    → IsReasonDecoded errors.WrongSize text
+other_size text h short long =
+    let d = decode_of-digits text h.even h.digits in
+    let two = (decode_of-ok text d.0 d.1).2 in
+    record { bytes = d.0; decoded = d.1; reason = λ size. not_sized size d.0 two }
+  where
+    not_sized : (size : Size) (bytes : List ℕ) → length text ≡ 2 * length bytes → length bytes ≢ byte_count size
+    not_sized Short bytes two count = short (omega (arith, two, count))
+    not_sized Long bytes two count = long (omega (arith, two, count))

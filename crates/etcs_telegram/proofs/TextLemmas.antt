@@ -4,19 +4,18 @@ use Rattle.std.proofs.Common.{String, Global, string_bytes}
 use Rattle.std.specs.Prelude.{IfOk, OnOk}
 use Rattle.std.proofs.lemmas.Bool.{eqb-true, eqb-false}
 use Rattle.std.proofs.lemmas.List.{drop-drop, drop_more, drop_all, length-replicate}
+use Rattle.hex.specs.declared.error.FromHexError.{FromHexError}
 use Rattle.hex.specs.Hex.{decode_of, encode_lower, IsBytes}
 use Rattle.hex.proofs.HexLemmas.{decode_of-digits}
 use Rattle.etcs_bits.specs.Number.{num, num_of_bits, bits_of_bytes}
 use Rattle.etcs_bits.proofs.NumberLemmas.{length-num, num_of_bits-small, num_of_bits-drop, same_from_num, drop-bits_of_bytes, bits_of_one, length-bits_of_bytes}
 use Rattle.etcs_telegram.specs.declared.error.EncodeError.{EncodeError}
-use Rattle.etcs_telegram.specs.declared.error.TextError.{TextError}
-use Rattle.etcs_telegram.specs.declared.error.TextError.TheVariants as errors
 use Rattle.etcs_telegram.specs.declared.size.Size.{Size}
 use Rattle.etcs_telegram.specs.declared.size.Size.TheVariants.{Short, Long}
 use Rattle.etcs_telegram.specs.Record.{Telegram}
 use Rattle.etcs_telegram.specs.Sizes.{user_bits, byte_count, pad_count, size_in}
 use Rattle.etcs_telegram.specs.Telegram.{IsEncoding, IsTelegram}
-use Rattle.etcs_telegram.specs.Text.{pad_bits_in, user_bits_in, no_pads, pads_with_zeros, ArePadded, HavePadSet, IsReason, FailsDecoded, IsCanonicalText}
+use Rattle.etcs_telegram.specs.Text.{pad_bits_in, user_bits_in, no_pads, pads_with_zeros, ArePadded, HavePadSet, IsHexadecimal, IsCanonicalText}
 use Rattle.etcs_telegram.proofs.TelegramLemmas.{canonical_length}
 
 -- ---- sizes
@@ -147,12 +146,10 @@ of_its_size t size bits bytes padded is count x =
 -- ---- digits
 
 -- what is not decoded is not hexadecimal
-pub failed_reason : (e : TextError) (text : List ℕ) → FailsDecoded e (decode_of text) → IsReason e text
-failed_reason errors.Memory text fails = tt
-failed_reason errors.NotHex text fails = λ h. let d = decode_of-digits text h.even h.digits in let f = fails.1 in let g = d.1 in cc (f, g)
-failed_reason errors.WrongSize text fails = absurd fails
-failed_reason errors.PadBits text fails = absurd fails
-failed_reason (errors.Fault f) text fails = absurd fails
+pub not_decoded : (text : List ℕ) (e : FromHexError) → decode_of text ≡ Err e → IsHexadecimal text → ⊥
+not_decoded text e fails h =
+    let d = decode_of-digits text h.even h.digits in
+    let g = d.1 in cc
 
 -- ---- the canonical text
 

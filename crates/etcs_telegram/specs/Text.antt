@@ -130,8 +130,11 @@ abbrev pub IsTextMeaning : Result Telegram TextError → Result Telegram TextErr
 IsTextMeaning (Ok t) meaning = meaning ≡ Ok t
 IsTextMeaning (Err e) meaning = TextFails e meaning
 
--- memory ran out, or the text is not hexadecimal
-abbrev pub FailsDecoded : TextError → Result (List ℕ) FromHexError → Type 0
-FailsDecoded errors.Memory decoded = Unit {0}
-FailsDecoded errors.NotHex decoded = (e : FromHexError) × (decoded ≡ Err e)
-FailsDecoded _ decoded = ⊥
+-- What the text means is what its user bits mean: nothing that is looked for before them is wrong.
+abbrev pub IsOfUserBits : Result Telegram TextError → Type 0
+IsOfUserBits (Ok t) = Unit {0}
+IsOfUserBits (Err errors.Memory) = ⊥
+IsOfUserBits (Err errors.NotHex) = ⊥
+IsOfUserBits (Err errors.WrongSize) = ⊥
+IsOfUserBits (Err errors.PadBits) = ⊥
+IsOfUserBits (Err (errors.Fault f)) = Unit {0}

@@ -1,10 +1,10 @@
 //! Telegrams as hexadecimal text.
 
-ghost use Rattle.std.specs.Prelude.{◌≡◌, ◌↔◌, length, Ok, IfOk, IfErr, IsErrOf, OnOk, string_bytes};
-ghost use Rattle.hex.specs.Hex.{decode_of, encode_lower, IsBytes};
+ghost use Rattle.std.specs.Prelude.{◌≡◌, ◌↔◌, ◌*◌, length, Ok, Err, IfOk, IfErr, IsErrOf, IsTrue, OnOk, string_bytes};
+ghost use Rattle.hex.specs.Hex.{decode_of, encode_lower, is_hex_digit, IsBytes};
 ghost use Rattle.etcs_telegram.specs.Sizes.{byte_count};
 ghost use Rattle.etcs_telegram.specs.Telegram.{IsTelegram, IsTooBig};
-ghost use Rattle.etcs_telegram.specs.Text.{ArePadded, FailsDecoded, IsCanonicalText, IsReason, IsReasonIn, IsTelegramText, IsTextMeaning, of_bytes, pads_with_zeros, telegram_of_text, user_bits_in};
+ghost use Rattle.etcs_telegram.specs.Text.{ArePadded, IsCanonicalText, IsHexadecimal, IsOfUserBits, IsReason, IsReasonDecoded, IsReasonIn, IsTelegramText, IsTextMeaning, of_bytes, pads_with_zeros, telegram_of_text, user_bits_in};
 
 use crate::decoding::decode;
 use crate::encoding::encode;
@@ -12,19 +12,30 @@ use crate::error::{EncodeError, TextError};
 use crate::size::Size;
 use crate::telegram::Telegram;
 use etcs_bits::{Bits, DecodeError};
-use hex::FromHexError;
+use hex::FromHex;
 use std::alloc::Global;
 
-// The bytes of a text.
-fn bytes_of(alloc: Global, text: &[u8]) -> Result<Vec<u8>, TextError>
-    ensures ok { IfOk result (λ bytes. decode_of text.now ≡ Ok bytes.items) }
-    ensures err { IfErr result (λ e. FailsDecoded e (decode_of text.now)) }
+// Whether a byte is a hexadecimal digit, of either case.
+fn is_digit(byte: u8) -> bool
+    ensures { result ≡ is_hex_digit byte }
 {
-    match hex::decode(alloc, text) {
-        Ok(bytes) => Ok(bytes),
-        Err(FromHexError::OutOfMemory) => Err(TextError::Memory),
-        Err(_) => Err(TextError::NotHex),
-    }
+    matches!(byte, b'0'..=b'9' | b'A'..=b'F' | b'a'..=b'f')
+}
+
+// Whether the text is an even number of them.
+fn is_hexadecimal(text: &[u8]) -> bool
+    ensures { IsTrue result ↔ IsHexadecimal text.now }
+{
+    text.len() % 2 == 0 && text.iter().all(|&byte| is_digit(byte))
+}
+
+// The bytes of a text, which is hexadecimal and has so many. Takes no memory.
+fn bytes_of<const N: usize>(text: &[u8]) -> [u8; N]
+    requires digits { IsHexadecimal text.now }
+    requires len { length text.now ≡ 2 * N }
+    ensures { decode_of text.now ≡ Ok result }
+{
+    <[u8; N] as FromHex>::from_hex(text).unwrap()
 }
 
 // Whether all pad bits are zeros.
@@ -41,6 +52,9 @@ fn telegram_in(alloc: Global, bytes: &[u8]) -> Result<Telegram, TextError>
         × IsTelegram t (user_bits_in t.size bytes.now)) }
     ensures reason { IfErr result (λ e. IsReasonIn e bytes.now) }
     ensures exact { IsTextMeaning result (of_bytes bytes.now) }
+
+    // Memory is asked for by the user bits alone.
+    ensures memory { result ≡ Err TextError.Memory → IsOfUserBits (of_bytes bytes.now) }
 {
     let Some(size) = Size::in_bytes(bytes.len()) else {
         return Err(TextError::WrongSize);
@@ -62,17 +76,30 @@ fn telegram_in(alloc: Global, bytes: &[u8]) -> Result<Telegram, TextError>
 /// bits of which are zeros (pad bits).
 ///
 /// NotHex, WrongSize, PadBits and the first fault of the user bits are looked for in this order, and
-/// each is answered exactly where it stands. If memory runs out, that may be told instead.
-#[tactic(auto, unfolding(crate::specs::Text::telegram_of_text))]
+/// each is answered exactly where it stands. If memory runs out, a fault may go unseen: the user bits
+/// take memory, and what is looked for before them takes none.
 pub fn from_hex(alloc: Global, text: &[u8]) -> Result<Telegram, TextError>
     ensures ok { IfOk result (λ t. IsTelegramText t text.now) }
     ensures reason { IfErr result (λ e. IsReason e text.now) }
 
     // The same as a function of the text.
     ensures exact { IsTextMeaning result (telegram_of_text text.now) }
+
+    // Each of these is always told: no memory is asked for.
+    ensures not_hex { IsErrOf result TextError.NotHex ↔ (IsHexadecimal text.now → ⊥) }
+    ensures wrong_size { IsErrOf result TextError.WrongSize
+        ↔ IsReasonDecoded TextError.WrongSize text.now }
+    ensures pad_bits { IsErrOf result TextError.PadBits
+        ↔ IsReasonDecoded TextError.PadBits text.now }
 {
-    let bytes = bytes_of(alloc, text)?;
-    telegram_in(alloc, bytes.as_slice())
+    if !is_hexadecimal(text) {
+        return Err(TextError::NotHex);
+    }
+    match text.len() {
+        54 => telegram_in(alloc, &bytes_of::<27>(text)),
+        208 => telegram_in(alloc, &bytes_of::<104>(text)),
+        _ => Err(TextError::WrongSize),
+    }
 }
 
 // The lower-case digits of bytes.

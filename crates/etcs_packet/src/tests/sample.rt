@@ -62,6 +62,8 @@ impl Layout for Sample {
     // Its types keep its numbers in range.
     ghost fit = { λ _. Unit {0} };
 
+    ghost grows = { ⊥ };
+
     ghost laid = { record {
       are_rows = λ s. (s.0, alone (plain 4) s.1, refl, alone_rows (plain 4) s.1);
       is_record = λ s. ap (λ n. (s.0, n)) (number_alone (plain 4) s.1);

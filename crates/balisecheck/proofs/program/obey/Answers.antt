@@ -1,9 +1,12 @@
 use Rattle.std.proofs.Common.{ap}
 use Rattle.balisecheck.specs.Output.{of_command}
-use Rattle.balisecheck.proofs.RunLemmas.{Ran-as}
+use Rattle.balisecheck.proofs.RunLemmas.{Ran-as, Ran-unread, counts_at_writer}
 use Rattle.balisecheck.proofs.program.obey.Goals as goal
 
 -- no command writes the usage line
 pub returns-in-None-clause-ran : goal.returns-in-None-clause-ran
 returns-in-None-clause-ran g c =
-    Ran-as (λ s. ap (λ o. of_command o s) c.in-None.is) c.refuse_words.ensures.ran
+    Ran-as (λ s. ap (λ o. of_command o s) c.in-None.is) (Ran-unread c.refuse_words.ensures.writes)
+
+pub returns-in-None-clause-counts : goal.returns-in-None-clause-counts
+returns-in-None-clause-counts g c = counts_at_writer _ _ _ _ c.refuse_words.ensures.counts

@@ -1,7 +1,10 @@
-use Rattle.std.proofs.Common.{◌≡◌, false}
+use Rattle.std.proofs.Common.{◌≡◌, ◌+◌, ◌<◌, ℕ, ap, arith, false, length, ◌∙◌}
 use Rattle.std.proofs.lemmas.Result.{err_from_is_err_and}
+use Rattle.etcs_bits.specs.declared.fault.DecodeError.TheVariants as errors
+use Rattle.etcs_bits.specs.declared.fault.FaultKind.TheVariants.{NoEnd}
 use Rattle.etcs_packet.specs.Lists.{ends}
-use Rattle.etcs_packet.proofs.ListLemmas.{no_step}
+use Rattle.etcs_packet.proofs.EndLemmas.{no_end_here}
+use Rattle.etcs_packet.proofs.ListLemmas.{lacks_step, no_step}
 use Rattle.etcs_packet.proofs.list.next_item.Goals as goal
 
 -- the fault of the packet that is due lies past the eight bits that say that the list goes on
@@ -10,3 +13,21 @@ returns-in_err-item-clause-none g c =
     let failed = err_from_is_err_and c.from_residual.result c.from_residual.ensures.1 in
     let goes : ends c.args.stop c.args.cur.now ≡ false = cc (c.is_end.ensures.value, c.if-is_end.false) in
     rw (failed.1, failed.2) (no_step g.T.Layout.rows c.in_err-item.field-0.0 c.args.stop g.T.Layout.fields c.args.cur.now c.requires c.is_end.ensures.inside goes c.in_err-item.ensures.fault c.in_err-item.ensures.none)
+
+-- fewer than eight bits are a fault of their own
+pub returns-then-left-lt8-clause-fault : goal.returns-then-left-lt8-clause-fault
+returns-then-left-lt8-clause-fault g c =
+    let p = c.args.cur.now in
+    let goes : ends c.args.stop p ≡ false = cc (c.is_end.ensures.value, c.if-is_end.false) in
+    let few : length p.bits < p.at + 8 = omega (arith, c.left.ensures, c.if-left-lt8.true) in
+    let is = c.refused.ensures ∙ ap (λ (at : ℕ). errors.Fault (record { at = at; end = p.at; why = NoEnd })) c.at.ensures.place in
+    rw is (goes, no_end_here g.T.Layout.fields p c.requires few)
+
+-- and then no packet and no end stands here
+pub returns-then-left-lt8-clause-none : goal.returns-then-left-lt8-clause-none
+returns-then-left-lt8-clause-none g c =
+    let p = c.args.cur.now in
+    let goes : ends c.args.stop p ≡ false = cc (c.is_end.ensures.value, c.if-is_end.false) in
+    let few : length p.bits < p.at + 8 = omega (arith, c.left.ensures, c.if-left-lt8.true) in
+    let is = c.refused.ensures ∙ ap (λ (at : ℕ). errors.Fault (record { at = at; end = p.at; why = NoEnd })) c.at.ensures.place in
+    rw is (lacks_step g.met.T.Layout.laid c.args.stop p c.requires c.is_end.ensures.inside goes few)

@@ -1,10 +1,10 @@
-use Rattle.std.proofs.Common.{map, Some, None}
+use Rattle.std.proofs.Common.{ap, map, Some, None, Err}
 use Rattle.std.proofs.lemmas.Result.{err_from_is_err_and}
 use Rattle.etcs_bits.specs.Layout.{OfFault}
 use Rattle.etcs_packet.specs.Lists.{IsListFault, IsStep, Stand}
 use Rattle.etcs_packet.proofs.EndLemmas.{less_left}
 use Rattle.etcs_packet.proofs.FollowLemmas.{follow_within}
-use Rattle.etcs_packet.proofs.ListLemmas.{goes_on, over, list_fault, list_fails, none_of, stand_is_read}
+use Rattle.etcs_packet.proofs.ListLemmas.{goes_on, no_error, none_before, over, same_error, list_fault, list_fails, none_of, stand_is_read}
 use Rattle.etcs_packet.proofs.list.read_items.Goals as goal
 
 -- the fault of the next packet is that of the list, and then no list stands
@@ -56,3 +56,21 @@ returns-clause-exact g c =
     let stand : Stand c.args.stop g.T.Layout.rows c.loop-found.found.items c.args.cur.now c.next_item.new.cur =
     over g.T.Layout.rows c.loop-found.found.items c.args.stop g.T.Layout.fields c.args.cur.now c.loop-found.ahead c.next_item.new.cur c.loop-found.invariant.follow step in
     stand_is_read g.met.T.Layout.laid c.loop-found.found.items c.args.stop c.args.cur.now c.next_item.new.cur c.requires c.loop-found.invariant.inside stand
+
+-- where no end can come, the first step says so
+pub returns-in_err-item-clause-no_end : goal.returns-in_err-item-clause-no_end
+returns-in_err-item-clause-no_end g c = λ telegram few.
+    let failed = err_from_is_err_and c.from_residual.result c.from_residual.ensures.1 in
+    let here = none_before c.args.stop g.T.Layout.fields (map g.T.Layout.rows c.loop-found.found.items) c.args.cur.now c.loop-found.ahead c.requires c.loop-found.invariant.inside few c.loop-found.invariant.follow in
+    rw (failed.1, failed.2) (ap Err (same_error _ _ (rw here at c.in_err-item.ensures.no_end telegram few)))
+
+-- and it gives no packet
+pub returns-in_err-push-clause-no_end : goal.returns-in_err-push-clause-no_end
+returns-in_err-push-clause-no_end g c = λ telegram few.
+    let here = none_before c.args.stop g.T.Layout.fields (map g.T.Layout.rows c.loop-found.found.items) c.args.cur.now c.loop-found.ahead c.requires c.loop-found.invariant.inside few c.loop-found.invariant.follow in
+    no_error _ _ (rw here at c.in_ok-item.ensures.no_end telegram few)
+
+pub returns-clause-no_end : goal.returns-clause-no_end
+returns-clause-no_end g c = λ telegram few.
+    let here = none_before c.args.stop g.T.Layout.fields (map g.T.Layout.rows c.loop-found.found.items) c.args.cur.now c.loop-found.ahead c.requires c.loop-found.invariant.inside few c.loop-found.invariant.follow in
+    no_error _ _ (rw here at c.in_ok-item.ensures.no_end telegram few)

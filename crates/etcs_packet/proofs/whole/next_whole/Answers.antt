@@ -1,10 +1,10 @@
-use Rattle.std.proofs.Common.{◌≤◌, length}
+use Rattle.std.proofs.Common.{◌≤◌, ap, length, Err}
 use Rattle.std.proofs.lemmas.Result.{err_from_is_err_and}
 use Rattle.etcs_bits.specs.Rows.{IsSpelled}
 use Rattle.etcs_bits.specs.Fault.{IsFault}
 use Rattle.etcs_bits.specs.Layout.{OfFault}
 use Rattle.etcs_packet.specs.Whole.{IsWhole}
-use Rattle.etcs_packet.proofs.WholeLemmas.{head_fault, later_fault, whole_fails, whole_is_read, none_of_whole}
+use Rattle.etcs_packet.proofs.WholeLemmas.{head_fault, head_stands, head_told, later_fault, whole_fails, whole_is_read, none_of_whole}
 use Rattle.etcs_packet.proofs.whole.next_whole.Goals as goal
 
 -- the fault of the head is that of the whole
@@ -46,3 +46,25 @@ returns-clause-exact g c =
     let spelled : IsSpelled (g.H.Layout.rows head) c.args.cur.now c.read.new.cur = rw c.fork-ahead.ensures.same at c.in_ok-head.ensures.ok in
     let whole : IsWhole c.args.stop g.H.Layout.rows g.T.Layout.rows head c.in_ok-items.items.items c.args.cur.now c.read_items.new.cur = record { middle = c.read.new.cur; first = spelled; items = c.in_ok-items.ensures.ok } in
     whole_is_read g.met.H.Layout.laid g.met.T.Layout.laid c.args.stop head c.in_ok-items.items.items c.args.cur.now c.read_items.new.cur c.requires inside whole
+
+-- where reading the head asks for no memory, its fault is what is answered
+pub returns-in_err-head-clause-head : goal.returns-in_err-head-clause-head
+returns-in_err-head-clause-head g c = λ none f fault.
+    let failed = err_from_is_err_and c.from_residual.result c.from_residual.ensures.1 in
+    let e = c.in_err-head.field-0.0 in
+    let inside : c.args.cur.now.at ≤ length c.args.cur.now.bits = rw c.fork-ahead.ensures.same at c.fork-ahead.ensures.inside in
+    let told : OfFault e (λ h. IsFault g.H.Layout.fields c.args.cur.now h) = rw c.fork-ahead.ensures.same at c.in_err-head.ensures.fault in
+    rw (failed.1, failed.2) (ap Err (head_told e g.H.Layout.grows g.H.Layout.fields c.args.cur.now f inside told c.in_err-head.ensures.memory none fault))
+
+-- and where a head stands, it has no fault
+pub returns-in_err-items-clause-head : goal.returns-in_err-items-clause-head
+returns-in_err-items-clause-head g c = λ none f fault.
+    let inside : c.args.cur.now.at ≤ length c.args.cur.now.bits = rw c.fork-ahead.ensures.same at c.fork-ahead.ensures.inside in
+    let spelled : IsSpelled (g.H.Layout.rows c.in_ok-head.head) c.args.cur.now c.read.new.cur = rw c.fork-ahead.ensures.same at c.in_ok-head.ensures.ok in
+    absurd (head_stands g.H.Layout.fields g.H.Layout.rows c.in_ok-head.head c.args.cur.now c.read.new.cur f inside g.met.H.Layout.laid.are_rows spelled fault)
+
+pub returns-clause-head : goal.returns-clause-head
+returns-clause-head g c = λ none f fault.
+    let inside : c.args.cur.now.at ≤ length c.args.cur.now.bits = rw c.fork-ahead.ensures.same at c.fork-ahead.ensures.inside in
+    let spelled : IsSpelled (g.H.Layout.rows c.in_ok-head.head) c.args.cur.now c.read.new.cur = rw c.fork-ahead.ensures.same at c.in_ok-head.ensures.ok in
+    absurd (head_stands g.H.Layout.fields g.H.Layout.rows c.in_ok-head.head c.args.cur.now c.read.new.cur f inside g.met.H.Layout.laid.are_rows spelled fault)

@@ -6,3 +6,6 @@ pub returns-clause-exact : goal.returns-clause-exact
 returns-clause-exact g c =
     gives_means (λ w. (w.0, w.1.items)) c.next_whole.result c.args.stop g.H.Layout.fields g.H.Layout.record_of g.T.Layout.fields g.T.Layout.record_of c.args.bits.now c.next_whole.new.cur
     (rw c.new-cur.ensures at c.next_whole.ensures.exact)
+
+pub returns-clause-head : goal.returns-clause-head
+returns-clause-head g c = rw c.new-cur.ensures at c.next_whole.ensures.head

@@ -1,6 +1,5 @@
 use Rattle.std.proofs.Common.{rules, arith, ap, ◌≡◌, ◌∙◌, ◌==◌, not, true, length, length-append, []}
-use Rattle.balisecheck.specs.Counted.{has_ended}
-use Rattle.balisecheck.specs.LineReading.{held_of, line_of}
+use Rattle.balisecheck.specs.LineReading.{has_ended, held_of, line_of}
 use Rattle.balisecheck.proofs.FillLemmas.{Filling-cut, Filling-end, Filling-filled, Filling-moved, moved_cut, moved_on, nil_from_none}
 use Rattle.balisecheck.proofs.text_lines.TextLines.next.Goals as goal
 
@@ -9,14 +8,16 @@ pub filling-preserved : goal.filling-preserved
 filling-preserved g c =
     let moved = moved_on c.if-not-branch.true c.in_ok-move_line.ensures.moves in
     let read = c.in_ok-refill.ensures in
+    let same_end = c.in_ok-move_line.ensures.same_end in
     let first = Filling-moved c.filling.invariant.filling moved.0.line moved.0.plain in
-    let none : has_ended c.args.reader.now ≡ true → held_of c.refill.new.self ≡ [] =
-    λ h. nil_from_none _ (read.read.1 ∙ read.quiet (c.filling.invariant.ended h)) in
+    let none : has_ended c.args.self.now ≡ true → held_of c.refill.new.self ≡ [] =
+    λ h. nil_from_none _ (read.read.1 ∙ read.quiet (same_end ∙ c.filling.invariant.ended h)) in
     let grown = ap length moved.0.line in
     record {
       filling = rw read.line (Filling-filled first none read.read.0);
       counts = search rules;
       ended = search rules;
+      met = λ h. read.met (rw same_end (c.filling.invariant.met h));
       spends = rw read.line (omega (
         arith,
         grown,
@@ -32,9 +33,10 @@ pub returns-then-branch-eq0-clause-reads : goal.returns-then-branch-eq0-clause-r
 returns-then-branch-eq0-clause-reads g c =
     let moved = moved_on c.if-not-branch.true c.in_ok-move_line.ensures.moves in
     let read = c.in_ok-refill.ensures in
+    let same_end = c.in_ok-move_line.ensures.same_end in
     let first = Filling-moved c.filling.invariant.filling moved.0.line moved.0.plain in
-    let none : has_ended c.args.reader.now ≡ true → held_of c.refill.new.self ≡ [] =
-    λ h. nil_from_none _ (read.read.1 ∙ read.quiet (c.filling.invariant.ended h)) in
+    let none : has_ended c.args.self.now ≡ true → held_of c.refill.new.self ≡ [] =
+    λ h. nil_from_none _ (read.read.1 ∙ read.quiet (same_end ∙ c.filling.invariant.ended h)) in
     let then = Filling-filled first none read.read.0 in
     let short : length (held_of c.refill.new.self) ≡ 0 = read.read.1 ∙ c.if-branch-eq0.true in
     let empty : c.is_empty.result ≡ (length (line_of c.refill.new.self) == 0) = search rules in

@@ -1,16 +1,18 @@
 use Rattle.std.proofs.Common.{◌≤◌, ◌≡◌, ◌+◌, true, length}
-use Rattle.balisecheck.specs.Counted.{budget_of, failures_of, has_ended, inner_of}
-use Rattle.balisecheck.specs.LineReading.{held_of, line_of}
+use Rattle.balisecheck.specs.Counted.{budget_of, failures_of, inner_of}
+use Rattle.balisecheck.specs.LineReading.{IsEndMet, has_ended, held_of, line_of}
 use Rattle.balisecheck.proofs.FillLemmas.{Filling}
 use Rattle.balisecheck.proofs.text_lines.TextLines.next.Given as goal
 
 abbrev pub invariant-filling : goal.invariant-filling
 invariant-filling g l = record {
   filling : Filling (g.R.Read.remaining (inner_of l.fn.reader))
-      (g.R.Read.remaining (inner_of l.reader)) (has_ended l.fn.reader)
+      (g.R.Read.remaining (inner_of l.reader)) (has_ended l.fn.self)
       (held_of l.fn.self) (line_of l.self) (held_of l.self);
   counts : failures_of l.reader ≡ failures_of l.fn.reader;
-  ended : has_ended l.fn.reader ≡ true → has_ended l.reader ≡ true;
+  ended : has_ended l.fn.self ≡ true → has_ended l.self ≡ true;
+  met : IsEndMet g.R.Read.remaining (has_ended l.fn.self) l.fn.reader
+      → IsEndMet g.R.Read.remaining (has_ended l.self) l.reader;
   spends : length (line_of l.self) + length (held_of l.self) + budget_of l.reader
       ≤ length (held_of l.fn.self) + budget_of l.fn.reader;
 }

@@ -1,0 +1,16 @@
+//! What is said to a person whose words are no command, besides the usage line.
+
+/// The advice for the words, the program's name first, if they are a usual mistake.
+///
+/// It goes to standard error, so that standard output stays what the contract of `run` says.
+pub fn advice_for(words: &[&str]) -> Option<&'static str> {
+    match words {
+        [_, "check" | "encode", ..] | [_, _, "--radio", ..] => {
+            Some("this version has the command decode alone, without --radio")
+        }
+        [_, "decode", name, ..] if !name.starts_with("-") => {
+            Some("the input is standard input: balisecheck decode < FILE")
+        }
+        _ => None,
+    }
+}

@@ -1,0 +1,96 @@
+#!/usr/bin/env bash
+# Tests of the start script `balisecheck`: what it writes where, and when it builds. They run in a copy of
+# the tree with what earlier checks kept, so that only what changed since is proved again.
+#
+# The last line is 'N passed, M failed'. The exit status is 1 if a test failed.
+set -uo pipefail
+
+here=$(cd "$(dirname "${BASH_SOURCE[0]}")" && pwd)
+room=$(mktemp -d)
+trap 'rm -rf "$room"' EXIT
+passed=0
+failed=0
+ones=ffffffffffffffffffffffffffffffffffffff
+telegram=a1007f802000ff${ones}c0
+json='{"m_dup":0,"m_mcount":255,"m_version":33,"n_pig":0,"n_total":0,"nid_bg":1,"nid_c":1,'
+json+='"packets":[],"q_link":1,"user_bits":210}'
+
+# count NAME DIFFERENCE: an empty difference is a pass.
+count() {
+    if [ -z "$2" ]; then
+        passed=$((passed + 1))
+    else
+        failed=$((failed + 1))
+        printf 'failed: %s\n%s\n' "$1" "$2"
+    fi
+}
+
+# starts STATUS STDOUT: calls the start script with a telegram, and prints how its status and its standard
+# output differ.
+starts() {
+    local got
+    "$room/tree/balisecheck" decode <<<"$telegram" >"$room/stdout" 2>"$room/stderr"
+    got=$?
+    [ "$got" -eq "$1" ] || echo "status $got in place of $1"
+    printf '%s' "$2" | diff - "$room/stdout"
+}
+
+# says_nothing: prints what went to standard error.
+says_nothing() {
+    [ ! -s "$room/stderr" ] || { echo 'standard error:' && cat "$room/stderr"; }
+}
+
+# copy: copies the tree, but neither its history nor a program that was built before.
+copy() {
+    mkdir -p "$room/tree"
+    cp -a "$here/../balisecheck" "$here/../crates.txt" "$here/../crates" "$room/tree"
+    [ ! -f "$here/../HANDLES" ] || cp -a "$here/../HANDLES" "$room/tree"
+    rm -f "$room/tree/crates/balisecheck/out/balisecheck"
+}
+
+needs_the_toolchain() {
+    local difference
+    difference=$(PATH=/usr/bin:/bin starts 3 '')
+    grep -q "^balisecheck: not built: .*rt" "$room/stderr" || difference+=$'\n'$(cat "$room/stderr")
+    count 'without the toolchain nothing is built, and nothing answered' "${difference#$'\n'}"
+}
+
+builds_once() {
+    local difference began
+    difference=$(starts 0 "$json"$'\n')
+    [ "$(tail -n 1 "$room/stderr")" = 'balisecheck: built' ] || difference+=$(tail -n 3 "$room/stderr")
+    count 'the first use builds; standard output has the answer alone' "$difference"
+    began=$SECONDS
+    difference=$(starts 0 "$json"$'\n'; says_nothing)
+    [ $((SECONDS - began)) -le 2 ] || difference+="it took $((SECONDS - began)) seconds"
+    count 'the second use starts at once' "$difference"
+}
+
+takes_over() {
+    rm -rf "$room/tree/out"
+    mkdir "$room/tree/.git"
+    touch "$room/tree/.git/rt-ci.lock"
+    sleep 1
+    touch "$room/tree/crates/balisecheck/out/balisecheck"
+    count 'a program that the gate has built is taken over' "$(starts 0 "$json"$'\n'; says_nothing)"
+}
+
+builds_again() {
+    local difference
+    sleep 1
+    touch "$room/tree/crates/etcs_bits/src/lib.rt"
+    difference=$(PATH=/usr/bin:/bin starts 3 '')
+    count 'after a change of a source no older program answers' "$difference"
+}
+
+copy
+if PATH=/usr/bin:/bin command -v rt >/dev/null; then
+    count 'the tests that need a path without the toolchain' 'rt stands in /usr/bin or /bin'
+else
+    needs_the_toolchain
+fi
+builds_once
+takes_over
+builds_again
+echo "the start script: $passed passed, $failed failed"
+[ "$failed" -eq 0 ]
