@@ -46,6 +46,8 @@ def refusal(why, start=0):
 
 def accepted(name, bits, forms):
     """The packets in a telegram of each size that has room for them."""
+    if len(HEAD + bits + END_MARK) > LONG:
+        raise ValueError(f"no telegram has room for {name}")
     for size in (SHORT, LONG):
         if len(HEAD + bits + END_MARK) <= size:
             telegram = (HEAD + bits + END_MARK).ljust(size, "1")
@@ -81,7 +83,7 @@ def faults(name, ahead, fields, others):
 
 
 def blocks(path):
-    """The blocks of lines between blank lines, without comments; only the last blanks of a line may be digits."""
+    """The blocks of lines between empty lines, without comments."""
     lines = [line for line in path.read_text().split("\n") if not line.startswith("#")]
     return [block.split("\n") for block in "\n".join(lines).strip("\n").split("\n\n")]
 
