@@ -1,152 +1,145 @@
-//! What is built of parts, and what is refused.
+//! What is built of parts, up to the greatest lists, which no telegram has room for.
 
-use super::parts::{distance, link, links, order, orders};
-use super::spelled::{LINKING, RAW_BODY, TRANSITION, read_one, spelled, written};
-use crate::{Linking, RawPacket, Transition};
-use etcs_bits::{Bits, Dir, Layout, Level, Memory, Same, Scale};
+use super::spelled::{fault, read_one};
+use crate::{CoverMarker, LevelOrder, Link, Linking, RawPacket, TrackPacket, Transition};
+use etcs_bits::{Bits, Cursor, DecodeError, Dir, FaultKind, Layout, Memory, Same, Scale};
 use etcs_profile::BuildError;
 use std::alloc::Global;
 use std::test::Fail;
 
-// A linking with so many further groups.
-fn linking(alloc: Global, count: usize) -> Result<Result<Linking, BuildError>, Fail> {
-    let first = link(500, None, 1234, true, 2, 12)?;
-    let further = links(alloc, count)?;
-    Ok(Linking::new(Dir::Nominal, Scale::Metre, first, further))
-}
+/// A group in the same country, and one in another.
+const LINK: &str = "000000111110100 0 00010011010010 1 10 001100";
 
-// A level transition with so many further levels.
-fn transition(alloc: Global, count: usize) -> Result<Result<Transition, BuildError>, Fail> {
-    let first = order(Level::L2, 300)?;
-    let further = orders(alloc, count)?;
-    let now = distance(32767)?;
-    Ok(Transition::new(Dir::Nominal, Scale::Metre, now, first, further))
-}
+const FAR_LINK: &str = "000000000000001 1 0110111100 00000000000010 0 01 000011";
 
-// A body of so many ones.
-fn body(alloc: Global, len: usize) -> Result<Bits, Memory> {
-    let mut bits = Bits::new(alloc);
-    for _ in 0..len {
-        bits.push_num(1, 1)?;
+/// Level 2, and level NTC.
+const ORDER: &str = "011 000000100101100";
+
+const NTC_ORDER: &str = "001 00010110 000000000110010";
+
+// So many times the record.
+fn times<T: Copy + Drop>(alloc: Global, record: &T, count: usize) -> Result<Vec<T>, Memory> {
+    let mut items = Vec::new(alloc);
+    for _ in 0..count {
+        items.push(*record)?;
     }
-    Ok(bits)
+    Ok(items)
+}
+
+// Whether the record is written with so many bits, and is read again of them.
+fn comes_back<T: Layout + Same>(
+    alloc: Global,
+    record: &T,
+    width: usize,
+) -> Result<bool, DecodeError> {
+    let mut bits = Bits::new(alloc);
+    if record.is_allowed() {
+        record.write(&mut bits)?;
+    }
+    let mut cur = Cursor::new(&bits);
+    let again = T::read(alloc, &mut cur)?;
+    Ok(again.same(record) && bits.len() == width && cur.at() == width)
+}
+
+// The same of the record at the beginning of these digits.
+fn is_spelled<T: Layout + Same>(
+    alloc: Global,
+    digits: &str,
+    width: usize,
+) -> Result<bool, DecodeError> {
+    let record: T = read_one(alloc, digits)?;
+    comes_back(alloc, &record, width)
 }
 
 #[test]
-fn packets_are_built_as_they_are_spelled(rt: HostRuntime) -> Result<(), Fail> {
+fn each_part_comes_back(rt: HostRuntime) -> Result<(), Fail> {
     let alloc = rt.alloc();
-    let packet = linking(alloc, 0)??;
-    assert!(rt; written(alloc, &packet)?.same(&spelled(alloc, &LINKING)?));
-    let packet = transition(alloc, 0)??;
-    assert!(rt; written(alloc, &packet)?.same(&spelled(alloc, &TRANSITION)?));
+    assert!(rt; is_spelled::<Link>(alloc, FAR_LINK, 49)?);
+    assert!(rt; is_spelled::<LevelOrder>(alloc, NTC_ORDER, 26)?);
+    assert!(rt; is_spelled::<CoverMarker>(alloc, "00000000 100101", 14)?);
     Ok(())
 }
 
 #[test]
 fn a_linking_has_31_further_groups_at_most(rt: HostRuntime) -> Result<(), Fail> {
     let alloc = rt.alloc();
-    let longest = linking(alloc, 31)??;
-    assert_eq!(rt;
-        (longest.dir(), longest.scale()),
-        (Dir::Nominal, Scale::Metre)
-    );
-    assert_eq!(rt; *longest.first(), link(500, None, 1234, true, 2, 12)?);
-    assert_eq!(rt; longest.further(), links(alloc, 31)?.as_slice());
-    assert_eq!(rt; longest.width(), 69 + 31 * 49);
-    let many = linking(alloc, 32)?;
-    assert_eq!(rt; many.err(), Some(BuildError::TooMany));
+    let first: Link = read_one(alloc, LINK)?;
+    let far: Link = read_one(alloc, FAR_LINK)?;
+    let further = times(alloc, &far, 31)?;
+    let longest = Linking::new(Dir::Nominal, Scale::Metre, first, further)?;
+    assert!(rt; longest.dir() == Dir::Nominal && longest.scale() == Scale::Metre);
+    assert!(rt; *longest.first() == first && longest.further().len() == 31);
+    assert!(rt; comes_back(alloc, &longest, 69 + 31 * 49)?);
+    let many = Linking::new(Dir::Nominal, Scale::Metre, first, times(alloc, &far, 32)?);
+    assert!(rt; many.err() == Some(BuildError::TooMany));
     Ok(())
 }
 
 #[test]
 fn a_level_transition_has_31_further_levels_at_most(rt: HostRuntime) -> Result<(), Fail> {
     let alloc = rt.alloc();
-    let longest = transition(alloc, 31)??;
-    assert_eq!(rt;
-        (longest.dir(), longest.scale()),
-        (Dir::Nominal, Scale::Metre)
-    );
-    assert_eq!(rt; longest.d_leveltr(), distance(32767)?);
-    assert_eq!(rt; *longest.first(), order(Level::L2, 300)?);
-    assert_eq!(rt; longest.further(), orders(alloc, 31)?.as_slice());
-    assert_eq!(rt; longest.width(), 63 + 31 * 26);
-    let many = transition(alloc, 32)?;
-    assert_eq!(rt; many.err(), Some(BuildError::TooMany));
+    let first: LevelOrder = read_one(alloc, ORDER)?;
+    let ntc: LevelOrder = read_one(alloc, NTC_ORDER)?;
+    let place = first.acknowledge;
+    let further = times(alloc, &ntc, 31)?;
+    let longest = Transition::new(Dir::Both, Scale::TenMetres, place, first, further)?;
+    assert!(rt; longest.dir() == Dir::Both && longest.scale() == Scale::TenMetres);
+    assert!(rt; longest.d_leveltr() == place && *longest.first() == first);
+    assert!(rt; longest.further().len() == 31);
+    assert!(rt; comes_back(alloc, &longest, 63 + 31 * 26)?);
+    let further = times(alloc, &ntc, 32)?;
+    let many = Transition::new(Dir::Both, Scale::TenMetres, place, first, further);
+    assert!(rt; many.err() == Some(BuildError::TooMany));
     Ok(())
 }
 
-#[test]
-fn packets_of_32_parts_come_back(rt: HostRuntime) -> Result<(), Fail> {
-    let alloc = rt.alloc();
-    let bits = written(alloc, &linking(alloc, 31)??)?;
-    let (again, end) = read_one::<Linking>(alloc, &bits)?;
-    assert_eq!(rt; (end, again.further().len()), (1588, 31));
-    let bits = written(alloc, &transition(alloc, 31)??)?;
-    let (again, end) = read_one::<Transition>(alloc, &bits)?;
-    assert_eq!(rt; (end, again.further().len()), (869, 31));
-    Ok(())
-}
-
-// Whether the number is one of a layout that is known, or the end mark.
-fn is_barred(number: u8) -> bool {
-    for barred in [0, 5, 12, 15, 21, 27, 41, 255] {
-        if number == barred {
-            return true;
-        }
+// Packet 44 of so many ones.
+fn ones(alloc: Global, len: usize) -> Result<Result<RawPacket, Bits>, Memory> {
+    let mut bits = Bits::new(alloc);
+    for _ in 0..len {
+        bits.push_num(1, 1)?;
     }
-    false
-}
-
-#[test]
-fn every_other_number_is_kept_as_bits(rt: HostRuntime) -> Result<(), Fail> {
-    let alloc = rt.alloc();
-    for number in 0..=255u8 {
-        let made = RawPacket::new(number, Dir::Reverse, body(alloc, 3)?);
-        match made {
-            Ok(packet) => assert_eq!(rt; packet.number(), number),
-            Err(back) => {
-                assert!(rt; is_barred(number), "{number}");
-                assert!(rt; back.same(&body(alloc, 3)?));
-            }
-        }
-    }
-    Ok(())
-}
-
-#[test]
-fn the_numbers_of_known_packets_are_not_kept_as_bits(rt: HostRuntime) -> Result<(), Fail> {
-    let alloc = rt.alloc();
-    for number in [0, 5, 12, 15, 21, 27, 41, 255] {
-        let made = RawPacket::new(number, Dir::Both, Bits::new(alloc));
-        assert!(rt; made.is_err(), "{number}");
-    }
-    Ok(())
-}
-
-#[test]
-fn a_raw_packet_has_its_parts(rt: HostRuntime) -> Result<(), Fail> {
-    let alloc = rt.alloc();
-    let bits = spelled(alloc, &["101001110"])?;
-    let packet = RawPacket::new(254, Dir::Both, bits)
-        .ok()
-        .ok_or("no packet")?;
-    assert_eq!(rt; (packet.number(), packet.dir()), (254, Dir::Both));
-    assert!(rt; packet.body().same(&spelled(alloc, &["101001110"])?));
-    assert!(rt; written(alloc, &packet)?.same(&spelled(alloc, &RAW_BODY)?));
-    Ok(())
+    Ok(RawPacket::new(44, Dir::Both, bits))
 }
 
 #[test]
 fn a_raw_body_has_8168_bits_at_most(rt: HostRuntime) -> Result<(), Fail> {
     let alloc = rt.alloc();
-    let made = RawPacket::new(44, Dir::Both, body(alloc, 8168)?);
-    let longest = made.ok().ok_or("no packet")?;
-    assert_eq!(rt; (longest.body().len(), longest.width()), (8168, 8191));
-    let bits = written(alloc, &longest)?;
-    let (again, end) = read_one::<RawPacket>(alloc, &bits)?;
-    assert_eq!(rt; end, 8191);
-    assert!(rt; again.same(&longest));
-    let long = RawPacket::new(44, Dir::Both, body(alloc, 8169)?);
-    assert_eq!(rt; long.err().map(|back| back.len()), Some(8169));
-    Ok(())
+    if let Ok(longest) = ones(alloc, 8168)? {
+        assert!(rt; longest.number() == 44 && longest.dir() == Dir::Both);
+        assert!(rt; longest.body().len() == 8168);
+        assert!(rt; comes_back(alloc, &longest, 8191)?);
+    } else {
+        return Err("no packet".into());
+    }
+    if let Err(back) = ones(alloc, 8169)? {
+        assert!(rt; back.len() == 8169);
+        return Ok(());
+    }
+    Err("a packet of 8,192 bits".into())
+}
+
+#[test]
+fn every_other_number_is_kept_as_bits(rt: HostRuntime) {
+    for number in 0..=255u8 {
+        let made = RawPacket::new(number, Dir::Reverse, Bits::new(rt.alloc()));
+        let is_barred = matches!(number, 0 | 5 | 12 | 15 | 21 | 27 | 41 | 255);
+        assert!(rt; made.is_err() == is_barred, "{number}");
+    }
+}
+
+// What is refused of the end mark, which is no packet's number.
+fn told<T: Layout>(alloc: Global) -> Option<DecodeError> {
+    read_one::<T>(alloc, "11111111").err()
+}
+
+#[test]
+fn a_packet_has_its_number(rt: HostRuntime) {
+    let alloc = rt.alloc();
+    let spare = fault(0, 8, FaultKind::Spare);
+    assert!(rt; told::<CoverMarker>(alloc) == spare);
+    assert!(rt; told::<Linking>(alloc) == spare);
+    assert!(rt; told::<Transition>(alloc) == spare);
+    assert!(rt; told::<RawPacket>(alloc) == spare);
+    assert!(rt; told::<TrackPacket>(alloc) == spare);
 }

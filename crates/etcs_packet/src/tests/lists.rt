@@ -1,151 +1,121 @@
-//! Lists of packets of several kinds.
+//! Lists of packets: of a telegram and of a message, whole and one by one.
 
-use super::fault;
-use super::spelled::{KINDS, LINKING, RAW, push_digits, push_fields, read_one, spelled};
-use crate::{Stop, TrackPacket, read_packets, write_packets};
-use etcs_bits::FaultKind::{Length, NoEnd, Short, Spare};
-use etcs_bits::{Bits, Cursor, DecodeError, Memory, Same};
+use super::spelled::{all_kinds, fault, read_one, spelled};
+use crate::{
+    CoverMarker, Stop, TrackPacket, is_end, next_item, next_whole, read_items, read_packets,
+    read_whole, write_items, write_packets,
+};
+use etcs_bits::FaultKind::{NoEnd, Short};
+use etcs_bits::{Bits, Cursor, DecodeError, Layout, Plain, Same};
 use std::alloc::Global;
 use std::test::Fail;
 
-// The end mark.
-const END: &str = "11111111";
-
-// What was read, and the place of the cursor then.
-type Found = (Result<Vec<TrackPacket>, DecodeError>, usize);
-
-// The packets at the beginning.
-fn packets(alloc: Global, bits: &Bits, stop: Stop) -> Found {
-    let mut cur = Cursor::new(bits);
-    let found = read_packets(alloc, &mut cur, stop);
-    (found, cur.at())
+#[test]
+fn packets_of_all_kinds_are_read_and_written(rt: HostRuntime) -> Result<(), Fail> {
+    let alloc = rt.alloc();
+    let bits = all_kinds(alloc)?;
+    let mut cur = Cursor::new(&bits);
+    let found = read_packets(alloc, &mut cur, Stop::Telegram)?;
+    assert!(rt; found.len() == 8 && cur.at() == 592);
+    for (packet, number) in found.iter().zip([0, 5, 12, 15, 21, 27, 41, 254]) {
+        assert!(rt; packet.number() == number, "{number}");
+    }
+    let mut out = Bits::new(alloc);
+    write_packets(found.as_slice(), &mut out)?;
+    out.push_num(8, 255)?;
+    assert!(rt; out.same(&bits));
+    Ok(())
 }
 
-// A packet of each kind, one behind the other: 579 bits.
-fn all_kinds(alloc: Global) -> Result<Bits, Memory> {
-    let mut bits = Bits::new(alloc);
-    for fields in KINDS {
-        push_fields(&mut bits, fields)?;
-    }
-    Ok(bits)
+// How many packets are read.
+fn count(alloc: Global, cur: &mut Cursor<'_>, stop: Stop) -> Result<usize, DecodeError> {
+    Ok(read_packets(alloc, cur, stop)?.len())
 }
 
 #[test]
-fn packets_of_all_kinds_are_a_list(rt: HostRuntime) -> Result<(), Fail> {
+fn fewer_than_eight_bits_end_a_message_alone(rt: HostRuntime) -> Result<(), Fail> {
     let alloc = rt.alloc();
-    let mut bits = all_kinds(alloc)?;
-    // What comes behind the end mark says nothing.
-    push_fields(&mut bits, &[END, "0010"])?;
-    let numbers = [0, 5, 12, 15, 21, 27, 41, 254];
-    for stop in [Stop::Telegram, Stop::Message] {
-        let (found, at) = packets(alloc, &bits, stop);
-        let found = found?;
-        assert_eq!(rt; (found.len(), at), (numbers.len(), 579));
-        for (packet, number) in found.as_slice().iter().zip(numbers) {
-            assert_eq!(rt; packet.number(), number);
-        }
+    // Packet 0, and up to seven bits of the end mark.
+    for end in 14..22usize {
+        let mut bits = spelled(alloc, "00000000 100101 11111111")?;
+        bits.truncate(end);
+        let mut cur = Cursor::new(&bits);
+        let told = count(alloc, &mut cur, Stop::Telegram).err();
+        assert!(rt; told == fault(14, 14, NoEnd), "{end}");
+        assert!(rt; cur.at() == 0, "{end}");
+        assert!(rt; count(alloc, &mut cur, Stop::Message) == Ok(1), "{end}");
+        assert!(rt; cur.at() == 14, "{end}");
     }
     Ok(())
 }
 
 #[test]
-fn packets_are_written_as_they_were_read(rt: HostRuntime) -> Result<(), Fail> {
+fn eight_bits_are_a_packet_that_is_due(rt: HostRuntime) -> Result<(), Fail> {
+    let bits = spelled(rt.alloc(), "00000000 100101 00000000")?;
+    let told = count(rt.alloc(), &mut Cursor::new(&bits), Stop::Message).err();
+    assert!(rt; told == fault(22, 22, Short));
+    Ok(())
+}
+
+// Whether there is a next packet.
+fn has_next(alloc: Global, cur: &mut Cursor<'_>) -> Result<bool, DecodeError> {
+    Ok(next_item::<TrackPacket>(alloc, cur, Stop::Message)?.is_some())
+}
+
+// How many more packets there are.
+fn rest(alloc: Global, cur: &mut Cursor<'_>) -> Result<usize, DecodeError> {
+    Ok(read_items::<TrackPacket>(alloc, cur, Stop::Message)?.len())
+}
+
+#[test]
+fn packets_are_read_one_by_one(rt: HostRuntime) -> Result<(), Fail> {
     let alloc = rt.alloc();
-    let bits = all_kinds(alloc)?;
-    let (found, at) = packets(alloc, &bits, Stop::Message);
-    assert_eq!(rt; at, bits.len());
-    let mut out = Bits::new(alloc);
-    write_packets(found?.as_slice(), &mut out)?;
-    assert!(rt; out.same(&bits));
+    // Two packets 0, and three bits of a message.
+    let bits = spelled(alloc, "00000000 100101 00000000 100110 000")?;
+    let mut cur = Cursor::new(&bits);
+    assert!(rt; has_next(alloc, &mut cur) == Ok(true));
+    assert!(rt; cur.at() == 14);
+    assert!(rt; rest(alloc, &mut cur) == Ok(1));
+    assert!(rt; cur.at() == 28);
+    assert!(rt; has_next(alloc, &mut cur) == Ok(false));
+    assert!(rt; is_end(&cur, Stop::Message));
+    assert!(rt; !is_end(&cur, Stop::Telegram));
+    Ok(())
+}
+
+// The head's number and flag, and how many packets stand behind it.
+fn whole(alloc: Global, cur: &mut Cursor<'_>) -> Result<(u32, bool, usize), DecodeError> {
+    let stop = Stop::Message;
+    let (head, found) = next_whole::<(Plain<3>, bool), TrackPacket>(alloc, cur, stop)?;
+    Ok((head.0.number(), head.1, found.len()))
+}
+
+// The same of a head that is a flag alone, at the beginning.
+fn whole_of(alloc: Global, bits: &Bits) -> Result<(bool, usize), DecodeError> {
+    let (head, found) = read_whole::<bool, TrackPacket>(alloc, bits, Stop::Message)?;
+    Ok((head, found.len()))
+}
+
+#[test]
+fn packets_stand_behind_a_head(rt: HostRuntime) -> Result<(), Fail> {
+    let alloc = rt.alloc();
+    // 6 in three bits, a flag, packet 0, and five bits of a message.
+    let bits = spelled(alloc, "110 1 00000000 100101 00000")?;
+    let mut cur = Cursor::new(&bits);
+    assert!(rt; whole(alloc, &mut cur) == Ok((6, true, 1)));
+    assert!(rt; cur.at() == 18);
+    assert!(rt; whole_of(alloc, &spelled(alloc, "1 00000000 100101")?) == Ok((true, 1)));
     Ok(())
 }
 
 #[test]
 fn packets_are_written_behind_what_stands(rt: HostRuntime) -> Result<(), Fail> {
     let alloc = rt.alloc();
-    let (found, _) = packets(alloc, &spelled(alloc, &RAW)?, Stop::Message);
-    let mut out = spelled(alloc, &["101"])?;
-    write_packets(found?.as_slice(), &mut out)?;
-    write_packets(&[], &mut out)?;
-    let wanted = spelled(alloc, &["101", RAW[0], RAW[1], RAW[2]])?;
-    assert!(rt; out.same(&wanted));
-    Ok(())
-}
-
-#[test]
-fn the_end_mark_alone_is_an_empty_list(rt: HostRuntime) -> Result<(), Fail> {
-    let alloc = rt.alloc();
-    for stop in [Stop::Telegram, Stop::Message] {
-        let (found, at) = packets(alloc, &spelled(alloc, &[END])?, stop);
-        assert_eq!(rt; (found?.len(), at), (0, 0));
+    let cover: CoverMarker = read_one(alloc, "00000000 100101")?;
+    let mut out = spelled(alloc, "101")?;
+    if cover.is_allowed() {
+        write_items(&[cover], &mut out)?;
     }
-    Ok(())
-}
-
-#[test]
-fn fewer_than_eight_bits_are_no_end_mark(rt: HostRuntime) -> Result<(), Fail> {
-    let alloc = rt.alloc();
-    for n in 0..8usize {
-        let mut bits = spelled(alloc, &LINKING)?;
-        push_digits(&mut bits, END)?;
-        bits.truncate(69 + n);
-        let (found, at) = packets(alloc, &bits, Stop::Telegram);
-        assert_eq!(rt; (found.err(), at), (fault(69, 69, NoEnd), 0), "with {n}");
-        let (found, at) = packets(alloc, &bits, Stop::Message);
-        assert_eq!(rt; (found?.len(), at), (1, 69), "with {n}");
-    }
-    Ok(())
-}
-
-#[test]
-fn eight_bits_may_be_an_end_mark(rt: HostRuntime) -> Result<(), Fail> {
-    let alloc = rt.alloc();
-    let mut bits = spelled(alloc, &LINKING)?;
-    push_digits(&mut bits, END)?;
-    let (found, at) = packets(alloc, &bits, Stop::Telegram);
-    assert_eq!(rt; (found?.len(), at), (1, 69));
-    // Or a packet that is cut: packets 0, 5 and 254.
-    for (digits, short) in [("00000000", 8), ("00000101", 8), ("11111110", 8)] {
-        for stop in [Stop::Telegram, Stop::Message] {
-            let (found, at) = packets(alloc, &spelled(alloc, &[digits])?, stop);
-            assert_eq!(rt; (found.err(), at), (fault(short, 8, Short), 0), "{digits}");
-        }
-    }
-    Ok(())
-}
-
-// The packets behind the first three bits.
-fn packets_behind_three(alloc: Global, bits: &Bits, stop: Stop) -> Found {
-    let mut cur = Cursor::new(bits);
-    let _three = cur.take(3);
-    let found = read_packets(alloc, &mut cur, stop);
-    (found, cur.at())
-}
-
-#[test]
-fn the_first_fault_of_a_list_is_told(rt: HostRuntime) -> Result<(), Fail> {
-    let alloc = rt.alloc();
-    // Behind packet 5: Q_DIR 3, and a length of 22.
-    let heads = [
-        (["00101100", "11", "0000000010111"], fault(80, 82, Spare)),
-        (["00101100", "10", "0000000010110"], fault(82, 95, Length)),
-    ];
-    for (head, wanted) in heads {
-        let mut bits = spelled(alloc, &["101"])?;
-        push_fields(&mut bits, &LINKING)?;
-        push_fields(&mut bits, &head)?;
-        push_digits(&mut bits, END)?;
-        let (found, at) = packets_behind_three(alloc, &bits, Stop::Telegram);
-        assert_eq!(rt; (found.err(), at), (wanted, 3));
-    }
-    Ok(())
-}
-
-#[test]
-fn the_end_mark_is_no_packet(rt: HostRuntime) -> Result<(), Fail> {
-    let alloc = rt.alloc();
-    let bits = spelled(alloc, &[END, "10", "0000000010111"])?;
-    let told = read_one::<TrackPacket>(alloc, &bits).err();
-    assert_eq!(rt; told, fault(0, 8, Spare));
+    assert!(rt; out.same(&spelled(alloc, "101 00000000 100101")?));
     Ok(())
 }

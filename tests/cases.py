@@ -1,0 +1,216 @@
+"""Writes the cases of tests/cases/, one a line: a name, a line of input and what is written for it, between tabs.
+
+Nothing here asks the program: each answer stands in the files, or follows from numbers that were put into the fields.
+"""
+import json
+import pathlib
+import re
+
+HERE = pathlib.Path(__file__).parent / "cases"
+SHORT, LONG, END_MARK = 210, 830, "11111111"
+# the header's variables behind Q_UPDOWN: key, width, number of the telegram of group 1 in country 1
+HEADER = (("m_version", 7, 33), ("q_media", 1, 0), ("n_pig", 3, 0), ("n_total", 3, 0), ("m_dup", 2, 0),
+          ("m_mcount", 8, 255), ("nid_c", 10, 1), ("nid_bg", 14, 1), ("q_link", 1, 1))
+FORM = json.JSONEncoder(separators=(",", ":"), sort_keys=True)
+
+
+def spelled(*fields):
+    """The digits of fields, each its width and its number."""
+    return "".join(f"{number:0{width}b}" for width, number in fields)
+
+
+HEAD = "1" + spelled(*((width, number) for _, width, number in HEADER))
+
+
+def text(bits):
+    """The hexadecimal text of bits, with zeros up to whole bytes."""
+    whole = bits + "0" * (-len(bits) % 8)
+    return f"{int(whole, 2):0{len(whole) // 4}x}"
+
+
+def header_form(user_bits, **others):
+    """The keys of a telegram without packets."""
+    numbers = {key: number for key, _, number in HEADER if key != "q_media"}
+    return {**numbers, "packets": [], "user_bits": user_bits, **others}
+
+
+def answer(size, forms):
+    """The line of a telegram with packets of these forms."""
+    return FORM.encode(header_form(size)).replace('"packets":[]', f'"packets":[{",".join(forms)}]')
+
+
+def refusal(why, start=0):
+    """The line of a refusal, its places counted from a packet that begins at `start`."""
+    return "refused: line 1: " + re.sub(r"\d+", lambda place: str(int(place[0]) + start), why)
+
+
+def accepted(name, bits, forms):
+    """The packets in a telegram of each size that has room for them."""
+    if len(HEAD + bits + END_MARK) > LONG:
+        raise ValueError(f"no telegram has room for {name}")
+    for size in (SHORT, LONG):
+        if len(HEAD + bits + END_MARK) <= size:
+            telegram = (HEAD + bits + END_MARK).ljust(size, "1")
+            yield f"{name}, {size} bits", text(telegram), answer(size, forms)
+
+
+def filler(width):
+    """A packet 44 of so many bits, 23 at least."""
+    return spelled((8, 44), (2, 2), (13, width)) + "0" * (width - 23)
+
+
+def cut(name, fields):
+    """The packet behind a packet 44, up to the end of a telegram, which cuts it at each of its bits."""
+    bits = "".join(fields)
+    for width in range(len(bits)):
+        size = SHORT if width <= SHORT - len(HEAD) - 23 else LONG
+        start, field = size - width, 0
+        while width >= 8 and len("".join(fields[:field + 1])) <= width:
+            field += 1
+        at = start + len("".join(fields[:field]))
+        why = f"short at {at} end {size}" if width >= 8 else f"no end at {at} end {at}"
+        telegram = HEAD + filler(start - len(HEAD)) + bits[:width]
+        yield f"{name}, cut behind {width} bits", text(telegram), refusal(why)
+
+
+def faults(name, ahead, fields, others):
+    """The packet with other digits in one field."""
+    for place, digits, why in others:
+        bits = ahead + "".join([*fields[:place], digits, *fields[place + 1:]])
+        size = SHORT if len(HEAD + bits + END_MARK) <= SHORT else LONG
+        telegram = (HEAD + bits + END_MARK).ljust(size, "1")
+        yield f"{name}: field {place + 1} is {digits}", text(telegram), refusal(why, len(HEAD + ahead))
+
+
+def blocks(path):
+    """The blocks of lines between empty lines, without comments."""
+    lines = [line for line in path.read_text().split("\n") if not line.startswith("#")]
+    return [block.split("\n") for block in "\n".join(lines).strip("\n").split("\n\n")]
+
+
+def packets():
+    """The packets of packets.txt, whole, with other digits and cut."""
+    known = {}
+    for name, *lines in blocks(HERE / "packets.txt"):
+        ahead, fields, others, forms = "", [], [], []
+        for line in map(str.strip, lines):
+            if line.startswith("+ "):
+                ahead, forms = ahead + known[line[2:]][0], forms + known[line[2:]][1]
+            elif line.startswith("not "):
+                others.append((len(fields) - 1, *line[4:].split(": ")))
+            elif line.startswith("{"):
+                forms.append(line)
+            else:
+                fields.append(line.split()[0])
+        known[name] = ahead + "".join(fields), forms
+        yield from accepted(name, *known[name])
+        yield from faults(name, ahead, fields, others)
+        yield from cut(name, fields)
+
+
+def filled(line):
+    """The line, its dots replaced by digits up to a short or a long telegram."""
+    found = re.fullmatch(r"(\w*?)(\.{2,3})(\w) ?(.*)", line)
+    if not found:
+        return line
+    digits, dots, digit, end = found.groups()
+    return digits.ljust(52 if dots == ".." else 206, digit) + end
+
+
+def turned(name, bits, places, wanted):
+    """The telegram with a bit turned, at each of these places; what is written for it by its place."""
+    for place in places:
+        other = "01"[bits[place] == "0"]
+        yield f"{name}, bit {place} turned", text(bits[:place] + other + bits[place + 1:]), wanted(place)
+
+
+def turned_header(place):
+    """What is written for a telegram without packets once a bit of its header or its end mark is turned."""
+    if place == 0:
+        return refusal("down-link at 0 end 1")
+    if place >= len(HEAD):
+        return refusal("spare at 58 end 60")  # another packet, whose Q_DIR is 3
+    at = 1
+    for key, width, number in HEADER:
+        if place < at + width:
+            break
+        at += width
+    number ^= 1 << at + width - 1 - place
+    if key == "m_version" and number not in (32, 33):
+        return refusal("version at 1 end 8")
+    if key == "q_media":
+        return refusal("loop at 8 end 9")
+    return FORM.encode(header_form(SHORT, **{key: number}))
+
+
+def turned_bits():
+    """Each bit up to the end mark counts, and none behind it."""
+    alone = (HEAD + END_MARK).ljust(SHORT, "1")
+    yield from turned("a header", alone, range(58), turned_header)
+    yield from turned("the fill", alone, range(58, SHORT), lambda _: answer(SHORT, []))
+    alone = (HEAD + END_MARK).ljust(LONG, "1")
+    yield from turned("the fill of a long telegram", alone, range(58, LONG), lambda _: answer(LONG, []))
+
+
+def packet(number, rest, **form):
+    """A packet for the nominal direction in metres, of the fields behind Q_SCALE, with its form."""
+    form = {"nid_packet": number, "q_dir": 1, "q_scale": 1, **form}
+    return spelled((8, number), (2, 1), (13, 25 + len(rest)), (2, 1)) + rest, [FORM.encode(form)]
+
+
+def authority(number, main, **keys):
+    """A movement authority with 31 sections, the first of which has a length of 0, the next one of 1 and so on."""
+    sections = "".join(spelled((15, length), (1, 0)) for length in range(31))
+    rest = main + spelled((7, 6), (10, 30), (5, 31)) + sections + spelled((15, 70), (4, 0))
+    lengths = [{"l_section": length} for length in range(31)]
+    return packet(number, rest, end_speed=6, end_timeout=30, l_endsection=70, sections=lengths, **keys)
+
+
+def differences():
+    """A speed profile of one element with 31 differences."""
+    items = [{"q_diff": item % 3, "nc": item % 16, "v_diff": item} for item in range(31)]
+    spelled_items = "".join(spelled((2, one["q_diff"]), (4, one["nc"]), (7, one["v_diff"])) for one in items)
+    rest = spelled((15, 9), (7, 20), (1, 0), (5, 31)) + spelled_items + spelled((5, 0))
+    return packet(27, rest, elements=[{"d_static": 9, "v_static": 20, "q_front": 0, "differences": items}])
+
+
+def levels():
+    """A level transition order with 31 further levels."""
+    items = [{"m_leveltr": (0, 2, 3, 4)[item % 4], "l_ackleveltr": item} for item in range(32)]
+    first, *further = [spelled((3, one["m_leveltr"]), (15, one["l_ackleveltr"])) for one in items]
+    rest = spelled((15, 950)) + first + spelled((5, 31)) + "".join(further)
+    return packet(41, rest, d_leveltr=950, transitions=items)
+
+
+def greatest_lists():
+    """As many items as N_ITER counts, or as a telegram has room for; each item has its own number."""
+    covers = [FORM.encode({"nid_packet": 0, "nid_vbcmk": cover}) for cover in range(55)]
+    bits = "".join(spelled((8, 0), (6, cover)) for cover in range(55))
+    yield from accepted("55 packets 0", bits, covers)
+    yield from accepted("packet 12, 31 sections", *authority(12, spelled((7, 20)), v_main=20))
+    yield from accepted("packet 15, 31 sections", *authority(15, ""))
+    yield from accepted("packet 27, 31 differences", *differences())
+    yield from accepted("packet 41, 31 further levels", *levels())
+
+
+def last_bits():
+    """A packet 44 that leaves room for the end mark and nothing else, and one that leaves a bit less."""
+    for size in (SHORT, LONG):
+        width = size - len(HEAD + END_MARK)
+        form = {"body": text("0" * (width - 23)), "l_packet": width, "nid_packet": 44, "q_dir": 2}
+        yield from accepted("packet 44 up to the end mark", filler(width), [FORM.encode(form)])
+        telegram = HEAD + filler(width + 1) + "1111111"
+        yield f"a bit less, {size} bits", text(telegram), refusal(f"no end at {size - 7} end {size - 7}")
+
+
+def main():
+    """Writes all cases."""
+    for name, line, wanted in blocks(HERE / "telegrams.txt"):
+        print(name, filled(line), wanted, sep="\t")
+    for cases in (packets, turned_bits, greatest_lists, last_bits):
+        for case in cases():
+            print(*case, sep="\t")
+
+
+if __name__ == "__main__":
+    main()
