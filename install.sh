@@ -8,5 +8,6 @@ prefix=${1:-/usr/local}
 # Builds it first, where that is due.
 "$top/balisecheck" decode </dev/null
 mkdir -p "$prefix/bin"
-cp "$top/out/balisecheck" "$prefix/bin/balisecheck"
+# Not `cp`, which would write through a link, or into a program that runs.
+install -m 755 "$top/out/balisecheck" "$prefix/bin/balisecheck"
 echo "installed: $prefix/bin/balisecheck" >&2

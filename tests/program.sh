@@ -73,6 +73,7 @@ memory='balisecheck: memory
 makes_cases() {
     python3 "$here/cases.py" >"$room/cases"
     count 'the cases are made' "$([ $? -eq 0 ] || echo 'tests/cases.py failed')"
+    count 'there are as many cases as ever' "$([ "$(wc -l <"$room/cases")" -ge 3394 ] || echo fewer)"
     grep -v $'\trefused: ' "$room/cases" >"$room/accepted"
     count 'there are telegrams' "$([ $? -eq 0 ] || echo none)"
     grep $'\trefused: ' "$room/cases" >"$room/refused"

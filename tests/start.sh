@@ -52,28 +52,19 @@ copy() {
 needs_the_toolchain() {
     local difference
     difference=$(PATH=/usr/bin:/bin starts 3 '')
-    grep -q "^balisecheck: not built: .*rt" "$room/stderr" || difference+=$'\n'$(cat "$room/stderr")
-    count 'without the toolchain nothing is built, and nothing answered' "${difference#$'\n'}"
+    grep -q "^balisecheck: not built: .*rt" "$room/stderr" || difference+="it said: $(cat "$room/stderr")"
+    count 'without the toolchain nothing is built, and nothing answered' "$difference"
 }
 
 builds_once() {
     local difference began
     difference=$(starts 0 "$json"$'\n')
-    [ "$(tail -n 1 "$room/stderr")" = "balisecheck: version $version is built" ] || difference+=$(tail -n 3 "$room/stderr")
+    [ "$(tail -n 1 "$room/stderr")" = "balisecheck: version $version is built" ] || difference+="it said: $(tail -n 3 "$room/stderr")"
     count 'the first use builds; standard output has the answer alone' "$difference"
     began=$SECONDS
     difference=$(starts 0 "$json"$'\n'; says_nothing)
     [ $((SECONDS - began)) -le 2 ] || difference+="it took $((SECONDS - began)) seconds"
     count 'the second use starts at once' "$difference"
-}
-
-takes_over() {
-    rm -rf "$room/tree/out"
-    mkdir "$room/tree/.git"
-    touch "$room/tree/.git/rt-ci.lock"
-    sleep 1
-    touch "$room/tree/crates/balisecheck/out/balisecheck"
-    count 'a program that the gate has built is taken over' "$(starts 0 "$json"$'\n'; says_nothing)"
 }
 
 installs() {
@@ -84,12 +75,24 @@ installs() {
     )"
 }
 
-builds_again() {
-    local difference
+# changed NAME COMMAND..: after the command, which changes a source, no older program answers.
+changed() {
+    local name=$1
+    shift
     sleep 1
-    touch "$room/tree/crates/etcs_bits/src/lib.rt"
-    difference=$(PATH=/usr/bin:/bin starts 3 '')
-    count 'after a change of a source no older program answers' "$difference"
+    (cd "$room/tree" && "$@")
+    count "$name" "$(PATH=/usr/bin:/bin starts 3 '')"
+    sleep 1
+    touch "$room/tree/out/balisecheck"
+    count "$name, and a newer one does" "$(starts 0 "$json"$'\n'; says_nothing)"
+}
+
+builds_again() {
+    changed 'a source is saved' touch crates/etcs_bits/src/lib.rt
+    changed 'a definition is saved' touch crates/etcs_bits/specs/Lib.antt
+    changed 'a proof is removed' rm crates/etcs_bits/proofs/Lib.antt
+    changed 'the list of crates is saved' touch crates.txt
+    changed 'a source is put back with its old time' cp -p crates/etcs_bits/src/lib.rt crates/etcs_bits/src/flag.rt
 }
 
 copy
@@ -99,7 +102,6 @@ else
     needs_the_toolchain
 fi
 builds_once
-takes_over
 installs
 builds_again
 echo "the start script: $passed passed, $failed failed"
