@@ -1,8 +1,8 @@
 -- What a run promises. With a status, what was written and the status are the output for every
 -- input that begins with what was read. Without one, what was written begins the text of each such
 -- output. The end of the input, once met, counts as read. Nothing is said of a reader that does not
--- tell its bytes, or of a writer that does not tell its contents. Where the whole input is known, it
--- is simpler: what was written, and the status, are the output of that input.
+-- tell its bytes, and of a writer that does not tell its contents the status alone. Where the whole
+-- input is known, it is simpler: what was written, and the status, are the output of that input.
 use Rattle.std.specs.Prelude.{◌≡◌, ◌≤◌, ◌++◌, ◌⊎◌, ℕ, Bool, true, List, take, length, Option, Result, Ok, Err, IfSome, OnOk}
 use Rattle.std.specs.Io.KnownBytes.{Appends, Consumes, IsAtEnd}
 use Rattle.balisecheck.specs.Counted.{CountsNone, CountsOne, inner_of, is_flushed}

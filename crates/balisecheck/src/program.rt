@@ -1,6 +1,6 @@
 //! `run`: the whole program, from words and a reader to a writer and a status.
 
-ghost use Rattle.std.specs.Prelude.{◌≡◌, None, map};
+ghost use Rattle.std.specs.Prelude.{◌≡◌, None, IfErr, map};
 ghost use Rattle.balisecheck.specs.Command.{command_of};
 ghost use Rattle.balisecheck.specs.Counted.{CanCount, inner_of};
 ghost use Rattle.balisecheck.specs.LineReading.{CountsDevice};
@@ -25,6 +25,7 @@ fn refuse_words<W: Write>(writer: &mut Counted<W>) -> Result<Status, RunError>
         (usage_line, Status.Refused) result }
     ensures flushed { EndsFlushed result writer.new }
     ensures counts { CountsDevice result writer.old writer.new }
+    ensures device { IfErr result (λ e. e ≡ RunError.Device) }
 {
     put(writer, USAGE.as_bytes())?;
     finish(writer)?;
@@ -57,12 +58,11 @@ fn obey<R: Read, W: Write>(
 ///
 /// On a known input, what is written and the status are the output of that input. A run rests on
 /// what it read alone: they are the output of every input that begins with that, where the end of
-/// the input, once met, counts as read. The writer is flushed once, just before a status is
-/// answered.
+/// the input, once met, counts as read. With a status, the last call of the writer was a flush that
+/// succeeded.
 ///
 /// `Memory`: a request for memory was refused. `Device`: a read, a write or a flush failed, and the
-/// count of that one has risen by 1; nothing was called after it. In both cases what was written is
-/// a beginning of the output.
+/// count of that one has risen by 1. In both cases what was written is a beginning of the output.
 pub fn run<'a, R: Read, W: Write>(
     alloc: Global,
     words: &'a [&'a str],

@@ -81,7 +81,7 @@ pub trait Layout: Drop {
         ensures none { IfFault result (λ f. NoneBegins rows cur.old f) }
         ensures err { OnErr result (cur.new ≡ cur.old) }
 
-        // A record without a list never asks for memory.
+        // A record that does not grow never answers that memory ran out.
         ensures memory { IfMemory result grows }
     {
         let mut ahead = cur.fork();
