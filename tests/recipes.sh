@@ -165,7 +165,8 @@ uses_files() {
     done
 }
 
-# refuses COMMAND WORDS: the command writes these words on standard error, nothing on standard output, and ends with status 1.
+# refuses COMMAND WORDS: the command writes these words on standard error, nothing on standard output,
+# and ends with status 1.
 refuses() {
     writes "{ $1; } 2>&1; echo \"status \$?\"" "$2"$'\nstatus 1\n'
 }
