@@ -207,6 +207,10 @@ moves_zeros() {
         count "zeros before $size" "$(ends_in "$room/refused" 'refused: line 2: pad bits set')"
         writes 'move_zeros 2 <zeros.txt' "$telegram"$'\n'"$good"$'\n'"$good"$'\n'
     done
+    # Where the telegram's last bits are zeros, no pad bit is set.
+    printf '02804001%046d\n' 0 >"$files/zeros.txt"
+    writes './balisecheck decode <zeros.txt' $'refused: line 1: down-link at 0 end 1\n'
+    writes 'move_zeros 1 <zeros.txt | show_bits 1 0 8' $'10100000 is 160\n'
     refuses "move_zeros 1 <<<$telegram" 'line 1 does not begin with 6 zeros'
     refuses "move_zeros 2 <<<$telegram >/dev/null" 'there is no line 2'
 }
