@@ -1,8 +1,9 @@
 #!/usr/bin/env bash
-# Runs the recipes of docs/REFUSALS.md as they stand there, on files made here: the functions (blocks
-# marked `bash`), the commands with what they have to write (blocks marked `console`), and the commands
-# of the table that mend files. Each file made here has to be used there. The sums of L_PACKET in
-# docs/FORMATS.md are compared with the examples.
+# Runs the recipes of docs/REFUSALS.md and docs/FORMATS.md as they stand there, on the examples and on
+# files made here: the functions (blocks marked `bash`), the commands with what they have to write
+# (blocks marked `console`), and the commands of the table that mend files. Each file made here has to
+# be used there. The sums of L_PACKET in docs/FORMATS.md are compared with the examples, and the
+# functions are tried with what they have to refuse.
 #
 # BALISECHECK names the program. The exit status is 1 if a recipe failed.
 set -uo pipefail
@@ -20,6 +21,7 @@ functions=$room/functions
 commands=$room/commands
 mkdir "$files"
 ln -s "$program" "$files/balisecheck"
+ln -s "$here/../examples" "$files/examples"
 passed=0
 failed=0
 
@@ -41,6 +43,7 @@ spare=a101ff802000ff${ones}c0
 padded=${telegram%0}1
 old=90007f802000ff${ones}c0
 faulty=a1007f802000c15022a0d4800151402b80d9000105083e87ffffc0
+lost=a1007f802000c15022a0d400151402a8139000105083e87ffffc0
 mark=$'\xef\xbb\xbf'
 
 # The same four lines in each file that is mended: a telegram, an empty line, a telegram, and one that
@@ -48,30 +51,33 @@ mark=$'\xef\xbb\xbf'
 makes_files_to_mend() {
     local good=$room/good
     printf '%s\n\n%s\n%s\n' "$telegram" "$marked" "$spare" >"$good"
-    printf '%s  \n \t \n\t%s\n%s\t\n' "$telegram" "$marked" "$spare" >blanks.txt
+    printf '%s  \r\n \t \n\t%s\n%s\t\r\n' "$telegram" "$marked" "$spare" >blanks.txt
     printf '%s\n\n%s\n%s\n' "$mark$telegram" "$mark$marked" "$spare" >mark.txt
     printf '%s # Stra\xdfe 7\n# \xc3\xa4, 0x10\n%s\t#\n%s#c0\n' "$telegram" "$marked" "$spare" >comments.txt
     printf '0x%s\n\n0X%s\n0x%s\n' "$telegram" "$marked" "$spare" >prefixed.txt
     sed '1s/../& /g; 3s/../:&/g; 4s/../&-/g' "$good" >spaced.txt
     printf '"%s",\n\n%s;\n"%s"\n' "$telegram" "$marked" "$spare" >quoted.txt
+    printf 'A 1;km 3,2\t0x%s\n\nB-2;%s\r\nC,3,0X%s\t\r\n' "$telegram" "$marked" "$spare" >named.txt
+    printf '%s\xc2\xa0\r\n\xa0\n\xa0%s\n%s\n' "$telegram" "$marked" "$spare" >nobreak.txt
     { printf '\xff\xfe'; sed 's/$/\r/' "$good" | iconv -f UTF-8 -t UTF-16LE; } >utf16.txt
     tr '\n' '\r' <"$good" >returns.txt
-    printf '%s0x%s\r\n# none \xdf\r\n%s # 3\r\n"0X%s",\r\n' "$mark" "${telegram^^}" \
+    printf '%s0x%s\r\n# none \xdf\r\n%s # 3\r\n"0X%s",\xc2\xa0\r\n' "$mark" "${telegram^^}" \
         "$(sed 's/../& /g' <<<"$marked")" "$spare" >several.txt
 }
 
 makes_other_files() {
     echo "$faulty" >faulty.txt
+    echo "$lost" >lost.txt
     printf '%s\n' "$telegram" "${telegram%?}" '' "${telegram}00" "$marked" >lengths.txt
     printf '%s\n%s\n\r\n%s\n%s \n%s\n%s\n%s' "$telegram" "$spare" "$telegram" "$telegram" "$padded" \
         "$old" "${telegram^^}" >batch.txt
     printf '%s\n\n\r\n%s\r\n%s' "$telegram" "$marked" "$telegram" >numbered.txt
 }
 
-# blocks LANGUAGE: what stands in the document's blocks of this language.
+# blocks LANGUAGE: what stands in the documents' blocks of this language.
 blocks() {
     awk -v opening="\`\`\`$1" '$0 == "```" { inside = 0 } inside { print } $0 == opening { inside = 1 }' \
-        "$document"
+        "$document" "$formats"
 }
 
 # recipe COMMAND: in a bash of its own, in the folder of the files.
@@ -154,9 +160,76 @@ mends_utf16() {
 # Each of the other files is in a command.
 uses_files() {
     local file
-    for file in faulty.txt lengths.txt batch.txt numbered.txt; do
+    for file in faulty.txt lost.txt lengths.txt batch.txt numbered.txt; do
         count "$file is used" "$(grep -q "^\$ .* $file" "$commands" || echo 'it is not')"
     done
+}
+
+# refuses COMMAND WORDS: the command writes these words on standard error, nothing on standard output,
+# and ends with status 1.
+refuses() {
+    writes "{ $1; } 2>&1; echo \"status \$?\"" "$2"$'\nstatus 1\n'
+}
+
+# What the functions do with numbers that are too great, places behind the end, lines that are not
+# there, upper-case digits, and lines that end in blanks and `\r\n`.
+tries_functions() {
+    local said='line 1 has no hexadecimal digit for bit' blanks="printf '%s \t\r\n'"
+    refuses "put_number 1 15 17 4 <<<$telegram" '4 is no number of 2 bits'
+    refuses "put_number 1 15 17 x <<<$telegram" 'x is no number of 2 bits'
+    refuses "put_number 1 214 218 3 <<<$telegram" "$said 217"
+    refuses "put_number 1 0 4 3 <<<' $telegram'" "$said 3"
+    refuses "put_number 2 15 17 3 <<<$telegram >/dev/null" 'there is no line 2'
+    writes "put_number 1 15 17 3 <<<$telegram" "$spare"$'\n'
+    writes "put_number 1 15 17 0 <<<${spare^^} | tr A-F a-f" "$telegram"$'\n'
+    writes "$blanks $telegram | put_number 1 15 17 3" "$spare"$' \t\r\n'
+    refuses "show_bits 1 214 218 <<<$telegram" "$said 216"
+    refuses "$blanks $telegram | show_bits 1 214 218" "$said 216"
+    refuses "show_bits 2 0 8 <<<$telegram" 'there is no line 2'
+    refuses "show_bits 0 0 8 <<<$telegram" 'there is no line 0'
+    writes "$blanks $telegram | show_bits 1 208 216" $'11000000 is 192\n'
+    refuses "list_packets 2 <<<$telegram" 'there is no line 2'
+    refuses "list_packets 1 <<<${telegram:0:13}" "$said 52"
+    writes "$blanks $telegram | list_packets 1" $'packet 255 at bit 50\n'
+    writes "number_lines numbered.txt <<<'{}'" $'1 {}\n'
+    refuses "number_lines missing.txt <<<'{}'" 'missing.txt has no line for answer 1'
+}
+
+# The zeros before a telegram are put behind it, in a telegram of each size, and only zeros.
+moves_zeros() {
+    local size zeros good
+    for size in header-only movement-authority-radio movement-authority-level-1; do
+        good=$(cat "$here/../examples/$size.txt")
+        zeros=6
+        [ "${#good}" -eq 54 ] || zeros=2
+        printf '%s\n%s\r\n%s\n' "$telegram" "$(shifted "$zeros" "$good")" "$good" >"$files/zeros.txt"
+        recipe './balisecheck decode <zeros.txt | tail -n 1' >"$room/refused"
+        count "zeros before $size" "$(ends_in "$room/refused" 'refused: line 2: pad bits set')"
+        writes 'move_zeros 2 <zeros.txt' "$telegram"$'\n'"$good"$'\n'"$good"$'\n'
+    done
+    # Where the telegram's last bits are zeros, no pad bit is set.
+    printf '02804001%046d\n' 0 >"$files/zeros.txt"
+    writes './balisecheck decode <zeros.txt' $'refused: line 1: down-link at 0 end 1\n'
+    writes 'move_zeros 1 <zeros.txt | show_bits 1 0 8' $'10100000 is 160\n'
+    refuses "move_zeros 1 <<<$telegram" 'line 1 does not begin with 6 zeros'
+    refuses "move_zeros 2 <<<$telegram >/dev/null" 'there is no line 2'
+}
+
+# shifted ZEROS TEXT: the text with so many of the zeros at its end put before it.
+shifted() {
+    local bits='' at
+    for ((at = 0; at < ${#2}; at++)); do
+        bits+=$(bits_of "$((16#${2:at:1}))")
+    done
+    bits=$(printf "%0$1d" 0)${bits:0:-$1}
+    for ((at = 0; at < ${#bits}; at += 4)); do
+        printf '%x' "$((2#${bits:at:4}))"
+    done
+}
+
+# bits_of DIGIT: the four bits of a number below 16.
+bits_of() {
+    printf '%d%d%d%d' "$(($1 / 8 % 2))" "$(($1 / 4 % 2))" "$(($1 / 2 % 2))" "$(($1 % 2))"
 }
 
 # Each `.. examples/FILE.txt .. : SUM = L_PACKET` says how many bits the file's first packet has.
@@ -189,6 +262,10 @@ mends_utf16
 runs_commands
 uses_files
 writes 'all_refused missing.txt; echo "status $?"' $'status 3\n'
+writes './balisecheck decode <batch.txt | json_lines 2>refused.txt | jq -c .packets | number_lines batch.txt' \
+    $'1 []\n'
+tries_functions
+moves_zeros
 sums_hold
 echo "the recipes: $passed passed, $failed failed"
 [ "$failed" -eq 0 ]
