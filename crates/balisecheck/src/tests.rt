@@ -1,4 +1,5 @@
-//! What no clause says: worked lines from outside, and devices that fail at each call in turn.
+//! What no clause says: what is read and flushed, and devices that fail at each call in turn. Lines
+//! and what is written for them are cases of `tests/` at the top.
 
 mod devices;
 mod forms;
@@ -52,87 +53,6 @@ fn expect(rt: &impl Abort, outcome: &Outcome, status: Status, text: &str) {
 }
 
 #[test]
-fn telegrams_become_json_lines(rt: HostRuntime) {
-    for input in [
-        TELEGRAM,
-        "A1007F802000FFFFFFFFFFFFFFFFFFFFFFFFFFFFFFFFFFFFFFFFC0\n",
-        "a1007f802000ffffffffffffffffffffffffffffffffffffffffc0\r\n",
-        // The fill behind the end mark says nothing.
-        "a1007f802000ffc000000000000000000000000000000000000000\n",
-    ] {
-        expect(&rt, &decode(rt.alloc(), input), Status::Done, JSON);
-    }
-}
-
-#[test]
-fn no_lines_become_nothing(rt: HostRuntime) {
-    for input in ["", "\n", "\n\r\n"] {
-        expect(&rt, &decode(rt.alloc(), input), Status::Done, "");
-    }
-}
-
-#[test]
-fn the_first_refused_line_ends_the_run(rt: HostRuntime) -> Result<(), Fail> {
-    for (input, text) in [
-        (
-            "a1007f802000ffffffffffffffffffffffffffffffffffffffffc1",
-            "pad bits set",
-        ),
-        (
-            "a1007f802000ffffffffffffffffffffffffffffffffffffffffc000",
-            "wrong size",
-        ),
-        (
-            "a1007f802000ffffffffffffffffffffffffffffffffffffffffc",
-            "not hexadecimal",
-        ),
-        ("    ", "not hexadecimal"),
-        ("\r\r", "not hexadecimal"),
-        (
-            "90007f802000ffffffffffffffffffffffffffffffffffffffffc0",
-            "version at 1 end 8",
-        ),
-        (
-            "a1807f802000ffffffffffffffffffffffffffffffffffffffffc0",
-            "loop at 8 end 9",
-        ),
-        (
-            "21007f802000ffffffffffffffffffffffffffffffffffffffffc0",
-            "down-link at 0 end 1",
-        ),
-        (
-            "a101ff802000ffffffffffffffffffffffffffffffffffffffffc0",
-            "spare at 15 end 17",
-        ),
-        (
-            "a1007f802000c5501bc0001fe0ffffffffffffffffffffffffffc0",
-            "length at 60 end 104",
-        ),
-        (
-            "a1007f802000cb2050000000000000000000000000000000000000",
-            "no end at 210 end 210",
-        ),
-        (
-            "a1007f802000cb2050800000000000000000000000000000000000",
-            "short at 73 end 210",
-        ),
-        (
-            "a1007f802000cb200b000000000000000000000000000000000000",
-            "length at 60 end 73",
-        ),
-    ] {
-        let refusal = format!(in rt.alloc(); "refused: line 1: {text}\n")?;
-        let outcome = decode(rt.alloc(), input);
-        expect(&rt, &outcome, Status::Refused, refusal.as_str());
-        let lines = format!(in rt.alloc(); "{TELEGRAM}\n{input}\n{TELEGRAM}\n")?;
-        let answers = format!(in rt.alloc(); "{JSON}refused: line 2: {text}\n")?;
-        let outcome = decode(rt.alloc(), lines.as_str());
-        expect(&rt, &outcome, Status::Refused, answers.as_str());
-    }
-    Ok(())
-}
-
-#[test]
 fn nothing_is_read_after_a_refusal(rt: HostRuntime) -> Result<(), Fail> {
     let lines = format!(in rt.alloc(); "zz\n{TELEGRAM}\n")?;
     let from = Device::new(3, Failure::Never);
@@ -149,44 +69,11 @@ fn empty_lines_are_counted(rt: HostRuntime) {
 }
 
 #[test]
-fn a_very_long_line_is_refused(rt: HostRuntime) -> Result<(), Fail> {
-    let digits = vec![in rt.alloc(); b'f'; 100_000]?;
-    let outcome = run_between(
-        rt.alloc(),
-        &["balisecheck", "decode"],
-        digits.as_slice(),
-        Device::sound(),
-        Device::sound(),
-    );
-    expect(
-        &rt,
-        &outcome,
-        Status::Refused,
-        "refused: line 1: wrong size\n",
-    );
-    Ok(())
-}
-
-#[test]
-fn other_words_give_the_usage_line(rt: HostRuntime) {
-    let name = "balisecheck";
-    let others: [&[&str]; 16] = [
+fn words_that_are_no_command_read_nothing(rt: HostRuntime) {
+    let others: [&[&str]; 3] = [
         &[],
-        &[name],
-        &[name, "check"],
-        &[name, "encode"],
-        &[name, "decode", "--radio"],
-        &[name, "decode", "more"],
-        &[name, "help"],
-        &[name, "--help"],
-        &[name, "decode", "--help"],
-        &[name, "--version"],
-        &[name, "--radio"],
-        &[name, "--radio="],
-        &[name, "check", "--radio"],
-        &[name, "decode", "--radio="],
-        &[name, "decode", "--", "--radio"],
-        &[name, "--", "decode"],
+        &["balisecheck", "check"],
+        &["balisecheck", "decode", "more"],
     ];
     for words in others {
         let from = Device::sound();
@@ -194,14 +81,6 @@ fn other_words_give_the_usage_line(rt: HostRuntime) {
         expect(&rt, &outcome, Status::Refused, USAGE);
         assert_eq!(rt; outcome.reads, 0);
     }
-}
-
-#[test]
-fn words_may_end_with_two_dashes(rt: HostRuntime) {
-    let words: &[&str] = &["balisecheck", "decode", "--"];
-    let from = Device::sound();
-    let outcome = run_between(rt.alloc(), words, LINES.as_bytes(), from, Device::sound());
-    expect(&rt, &outcome, Status::Refused, ANSWERS);
 }
 
 #[test]

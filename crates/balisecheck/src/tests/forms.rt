@@ -1,36 +1,23 @@
-//! The JSON text of each packet, to the byte.
+//! The JSON text of a packet for which no telegram has room. All others are cases of `tests/` at the
+//! top.
 
-mod authorities;
-mod packets;
-mod profiles;
-mod raw_packets;
-
-use crate::form::{Form, Sent};
-use etcs_bits::{Plain, Ranged};
-use std::alloc::Global;
-use std::process::Abort;
+use crate::form::Sent;
+use etcs_bits::{Bits, Dir};
+use etcs_packet::RawPacket;
 use std::test::Fail;
 
-// The number as a variable; none where it does not fit.
-fn plain<const W: u32>(n: u32) -> Result<Plain<W>, &'static str> {
-    Plain::new(n).ok_or("a number that does not fit")
-}
-
-// The number as a variable; none where it is spare.
-fn ranged<const W: u32, const LAST: u32, const FROM: u32>(
-    n: u32,
-) -> Result<Ranged<W, LAST, FROM>, &'static str> {
-    Ranged::new(n).ok_or("a number that is spare")
-}
-
-// The record's form is this text.
-fn expect_text<T: Form>(
-    alloc: Global,
-    rt: &impl Abort,
-    record: &T,
-    text: &str,
-) -> Result<(), Fail> {
-    let line = serde_json::to_string(alloc, &Sent(record))?;
-    assert_eq!(rt; line.as_str(), text);
+#[test]
+fn the_longest_body_has_2042_digits(rt: HostRuntime) -> Result<(), Fail> {
+    let alloc = rt.alloc();
+    let body = Bits::from_bytes(alloc, &[0xff; 1021], 8168)?;
+    let Ok(packet) = RawPacket::new(1, Dir::Both, body) else {
+        return Err("no packet".into());
+    };
+    let line = serde_json::to_string(alloc, &Sent(&packet))?;
+    let digits = String::from_utf8(vec![in alloc; b'f'; 2042]?)?;
+    let wanted = format!(in alloc;
+        "{{\"body\":\"{digits}\",\"l_packet\":8191,\"nid_packet\":1,\"q_dir\":2}}"
+    )?;
+    assert!(rt; line == wanted);
     Ok(())
 }
