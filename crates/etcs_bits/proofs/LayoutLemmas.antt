@@ -8,8 +8,8 @@ use Rattle.etcs_bits.specs.Fault.{IsFault, NoneBegins}
 use Rattle.etcs_bits.specs.Reading.{rows_at}
 use Rattle.etcs_bits.specs.Layout.{Fails, OfFault}
 use Rattle.etcs_bits.proofs.ReadingLemmas.{read_is_spelled, spelled_is_read, fault_is_told}
-use Rattle.etcs_bits.specs.Laws.{AreLaidOut, IsReadAsSpelled, IsReadAsTold}
-use Rattle.etcs_bits.specs.LaidLemmas.{IsLayout}
+use Rattle.etcs_bits.specs.Laws.{AreLaidOut, IsReadAsSpelled, FaultIsRead}
+use Rattle.etcs_bits.specs.Format.{Format}
 use Rattle.etcs_bits.proofs.FaultLemmas.{told_is_given, none_stands, one_reading, no_front, one_told}
 
 pub is_spelled : (fields : Fields) (rows : List Row) (p q : Place) → p.at ≤ length p.bits → rows_at fields p ≡ Ok (rows, q) → IsSpelled rows p q
@@ -25,42 +25,42 @@ none_begins rows (errors.Fault f) fields p within are_rows fails =
     λ bits len front x to spelled. none_stands fields p f bits (rows x) to within len front (fault_is_told fields p f within fails) (are_rows x) spelled
 
 -- records with the same rows are one
-pub same_record : {X : Type 0} {fields : Fields} {rows : X → List Row} {of : List Row → X} → IsLayout fields rows of → (v w : X) → rows v ≡ rows w → v ≡ w
-same_record {of = of} laid v w e = sym (laid.is_record v) ∙ ap of e ∙ laid.is_record w
+pub same_record : {X : Type 0} (x : Format X) (v w : X) → x.rows v ≡ x.rows w → v ≡ w
+same_record x v w e = sym (x.laid.is_record v) ∙ ap x.of e ∙ x.laid.is_record w
 
 -- and so the laws hold of each layout
-pub laid_out : {X : Type 0} {fields : Fields} {rows : X → List Row} {of : List Row → X} → IsLayout fields rows of → AreLaidOut fields rows
-laid_out {fields = fields} {rows = rows} laid = record {
+pub laid_out : {X : Type 0} (x : Format X) → AreLaidOut x
+laid_out x = record {
   -- both lists of rows are what reading gives there
   one_record = λ p q r v w within first second.
-      let same = one_reading fields (rows v) (rows w) p q r within (laid.are_rows v) (laid.are_rows w) first second in
-      (same_record laid v w same.0, same.1);
+      let same = one_reading x.fields (x.rows v) (x.rows w) p q r within (x.laid.are_rows v) (x.laid.are_rows w) first second in
+      (same_record x v w same.0, same.1);
   -- both stand at the front of one list of bits
-  no_front = λ v w x y a b e.
-      let same = no_front fields (rows v) (rows w) x y (laid.are_rows v) (laid.are_rows w) a b e in
-      (same_record laid v w same.0, same.1);
+  no_front = λ v w after_v after_w a b e.
+      let same = no_front x.fields (x.rows v) (x.rows w) after_v after_w (x.laid.are_rows v) (x.laid.are_rows w) a b e in
+      (same_record x v w same.0, same.1);
   -- the fault stays in the other input, and reading gives one answer there
   fault_or_record = λ p f within t bits len front v to spelled.
-      none_stands fields p f bits (rows v) to within len front t (laid.are_rows v) spelled;
+      none_stands x.fields p f bits (x.rows v) to within len front t (x.laid.are_rows v) spelled;
   -- each is what reading gives
-  one_fault = λ p f h within t u. one_told fields p f h within t u;
+  one_fault = λ p f h within t u. one_told x.fields p f h within t u;
 }
 
 -- whole lists of allowed rows are those of the record that they make
-pub rows_again : {X : Type 0} {fields : Fields} {rows : X → List Row} {of : List Row → X} → IsLayout fields rows of → (r : List Row) → AreRowsOf fields r → AreAllowed r → rows (of r) ≡ r
-rows_again {rows = rows} {of = of} laid r whole allowed =
-    let x = laid.has_record r whole allowed in
-    ap rows (ap of (sym x.1) ∙ laid.is_record x.0) ∙ x.1
+pub rows_again : {X : Type 0} (x : Format X) (r : List Row) → AreRowsOf x.fields r → AreAllowed r → x.rows (x.of r) ≡ r
+rows_again x r whole allowed =
+    let v = x.laid.has_record r whole allowed in
+    ap x.rows (ap x.of (sym v.1) ∙ x.laid.is_record v.0) ∙ v.1
 
 -- a record is spelled exactly where reading gives it
-pub read_as_spelled : {X : Type 0} {fields : Fields} {rows : X → List Row} {of : List Row → X} → IsLayout fields rows of → IsReadAsSpelled fields rows of
-read_as_spelled {fields = fields} {rows = rows} {of = of} laid p q v within = (
-  λ spelled. (rows v, spelled_is_read fields (rows v) p q within (laid.are_rows v) spelled, laid.is_record v),
+pub read_as_spelled : {X : Type 0} (x : Format X) → IsReadAsSpelled x
+read_as_spelled x p q v within = (
+  λ spelled. (x.rows v, spelled_is_read x.fields (x.rows v) p q within (x.laid.are_rows v) spelled, x.laid.is_record v),
   λ (r, read, is).
-      let here = read_is_spelled fields p (r, q) within read in
-      rw (sym (rows_again laid r here.whole here.spelled.allowed) ∙ ap rows is) at here.spelled,
+      let here = read_is_spelled x.fields p (r, q) within read in
+      rw (sym (rows_again x r here.whole here.spelled.allowed) ∙ ap x.rows is) at here.spelled,
 )
 
--- and a fault is told exactly there
-pub read_as_told : (fields : Fields) → IsReadAsTold fields
-read_as_told fields p f within = (told_is_given fields p f within, fault_is_told fields p f within)
+-- and there is a fault exactly there
+pub fault_is_read : {X : Type 0} (x : Format X) → FaultIsRead x
+fault_is_read x p f within = (told_is_given x.fields p f within, fault_is_told x.fields p f within)

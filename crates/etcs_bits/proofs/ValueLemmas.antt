@@ -1,36 +1,40 @@
 -- Which numbers levels have, and variables whose numbers are ranges.
 use Rattle.std.proofs.Common.{◌≡◌, ℕ, zero, suc, ◌<◌, ◌≤◌, ◌^◌, ◌⊎◌, true, refl, arith, rules, inl, inr, leb}
-use Rattle.std.specs.Prelude.{◌||◌, ◌&&◌}
-use Rattle.std.proofs.lemmas.Bool.{ltb-true, leb-true, le-leb, and_parts, or_cases, or_right}
+use Rattle.std.specs.Prelude.{◌==◌, ◌||◌, ◌&&◌, false}
+use Rattle.std.proofs.lemmas.Bool.{ne_eqb, leb-true, le-leb, and_parts, or_cases, or_right}
 use Rattle.etcs_bits.specs.declared.level.Level.TheVariants as levels
-use Rattle.etcs_bits.specs.Rows.{row, alone, IsAllowed}
-use Rattle.etcs_bits.specs.Fields.{one}
+use Rattle.etcs_bits.specs.Rows.{row, IsAllowed}
 use Rattle.etcs_bits.proofs.LayoutLemmas.{laid_out}
 use Rattle.etcs_bits.specs.Variables.{plain, free, ranged}
-use Rattle.etcs_bits.specs.LaidLemmas.{alone_laid}
-use Rattle.etcs_bits.specs.Level.{m_level, nid_ntc, level_number}
-use Rattle.etcs_bits.specs.Laws.{AreLaidOut, HasNumbers, IsNumberOf}
+use Rattle.etcs_bits.specs.Level.{level_variable, level_number}
+use Rattle.etcs_bits.specs.Laws.{AreLaidOut}
+use Rattle.etcs_bits.specs.Values.{HasNumbers, IsNumberOf}
+use Rattle.etcs_bits.specs.Format.{variable}
 
-level_value : (n : ℕ) → IsAllowed (row m_level n) → IsNumberOf level_number n
+past : (n k : ℕ) → k < n → (n == k) ≡ false
+past n k less = ne_eqb n k (λ same. absurd (omega (arith, same, less)))
+
+level_value : (n : ℕ) → IsAllowed (row level_variable n) → IsNumberOf level_number n
 level_value zero allowed = (levels.L0, refl)
 level_value (suc zero) allowed = (levels.Ntc 0, refl)
 level_value (suc (suc zero)) allowed = (levels.L1, refl)
 level_value (suc (suc (suc zero))) allowed = (levels.L2, refl)
 level_value (suc (suc (suc (suc zero)))) allowed = (levels.L3, refl)
 level_value (suc (suc (suc (suc (suc n))))) allowed =
-    absurd (omega (arith, ltb-true (suc (suc (suc (suc (suc n))))) 5 allowed.1))
+    let more = suc (suc (suc (suc (suc n)))) in
+    absurd (let none = rw (past more 0 (omega arith), past more 1 (omega arith), past more 2 (omega arith), past more 3 (omega arith), past more 4 (omega arith)) at allowed.1 in cc)
 
-level_allowed : (n : ℕ) → IsNumberOf level_number n → IsAllowed (row m_level n)
+level_allowed : (n : ℕ) → IsNumberOf level_number n → IsAllowed (row level_variable n)
 level_allowed n (levels.L0, e) = rw (← e) (search rules)
 level_allowed n (levels.Ntc ntc, e) = rw (← e) (search rules)
 level_allowed n (levels.L1, e) = rw (← e) (search rules)
 level_allowed n (levels.L2, e) = rw (← e) (search rules)
 level_allowed n (levels.L3, e) = rw (← e) (search rules)
 
-pub levels_have_numbers : HasNumbers m_level 3 (IsNumberOf level_number)
+pub levels_have_numbers : HasNumbers level_variable 3 (IsNumberOf level_number)
 levels_have_numbers = record { width = refl; numbers = λ n. (level_value n, level_allowed n) }
 
-pub ntcs_have_numbers : HasNumbers nid_ntc 8 (λ n. n < 256)
+pub ntcs_have_numbers : HasNumbers (plain 8) 8 (λ n. n < 256)
 ntcs_have_numbers = record {
   width = refl;
   numbers = λ n. (λ allowed. allowed.0, λ small. (small, refl));
@@ -56,8 +60,8 @@ plain_has_numbers w = record {
 pub free_has_numbers : (w : ℕ) → HasNumbers (free w) w (λ n. n < 2 ^ w)
 free_has_numbers w = record { width = refl; numbers = λ n. (λ allowed. allowed.0, λ small. (small, refl)) }
 
-pub free_laid_out : (w : ℕ) → AreLaidOut (one (free w)) (alone (free w))
-free_laid_out w = laid_out (alone_laid (free w))
+pub free_laid_out : (w : ℕ) → AreLaidOut (variable (free w))
+free_laid_out w = laid_out (variable (free w))
 
 in_range : (n last from : ℕ) → (leb n last || leb from n) ≡ true → (n ≤ last) ⊎ (from ≤ n)
 in_range n last from e = elim (or_cases (leb n last) (leb from n) e) [

@@ -6,20 +6,8 @@ use Rattle.etcs_bits.specs.Rows.{Variable, Row, row, IsAllowed, AreAllowed, alon
 use Rattle.etcs_bits.specs.RowLemmas.{allowed_first, allowed_second}
 use Rattle.etcs_bits.specs.Fields.{Fields, field, ◌▹◌, sized, option, times, counted, AreRowsOf}
 use Rattle.etcs_bits.specs.CutLemmas.{cut_whole}
+use Rattle.etcs_bits.specs.Laid.{HaveFields, AreOf, HaveRecords}
 use Rattle.etcs_bits.specs.Combined.{qualifier, n_iter, pair_rows, pair_of, option_rows, option_of, counted_rows, items_of, counted_of, body_rows, body_of}
-
--- the rows of each record are a whole list of its fields
-abbrev pub HaveFields : {X : Type 0} → Fields → (X → List Row) → Type 0
-HaveFields {X} fields rows = (x : X) → AreRowsOf fields (rows x)
-
--- each record is the one of its rows
-abbrev pub AreOf : {X : Type 0} → (List Row → X) → (X → List Row) → Type 0
-AreOf {X} of rows = (x : X) → of (rows x) ≡ x
-
--- each whole list of allowed rows is the list of some record's rows
-abbrev pub HaveRecords : {X : Type 0} → Fields → (X → List Row) → Type 0
-HaveRecords {X} fields rows =
-    (r : List Row) → AreRowsOf fields r → AreAllowed r → (x : X) × (rows x ≡ r)
 
 -- the same where a field's number decides what follows it
 pub field_records : {X : Type 0} {x : Variable} {rows : X → List Row} (next : ℕ → Fields)

@@ -1,24 +1,18 @@
 -- The law of `Layout` that a record brings, for each form of record.
-use Rattle.std.specs.Prelude.{◌≡◌, ℕ, List, refl}
-use Rattle.std.proofs.Common.{ap, ◌∙◌}
+use Rattle.std.specs.Prelude.{◌≡◌, ℕ, List, [], refl}
+use Rattle.std.proofs.Common.{ap, sym, ◌∙◌}
 use Rattle.std.proofs.lemmas.Bool.{eqb-true}
 use Rattle.etcs_bits.specs.declared.fault.FaultKind.{FaultKind}
 use Rattle.etcs_bits.specs.Rows.{Variable, Row, alone, number_at}
-use Rattle.etcs_bits.specs.Fields.{Fields, one, ◌▹◌, sized, option, counted}
+use Rattle.etcs_bits.specs.Fields.{Fields, nothing, one, ◌▹◌, sized, option, counted}
 use Rattle.etcs_bits.specs.RowLemmas.{alone_rows}
 use Rattle.etcs_bits.specs.Number.{worth}
-use Rattle.etcs_bits.specs.Variables.{plain, only, q_updown, transmission_number, transmission_of, q_media, medium_number, medium_of, m_version, version_number, version_of, m_dup, dup_number, dup_of, q_scale, scale_number, scale_of, q_dir, dir_number, dir_of, flag_of}
-use Rattle.etcs_bits.specs.VariableLemmas.{number_alone, flags_have_values, transmissions_have_values, media_have_values, versions_have_values, marks_have_values, scales_have_values, directions_have_values}
-use Rattle.etcs_bits.specs.Laws.{HasValues}
+use Rattle.etcs_bits.specs.Variables.{plain, only, flag_of}
+use Rattle.etcs_bits.specs.VariableLemmas.{number_alone, flags_have_values}
+use Rattle.etcs_bits.specs.Values.{HasValues}
+use Rattle.etcs_bits.specs.Laid.{IsLayout, HaveFields, AreOf, HaveRecords}
 use Rattle.etcs_bits.specs.Combined.{qualifier, n_iter, pair_rows, pair_of, option_rows, option_of, counted_rows, counted_of, body_rows, body_of}
-use Rattle.etcs_bits.specs.CombinedLemmas.{HaveFields, AreOf, HaveRecords, pair_are_rows, pair_record, pair_records, option_are_rows, option_record, option_records, counted_are_rows, counted_record, counted_records, body_are_rows, body_record, body_records}
-
--- The rows of each record are a whole list of its fields, each record is the one of its rows, and
--- each whole list of allowed rows is the list of some record's rows.
-pub record IsLayout {X : Type 0} (fields : Fields) (rows : X → List Row) (of : List Row → X) : Type 0 where
-  pub are_rows : HaveFields fields rows
-  pub is_record : AreOf of rows
-  pub has_record : HaveRecords fields rows
+use Rattle.etcs_bits.specs.CombinedLemmas.{pair_are_rows, pair_record, pair_records, option_are_rows, option_record, option_records, counted_are_rows, counted_record, counted_records, body_are_rows, body_record, body_records}
 
 -- ---- records that are made of others
 
@@ -92,6 +86,10 @@ alone_laid x = record {
   has_record = λ r (n, more, e, end) allowed. (n, rw (e, end) refl);
 }
 
+-- no variable
+pub empty_laid : IsLayout nothing (λ (_ : Unit {0}). []) (λ _. tt)
+empty_laid = record { are_rows = λ _. refl; is_record = λ _. refl; has_record = λ r none allowed. (tt, sym none) }
+
 -- a variable with one number alone says nothing: its row is that of a type with one value
 pub only_laid : {X : Type 0} (w k : ℕ) (why : FaultKind) (x : X) → ((y : X) → x ≡ y)
     → IsLayout (one (only w k why)) (λ _. alone (only w k why) k) (λ _. x)
@@ -118,21 +116,3 @@ named_laid {x = x} {number = number} v = record {
 
 pub flag_laid : IsLayout (one (plain 1)) (λ b. alone (plain 1) (worth b)) (λ r. flag_of (number_at 0 r))
 flag_laid = named_laid flags_have_values
-
-pub transmission_laid : IsLayout (one q_updown) (λ v. alone q_updown (transmission_number v)) (λ r. transmission_of (number_at 0 r))
-transmission_laid = named_laid transmissions_have_values
-
-pub medium_laid : IsLayout (one q_media) (λ v. alone q_media (medium_number v)) (λ r. medium_of (number_at 0 r))
-medium_laid = named_laid media_have_values
-
-pub version_laid : IsLayout (one m_version) (λ v. alone m_version (version_number v)) (λ r. version_of (number_at 0 r))
-version_laid = named_laid versions_have_values
-
-pub dup_laid : IsLayout (one m_dup) (λ v. alone m_dup (dup_number v)) (λ r. dup_of (number_at 0 r))
-dup_laid = named_laid marks_have_values
-
-pub scale_laid : IsLayout (one q_scale) (λ v. alone q_scale (scale_number v)) (λ r. scale_of (number_at 0 r))
-scale_laid = named_laid scales_have_values
-
-pub dir_laid : IsLayout (one q_dir) (λ v. alone q_dir (dir_number v)) (λ r. dir_of (number_at 0 r))
-dir_laid = named_laid directions_have_values

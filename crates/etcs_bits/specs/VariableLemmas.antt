@@ -15,8 +15,8 @@ use Rattle.etcs_bits.specs.declared.duplicate.Dup.{Dup}
 use Rattle.etcs_bits.specs.declared.duplicate.Dup.TheVariants as dups
 use Rattle.etcs_bits.specs.Number.{worth}
 use Rattle.etcs_bits.specs.Rows.{Variable, row, alone, number_at, IsAllowed}
-use Rattle.etcs_bits.specs.Variables.{plain, q_updown, transmission_number, transmission_of, q_media, medium_number, medium_of, m_version, version_number, version_of, m_dup, dup_number, dup_of, q_scale, scale_number, scale_of, q_dir, dir_number, dir_of, flag_of}
-use Rattle.etcs_bits.specs.Laws.{IsNumberOf, HasValues}
+use Rattle.etcs_bits.specs.Variables.{plain, transmission_variable, transmission_number, transmission_of, medium_variable, medium_number, medium_of, version_variable, version_number, version_of, duplicate_variable, dup_number, dup_of, scale_variable, scale_number, scale_of, dir_variable, dir_number, dir_of, flag_of}
+use Rattle.etcs_bits.specs.Values.{IsNumberOf, HasValues}
 
 -- the number of the only row
 pub number_alone : (x : Variable) (n : ℕ) → number_at 0 (alone x n) ≡ n
@@ -69,10 +69,10 @@ flags_have_values = record {
   back = flag_back;
 }
 
-transmission_allowed : (n : ℕ) → IsNumberOf transmission_number n → IsAllowed (row q_updown n)
+transmission_allowed : (n : ℕ) → IsNumberOf transmission_number n → IsAllowed (row transmission_variable n)
 transmission_allowed n (transmissions.TrackToTrain, e) = rw (← e) (search rules)
 
-pub transmissions_have_values : HasValues q_updown 1 transmission_number transmission_of
+pub transmissions_have_values : HasValues transmission_variable 1 transmission_number transmission_of
 transmissions_have_values = record {
   numbers = record {
     width = refl;
@@ -81,10 +81,10 @@ transmissions_have_values = record {
   back = transmission_back;
 }
 
-medium_allowed : (n : ℕ) → IsNumberOf medium_number n → IsAllowed (row q_media n)
+medium_allowed : (n : ℕ) → IsNumberOf medium_number n → IsAllowed (row medium_variable n)
 medium_allowed n (media.Balise, e) = rw (← e) (search rules)
 
-pub media_have_values : HasValues q_media 1 medium_number medium_of
+pub media_have_values : HasValues medium_variable 1 medium_number medium_of
 media_have_values = record {
   numbers = record {
     width = refl;
@@ -93,71 +93,71 @@ media_have_values = record {
   back = medium_back;
 }
 
-version_value : (n : ℕ) → IsAllowed (row m_version n) → IsNumberOf version_number n
+version_value : (n : ℕ) → IsAllowed (row version_variable n) → IsNumberOf version_number n
 version_value n allowed = elim (or_cases (eqb n 32) (eqb n 33) allowed.1) [
   | inl e ↦ (versions.V2_0, sym (eqb-true n 32 e))
   | inr e ↦ (versions.V2_1, sym (eqb-true n 33 e))
 ]
 
-version_allowed : (n : ℕ) → IsNumberOf version_number n → IsAllowed (row m_version n)
+version_allowed : (n : ℕ) → IsNumberOf version_number n → IsAllowed (row version_variable n)
 version_allowed n (versions.V2_0, e) = rw (← e) (search rules)
 version_allowed n (versions.V2_1, e) = rw (← e) (search rules)
 
-pub versions_have_values : HasValues m_version 7 version_number version_of
+pub versions_have_values : HasValues version_variable 7 version_number version_of
 versions_have_values = record {
   numbers = record { width = refl; numbers = λ n. (version_value n, version_allowed n) };
   back = version_back;
 }
 
-dup_value : (n : ℕ) → IsAllowed (row m_dup n) → IsNumberOf dup_number n
+dup_value : (n : ℕ) → IsAllowed (row duplicate_variable n) → IsNumberOf dup_number n
 dup_value zero allowed = (dups.Single, refl)
 dup_value (suc zero) allowed = (dups.Next, refl)
 dup_value (suc (suc zero)) allowed = (dups.Previous, refl)
 dup_value (suc (suc (suc n))) allowed =
     absurd (omega (arith, ltb-true (suc (suc (suc n))) 3 allowed.1))
 
-dup_allowed : (n : ℕ) → IsNumberOf dup_number n → IsAllowed (row m_dup n)
+dup_allowed : (n : ℕ) → IsNumberOf dup_number n → IsAllowed (row duplicate_variable n)
 dup_allowed n (dups.Single, e) = rw (← e) (search rules)
 dup_allowed n (dups.Next, e) = rw (← e) (search rules)
 dup_allowed n (dups.Previous, e) = rw (← e) (search rules)
 
-pub marks_have_values : HasValues m_dup 2 dup_number dup_of
+pub marks_have_values : HasValues duplicate_variable 2 dup_number dup_of
 marks_have_values = record {
   numbers = record { width = refl; numbers = λ n. (dup_value n, dup_allowed n) };
   back = dup_back;
 }
 
-scale_value : (n : ℕ) → IsAllowed (row q_scale n) → IsNumberOf scale_number n
+scale_value : (n : ℕ) → IsAllowed (row scale_variable n) → IsNumberOf scale_number n
 scale_value zero allowed = (scales.TenCentimetres, refl)
 scale_value (suc zero) allowed = (scales.Metre, refl)
 scale_value (suc (suc zero)) allowed = (scales.TenMetres, refl)
 scale_value (suc (suc (suc n))) allowed =
     absurd (omega (arith, ltb-true (suc (suc (suc n))) 3 allowed.1))
 
-scale_allowed : (n : ℕ) → IsNumberOf scale_number n → IsAllowed (row q_scale n)
+scale_allowed : (n : ℕ) → IsNumberOf scale_number n → IsAllowed (row scale_variable n)
 scale_allowed n (scales.TenCentimetres, e) = rw (← e) (search rules)
 scale_allowed n (scales.Metre, e) = rw (← e) (search rules)
 scale_allowed n (scales.TenMetres, e) = rw (← e) (search rules)
 
-pub scales_have_values : HasValues q_scale 2 scale_number scale_of
+pub scales_have_values : HasValues scale_variable 2 scale_number scale_of
 scales_have_values = record {
   numbers = record { width = refl; numbers = λ n. (scale_value n, scale_allowed n) };
   back = scale_back;
 }
 
-dir_value : (n : ℕ) → IsAllowed (row q_dir n) → IsNumberOf dir_number n
+dir_value : (n : ℕ) → IsAllowed (row dir_variable n) → IsNumberOf dir_number n
 dir_value zero allowed = (dirs.Reverse, refl)
 dir_value (suc zero) allowed = (dirs.Nominal, refl)
 dir_value (suc (suc zero)) allowed = (dirs.Both, refl)
 dir_value (suc (suc (suc n))) allowed =
     absurd (omega (arith, ltb-true (suc (suc (suc n))) 3 allowed.1))
 
-dir_allowed : (n : ℕ) → IsNumberOf dir_number n → IsAllowed (row q_dir n)
+dir_allowed : (n : ℕ) → IsNumberOf dir_number n → IsAllowed (row dir_variable n)
 dir_allowed n (dirs.Reverse, e) = rw (← e) (search rules)
 dir_allowed n (dirs.Nominal, e) = rw (← e) (search rules)
 dir_allowed n (dirs.Both, e) = rw (← e) (search rules)
 
-pub directions_have_values : HasValues q_dir 2 dir_number dir_of
+pub directions_have_values : HasValues dir_variable 2 dir_number dir_of
 directions_have_values = record {
   numbers = record { width = refl; numbers = λ n. (dir_value n, dir_allowed n) };
   back = dir_back;

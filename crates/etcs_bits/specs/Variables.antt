@@ -36,8 +36,8 @@ abbrev pub only : ℕ → ℕ → FaultKind → Variable
 only w k why = record { width = w; allows = λ n. n == k; refusal = why; closes = false }
 
 -- Q_UPDOWN, 1 bit: 1 is track to train; 0, train to track, is not read
-abbrev pub q_updown : Variable
-q_updown = only 1 1 Downlink
+abbrev pub transmission_variable : Variable
+transmission_variable = only 1 1 Downlink
 
 -- the number of a direction, and the direction of a number that is allowed
 abbrev pub transmission_number : Transmission → ℕ
@@ -47,8 +47,8 @@ abbrev pub transmission_of : ℕ → Transmission
 transmission_of n = transmissions.TrackToTrain
 
 -- Q_MEDIA, 1 bit: 0 is a balise; 1, a loop, is not read
-abbrev pub q_media : Variable
-q_media = only 1 0 Loop
+abbrev pub medium_variable : Variable
+medium_variable = only 1 0 Loop
 
 -- the number of a medium, and the medium of a number that is allowed
 abbrev pub medium_number : Medium → ℕ
@@ -58,8 +58,8 @@ abbrev pub medium_of : ℕ → Medium
 medium_of n = media.Balise
 
 -- M_VERSION, 7 bits: 32 is 2.0, 33 is 2.1; no other is read
-abbrev pub m_version : Variable
-m_version = record {
+abbrev pub version_variable : Variable
+version_variable = record {
   width = 7;
   allows = λ n. (n == 32) || (n == 33);
   refusal = WrongVersion;
@@ -74,17 +74,9 @@ version_number versions.V2_1 = 33
 abbrev pub version_of : ℕ → Version
 version_of n = if n == 32 then versions.V2_0 else versions.V2_1
 
--- N_PIG, 3 bits: the position of the balise in its group
-abbrev pub n_pig : Variable
-n_pig = plain 3
-
--- N_TOTAL, 3 bits: the number of balises in the group, less one
-abbrev pub n_total : Variable
-n_total = plain 3
-
 -- M_DUP, 2 bits: 0 no duplicate, 1 of the next balise, 2 of the previous one; 3 is spare
-abbrev pub m_dup : Variable
-m_dup = record { width = 2; allows = λ n. nat_lt n 3; refusal = Spare; closes = false }
+abbrev pub duplicate_variable : Variable
+duplicate_variable = record { width = 2; allows = λ n. nat_lt n 3; refusal = Spare; closes = false }
 
 -- the number of a mark, and the mark of a number that is allowed
 abbrev pub dup_number : Dup → ℕ
@@ -94,22 +86,6 @@ dup_number dups.Previous = 2
 
 abbrev pub dup_of : ℕ → Dup
 dup_of n = if n == 0 then dups.Single else (if n == 1 then dups.Next else dups.Previous)
-
--- M_MCOUNT, 8 bits: the message counter
-abbrev pub m_mcount : Variable
-m_mcount = plain 8
-
--- NID_C, 10 bits: the country or region
-abbrev pub nid_c : Variable
-nid_c = plain 10
-
--- NID_BG, 14 bits: the balise group in it
-abbrev pub nid_bg : Variable
-nid_bg = plain 14
-
--- Q_LINK, 1 bit: 1 is linked
-abbrev pub q_link : Variable
-q_link = plain 1
 
 -- a flag of one bit: 1 is true
 abbrev pub flag_of : ℕ → Bool
@@ -125,8 +101,8 @@ ranged w last from = record {
 }
 
 -- Q_SCALE, 2 bits: 0 is 10 cm, 1 is 1 m, 2 is 10 m, 3 is spare
-abbrev pub q_scale : Variable
-q_scale = record { width = 2; allows = λ n. nat_lt n 3; refusal = Spare; closes = false }
+abbrev pub scale_variable : Variable
+scale_variable = record { width = 2; allows = λ n. nat_lt n 3; refusal = Spare; closes = false }
 
 -- the number of a scale, and the scale of a number that is allowed
 abbrev pub scale_number : Scale → ℕ
@@ -138,8 +114,8 @@ abbrev pub scale_of : ℕ → Scale
 scale_of n = if n == 0 then scales.TenCentimetres else (if n == 1 then scales.Metre else scales.TenMetres)
 
 -- Q_DIR, 2 bits: 0 is reverse, 1 is nominal, 2 is both, 3 is spare
-abbrev pub q_dir : Variable
-q_dir = record { width = 2; allows = λ n. nat_lt n 3; refusal = Spare; closes = false }
+abbrev pub dir_variable : Variable
+dir_variable = record { width = 2; allows = λ n. nat_lt n 3; refusal = Spare; closes = false }
 
 -- the number of a direction, and the direction of a number that is allowed
 abbrev pub dir_number : Dir → ℕ

@@ -26,7 +26,7 @@ impl<const BEFORE: u32, T: Layout> Model for Body<BEFORE, T> {
 
     ghost view = { λ b. b.content };
 
-    ghost invariant = { λ b. AreAllowed (body_rows BEFORE T.rows b.content) };
+    ghost invariant = { λ b. AreAllowed (body_rows BEFORE T.format.rows b.content) };
 }
 
 impl<const BEFORE: u32, T: Layout> Body<BEFORE, T> {
@@ -38,7 +38,7 @@ impl<const BEFORE: u32, T: Layout> Body<BEFORE, T> {
     #[tactic(auto, unfolding(crate::specs::Rows::alone))]
     pub fn new(content: T) -> Option<Self>
         ensures some { IfSome result (λ b. b ≡ content) }
-        ensures fit { IsSome result ↔ (T.fit content × (BEFORE + (13 + width (T.rows content)) ≤ 8191)) }
+        ensures fit { IsSome result ↔ (T.fit content × (BEFORE + (13 + width (T.format.rows content)) ≤ 8191)) }
     {
         let length = content
             .width()
@@ -61,23 +61,11 @@ impl<const BEFORE: u32, T: Layout> Body<BEFORE, T> {
 
 #[tactic(auto, using(crate::proofs::PutLemmas::puts_bits), unfolding(crate::specs::Rows::alone))]
 impl<const BEFORE: u32, T: Layout> Layout for Body<BEFORE, T> {
-    ghost use Rattle.etcs_bits.specs.Rows.{AreAllowed};
-    ghost use Rattle.etcs_bits.specs.Fields.{sized};
-    ghost use Rattle.etcs_bits.specs.Combined.{body_rows, body_of};
-    ghost use Rattle.etcs_bits.specs.LaidLemmas.{body_laid};
+    ghost use Rattle.etcs_bits.specs.Format.{behind_length};
 
-    ghost rows = { body_rows BEFORE T.rows };
-
-    ghost fields = { sized BEFORE T.fields };
-
-    ghost record_of = { body_of T.record_of };
-
-    // Its type keeps its numbers in range.
-    ghost fit = { λ _. Unit {0} };
+    ghost format = { behind_length BEFORE T.format };
 
     ghost grows = { T.grows };
-
-    ghost laid = { body_laid BEFORE T.laid };
 
     fn is_allowed(&self) -> bool {
         let _content = &self.content;

@@ -23,13 +23,13 @@ pub enum Dir {
 }
 
 impl Dir {
-    ghost use Rattle.etcs_bits.specs.Variables.{q_dir, dir_number};
+    ghost use Rattle.etcs_bits.specs.Variables.{dir_variable, dir_number};
 
     /// The direction of a number; None from 3 on.
     #[inline]
     pub fn new(n: u32) -> Option<Dir>
         ensures some { IfSome result (λ v. dir_number v ≡ n) }
-        ensures allowed { IsSome result ↔ IsTrue (q_dir.allows n) }
+        ensures allowed { IsSome result ↔ IsTrue (dir_variable.allows n) }
     {
         match n {
             0 => Some(Dir::Reverse),
@@ -54,23 +54,9 @@ impl Dir {
 
 #[tactic(auto, unfolding(crate::specs::Rows::alone))]
 impl Layout for Dir {
-    ghost use Rattle.etcs_bits.specs.Rows.{alone, number_at};
-    ghost use Rattle.etcs_bits.specs.Fields.{one};
-    ghost use Rattle.etcs_bits.specs.Variables.{q_dir, dir_number, dir_of};
-    ghost use Rattle.etcs_bits.specs.LaidLemmas.{dir_laid};
+    ghost use Rattle.etcs_bits.specs.VariableFormats.{q_dir};
 
-    ghost rows = { λ v. alone q_dir (dir_number v) };
-
-    ghost fields = { one q_dir };
-
-    ghost record_of = { λ rows. dir_of (number_at 0 rows) };
-
-    // Its type keeps its numbers in range.
-    ghost fit = { λ _. Unit {0} };
-
-    ghost grows = { ⊥ };
-
-    ghost laid = { dir_laid };
+    ghost format = { q_dir };
 
     fn is_allowed(&self) -> bool {
         // Each value of the type has a number that is allowed.

@@ -23,13 +23,13 @@ pub enum Dup {
 }
 
 impl Dup {
-    ghost use Rattle.etcs_bits.specs.Variables.{m_dup, dup_number};
+    ghost use Rattle.etcs_bits.specs.Variables.{duplicate_variable, dup_number};
 
     /// The mark of a number; None from 3 on.
     #[inline]
     pub fn new(n: u32) -> Option<Dup>
         ensures some { IfSome result (λ v. dup_number v ≡ n) }
-        ensures allowed { IsSome result ↔ IsTrue (m_dup.allows n) }
+        ensures allowed { IsSome result ↔ IsTrue (duplicate_variable.allows n) }
     {
         match n {
             0 => Some(Dup::Single),
@@ -54,23 +54,9 @@ impl Dup {
 
 #[tactic(auto, unfolding(crate::specs::Rows::alone))]
 impl Layout for Dup {
-    ghost use Rattle.etcs_bits.specs.Rows.{alone, number_at};
-    ghost use Rattle.etcs_bits.specs.Fields.{one};
-    ghost use Rattle.etcs_bits.specs.Variables.{m_dup, dup_number, dup_of};
-    ghost use Rattle.etcs_bits.specs.LaidLemmas.{dup_laid};
+    ghost use Rattle.etcs_bits.specs.VariableFormats.{m_dup};
 
-    ghost rows = { λ v. alone m_dup (dup_number v) };
-
-    ghost fields = { one m_dup };
-
-    ghost record_of = { λ rows. dup_of (number_at 0 rows) };
-
-    // Its type keeps its numbers in range.
-    ghost fit = { λ _. Unit {0} };
-
-    ghost grows = { ⊥ };
-
-    ghost laid = { dup_laid };
+    ghost format = { m_dup };
 
     fn is_allowed(&self) -> bool {
         // Each value of the type has a number that is allowed.

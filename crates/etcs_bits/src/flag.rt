@@ -11,24 +11,9 @@ use std::alloc::Global;
 /// A flag of one bit, such as Q_LINK: 1 is true (SUBSET-026, 7.5.1).
 #[tactic(auto, unfolding(crate::specs::Rows::alone))]
 impl Layout for bool {
-    ghost use Rattle.etcs_bits.specs.Number.{worth};
-    ghost use Rattle.etcs_bits.specs.Rows.{alone, number_at};
-    ghost use Rattle.etcs_bits.specs.Fields.{one};
-    ghost use Rattle.etcs_bits.specs.Variables.{plain, flag_of};
-    ghost use Rattle.etcs_bits.specs.LaidLemmas.{flag_laid};
+    ghost use Rattle.etcs_bits.specs.Format.{flag};
 
-    ghost rows = { λ b. alone (plain 1) (worth b) };
-
-    ghost fields = { one (plain 1) };
-
-    ghost record_of = { λ rows. flag_of (number_at 0 rows) };
-
-    // Its type keeps its numbers in range.
-    ghost fit = { λ _. Unit {0} };
-
-    ghost grows = { ⊥ };
-
-    ghost laid = { flag_laid };
+    ghost format = { flag };
 
     fn is_allowed(&self) -> bool {
         // Each value of the type has a number that is allowed.

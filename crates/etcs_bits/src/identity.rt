@@ -20,20 +20,9 @@ pub struct Identity {
 }
 
 impl Layout for Identity {
-    ghost use Rattle.etcs_bits.specs.Identity.{identity_rows, identity_fields, identity_of, identity_laid};
+    ghost use Rattle.etcs_bits.specs.Identity.{identity};
 
-    ghost rows = { identity_rows };
-
-    ghost fields = { identity_fields };
-
-    ghost record_of = { identity_of };
-
-    // Its type keeps its numbers in range.
-    ghost fit = { λ _. Unit {0} };
-
-    ghost grows = { ⊥ };
-
-    ghost laid = { identity_laid };
+    ghost format = { identity };
 
     #[tactic(auto, using(crate::proofs::PutLemmas::allowed_both))]
     fn is_allowed(&self) -> bool {

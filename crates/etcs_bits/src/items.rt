@@ -53,7 +53,7 @@ impl<T> Items<T> {
 
 /// Whether each item is allowed. Takes no memory.
 pub fn are_allowed<T: Layout>(items: &[T]) -> bool
-    ensures allowed { IsTrue result ↔ AreAllowed (flat_map T.rows items.now) }
+    ensures allowed { IsTrue result ↔ AreAllowed (flat_map T.format.rows items.now) }
     ensures fit { IsTrue result ↔ AllByRecursion T.fit items.now }
 {
     'items: for item in items {
@@ -66,7 +66,7 @@ pub fn are_allowed<T: Layout>(items: &[T]) -> bool
 
 /// How many bits the items have, one after the other; `u64::MAX` where they have more.
 pub fn width_of<T: Layout>(items: &[T]) -> u64
-    ensures { result ≡ min (width (flat_map T.rows items.now)) u64.MAX }
+    ensures { result ≡ min (width (flat_map T.format.rows items.now)) u64.MAX }
 {
     let mut sum = 0u64;
     'items: for item in items {
@@ -77,8 +77,8 @@ pub fn width_of<T: Layout>(items: &[T]) -> u64
 
 // Appends the spelling of each item.
 fn put_items<T: Layout>(items: &[T], out: &mut Bits) -> Result<(), Memory>
-    requires { AreAllowed (flat_map T.rows items.now) }
-    ensures { Puts (join (flat_map T.rows items.now)) result out.old out.new }
+    requires { AreAllowed (flat_map T.format.rows items.now) }
+    ensures { Puts (join (flat_map T.format.rows items.now)) result out.old out.new }
 {
     'items: for item in items {
         item.put(out)?;
@@ -92,8 +92,8 @@ fn scan_items<T: Layout>(
     count: u64,
     cur: &mut Cursor<'_>,
 ) -> Result<Vec<T>, DecodeError>
-    ensures gives { Gives (λ v. flat_map T.rows v.items) result
-        (rows_at (times count T.fields) cur.old) cur.new }
+    ensures gives { Gives (λ v. flat_map T.format.rows v.items) result
+        (rows_at (times count T.format.fields) cur.old) cur.new }
     ensures count { IfOk result (λ v. length v.items ≡ count) }
 
     // Without an item no memory is asked for.
@@ -114,20 +114,14 @@ impl<T: Layout> Layout for Items<T> {
     ghost use Rattle.etcs_bits.specs.Fields.{counted};
     ghost use Rattle.etcs_bits.specs.Reading.{forward, rows_at, taken};
     ghost use Rattle.etcs_bits.specs.Layout.{Gives, IfMemory};
-    ghost use Rattle.etcs_bits.specs.Combined.{n_iter, counted_rows, counted_of};
-    ghost use Rattle.etcs_bits.specs.LaidLemmas.{counted_laid};
+    ghost use Rattle.etcs_bits.specs.Combined.{n_iter, counted_rows};
+    ghost use Rattle.etcs_bits.specs.Format.{several};
 
-    ghost rows = { counted_rows T.rows };
-
-    ghost fields = { counted n_iter T.fields };
-
-    ghost record_of = { counted_of T.fields T.record_of };
+    ghost format = { several T.format };
 
     ghost fit = { λ l. (length l ≤ 31) × AllByRecursion T.fit l };
 
     ghost grows = { Unit {0} };
-
-    ghost laid = { counted_laid T.laid };
 
     fn is_allowed(&self) -> bool {
         self.items.len() < 32 && are_allowed(self.items.as_slice())
@@ -143,8 +137,8 @@ impl<T: Layout> Layout for Items<T> {
     }
 
     fn scan(alloc: Global, cur: &mut Cursor<'_>) -> Result<Self, DecodeError>
-        ensures gives { Gives (counted_rows T.rows) result
-            (rows_at (counted n_iter T.fields) cur.old) cur.new }
+        ensures gives { Gives (several T.format).rows result
+            (rows_at (several T.format).fields cur.old) cur.new }
 
         // The count has five bits.
         ensures few { IfOk result (λ l. length l < 32) }

@@ -3,14 +3,14 @@
 //! record, by [`Layout`].
 
 ghost use Rattle.std.specs.Prelude.{ℕ, ◌≤◌, ◌<◌, ◌^◌, ◌⊎◌};
-ghost use Rattle.etcs_bits.specs.Laws.{IsReadAsSpelled, IsReadAsTold, SpellsOneRecord, NoSpellingBegins, FaultMeansNone, TellsOneFault, NumbersAreBits, AreLaidOut, HasNumbers, IsNumberOf, HasValues};
+ghost use Rattle.etcs_bits.specs.Laws.{IsReadAsSpelled, FaultIsRead, SpellsOneRecord, NoSpellingBegins, FaultMeansNone, HasOneFault, NumbersAreBits, AreLaidOut};
+ghost use Rattle.etcs_bits.specs.Values.{HasNumbers, IsNumberOf, HasValues};
 ghost use Rattle.etcs_bits.specs.Number.{worth};
-ghost use Rattle.etcs_bits.specs.Rows.{alone};
-ghost use Rattle.etcs_bits.specs.Fields.{◌▹◌, one, option, counted, sized};
-ghost use Rattle.etcs_bits.specs.Variables.{plain, free, ranged, q_updown, transmission_number, transmission_of, q_media, medium_number, medium_of, m_version, version_number, version_of, m_dup, dup_number, dup_of, q_scale, scale_number, scale_of, q_dir, dir_number, dir_of, flag_of};
-ghost use Rattle.etcs_bits.specs.Combined.{qualifier, n_iter, pair_rows, option_rows, counted_rows, body_rows};
-ghost use Rattle.etcs_bits.specs.Identity.{identity_fields, identity_rows};
-ghost use Rattle.etcs_bits.specs.Level.{m_level, nid_ntc, level_number, level_fields, level_rows};
+ghost use Rattle.etcs_bits.specs.Format.{variable, number, ranges, flag, ◌then◌, if_there, several, behind_length};
+ghost use Rattle.etcs_bits.specs.Variables.{plain, free, ranged, transmission_variable, transmission_number, transmission_of, medium_variable, medium_number, medium_of, version_variable, version_number, version_of, duplicate_variable, dup_number, dup_of, scale_variable, scale_number, scale_of, dir_variable, dir_number, dir_of, flag_of};
+ghost use Rattle.etcs_bits.specs.VariableFormats.{q_updown, q_media, m_version, m_dup, q_scale, q_dir};
+ghost use Rattle.etcs_bits.specs.Identity.{identity};
+ghost use Rattle.etcs_bits.specs.Level.{m_level, level_variable, level_number};
 
 use crate::body::Body;
 use crate::direction::Dir;
@@ -31,38 +31,38 @@ use crate::version::Version;
 /// A record is spelled exactly where reading, as a function of the bits, gives it, and up to the
 /// place where that ends.
 pub fn a_record_is_read_as_it_is_spelled<T: Layout>()
-    ensures { IsReadAsSpelled T.fields T.rows T.record_of }
+    ensures { IsReadAsSpelled T.format }
 {}
 
 /// A fault is told exactly where reading gives it.
 pub fn a_fault_is_read_as_it_is_told<T: Layout>()
-    ensures { IsReadAsTold T.fields }
+    ensures { FaultIsRead T.format }
 {}
 
 /// A place spells at most one record, and it has one end.
 pub fn a_place_spells_one_record<T: Layout>()
-    ensures { SpellsOneRecord T.rows }
+    ensures { SpellsOneRecord T.format }
 {}
 
 /// No spelling begins another: what is read is what was written, whatever follows it.
 pub fn no_spelling_begins_another<T: Layout>()
-    ensures { NoSpellingBegins T.rows }
+    ensures { NoSpellingBegins T.format }
 {}
 
 /// Where a fault is told, no record is spelled, in any input of the same length with the same first
 /// `end` bits.
 pub fn a_fault_means_no_record<T: Layout>()
-    ensures { FaultMeansNone T.fields T.rows }
+    ensures { FaultMeansNone T.format }
 {}
 
 /// A place tells at most one fault.
 pub fn a_place_tells_one_fault<T: Layout>()
-    ensures { TellsOneFault T.fields }
+    ensures { HasOneFault T.format }
 {}
 
 /// Records are laid out in their fields: the four laws of spellings and faults hold of them.
 pub fn records_are_laid_out<T: Layout>()
-    ensures { AreLaidOut T.fields T.rows }
+    ensures { AreLaidOut T.format }
 {
     a_place_spells_one_record::<T>();
     no_spelling_begins_another::<T>();
@@ -74,33 +74,33 @@ pub fn records_are_laid_out<T: Layout>()
 
 /// Two records, one after the other, are laid out in the fields of both.
 pub fn pairs_are_laid_out<A: Layout, B: Layout>()
-    ensures { AreLaidOut (A.fields ▹ B.fields) (pair_rows A.rows B.rows) }
+    ensures { AreLaidOut (A.format then B.format) }
 {
     records_are_laid_out::<(A, B)>();
 }
 
 /// A record that may be there is laid out behind the qualifier that says whether it is.
 pub fn options_are_laid_out<T: Layout>()
-    ensures { AreLaidOut (option qualifier T.fields) (option_rows T.rows) }
+    ensures { AreLaidOut (if_there T.format) }
 {
     records_are_laid_out::<Option<T>>();
 }
 
 /// Items are laid out behind N_ITER, which counts them.
 pub fn lists_are_laid_out<T: Layout>()
-    ensures { AreLaidOut (counted n_iter T.fields) (counted_rows T.rows) }
+    ensures { AreLaidOut (several T.format) }
 {
     records_are_laid_out::<Items<T>>();
 }
 
 /// A packet's body is laid out behind L_PACKET, which counts the bits before it too.
 pub fn bodies_are_laid_out<const BEFORE: u32, T: Layout>()
-    ensures { AreLaidOut (sized BEFORE T.fields) (body_rows BEFORE T.rows) }
+    ensures { AreLaidOut (behind_length BEFORE T.format) }
 {}
 
 /// The identity of a balise group is laid out as NID_C and then NID_BG.
 pub fn identities_are_laid_out()
-    ensures { AreLaidOut identity_fields identity_rows }
+    ensures { AreLaidOut identity }
 {
     records_are_laid_out::<Identity>();
 }
@@ -116,7 +116,7 @@ pub fn numbers_are_their_bits()
 #[tactic(auto, using(crate::proofs::ValueLemmas::plain_has_numbers))]
 pub fn plain_variables_have_all_numbers<const W: u32>()
     ensures numbers { HasNumbers (plain W) W (λ n. (1 ≤ W) × (W ≤ 32) × (n < 2 ^ W)) }
-    ensures laid_out { AreLaidOut (one (plain W)) (alone (plain W)) }
+    ensures laid_out { AreLaidOut (number W) }
 {
     records_are_laid_out::<Plain<W>>();
 }
@@ -127,7 +127,7 @@ pub fn plain_variables_have_all_numbers<const W: u32>()
 pub fn ranged_variables_have_two_ranges<const W: u32, const LAST: u32, const FROM: u32>()
     ensures numbers { HasNumbers (ranged W LAST FROM) W
         (λ n. (1 ≤ W) × (W ≤ 32) × (n < 2 ^ W) × ((n ≤ LAST) ⊎ (FROM ≤ n))) }
-    ensures laid_out { AreLaidOut (one (ranged W LAST FROM)) (alone (ranged W LAST FROM)) }
+    ensures laid_out { AreLaidOut (ranges W LAST FROM) }
 {
     records_are_laid_out::<Ranged<W, LAST, FROM>>();
 }
@@ -135,14 +135,14 @@ pub fn ranged_variables_have_two_ranges<const W: u32, const LAST: u32, const FRO
 /// Bits that are kept as they are have every number of their width.
 pub fn free_bits_have_all_numbers()
     ensures numbers { (w : ℕ) → HasNumbers (free w) w (λ n. n < 2 ^ w) }
-    ensures laid_out { (w : ℕ) → AreLaidOut (one (free w)) (alone (free w)) }
+    ensures laid_out { (w : ℕ) → AreLaidOut (variable (free w)) }
 {}
 
 /// A flag has one bit, whose two numbers are its values.
 #[tactic(auto, using(crate::specs::VariableLemmas::flags_have_values))]
 pub fn flags_have_their_numbers()
     ensures numbers { HasValues (plain 1) 1 worth flag_of }
-    ensures laid_out { AreLaidOut (one (plain 1)) (λ b. alone (plain 1) (worth b)) }
+    ensures laid_out { AreLaidOut flag }
 {
     records_are_laid_out::<bool>();
 }
@@ -150,8 +150,8 @@ pub fn flags_have_their_numbers()
 /// Q_UPDOWN has one bit; the direction that is read has its number.
 #[tactic(auto, using(crate::specs::VariableLemmas::transmissions_have_values))]
 pub fn transmissions_have_their_numbers()
-    ensures numbers { HasValues q_updown 1 transmission_number transmission_of }
-    ensures laid_out { AreLaidOut (one q_updown) (λ v. alone q_updown (transmission_number v)) }
+    ensures numbers { HasValues transmission_variable 1 transmission_number transmission_of }
+    ensures laid_out { AreLaidOut q_updown }
 {
     records_are_laid_out::<Transmission>();
 }
@@ -159,8 +159,8 @@ pub fn transmissions_have_their_numbers()
 /// Q_MEDIA has one bit; the medium that is read has its number.
 #[tactic(auto, using(crate::specs::VariableLemmas::media_have_values))]
 pub fn media_have_their_numbers()
-    ensures numbers { HasValues q_media 1 medium_number medium_of }
-    ensures laid_out { AreLaidOut (one q_media) (λ v. alone q_media (medium_number v)) }
+    ensures numbers { HasValues medium_variable 1 medium_number medium_of }
+    ensures laid_out { AreLaidOut q_media }
 {
     records_are_laid_out::<Medium>();
 }
@@ -168,8 +168,8 @@ pub fn media_have_their_numbers()
 /// M_VERSION has seven bits; the versions that are read have their numbers.
 #[tactic(auto, using(crate::specs::VariableLemmas::versions_have_values))]
 pub fn versions_have_their_numbers()
-    ensures numbers { HasValues m_version 7 version_number version_of }
-    ensures laid_out { AreLaidOut (one m_version) (λ v. alone m_version (version_number v)) }
+    ensures numbers { HasValues version_variable 7 version_number version_of }
+    ensures laid_out { AreLaidOut m_version }
 {
     records_are_laid_out::<Version>();
 }
@@ -177,8 +177,8 @@ pub fn versions_have_their_numbers()
 /// M_DUP has two bits; each mark has its number, and no other is allowed.
 #[tactic(auto, using(crate::specs::VariableLemmas::marks_have_values))]
 pub fn marks_have_their_numbers()
-    ensures numbers { HasValues m_dup 2 dup_number dup_of }
-    ensures laid_out { AreLaidOut (one m_dup) (λ v. alone m_dup (dup_number v)) }
+    ensures numbers { HasValues duplicate_variable 2 dup_number dup_of }
+    ensures laid_out { AreLaidOut m_dup }
 {
     records_are_laid_out::<Dup>();
 }
@@ -186,8 +186,8 @@ pub fn marks_have_their_numbers()
 /// Q_SCALE has two bits; each unit has its number, and no other is allowed.
 #[tactic(auto, using(crate::specs::VariableLemmas::scales_have_values))]
 pub fn scales_have_their_numbers()
-    ensures numbers { HasValues q_scale 2 scale_number scale_of }
-    ensures laid_out { AreLaidOut (one q_scale) (λ v. alone q_scale (scale_number v)) }
+    ensures numbers { HasValues scale_variable 2 scale_number scale_of }
+    ensures laid_out { AreLaidOut q_scale }
 {
     records_are_laid_out::<Scale>();
 }
@@ -195,8 +195,8 @@ pub fn scales_have_their_numbers()
 /// Q_DIR has two bits; each direction has its number, and no other is allowed.
 #[tactic(auto, using(crate::specs::VariableLemmas::directions_have_values))]
 pub fn directions_have_their_numbers()
-    ensures numbers { HasValues q_dir 2 dir_number dir_of }
-    ensures laid_out { AreLaidOut (one q_dir) (λ v. alone q_dir (dir_number v)) }
+    ensures numbers { HasValues dir_variable 2 dir_number dir_of }
+    ensures laid_out { AreLaidOut q_dir }
 {
     records_are_laid_out::<Dir>();
 }
@@ -205,9 +205,9 @@ pub fn directions_have_their_numbers()
 /// NID_NTC has eight bits, and stands behind level NTC alone.
 #[tactic(auto, using(crate::proofs::ValueLemmas::levels_have_numbers, crate::proofs::ValueLemmas::ntcs_have_numbers))]
 pub fn levels_have_their_numbers()
-    ensures numbers { HasNumbers m_level 3 (IsNumberOf level_number) }
-    ensures ntc { HasNumbers nid_ntc 8 (λ n. n < 256) }
-    ensures laid_out { AreLaidOut level_fields level_rows }
+    ensures numbers { HasNumbers level_variable 3 (IsNumberOf level_number) }
+    ensures ntc { HasNumbers (plain 8) 8 (λ n. n < 256) }
+    ensures laid_out { AreLaidOut m_level }
 {
     records_are_laid_out::<Level>();
 }

@@ -47,20 +47,9 @@ impl Level {
 
 #[tactic(auto, using(crate::proofs::PutLemmas::puts_bits), unfolding(crate::specs::Rows::alone))]
 impl Layout for Level {
-    ghost use Rattle.etcs_bits.specs.Level.{level_rows, level_fields, level_of, level_laid};
+    ghost use Rattle.etcs_bits.specs.Level.{m_level};
 
-    ghost rows = { level_rows };
-
-    ghost fields = { level_fields };
-
-    ghost record_of = { level_of };
-
-    // Its type keeps its numbers in range.
-    ghost fit = { λ _. Unit {0} };
-
-    ghost grows = { ⊥ };
-
-    ghost laid = { level_laid };
+    ghost format = { m_level };
 
     fn is_allowed(&self) -> bool {
         // Each value of the type has numbers that are allowed: a u8 fits in NID_NTC.

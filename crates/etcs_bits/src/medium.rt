@@ -19,13 +19,13 @@ pub enum Medium {
 }
 
 impl Medium {
-    ghost use Rattle.etcs_bits.specs.Variables.{q_media, medium_number};
+    ghost use Rattle.etcs_bits.specs.Variables.{medium_variable, medium_number};
 
     /// The value of a number; None for every number but 0.
     #[inline]
     pub fn new(n: u32) -> Option<Medium>
         ensures some { IfSome result (λ v. medium_number v ≡ n) }
-        ensures allowed { IsSome result ↔ IsTrue (q_media.allows n) }
+        ensures allowed { IsSome result ↔ IsTrue (medium_variable.allows n) }
     {
         match n {
             0 => Some(Medium::Balise),
@@ -46,23 +46,9 @@ impl Medium {
 
 #[tactic(auto, unfolding(crate::specs::Rows::alone))]
 impl Layout for Medium {
-    ghost use Rattle.etcs_bits.specs.Rows.{alone, number_at};
-    ghost use Rattle.etcs_bits.specs.Fields.{one};
-    ghost use Rattle.etcs_bits.specs.Variables.{q_media, medium_number, medium_of};
-    ghost use Rattle.etcs_bits.specs.LaidLemmas.{medium_laid};
+    ghost use Rattle.etcs_bits.specs.VariableFormats.{q_media};
 
-    ghost rows = { λ v. alone q_media (medium_number v) };
-
-    ghost fields = { one q_media };
-
-    ghost record_of = { λ rows. medium_of (number_at 0 rows) };
-
-    // Its type keeps its numbers in range.
-    ghost fit = { λ _. Unit {0} };
-
-    ghost grows = { ⊥ };
-
-    ghost laid = { medium_laid };
+    ghost format = { q_media };
 
     fn is_allowed(&self) -> bool {
         // Each value of the type has a number that is allowed.

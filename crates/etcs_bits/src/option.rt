@@ -13,21 +13,13 @@ use std::alloc::Global;
 #[tactic(auto, using(crate::proofs::PutLemmas::puts_bits), unfolding(crate::specs::Rows::alone))]
 impl<T: Layout> Layout for Option<T> {
     ghost use Rattle.std.specs.Prelude.{IfSome};
-    ghost use Rattle.etcs_bits.specs.Fields.{option};
-    ghost use Rattle.etcs_bits.specs.Combined.{qualifier, option_rows, option_of};
-    ghost use Rattle.etcs_bits.specs.LaidLemmas.{option_laid};
+    ghost use Rattle.etcs_bits.specs.Format.{if_there};
 
-    ghost rows = { option_rows T.rows };
-
-    ghost fields = { option qualifier T.fields };
-
-    ghost record_of = { option_of T.record_of };
+    ghost format = { if_there T.format };
 
     ghost fit = { λ o. IfSome o T.fit };
 
     ghost grows = { T.grows };
-
-    ghost laid = { option_laid T.laid };
 
     fn is_allowed(&self) -> bool {
         match self {

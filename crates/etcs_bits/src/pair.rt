@@ -13,21 +13,13 @@ use std::alloc::Global;
 #[tactic(auto, using(crate::proofs::PutLemmas::puts_then, crate::proofs::PutLemmas::allowed_both))]
 impl<A: Layout, B: Layout> Layout for (A, B) {
     ghost use Rattle.std.specs.Prelude.{◌⊎◌};
-    ghost use Rattle.etcs_bits.specs.Fields.{◌▹◌};
-    ghost use Rattle.etcs_bits.specs.Combined.{pair_rows, pair_of};
-    ghost use Rattle.etcs_bits.specs.LaidLemmas.{pair_laid};
+    ghost use Rattle.etcs_bits.specs.Format.{◌then◌};
 
-    ghost rows = { pair_rows A.rows B.rows };
-
-    ghost fields = { A.fields ▹ B.fields };
-
-    ghost record_of = { pair_of A.fields A.record_of B.record_of };
+    ghost format = { A.format then B.format };
 
     ghost fit = { λ p. A.fit p.0 × B.fit p.1 };
 
     ghost grows = { A.grows ⊎ B.grows };
-
-    ghost laid = { pair_laid A.laid B.laid };
 
     fn is_allowed(&self) -> bool {
         self.0.is_allowed() && self.1.is_allowed()

@@ -84,23 +84,11 @@ impl<const W: u32> Plain<W> {
 
 #[tactic(auto, unfolding(crate::specs::Rows::alone))]
 impl<const W: u32> Layout for Plain<W> {
-    ghost use Rattle.etcs_bits.specs.Rows.{alone, number_at};
-    ghost use Rattle.etcs_bits.specs.Fields.{one};
     ghost use Rattle.etcs_bits.specs.Variables.{plain};
-    ghost use Rattle.etcs_bits.specs.LaidLemmas.{alone_laid};
+    ghost use Rattle.etcs_bits.specs.Variables.{plain};
+    ghost use Rattle.etcs_bits.specs.Format.{variable};
 
-    ghost rows = { λ p. alone (plain W) p };
-
-    ghost fields = { one (plain W) };
-
-    ghost record_of = { number_at 0 };
-
-    // Its type keeps its numbers in range.
-    ghost fit = { λ _. Unit {0} };
-
-    ghost grows = { ⊥ };
-
-    ghost laid = { alone_laid (plain W) };
+    ghost format = { variable (plain W) };
 
     fn is_allowed(&self) -> bool {
         let _number = self.number();

@@ -79,23 +79,11 @@ impl<const W: u32, const LAST: u32, const FROM: u32> Ranged<W, LAST, FROM> {
 
 #[tactic(auto, unfolding(crate::specs::Rows::alone))]
 impl<const W: u32, const LAST: u32, const FROM: u32> Layout for Ranged<W, LAST, FROM> {
-    ghost use Rattle.etcs_bits.specs.Rows.{alone, number_at};
-    ghost use Rattle.etcs_bits.specs.Fields.{one};
     ghost use Rattle.etcs_bits.specs.Variables.{ranged};
-    ghost use Rattle.etcs_bits.specs.LaidLemmas.{alone_laid};
+    ghost use Rattle.etcs_bits.specs.Variables.{ranged};
+    ghost use Rattle.etcs_bits.specs.Format.{variable};
 
-    ghost rows = { λ p. alone (ranged W LAST FROM) p };
-
-    ghost fields = { one (ranged W LAST FROM) };
-
-    ghost record_of = { number_at 0 };
-
-    // Its type keeps its numbers in range.
-    ghost fit = { λ _. Unit {0} };
-
-    ghost grows = { ⊥ };
-
-    ghost laid = { alone_laid (ranged W LAST FROM) };
+    ghost format = { variable (ranged W LAST FROM) };
 
     fn is_allowed(&self) -> bool {
         let _number = self.number();

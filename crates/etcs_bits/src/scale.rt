@@ -23,13 +23,13 @@ pub enum Scale {
 }
 
 impl Scale {
-    ghost use Rattle.etcs_bits.specs.Variables.{q_scale, scale_number};
+    ghost use Rattle.etcs_bits.specs.Variables.{scale_variable, scale_number};
 
     /// The unit of a number; None from 3 on.
     #[inline]
     pub fn new(n: u32) -> Option<Scale>
         ensures some { IfSome result (λ v. scale_number v ≡ n) }
-        ensures allowed { IsSome result ↔ IsTrue (q_scale.allows n) }
+        ensures allowed { IsSome result ↔ IsTrue (scale_variable.allows n) }
     {
         match n {
             0 => Some(Scale::TenCentimetres),
@@ -54,23 +54,9 @@ impl Scale {
 
 #[tactic(auto, unfolding(crate::specs::Rows::alone))]
 impl Layout for Scale {
-    ghost use Rattle.etcs_bits.specs.Rows.{alone, number_at};
-    ghost use Rattle.etcs_bits.specs.Fields.{one};
-    ghost use Rattle.etcs_bits.specs.Variables.{q_scale, scale_number, scale_of};
-    ghost use Rattle.etcs_bits.specs.LaidLemmas.{scale_laid};
+    ghost use Rattle.etcs_bits.specs.VariableFormats.{q_scale};
 
-    ghost rows = { λ v. alone q_scale (scale_number v) };
-
-    ghost fields = { one q_scale };
-
-    ghost record_of = { λ rows. scale_of (number_at 0 rows) };
-
-    // Its type keeps its numbers in range.
-    ghost fit = { λ _. Unit {0} };
-
-    ghost grows = { ⊥ };
-
-    ghost laid = { scale_laid };
+    ghost format = { q_scale };
 
     fn is_allowed(&self) -> bool {
         // Each value of the type has a number that is allowed.

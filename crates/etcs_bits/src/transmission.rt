@@ -19,13 +19,13 @@ pub enum Transmission {
 }
 
 impl Transmission {
-    ghost use Rattle.etcs_bits.specs.Variables.{q_updown, transmission_number};
+    ghost use Rattle.etcs_bits.specs.Variables.{transmission_variable, transmission_number};
 
     /// The value of a number; None for every number but 1.
     #[inline]
     pub fn new(n: u32) -> Option<Transmission>
         ensures some { IfSome result (λ v. transmission_number v ≡ n) }
-        ensures allowed { IsSome result ↔ IsTrue (q_updown.allows n) }
+        ensures allowed { IsSome result ↔ IsTrue (transmission_variable.allows n) }
     {
         match n {
             1 => Some(Transmission::TrackToTrain),
@@ -46,23 +46,9 @@ impl Transmission {
 
 #[tactic(auto, unfolding(crate::specs::Rows::alone))]
 impl Layout for Transmission {
-    ghost use Rattle.etcs_bits.specs.Rows.{alone, number_at};
-    ghost use Rattle.etcs_bits.specs.Fields.{one};
-    ghost use Rattle.etcs_bits.specs.Variables.{q_updown, transmission_number, transmission_of};
-    ghost use Rattle.etcs_bits.specs.LaidLemmas.{transmission_laid};
+    ghost use Rattle.etcs_bits.specs.VariableFormats.{q_updown};
 
-    ghost rows = { λ v. alone q_updown (transmission_number v) };
-
-    ghost fields = { one q_updown };
-
-    ghost record_of = { λ rows. transmission_of (number_at 0 rows) };
-
-    // Its type keeps its numbers in range.
-    ghost fit = { λ _. Unit {0} };
-
-    ghost grows = { ⊥ };
-
-    ghost laid = { transmission_laid };
+    ghost format = { q_updown };
 
     fn is_allowed(&self) -> bool {
         // Each value of the type has a number that is allowed.

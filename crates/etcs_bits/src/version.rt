@@ -21,13 +21,13 @@ pub enum Version {
 }
 
 impl Version {
-    ghost use Rattle.etcs_bits.specs.Variables.{m_version, version_number};
+    ghost use Rattle.etcs_bits.specs.Variables.{version_variable, version_number};
 
     /// The version of a number; None for every number but 32 and 33.
     #[inline]
     pub fn new(n: u32) -> Option<Version>
         ensures some { IfSome result (λ v. version_number v ≡ n) }
-        ensures allowed { IsSome result ↔ IsTrue (m_version.allows n) }
+        ensures allowed { IsSome result ↔ IsTrue (version_variable.allows n) }
     {
         match n {
             32 => Some(Version::V2_0),
@@ -50,23 +50,9 @@ impl Version {
 
 #[tactic(auto, unfolding(crate::specs::Rows::alone))]
 impl Layout for Version {
-    ghost use Rattle.etcs_bits.specs.Rows.{alone, number_at};
-    ghost use Rattle.etcs_bits.specs.Fields.{one};
-    ghost use Rattle.etcs_bits.specs.Variables.{m_version, version_number, version_of};
-    ghost use Rattle.etcs_bits.specs.LaidLemmas.{version_laid};
+    ghost use Rattle.etcs_bits.specs.VariableFormats.{m_version};
 
-    ghost rows = { λ v. alone m_version (version_number v) };
-
-    ghost fields = { one m_version };
-
-    ghost record_of = { λ rows. version_of (number_at 0 rows) };
-
-    // Its type keeps its numbers in range.
-    ghost fit = { λ _. Unit {0} };
-
-    ghost grows = { ⊥ };
-
-    ghost laid = { version_laid };
+    ghost format = { m_version };
 
     fn is_allowed(&self) -> bool {
         // Each value of the type has a number that is allowed.

@@ -9,7 +9,7 @@ use Rattle.etcs_bits.specs.Rows.{Row, Place, join}
 use Rattle.etcs_bits.specs.Fields.{Fields, AreRowsOf}
 use Rattle.etcs_bits.specs.Fault.{IsFault, NoneBegins, lack}
 use Rattle.etcs_bits.specs.Layout.{Fails, OfFault}
-use Rattle.etcs_bits.specs.LaidLemmas.{IsLayout}
+use Rattle.etcs_bits.specs.Laid.{IsLayout}
 use Rattle.etcs_bits.proofs.LayoutLemmas.{laid_out, rows_again}
 use Rattle.etcs_bits.proofs.StandLemmas.{length-join, place_in, stands_within}
 use Rattle.etcs_packet.specs.declared.stop.Stop.{Stop}
@@ -43,9 +43,9 @@ no_step rows (errors.Fault f) stop fields p head within goes t none =
 pub lacks_step : {X : Type 0} {rows : X → List Row} {of : List Row → X} {fields : Fields}
     → IsLayout fields rows of → (stop : Stop) (p : Place) → IsHeaded fields → p.at ≤ length p.bits
     → ends stop p ≡ false → length p.bits < p.at + 8 → NoStep stop rows p (lack true p)
-lacks_step {rows = rows} {fields = fields} laid stop p head within goes few = λ bits len same o to s.
+lacks_step {rows = rows} {of = of} {fields = fields} laid stop p head within goes few = λ bits len same o to s.
     let told = no_end_here fields p head few in
-    no_step_here rows stop fields p (lack true p) bits o to head within goes told ((laid_out laid).fault_or_record p (lack true p) within told) len same s
+    no_step_here rows stop fields p (lack true p) bits o to head within goes told ((laid_out (record { fields = fields; rows = rows; of = of; laid = laid })).fault_or_record p (lack true p) within told) len same s
 
 -- ---- the loop
 
@@ -129,8 +129,8 @@ follow_stands : {X : Type 0} {fields : Fields} {rows : X → List Row} {of : Lis
     → IsLayout fields rows of → (stop : Stop) (whole : List (List Row)) (p q : Place)
     → Follow stop fields whole p q → ends stop q ≡ true → Stand stop rows (map of whole) p q
 follow_stands laid stop [] p q there over = (subst (λ (z : Place). ends stop z ≡ true) there over, there)
-follow_stands laid stop (r ∷ whole) p q (goes, (m, are, spelled, rest)) over =
-    (goes, (m, rw (rows_again laid r are spelled.allowed) spelled, follow_stands laid stop whole m q rest over))
+follow_stands {fields = fields} {rows = rows} {of = of} laid stop (r ∷ whole) p q (goes, (m, are, spelled, rest)) over =
+    (goes, (m, rw (rows_again (record { fields = fields; rows = rows; of = of; laid = laid }) r are spelled.allowed) spelled, follow_stands laid stop whole m q rest over))
 
 -- What reading gives stands.
 pub read_stands : {X : Type 0} {fields : Fields} {rows : X → List Row} {of : List Row → X}

@@ -13,8 +13,9 @@ use Rattle.etcs_bits.specs.Layout.{Gives, Fails}
 use Rattle.etcs_bits.specs.Number.{num_of_bits}
 use Rattle.etcs_bits.specs.Fault.{short}
 use Rattle.etcs_bits.proofs.BindLemmas.{stop_ok, ok_is}
-use Rattle.etcs_profile.specs.Packet.{nid_packet}
-use Rattle.etcs_profile.specs.Authority.{nid_authority, authority_rest, authority_fields}
+use Rattle.etcs_bits.specs.declared.fault.FaultKind.TheVariants.{Spare}
+use Rattle.etcs_bits.specs.Variables.{only}
+use Rattle.etcs_profile.specs.Authority.{authority_variable, numbered, authority}
 use Rattle.etcs_packet.specs.Numbers.{is_other, nid_raw, nid_track}
 use Rattle.etcs_packet.specs.Raw.{raw_rest_fields, raw_fields}
 use Rattle.etcs_packet.specs.Track.{rest_other}
@@ -45,12 +46,12 @@ listed_at k p h allowed = followed nid_track rest_by k p (forward p 8) (seen_lis
 
 -- a packet whose number is known by itself
 pub known_listed : (k : ℕ) (rest : Fields) (p : Place) → taken 8 p ≡ Ok (k, forward p 8)
-    → not (k == 255) ≡ true → rest_by k ≡ rest → IsListed (one (nid_packet k) ▹ rest) p
+    → not (k == 255) ≡ true → rest_by k ≡ rest → IsListed (one (only 8 k Spare) ▹ rest) p
 known_listed k rest p h allowed same = record {
-  variable = nid_packet k;
+  variable = only 8 k Spare;
   number = k;
   behind = rows_at rest (forward p 8);
-  alone = rw (seen (nid_packet k) k p (forward p 8) refl refl (eq-eqb k k refl) h) refl;
+  alone = rw (seen (only 8 k Spare) k p (forward p 8) refl refl (eq-eqb k k refl) h) refl;
   listed = rw (← same) (listed_at k p h allowed);
 }
 
@@ -93,15 +94,15 @@ as_listed view own (Err e) p q is gives =
 -- ---- by the number that was seen
 
 pub packet_here : (n k : ℕ) (rest : Fields) (p : Place) → taken 8 p ≡ Ok (n, forward p 8) → n ≡ k
-    → not (k == 255) ≡ true → rest_by k ≡ rest → IsListed (one (nid_packet k) ▹ rest) p
+    → not (k == 255) ≡ true → rest_by k ≡ rest → IsListed (one (only 8 k Spare) ▹ rest) p
 packet_here n k rest p h is allowed same = known_listed k rest p (rw (← is) h) allowed same
 
 pub authority_here : (n : ℕ) (p : Place) → taken 8 p ≡ Ok (n, forward p 8)
-    → (n ≡ 12) ⊎ ((n ≡ 12 → ⊥) × (n ≡ 15)) → IsListed authority_fields p
+    → (n ≡ 12) ⊎ ((n ≡ 12 → ⊥) × (n ≡ 15)) → IsListed authority.fields p
 authority_here n p h (inl is) =
-    field_listed nid_authority authority_rest 12 p refl refl refl (rw (← is) h) refl refl
+    field_listed authority_variable numbered.next 12 p refl refl refl (rw (← is) h) refl refl
 authority_here n p h (inr other) =
-    field_listed nid_authority authority_rest 15 p refl refl refl (rw (← other.1) h) refl refl
+    field_listed authority_variable numbered.next 15 p refl refl refl (rw (← other.1) h) refl refl
 
 -- none of the known numbers, and not the end mark
 pub raw_here : (n : ℕ) (p : Place) → taken 8 p ≡ Ok (n, forward p 8) → is_other n ≡ true

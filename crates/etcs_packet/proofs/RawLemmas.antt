@@ -4,9 +4,9 @@ use Rattle.std.proofs.lemmas.List.{append-nil, take_all}
 use Rattle.std.proofs.lemmas.Bool.{le-leb}
 use Rattle.etcs_bits.specs.declared.direction.Dir.{Dir}
 use Rattle.etcs_bits.specs.Number.{num, num_of_bits}
-use Rattle.etcs_bits.specs.Rows.{AreAllowed, join, alone}
+use Rattle.etcs_bits.specs.Rows.{AreAllowed, join}
 use Rattle.etcs_bits.specs.Layout.{Puts}
-use Rattle.etcs_bits.specs.Variables.{q_dir, dir_number}
+use Rattle.etcs_bits.specs.VariableFormats.{q_dir}
 use Rattle.etcs_bits.proofs.NumberLemmas.{num-num_of_bits, num_of_bits-lt}
 use Rattle.etcs_bits.proofs.StandLemmas.{allowed-append}
 use Rattle.etcs_packet.specs.Free.{free_rows}
@@ -22,10 +22,10 @@ put_free (Ok x) bits old new ok err = ok ∙ ap (λ (y : List Bool). old ++ y) (
 put_free (Err e) bits old new ok err = rw err (take_all (length old) old (omega arith))
 
 -- the part behind NID_PACKET is allowed
-pub rest_allowed : (dir : Dir) (body : List Bool) → AreAllowed (alone q_dir (dir_number dir))
+pub rest_allowed : (dir : Dir) (body : List Bool) → AreAllowed (q_dir.rows dir)
     → length body ≤ 8168 → AreAllowed (raw_rest dir body)
 rest_allowed dir body allowed few =
-    allowed-append (alone q_dir (dir_number dir)) (tail_rows body) allowed
+    allowed-append (q_dir.rows dir) (tail_rows body) allowed
     ((omega (arith, few), le-leb 23 (23 + length body) (omega arith)), ((num_of_bits-lt body, refl), tt))
 
 pub kept_of : (n bits : ℕ) → is_other n ≡ true → bits ≤ 8168 → is_kept n bits ≡ true

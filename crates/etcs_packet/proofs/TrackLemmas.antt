@@ -3,12 +3,12 @@ use Rattle.std.proofs.Common.{◌≡◌, ℕ, Bool, true, false, List, [], ◌�
 use Rattle.std.specs.Prelude.{◌==◌, ◌||◌, not}
 use Rattle.etcs_bits.specs.Number.{num}
 use Rattle.etcs_bits.specs.Rows.{Row, alone, AreAllowed, join, width}
-use Rattle.etcs_profile.specs.Authority.{Permission, rows_by}
+use Rattle.etcs_profile.specs.Authority.{Permission}
 use Rattle.etcs_packet.specs.declared.track.TrackPacket.{TrackPacket}
 use Rattle.etcs_packet.specs.declared.track.TrackPacket.TheVariants as packets
 use Rattle.etcs_packet.specs.Numbers.{is_known}
 use Rattle.etcs_packet.specs.Listed.{renamed}
-use Rattle.etcs_packet.specs.Track.{own_rows, other_of}
+use Rattle.etcs_packet.specs.Track.{own_rows, own_authority, other_of}
 
 -- The rows begin with eight bits, whose number is not that of the end mark.
 abbrev pub BeginsPacket : List Row → Type 0
@@ -32,7 +32,7 @@ not_mark : (known mark : Bool) → not (known || mark) ≡ true → not mark ≡
 not_mark true mark h = absurd cc
 not_mark false mark h = h
 
-authority_begins : (main : Option ℕ) (a : Permission) → BeginsPacket (rows_by main a)
+authority_begins : (main : Option ℕ) (a : Permission) → BeginsPacket (own_authority main a)
 unfolding alone
 authority_begins (Some v) a = (refl, refl)
 authority_begins None a = (refl, refl)

@@ -9,7 +9,7 @@ use Rattle.etcs_bits.specs.Fault.{IsFault}
 use Rattle.etcs_bits.specs.Reading.{◌>>=◌, rows_at}
 use Rattle.etcs_bits.specs.Layout.{Fails, Gives, OfFault, OfMemory}
 use Rattle.etcs_bits.proofs.BindLemmas.{bind_ok, bind_err, ok_is}
-use Rattle.etcs_bits.specs.LaidLemmas.{IsLayout}
+use Rattle.etcs_bits.specs.Laid.{IsLayout}
 use Rattle.etcs_bits.proofs.LayoutLemmas.{rows_again}
 use Rattle.etcs_bits.proofs.StandLemmas.{place_in, stands_moved}
 use Rattle.etcs_bits.proofs.ReadingLemmas.{read_is_spelled, spelled_is_read, fault_is_told}
@@ -64,7 +64,7 @@ read_is_whole {H = H} {X = X} {header = header} {item = item} {head = head} {hea
     let items = read_stands laid b.0.0 stop a.0.1 b.0.1 headed (next_within a.0.0 p a.0.1 within first.spelled) b.1 in
     let made : IsWhole stop head rows (head_of a.0.0) b.0.0 p b.0.1 = record {
       middle = a.0.1;
-      first = rw (rows_again head_laid a.0.0 first.whole first.spelled.allowed) first.spelled;
+      first = rw (rows_again (record { fields = header; rows = head; of = head_of; laid = head_laid }) a.0.0 first.whole first.spelled.allowed) first.spelled;
       items = items;
     } in
     subst (λ (y : (H × List X) × Place). IsWhole stop head rows y.0.0 y.0.1 p y.1) same made

@@ -3,15 +3,15 @@
 use Rattle.std.specs.Prelude.{◌≡◌, ℕ, ◌==◌, if◌then◌else◌, List, [], ◌∷◌, Result, Ok}
 use Rattle.etcs_bits.specs.declared.fault.Fault.{Fault}
 use Rattle.etcs_bits.specs.Rows.{Variable, Row, row, Place}
-use Rattle.etcs_bits.specs.Fields.{Fields, one, field}
+use Rattle.etcs_bits.specs.Fields.{Fields, field}
 use Rattle.etcs_bits.specs.Reading.{◌>>=◌, rows_at}
-use Rattle.etcs_profile.specs.Packet.{rest_fields}
-use Rattle.etcs_profile.specs.Elements.{elements_fields}
-use Rattle.etcs_profile.specs.Authority.{with_main_fields, without_main_fields}
-use Rattle.etcs_profile.specs.Gradient.{gradient_element_fields}
-use Rattle.etcs_profile.specs.Speed.{speed_element_fields}
-use Rattle.etcs_packet.specs.Linking.{link_fields}
-use Rattle.etcs_packet.specs.Transition.{orders_fields}
+use Rattle.etcs_profile.specs.Packet.{rest}
+use Rattle.etcs_profile.specs.Elements.{elements}
+use Rattle.etcs_profile.specs.Authority.{with_main, without_main}
+use Rattle.etcs_profile.specs.Gradient.{gradient_element}
+use Rattle.etcs_profile.specs.Speed.{speed_element}
+use Rattle.etcs_packet.specs.Linking.{link}
+use Rattle.etcs_packet.specs.Transition.{level_orders}
 use Rattle.etcs_packet.specs.Cover.{nid_vbcmk}
 use Rattle.etcs_packet.specs.Raw.{raw_rest_fields}
 use Rattle.etcs_packet.specs.Numbers.{nid_track}
@@ -19,13 +19,13 @@ use Rattle.etcs_packet.specs.Numbers.{nid_track}
 -- what follows NID_PACKET, by its number
 abbrev pub rest_by : ℕ → Fields
 rest_by n =
-    if n == 0 then one nid_vbcmk
-    else (if n == 5 then rest_fields (elements_fields link_fields)
-    else (if n == 12 then rest_fields with_main_fields
-    else (if n == 15 then rest_fields without_main_fields
-    else (if n == 21 then rest_fields (elements_fields gradient_element_fields)
-    else (if n == 27 then rest_fields (elements_fields speed_element_fields)
-    else (if n == 41 then rest_fields orders_fields
+    if n == 0 then nid_vbcmk.fields
+    else (if n == 5 then (rest (elements link)).fields
+    else (if n == 12 then with_main.fields
+    else (if n == 15 then without_main.fields
+    else (if n == 21 then (rest (elements gradient_element)).fields
+    else (if n == 27 then (rest (elements speed_element)).fields
+    else (if n == 41 then (rest level_orders).fields
     else raw_rest_fields))))))
 
 -- the fields of a packet of a list

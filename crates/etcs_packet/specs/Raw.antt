@@ -7,12 +7,15 @@ use Rattle.etcs_bits.specs.declared.direction.Dir.{Dir}
 use Rattle.etcs_bits.specs.Number.{num, num_of_bits}
 use Rattle.etcs_bits.specs.Rows.{Row, row, AreAllowed, alone, number_at}
 use Rattle.etcs_bits.specs.Fields.{Fields, field, one, ◌▹◌, AreRowsOf}
-use Rattle.etcs_bits.specs.CombinedLemmas.{HaveFields, AreOf, HaveRecords, field_records}
-use Rattle.etcs_bits.specs.LaidLemmas.{IsLayout, pair_laid, dir_laid}
+use Rattle.etcs_bits.specs.Laid.{HaveFields, AreOf, HaveRecords}
+use Rattle.etcs_bits.specs.CombinedLemmas.{field_records}
+use Rattle.etcs_bits.specs.Laid.{IsLayout}
+use Rattle.etcs_bits.specs.LaidLemmas.{pair_laid}
 use Rattle.etcs_bits.specs.Combined.{pair_rows, pair_of}
-use Rattle.etcs_bits.specs.Variables.{free, q_dir}
+use Rattle.etcs_bits.specs.Variables.{free}
+use Rattle.etcs_bits.specs.Format.{Format}
+use Rattle.etcs_bits.specs.VariableFormats.{q_dir}
 use Rattle.etcs_bits.proofs.NumberLemmas.{length-num, num_of_bits-small, num-num_of_bits}
-use Rattle.etcs_profile.specs.Packet.{dir_rows, dir_at}
 use Rattle.etcs_packet.specs.declared.raw.RawPacket.{RawPacket}
 use Rattle.etcs_packet.specs.Free.{free_rows}
 use Rattle.etcs_packet.specs.Numbers.{is_other, is_kept, nid_raw, l_raw}
@@ -30,10 +33,10 @@ tail_of rows = num (number_at 0 rows - 23) (number_at 1 rows)
 
 -- what follows NID_PACKET: Q_DIR, L_PACKET, the body
 abbrev pub raw_rest_fields : Fields
-raw_rest_fields = one q_dir ▹ tail_fields
+raw_rest_fields = q_dir.fields ▹ tail_fields
 
 abbrev pub raw_rest : Dir → List Bool → List Row
-raw_rest dir body = pair_rows dir_rows tail_rows (dir, body)
+raw_rest dir body = pair_rows q_dir.rows tail_rows (dir, body)
 
 abbrev pub raw_fields : Fields
 raw_fields = field nid_raw (λ _. raw_rest_fields)
@@ -55,7 +58,7 @@ raw_with n p = raw_by n p.0 p.1 (is_kept n (length p.1)) refl
 -- the packet of rows
 abbrev pub raw_of : List Row → RawPacket
 raw_of rows =
-    raw_with (number_at 0 rows) (pair_of (one q_dir) dir_at tail_of (drop 1 rows))
+    raw_with (number_at 0 rows) (pair_of q_dir.fields q_dir.of tail_of (drop 1 rows))
 
 -- ---- proofs of the laws of `Layout`
 
@@ -79,8 +82,8 @@ tail_records r (l, more, e, (m, end, is, none)) allowed =
 tail_laid : IsLayout tail_fields tail_rows tail_of
 tail_laid = record { are_rows = tail_are_rows; is_record = tail_record; has_record = tail_records }
 
-pub raw_rest_laid : IsLayout raw_rest_fields (pair_rows dir_rows tail_rows) (pair_of (one q_dir) dir_at tail_of)
-raw_rest_laid = pair_laid dir_laid tail_laid
+pub raw_rest_laid : IsLayout raw_rest_fields (pair_rows q_dir.rows tail_rows) (pair_of q_dir.fields q_dir.of tail_of)
+raw_rest_laid = pair_laid q_dir.laid tail_laid
 
 raw_are_rows : HaveFields raw_fields raw_rows
 raw_are_rows r = (r.number, raw_rest r.dir r.body, refl, raw_rest_laid.are_rows (r.dir, r.body))
@@ -117,6 +120,9 @@ raw_laid = record {
   is_record = raw_record;
   has_record = field_records (λ _. raw_rest_fields) (λ n more here w allowed. raw_here n more here.1 w allowed);
 }
+
+abbrev pub raw_packet : Format RawPacket
+raw_packet = record { fields = raw_fields; rows = raw_rows; of = raw_of; laid = raw_laid }
 
 -- raw packets with the same number, direction and body are one
 pub raw_parts : (v w : RawPacket) → v.number ≡ w.number → v.dir ≡ w.dir → v.body ≡ w.body → v ≡ w

@@ -5,50 +5,50 @@ use Rattle.std.proofs.lemmas.Bool.{ne_eqb, eqb-true, and_parts, not-true, or_cas
 use Rattle.etcs_bits.specs.declared.direction.Dir.{Dir}
 use Rattle.etcs_bits.specs.Rows.{Row, row, AreAllowed, alone, number_at}
 use Rattle.etcs_bits.specs.Fields.{AreRowsOf}
-use Rattle.etcs_bits.specs.CombinedLemmas.{HaveFields, AreOf, field_records}
-use Rattle.etcs_bits.specs.LaidLemmas.{IsLayout, alone_laid}
+use Rattle.etcs_bits.specs.Cut.{cut}
+use Rattle.etcs_bits.specs.Format.{Format}
+use Rattle.etcs_bits.specs.Laid.{HaveFields, AreOf}
+use Rattle.etcs_bits.specs.CombinedLemmas.{field_records}
+use Rattle.etcs_bits.specs.Laid.{IsLayout}
 use Rattle.etcs_profile.specs.declared.gradient.GradientElement.{GradientElement}
 use Rattle.etcs_profile.specs.declared.speed.SpeedElement.{SpeedElement}
 use Rattle.etcs_profile.specs.Profile.{Profile}
-use Rattle.etcs_packet.specs.declared.linking.Link.{Link}
-use Rattle.etcs_profile.specs.Packet.{rest_rows, rest_laid, packet_rows, packet_of, packet_laid}
-use Rattle.etcs_profile.specs.Elements.{elements_rows, elements_of, elements_laid}
-use Rattle.etcs_profile.specs.Authority.{Permission, with_main_rows, without_main_rows, level_1, level_2, with_main_laid, without_main_laid, authority_rows, rows_by, authority_of, authority_laid}
-use Rattle.etcs_profile.specs.Gradient.{gradient_element_fields, gradient_element_rows, gradient_element_of, gradient_element_laid}
-use Rattle.etcs_profile.specs.Speed.{speed_element_fields, speed_element_rows, speed_element_of, speed_element_laid}
+use Rattle.etcs_profile.specs.Packet.{rest, packet}
+use Rattle.etcs_profile.specs.Elements.{elements}
+use Rattle.etcs_profile.specs.Authority.{Permission, permission, with_main, without_main, level_1, level_2, authority}
+use Rattle.etcs_profile.specs.Gradient.{gradient_element}
+use Rattle.etcs_profile.specs.Speed.{speed_element}
 use Rattle.etcs_packet.specs.declared.run.Run.{Run}
 use Rattle.etcs_packet.specs.declared.track.TrackPacket.{TrackPacket}
 use Rattle.etcs_packet.specs.declared.track.TrackPacket.TheVariants as packets
-use Rattle.etcs_packet.specs.Linking.{link_fields, link_rows, link_of, link_laid}
-use Rattle.etcs_packet.specs.Transition.{Orders, orders_rows, orders_of, orders_laid}
-use Rattle.etcs_packet.specs.Cover.{nid_vbcmk, cover_rows, cover_of, cover_laid}
-use Rattle.etcs_packet.specs.Raw.{raw_rest_fields, raw_rest, raw_rows, raw_of, raw_rest_laid, raw_here, raw_laid}
+use Rattle.etcs_packet.specs.Linking.{link, linking}
+use Rattle.etcs_packet.specs.Transition.{level_orders, transition}
+use Rattle.etcs_packet.specs.Cover.{nid_vbcmk, cover_marker}
+use Rattle.etcs_packet.specs.Raw.{raw_rest_fields, raw_rest, raw_rows, raw_of, raw_rest_laid, raw_here, raw_laid, raw_packet}
 use Rattle.etcs_packet.specs.Numbers.{is_known, is_other, is_kept, nid_track}
 use Rattle.etcs_packet.specs.Meant.{is_meant}
 use Rattle.etcs_packet.specs.Listed.{rest_by, track_fields, renamed}
 
--- the rows of packets 5, 21, 27 and 41
-abbrev pub linking_rows : Dir × Profile Link → List Row
-linking_rows p = packet_rows 5 (elements_rows link_rows) p
+-- packets 21 and 27
+abbrev pub gradients : Format (Dir × Profile GradientElement)
+gradients = packet 21 (elements gradient_element)
 
-abbrev pub gradient_rows : Dir × Profile GradientElement → List Row
-gradient_rows p = packet_rows 21 (elements_rows gradient_element_rows) p
-
-abbrev pub speed_rows : Dir × Profile SpeedElement → List Row
-speed_rows p = packet_rows 27 (elements_rows speed_element_rows) p
-
-abbrev pub transition_rows : Dir × Orders → List Row
-transition_rows p = packet_rows 41 orders_rows p
+abbrev pub speeds : Format (Dir × Profile SpeedElement)
+speeds = packet 27 (elements speed_element)
 
 -- the rows of a packet by itself
 abbrev pub own_rows : TrackPacket → List Row
-own_rows (packets.Cover p) = cover_rows p
-own_rows (packets.Linking p) = linking_rows p
-own_rows (packets.Authority p) = authority_rows p
-own_rows (packets.Gradient p) = gradient_rows p
-own_rows (packets.Speed p) = speed_rows p
-own_rows (packets.Transition p) = transition_rows p
-own_rows (packets.Raw p) = raw_rows p
+own_rows (packets.Cover p) = cover_marker.rows p
+own_rows (packets.Linking p) = linking.rows p
+own_rows (packets.Authority p) = authority.rows p
+own_rows (packets.Gradient p) = gradients.rows p
+own_rows (packets.Speed p) = speeds.rows p
+own_rows (packets.Transition p) = transition.rows p
+own_rows (packets.Raw p) = raw_packet.rows p
+
+-- the rows of an authority by itself, which has this V_MAIN or none
+abbrev pub own_authority : Option ℕ → Permission → List Row
+own_authority main a = authority.rows (permission a.dir a.scale main a.terms)
 
 -- its rows as one of a list
 abbrev pub track_rows : TrackPacket → List Row
@@ -57,12 +57,12 @@ track_rows p = renamed (own_rows p)
 -- the packet of rows
 abbrev pub track_by : ℕ → List Row → TrackPacket
 track_by n rows =
-    if n == 0 then packets.Cover (cover_of rows)
-    else (if n == 5 then packets.Linking (packet_of (elements_of link_fields link_of) rows)
-    else (if (n == 12) || (n == 15) then packets.Authority (authority_of rows)
-    else (if n == 21 then packets.Gradient (packet_of (elements_of gradient_element_fields gradient_element_of) rows)
-    else (if n == 27 then packets.Speed (packet_of (elements_of speed_element_fields speed_element_of) rows)
-    else (if n == 41 then packets.Transition (packet_of orders_of rows)
+    if n == 0 then packets.Cover (cover_marker.of rows)
+    else (if n == 5 then packets.Linking (linking.of rows)
+    else (if (n == 12) || (n == 15) then packets.Authority (authority.of rows)
+    else (if n == 21 then packets.Gradient (gradients.of rows)
+    else (if n == 27 then packets.Speed (speeds.of rows)
+    else (if n == 41 then packets.Transition (transition.of rows)
     else packets.Raw (raw_of rows))))))
 
 abbrev pub track_of : List Row → TrackPacket
@@ -97,9 +97,9 @@ holds run (packets.Raw p) = is_meant run p.dir
 
 -- ---- proofs of the laws of `Layout`
 
-cover_are_rows : HaveFields track_fields (λ c. renamed (cover_rows c))
+cover_are_rows : HaveFields track_fields (λ c. renamed (cover_marker.rows c))
 unfolding alone
-cover_are_rows c = (0, alone nid_vbcmk c.marker, refl, (c.marker, [], refl, refl))
+cover_are_rows c = (0, nid_vbcmk.rows c.marker, refl, (c.marker, [], refl, refl))
 
 -- a number that is kept as bits is none of those that are known
 not_known : (n k : ℕ) → is_other n ≡ true → is_other k ≡ false → n == k ≡ false
@@ -120,26 +120,26 @@ rest_other n other =
       not_known n 41 other refl,
     ) refl
 
-authority_are_rows : (main : Option ℕ) (a : Permission) → AreRowsOf track_fields (renamed (rows_by main a))
+authority_are_rows : (main : Option ℕ) (a : Permission) → AreRowsOf track_fields (renamed (own_authority main a))
 unfolding alone
 authority_are_rows (Some v) a =
-    (12, rest_rows with_main_rows (a.dir, (a.scale, (v, a.terms))), refl, with_main_laid.are_rows (a.dir, (a.scale, (v, a.terms))))
+    (12, with_main.rows (a.dir, (a.scale, (v, a.terms))), refl, with_main.laid.are_rows (a.dir, (a.scale, (v, a.terms))))
 authority_are_rows None a =
-    (15, rest_rows without_main_rows (a.dir, (a.scale, a.terms)), refl, without_main_laid.are_rows (a.dir, (a.scale, a.terms)))
+    (15, without_main.rows (a.dir, (a.scale, a.terms)), refl, without_main.laid.are_rows (a.dir, (a.scale, a.terms)))
 
 track_are_rows : HaveFields track_fields track_rows
 unfolding alone
 track_are_rows (packets.Cover p) = cover_are_rows p
-track_are_rows (packets.Linking p) = (5, rest_rows (elements_rows link_rows) p, refl, (rest_laid (elements_laid link_laid)).are_rows p)
+track_are_rows (packets.Linking p) = (5, (rest (elements link)).rows p, refl, (rest (elements link)).laid.are_rows p)
 track_are_rows (packets.Authority p) = authority_are_rows p.main p
-track_are_rows (packets.Gradient p) = (21, rest_rows (elements_rows gradient_element_rows) p, refl, (rest_laid (elements_laid gradient_element_laid)).are_rows p)
-track_are_rows (packets.Speed p) = (27, rest_rows (elements_rows speed_element_rows) p, refl, (rest_laid (elements_laid speed_element_laid)).are_rows p)
-track_are_rows (packets.Transition p) = (41, rest_rows orders_rows p, refl, (rest_laid orders_laid).are_rows p)
+track_are_rows (packets.Gradient p) = (21, (rest (elements gradient_element)).rows p, refl, (rest (elements gradient_element)).laid.are_rows p)
+track_are_rows (packets.Speed p) = (27, (rest (elements speed_element)).rows p, refl, (rest (elements speed_element)).laid.are_rows p)
+track_are_rows (packets.Transition p) = (41, (rest level_orders).rows p, refl, (rest level_orders).laid.are_rows p)
 track_are_rows (packets.Raw p) =
     (p.number, raw_rest p.dir p.body, refl, rw (rest_other p.number (other_of p.number (length p.body) p.kept)) (raw_rest_laid.are_rows (p.dir, p.body)))
 
-authority_back : (main : Option ℕ) (a : Permission) (b : Permission) → authority_of (rows_by main a) ≡ b
-    → track_of (renamed (rows_by main a)) ≡ packets.Authority b
+authority_back : (main : Option ℕ) (a : Permission) (b : Permission) → authority.of (own_authority main a) ≡ b
+    → track_of (renamed (own_authority main a)) ≡ packets.Authority b
 unfolding alone
 authority_back (Some v) a b is = ap packets.Authority is
 authority_back None a b is = ap packets.Authority is
@@ -157,13 +157,13 @@ raw_back n rows other =
     ) refl
 
 track_record : AreOf track_of track_rows
-unfolding alone
-track_record (packets.Cover p) = ap packets.Cover (cover_laid.is_record p)
-track_record (packets.Linking p) = ap packets.Linking ((packet_laid 5 (elements_laid link_laid)).is_record p)
-track_record (packets.Authority p) = authority_back p.main p p (authority_laid.is_record p)
-track_record (packets.Gradient p) = ap packets.Gradient ((packet_laid 21 (elements_laid gradient_element_laid)).is_record p)
-track_record (packets.Speed p) = ap packets.Speed ((packet_laid 27 (elements_laid speed_element_laid)).is_record p)
-track_record (packets.Transition p) = ap packets.Transition ((packet_laid 41 orders_laid).is_record p)
+unfolding alone cut
+track_record (packets.Cover p) = ap packets.Cover (cover_marker.laid.is_record p)
+track_record (packets.Linking p) = ap packets.Linking (linking.laid.is_record p)
+track_record (packets.Authority p) = authority_back p.main p p (authority.laid.is_record p)
+track_record (packets.Gradient p) = ap packets.Gradient (gradients.laid.is_record p)
+track_record (packets.Speed p) = ap packets.Speed (speeds.laid.is_record p)
+track_record (packets.Transition p) = ap packets.Transition (transition.laid.is_record p)
 track_record (packets.Raw p) =
     raw_back p.number (renamed (raw_rows p)) (other_of p.number (length p.body) p.kept)
     ∙ ap packets.Raw (raw_laid.is_record p)
@@ -183,31 +183,31 @@ case_of n case laid own more w allowed =
 
 covers : HasPackets 0
 unfolding alone
-covers = case_of 0 (λ m. packets.Cover (record { marker = m })) (alone_laid nid_vbcmk) (λ _. refl)
+covers = case_of 0 (λ m. packets.Cover (record { marker = m })) nid_vbcmk.laid (λ _. refl)
 
 linkings : HasPackets 5
 unfolding alone
-linkings = case_of 5 (λ p. packets.Linking p) (rest_laid (elements_laid link_laid)) (λ _. refl)
+linkings = case_of 5 (λ p. packets.Linking p) (rest (elements link)).laid (λ _. refl)
 
 authorities_12 : HasPackets 12
 unfolding alone
-authorities_12 = case_of 12 (λ p. packets.Authority (level_1 p)) with_main_laid (λ _. refl)
+authorities_12 = case_of 12 (λ p. packets.Authority (level_1 p)) with_main.laid (λ _. refl)
 
 authorities_15 : HasPackets 15
 unfolding alone
-authorities_15 = case_of 15 (λ p. packets.Authority (level_2 p)) without_main_laid (λ _. refl)
+authorities_15 = case_of 15 (λ p. packets.Authority (level_2 p)) without_main.laid (λ _. refl)
 
-gradients : HasPackets 21
+gradients_there : HasPackets 21
 unfolding alone
-gradients = case_of 21 (λ p. packets.Gradient p) (rest_laid (elements_laid gradient_element_laid)) (λ _. refl)
+gradients_there = case_of 21 (λ p. packets.Gradient p) (rest (elements gradient_element)).laid (λ _. refl)
 
-speeds : HasPackets 27
+speeds_there : HasPackets 27
 unfolding alone
-speeds = case_of 27 (λ p. packets.Speed p) (rest_laid (elements_laid speed_element_laid)) (λ _. refl)
+speeds_there = case_of 27 (λ p. packets.Speed p) (rest (elements speed_element)).laid (λ _. refl)
 
 transitions : HasPackets 41
 unfolding alone
-transitions = case_of 41 (λ p. packets.Transition p) (rest_laid orders_laid) (λ _. refl)
+transitions = case_of 41 (λ p. packets.Transition p) (rest level_orders).laid (λ _. refl)
 
 others : (n : ℕ) → is_other n ≡ true → HasPackets n
 others n other more w allowed =
@@ -230,9 +230,9 @@ known n test = elim (or_cases _ _ test) [
       | inr t ↦ elim (or_cases _ _ t) [
         | inl e ↦ found n 15 e authorities_15
         | inr t ↦ elim (or_cases _ _ t) [
-          | inl e ↦ found n 21 e gradients
+          | inl e ↦ found n 21 e gradients_there
           | inr t ↦ elim (or_cases _ _ t) [
-            | inl e ↦ found n 27 e speeds
+            | inl e ↦ found n 27 e speeds_there
             | inr e ↦ found n 41 e transitions
           ]
         ]
@@ -252,3 +252,6 @@ track_laid = record {
   is_record = track_record;
   has_record = field_records rest_by (λ n more here w allowed. numbered n (is_known n) refl here.1 more w allowed);
 }
+
+abbrev pub track_packet : Format TrackPacket
+track_packet = record { fields = track_fields; rows = track_rows; of = track_of; laid = track_laid }

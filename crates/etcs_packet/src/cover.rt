@@ -14,20 +14,11 @@ pub struct CoverMarker {
 }
 
 impl Layout for CoverMarker {
-    ghost use Rattle.etcs_packet.specs.Cover.{cover_rows, cover_fields, cover_of, cover_laid};
+    ghost use Rattle.etcs_packet.specs.Cover.{cover_marker};
 
-    ghost rows = { cover_rows };
-
-    ghost fields = { cover_fields };
-
-    ghost record_of = { cover_of };
+    ghost format = { cover_marker };
 
     // Its type keeps its number in range.
-    ghost fit = { λ _. Unit {0} };
-
-    ghost grows = { ⊥ };
-
-    ghost laid = { cover_laid };
 
     #[tactic(auto, using(etcs_bits::proofs::PutLemmas::allowed_both))]
     fn is_allowed(&self) -> bool {

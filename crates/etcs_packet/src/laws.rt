@@ -13,79 +13,79 @@ pub fn lists_end()
 
 /// A list stands exactly where reading gives it, and up to the place where that ends.
 pub fn a_list_is_read<T: Layout>()
-    requires { IsHeaded T.fields }
-    ensures { ListIsRead T.rows T.record_of T.fields }
+    requires { IsHeaded T.format.fields }
+    ensures { ListIsRead T.format.rows T.format.of T.format.fields }
 {}
 
 /// A place has at most one list, and it has one end.
 pub fn a_place_has_one_list<T: Layout>()
-    requires { IsHeaded T.fields }
-    ensures { OneListStands T.rows }
+    requires { IsHeaded T.format.fields }
+    ensures { OneListStands T.format.rows }
 {}
 
 /// A list that stands is the spellings of its packets, one after the other.
 pub fn a_list_is_its_spellings<T: Layout>()
-    ensures { StandIsSpelled T.rows }
+    ensures { StandIsSpelled T.format.rows }
 {}
 
 /// A list's fault is told exactly where reading gives it.
 pub fn a_list_fault_is_read<T: Layout>()
-    requires { IsHeaded T.fields }
-    ensures { ListFaultIsRead T.record_of T.fields }
+    requires { IsHeaded T.format.fields }
+    ensures { ListFaultIsRead T.format.of T.format.fields }
 {}
 
 /// A list of a telegram that begins where fewer than eight bits are left has the fault NoEnd, at that
 /// place: no end mark can come.
 pub fn a_telegram_without_its_mark_has_no_end<T: Layout>()
-    requires { IsHeaded T.fields }
-    ensures { NoEndIsTold T.fields }
+    requires { IsHeaded T.format.fields }
+    ensures { NoEndIsTold T.format.fields }
 {}
 
 /// Where a list's fault is told, no list stands, in any input of the same length with the same
 /// first `end` bits.
 pub fn a_list_fault_means_no_list<T: Layout>()
-    requires { IsHeaded T.fields }
-    ensures { ListFaultMeansNone T.rows T.fields }
+    requires { IsHeaded T.format.fields }
+    ensures { ListFaultMeansNone T.format.rows T.format.fields }
 {}
 
 /// Spellings one after the other are a list, behind any bits and before bits at which a list ends.
 pub fn written_packets_are_a_list<T: Layout>()
-    requires { IsHeaded T.fields }
-    ensures { WrittenStands T.rows T.fields }
+    requires { IsHeaded T.format.fields }
+    ensures { WrittenStands T.format.rows T.format.fields }
 {}
 
 /// A whole stands exactly where reading gives it, and up to the place where that ends.
 pub fn a_whole_is_read<H: Layout, T: Layout>()
-    requires { IsHeaded T.fields }
-    ensures { WholeIsRead H.rows H.record_of H.fields T.rows T.record_of T.fields }
+    requires { IsHeaded T.format.fields }
+    ensures { WholeIsRead H.format.rows H.format.of H.format.fields T.format.rows T.format.of T.format.fields }
 {}
 
 /// Bits begin with at most one head and list.
 pub fn bits_begin_with_one_whole<H: Layout, T: Layout>()
-    requires { IsHeaded T.fields }
-    ensures { OneWholeBegins H.rows T.rows }
+    requires { IsHeaded T.format.fields }
+    ensures { OneWholeBegins H.format.rows T.format.rows }
 {}
 
 /// A fault of a whole is told exactly where reading gives it.
 pub fn a_whole_fault_is_read<H: Layout, T: Layout>()
-    requires { IsHeaded T.fields }
-    ensures { WholeFaultIsRead H.record_of H.fields T.record_of T.fields }
+    requires { IsHeaded T.format.fields }
+    ensures { WholeFaultIsRead H.format.of H.format.fields T.format.of T.format.fields }
 {}
 
 /// Where a fault of a whole is told, none stands, in any input of the same length with the same
 /// first `end` bits.
 pub fn a_whole_fault_means_no_whole<H: Layout, T: Layout>()
-    requires { IsHeaded T.fields }
-    ensures { WholeFaultMeansNone H.rows H.fields T.rows T.fields }
+    requires { IsHeaded T.format.fields }
+    ensures { WholeFaultMeansNone H.format.rows H.format.fields T.format.rows T.format.fields }
 {}
 
 /// Bits that begin with a head and a list are their spellings and a rest at which a list ends.
 pub fn a_whole_is_its_spellings<H: Layout, T: Layout>()
-    ensures { WholeIsSpelled H.rows T.rows }
+    ensures { WholeIsSpelled H.format.rows T.format.rows }
 {}
 
 /// What was written is read back, whatever follows the end of the list.
 pub fn what_is_written_is_read_back<H: Layout, T: Layout>()
-    requires { IsHeaded T.fields }
-    ensures { WrittenIsReadBack H.rows H.record_of H.fields T.rows T.record_of T.fields }
+    requires { IsHeaded T.format.fields }
+    ensures { WrittenIsReadBack H.format.rows H.format.of H.format.fields T.format.rows T.format.of T.format.fields }
 {}

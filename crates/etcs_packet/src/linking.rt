@@ -34,20 +34,9 @@ pub struct Link {
 }
 
 impl Layout for Link {
-    ghost use Rattle.etcs_packet.specs.Linking.{link_rows, link_fields, link_of, link_laid};
+    ghost use Rattle.etcs_packet.specs.Linking.{link};
 
-    ghost rows = { link_rows };
-
-    ghost fields = { link_fields };
-
-    ghost record_of = { link_of };
-
-    // Its types keep their numbers in range.
-    ghost fit = { λ _. Unit {0} };
-
-    ghost grows = { ⊥ };
-
-    ghost laid = { link_laid };
+    ghost format = { link };
 
     #[tactic(auto, using(etcs_bits::proofs::PutLemmas::allowed_both, etcs_bits::proofs::FitLemmas::some_fit))]
     fn is_allowed(&self) -> bool {
@@ -175,22 +164,11 @@ impl Linking {
 }
 
 impl Layout for Linking {
-    ghost use Rattle.etcs_profile.specs.Packet.{packet_rows, packet_fields, packet_of, packet_laid};
-    ghost use Rattle.etcs_profile.specs.Elements.{elements_rows, elements_fields, elements_of, elements_laid};
-    ghost use Rattle.etcs_packet.specs.Linking.{link_rows, link_fields, link_of, link_laid};
+    ghost use Rattle.etcs_packet.specs.Linking.{linking};
 
-    ghost rows = { packet_rows 5 (elements_rows link_rows) };
-
-    ghost fields = { packet_fields 5 (elements_fields link_fields) };
-
-    ghost record_of = { packet_of (elements_of link_fields link_of) };
-
-    // Its type keeps its numbers in range.
-    ghost fit = { λ _. Unit {0} };
+    ghost format = { linking };
 
     ghost grows = { Unit {0} };
-
-    ghost laid = { packet_laid 5 (elements_laid link_laid) };
 
     fn is_allowed(&self) -> bool {
         self.packet.is_allowed()

@@ -37,11 +37,11 @@ pub fn next_item<T: Layout>(
     cur: &mut Cursor<'_>,
     stop: Stop,
 ) -> Result<Option<T>, DecodeError>
-    requires { IsHeaded T.fields }
-    ensures ok { IfOk result (λ o. IsStep stop T.rows o cur.old cur.new) }
+    requires { IsHeaded T.format.fields }
+    ensures ok { IfOk result (λ o. IsStep stop T.format.rows o cur.old cur.new) }
 
-    ensures fault { IfFault result (λ f. (ends stop cur.old ≡ false) × IsFault T.fields cur.old f) }
-    ensures none { IfFault result (λ f. NoStep stop T.rows cur.old f) }
+    ensures fault { IfFault result (λ f. (ends stop cur.old ≡ false) × IsFault T.format.fields cur.old f) }
+    ensures none { IfFault result (λ f. NoStep stop T.format.rows cur.old f) }
     ensures err { OnErr result (cur.new ≡ cur.old) }
 
     // That no end can come is always told: no memory is asked for.
@@ -69,16 +69,16 @@ pub fn read_items<T: Layout>(
     cur: &mut Cursor<'_>,
     stop: Stop,
 ) -> Result<Vec<T>, DecodeError>
-    requires { IsHeaded T.fields }
-    ensures ok { IfOk result (λ v. Stand stop T.rows v.items cur.old cur.new) }
+    requires { IsHeaded T.format.fields }
+    ensures ok { IfOk result (λ v. Stand stop T.format.rows v.items cur.old cur.new) }
 
-    ensures fault { IfFault result (λ f. IsListFault stop T.fields cur.old f) }
-    ensures none { IfFault result (λ f. NoneStand stop T.rows cur.old f) }
+    ensures fault { IfFault result (λ f. IsListFault stop T.format.fields cur.old f) }
+    ensures none { IfFault result (λ f. NoneStand stop T.format.rows cur.old f) }
     ensures err { OnErr result (cur.new ≡ cur.old) }
 
     // The same as a function of the bits.
     ensures exact { Gives (λ v. v.items) result
-        (items_at stop T.fields T.record_of cur.old) cur.new }
+        (items_at stop T.format.fields T.format.of cur.old) cur.new }
 
     // That no end can come is always told: no memory is asked for.
     ensures no_end { stop ≡ Stop.Telegram → length cur.old.bits < cur.old.at + 8
@@ -96,8 +96,8 @@ pub fn read_items<T: Layout>(
 /// Appends the spellings of packets that are allowed, one after the other, and no end mark. If
 /// memory runs out, nothing is appended.
 pub fn write_items<T: Layout>(items: &[T], out: &mut Bits) -> Result<(), Memory>
-    requires { AreAllowed (flat_map T.rows items.now) }
-    ensures ok { OnOk result (out.new ≡ out.old ++ join (flat_map T.rows items.now)) }
+    requires { AreAllowed (flat_map T.format.rows items.now) }
+    ensures ok { OnOk result (out.new ≡ out.old ++ join (flat_map T.format.rows items.now)) }
     ensures err { OnErr result (out.new ≡ out.old) }
 {
     let len = out.len();

@@ -6,8 +6,7 @@ ghost use Rattle.etcs_bits.specs.Rows.{AreAllowed, join};
 ghost use Rattle.etcs_bits.specs.Fault.{lack};
 ghost use Rattle.etcs_bits.specs.Layout.{Gives, IfFault};
 ghost use Rattle.etcs_packet.specs.Lists.{IsListFault, NoneStand, Stand, items_at};
-ghost use Rattle.etcs_packet.specs.Listed.{track_fields};
-ghost use Rattle.etcs_packet.specs.Track.{track_rows, track_of};
+ghost use Rattle.etcs_packet.specs.Track.{track_packet};
 
 use crate::list::{read_items, write_items};
 use crate::stop::Stop;
@@ -26,14 +25,14 @@ pub fn read_packets(
     cur: &mut Cursor<'_>,
     stop: Stop,
 ) -> Result<Vec<TrackPacket>, DecodeError>
-    ensures ok { IfOk result (λ v. Stand stop track_rows v.items cur.old cur.new) }
+    ensures ok { IfOk result (λ v. Stand stop track_packet.rows v.items cur.old cur.new) }
 
-    ensures fault { IfFault result (λ f. IsListFault stop track_fields cur.old f) }
-    ensures none { IfFault result (λ f. NoneStand stop track_rows cur.old f) }
+    ensures fault { IfFault result (λ f. IsListFault stop track_packet.fields cur.old f) }
+    ensures none { IfFault result (λ f. NoneStand stop track_packet.rows cur.old f) }
     ensures err { OnErr result (cur.new ≡ cur.old) }
 
     // The same as a function of the bits.
-    ensures exact { Gives (λ v. v.items) result (items_at stop track_fields track_of cur.old) cur.new }
+    ensures exact { Gives (λ v. v.items) result (items_at stop track_packet.fields track_packet.of cur.old) cur.new }
 
     // That no end can come is always told: no memory is asked for.
     ensures no_end { stop ≡ Stop.Telegram → length cur.old.bits < cur.old.at + 8
@@ -46,9 +45,9 @@ pub fn read_packets(
 /// nothing is appended. Their types keep all numbers in range.
 #[tactic(auto, using(etcs_bits::proofs::FitLemmas::all_fit))]
 pub fn write_packets(packets: &[TrackPacket], out: &mut Bits) -> Result<(), Memory>
-    ensures ok { OnOk result (out.new ≡ out.old ++ join (flat_map track_rows packets.now)) }
+    ensures ok { OnOk result (out.new ≡ out.old ++ join (flat_map track_packet.rows packets.now)) }
     ensures err { OnErr result (out.new ≡ out.old) }
-    ensures allowed { AreAllowed (flat_map track_rows packets.now) }
+    ensures allowed { AreAllowed (flat_map track_packet.rows packets.now) }
 {
     let _allowed = are_allowed(packets);
     write_items(packets, out)

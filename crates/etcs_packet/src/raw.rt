@@ -1,6 +1,6 @@
 //! Packets of which no layout is known here.
 
-ghost use Rattle.std.specs.Prelude.{◌≡◌, ◌≢◌, ◌≤◌, ◌<◌, ◌+◌, length, true, IfOk, IfErr, IsOk, ◌↔◌};
+ghost use Rattle.std.specs.Prelude.{◌≡◌, ◌≤◌, ◌<◌, ◌+◌, length, true, IfOk, IfErr, IsOk, ◌↔◌};
 ghost use Rattle.etcs_bits.specs.Reading.{field_at};
 ghost use Rattle.etcs_bits.specs.Layout.{Gives, IfMemory, Puts};
 ghost use Rattle.etcs_bits.specs.Rows.{join};
@@ -94,20 +94,13 @@ impl RawPacket {
 }
 
 impl Layout for RawPacket {
-    ghost use Rattle.etcs_packet.specs.Raw.{raw_rows, raw_fields, raw_of, raw_laid};
+    ghost use Rattle.etcs_packet.specs.Raw.{raw_packet};
 
-    ghost rows = { raw_rows };
-
-    ghost fields = { raw_fields };
-
-    ghost record_of = { raw_of };
-
-    // Its type keeps number and body in range.
-    ghost fit = { λ _. Unit {0} };
+    ghost format = { raw_packet };
 
     ghost grows = { Unit {0} };
 
-    ghost laid = { raw_laid };
+    // Its type keeps number and body in range.
 
     fn is_allowed(&self) -> bool {
         let _number = self.number();

@@ -61,8 +61,8 @@ fn next_number(cur: &Cursor<'_>) -> Result<u64, DecodeError>
 // Reads the packet at the cursor as one of a list.
 #[tactic(auto, using(crate::proofs::ListedLemmas::as_listed))]
 fn scan_listed<T: Layout>(alloc: Global, cur: &mut Cursor<'_>) -> Result<T, DecodeError>
-    requires { IsListed T.fields cur.old }
-    ensures { Gives (λ v. renamed (T.rows v)) result (rows_at track_fields cur.old) cur.new }
+    requires { IsListed T.format.fields cur.old }
+    ensures { Gives (λ v. renamed (T.format.rows v)) result (rows_at track_fields cur.old) cur.new }
 {
     T::scan(alloc, cur)
 }
@@ -70,7 +70,7 @@ fn scan_listed<T: Layout>(alloc: Global, cur: &mut Cursor<'_>) -> Result<T, Deco
 // Appends the spelling of a packet that its type keeps in range.
 fn put_fit<T: Layout>(packet: &T, out: &mut Bits) -> Result<(), Memory>
     requires { T.fit packet.now }
-    ensures { Puts (join (T.rows packet.now)) result out.old out.new }
+    ensures { Puts (join (T.format.rows packet.now)) result out.old out.new }
 {
     let _allowed = packet.is_allowed();
     packet.put(out)
@@ -173,20 +173,11 @@ impl TrackPacket {
 }
 
 impl Layout for TrackPacket {
-    ghost use Rattle.etcs_packet.specs.Track.{track_rows, track_of, track_laid};
+    ghost use Rattle.etcs_packet.specs.Track.{track_packet};
 
-    ghost rows = { track_rows };
-
-    ghost fields = { track_fields };
-
-    ghost record_of = { track_of };
-
-    // Its types keep their numbers in range.
-    ghost fit = { λ _. Unit {0} };
+    ghost format = { track_packet };
 
     ghost grows = { Unit {0} };
-
-    ghost laid = { track_laid };
 
     fn is_allowed(&self) -> bool {
         self.is_sound()

@@ -21,20 +21,9 @@ pub struct LevelOrder {
 }
 
 impl Layout for LevelOrder {
-    ghost use Rattle.etcs_packet.specs.Transition.{order_rows, order_fields, order_of, order_laid};
+    ghost use Rattle.etcs_packet.specs.Transition.{level_order};
 
-    ghost rows = { order_rows };
-
-    ghost fields = { order_fields };
-
-    ghost record_of = { order_of };
-
-    // Its types keep their numbers in range.
-    ghost fit = { λ _. Unit {0} };
-
-    ghost grows = { ⊥ };
-
-    ghost laid = { order_laid };
+    ghost format = { level_order };
 
     #[tactic(auto, using(etcs_bits::proofs::PutLemmas::allowed_both))]
     fn is_allowed(&self) -> bool {
@@ -75,11 +64,11 @@ pub struct Transition {
 
 impl Model for Transition {
     ghost use Rattle.etcs_bits.specs.declared.direction.Dir.{Dir};
-    ghost use Rattle.etcs_packet.specs.Transition.{Orders, with_parts};
+    ghost use Rattle.etcs_packet.specs.Transition.{Orders, orders_of};
 
     ghost Value = { Dir × Orders };
 
-    ghost view = { λ t. (t.packet.0, with_parts t.packet.1) };
+    ghost view = { λ t. (t.packet.0, orders_of t.packet.1) };
 }
 
 impl Transition {
@@ -151,21 +140,11 @@ impl Transition {
 }
 
 impl Layout for Transition {
-    ghost use Rattle.etcs_profile.specs.Packet.{packet_rows, packet_fields, packet_of, packet_laid};
-    ghost use Rattle.etcs_packet.specs.Transition.{orders_rows, orders_fields, orders_of, orders_laid};
+    ghost use Rattle.etcs_packet.specs.Transition.{transition};
 
-    ghost rows = { packet_rows 41 orders_rows };
-
-    ghost fields = { packet_fields 41 orders_fields };
-
-    ghost record_of = { packet_of orders_of };
-
-    // Its type keeps its numbers in range.
-    ghost fit = { λ _. Unit {0} };
+    ghost format = { transition };
 
     ghost grows = { Unit {0} };
-
-    ghost laid = { packet_laid 41 orders_laid };
 
     fn is_allowed(&self) -> bool {
         self.packet.is_allowed()

@@ -23,19 +23,19 @@ pub fn next_whole<H: Layout, T: Layout>(
     cur: &mut Cursor<'_>,
     stop: Stop,
 ) -> Result<(H, Vec<T>), DecodeError>
-    requires { IsHeaded T.fields }
-    ensures ok { IfOk result (λ w. IsWhole stop H.rows T.rows w.0 w.1.items cur.old cur.new) }
+    requires { IsHeaded T.format.fields }
+    ensures ok { IfOk result (λ w. IsWhole stop H.format.rows T.format.rows w.0 w.1.items cur.old cur.new) }
 
-    ensures fault { IfFault result (λ f. IsWholeFault stop H.fields T.fields cur.old f) }
-    ensures none { IfFault result (λ f. NoneWhole stop H.rows T.rows cur.old f) }
+    ensures fault { IfFault result (λ f. IsWholeFault stop H.format.fields T.format.fields cur.old f) }
+    ensures none { IfFault result (λ f. NoneWhole stop H.format.rows T.format.rows cur.old f) }
     ensures err { OnErr result (cur.new ≡ cur.old) }
 
     // The same as a function of the bits.
     ensures exact { Gives (λ w. (w.0, w.1.items)) result
-        (whole_at stop H.fields H.record_of T.fields T.record_of cur.old) cur.new }
+        (whole_at stop H.format.fields H.format.of T.format.fields T.format.of cur.old) cur.new }
 
     // The fault of a head without a list is always told: reading one asks for no memory.
-    ensures head { (H.grows → ⊥) → (f : Fault) → IsFault H.fields cur.old f
+    ensures head { (H.grows → ⊥) → (f : Fault) → IsFault H.format.fields cur.old f
         → result ≡ Err (DecodeError.Fault f) }
 {
     let mut ahead = cur.fork();
@@ -55,18 +55,18 @@ pub fn read_whole<H: Layout, T: Layout>(
     bits: &Bits,
     stop: Stop,
 ) -> Result<(H, Vec<T>), DecodeError>
-    requires { IsHeaded T.fields }
-    ensures ok { IfOk result (λ w. BeginsWith stop H.rows T.rows w.0 w.1.items bits.now) }
+    requires { IsHeaded T.format.fields }
+    ensures ok { IfOk result (λ w. BeginsWith stop H.format.rows T.format.rows w.0 w.1.items bits.now) }
 
-    ensures fault { IfFault result (λ f. IsWholeFault stop H.fields T.fields (start bits.now) f) }
-    ensures none { IfFault result (λ f. NoneWhole stop H.rows T.rows (start bits.now) f) }
+    ensures fault { IfFault result (λ f. IsWholeFault stop H.format.fields T.format.fields (start bits.now) f) }
+    ensures none { IfFault result (λ f. NoneWhole stop H.format.rows T.format.rows (start bits.now) f) }
 
     // The same as a function of the bits.
     ensures exact { Means (λ w. (w.0, w.1.items)) result
-        (whole_of stop H.fields H.record_of T.fields T.record_of bits.now) }
+        (whole_of stop H.format.fields H.format.of T.format.fields T.format.of bits.now) }
 
     // The fault of a head without a list is always told: reading one asks for no memory.
-    ensures head { (H.grows → ⊥) → (f : Fault) → IsFault H.fields (start bits.now) f
+    ensures head { (H.grows → ⊥) → (f : Fault) → IsFault H.format.fields (start bits.now) f
         → result ≡ Err (DecodeError.Fault f) }
 {
     let mut cur = Cursor::new(bits);

@@ -2,14 +2,15 @@
 use Rattle.std.specs.Prelude.{◌≡◌, ℕ, ◌<◌, ◌⊎◌, List, ◌∷◌, length, Result, Ok, Err}
 use Rattle.std.specs.List.{AllByRecursion}
 use Rattle.etcs_bits.specs.declared.direction.Dir.{Dir}
-use Rattle.etcs_bits.specs.Rows.{Row, width}
+use Rattle.etcs_bits.specs.Rows.{width}
+use Rattle.etcs_bits.specs.Format.{Format}
 use Rattle.etcs_profile.specs.declared.error.BuildError.{BuildError}
 use Rattle.etcs_profile.specs.declared.error.BuildError.TheVariants as errors
-use Rattle.etcs_profile.specs.Packet.{packet_rows}
+use Rattle.etcs_profile.specs.Packet.{packet}
 use Rattle.etcs_profile.specs.Profile.{Profile}
-use Rattle.etcs_profile.specs.Elements.{elements_rows}
+use Rattle.etcs_profile.specs.Elements.{elements}
 
--- why a packet is refused is so, and what is looked for before is not
+-- the stated reason holds, and no reason checked earlier does
 abbrev pub IsReason : BuildError → Type 0 → Type 0 → Type 0
 IsReason errors.TooMany many long = many
 IsReason errors.TooLong many long = (many → ⊥) × long
@@ -21,8 +22,8 @@ IsBuilt (Ok x) given many long = (x ≡ given) × (many → ⊥) × (long → �
 IsBuilt (Err e) given many long = IsReason e many long
 
 -- the packet has more bits than L_PACKET, 13 bits, can count
-abbrev pub IsTooLong : {X : Type 0} → ℕ → (X → List Row) → Dir × Profile X → Type 0
-IsTooLong k rows p = 8191 < width (packet_rows k (elements_rows rows) p)
+abbrev pub IsTooLong : {X : Type 0} → ℕ → Format X → Dir × Profile X → Type 0
+IsTooLong k element p = 8191 < width ((packet k (elements element)).rows p)
 
 -- There are more than 31 elements behind the first, or one of them all has a list of more than 31.
 abbrev pub HasMany : {X : Type 0} → (X → Type 0) → X → List X → Type 0

@@ -58,7 +58,7 @@ fn length_of(sections: &[Section]) -> u64
 impl Authority {
     ghost use Rattle.etcs_bits.specs.Rows.{width};
     ghost use Rattle.etcs_profile.specs.Terms.{conditions};
-    ghost use Rattle.etcs_profile.specs.Authority.{permission, authority_end, authority_rows, IsAuthorityTooLong};
+    ghost use Rattle.etcs_profile.specs.Authority.{permission, authority, authority_end, IsAuthorityTooLong};
     ghost use Rattle.etcs_profile.specs.Built.{IsBuilt};
 
     /// The movement authority of these parts: packet 12 where there is a `main` speed, else packet
@@ -106,7 +106,7 @@ impl Authority {
     #[tactic(auto, unfolding(etcs_bits::specs::Rows::alone))]
     fn of(dir: Dir, scale: Scale, main: Option<Speed>, terms: Terms) -> Option<Authority>
         ensures some { IfSome result (λ a. a ≡ permission dir scale main terms) }
-        ensures few { IsSome result ↔ (width (authority_rows (permission dir scale main terms)) ≤ 8191) }
+        ensures few { IsSome result ↔ (width (authority.rows (permission dir scale main terms)) ≤ 8191) }
     {
         match main {
             Some(main) => {
@@ -233,20 +233,11 @@ impl Authority {
 
 #[tactic(auto, using(etcs_bits::proofs::PutLemmas::puts_bits), unfolding(etcs_bits::specs::Rows::alone))]
 impl Layout for Authority {
-    ghost use Rattle.etcs_profile.specs.Authority.{authority_rows, authority_fields, authority_of, authority_laid};
+    ghost use Rattle.etcs_profile.specs.Authority.{authority};
 
-    ghost rows = { authority_rows };
-
-    ghost fields = { authority_fields };
-
-    ghost record_of = { authority_of };
-
-    // Its types keep their numbers in range.
-    ghost fit = { λ _. Unit {0} };
+    ghost format = { authority };
 
     ghost grows = { Unit {0} };
-
-    ghost laid = { authority_laid };
 
     fn is_allowed(&self) -> bool {
         match &self.packet {

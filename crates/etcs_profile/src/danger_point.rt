@@ -14,20 +14,9 @@ pub struct DangerPoint {
 }
 
 impl Layout for DangerPoint {
-    ghost use Rattle.etcs_profile.specs.Parts.{danger_point_rows, danger_point_fields, danger_point_of, danger_point_laid};
+    ghost use Rattle.etcs_profile.specs.Parts.{danger_point};
 
-    ghost rows = { danger_point_rows };
-
-    ghost fields = { danger_point_fields };
-
-    ghost record_of = { danger_point_of };
-
-    // Its types keep their numbers in range.
-    ghost fit = { λ _. Unit {0} };
-
-    ghost grows = { ⊥ };
-
-    ghost laid = { danger_point_laid };
+    ghost format = { danger_point };
 
     #[tactic(auto, using(etcs_bits::proofs::PutLemmas::allowed_both))]
     fn is_allowed(&self) -> bool {

@@ -114,19 +114,13 @@ impl<T: Element> Elements<T> {
 #[tactic(auto, using(etcs_bits::proofs::PutLemmas::puts_then, etcs_bits::proofs::PutLemmas::keeps_front, etcs_bits::proofs::PutLemmas::allowed_both))]
 impl<T: Layout> Layout for Elements<T> {
     ghost use Rattle.std.specs.List.{AllByRecursion};
-    ghost use Rattle.etcs_profile.specs.Elements.{elements_rows, elements_fields, elements_of, elements_laid};
+    ghost use Rattle.etcs_profile.specs.Elements.{elements};
 
-    ghost rows = { elements_rows T.rows };
-
-    ghost fields = { elements_fields T.fields };
-
-    ghost record_of = { elements_of T.fields T.record_of };
+    ghost format = { elements T.format };
 
     ghost fit = { λ e. T.fit e.first × AllByRecursion T.fit e.further };
 
     ghost grows = { Unit {0} };
-
-    ghost laid = { elements_laid T.laid };
 
     fn is_allowed(&self) -> bool {
         self.scale.is_allowed() && self.first.is_allowed() && self.further.is_allowed()

@@ -14,20 +14,9 @@ pub struct EndTimer {
 }
 
 impl Layout for EndTimer {
-    ghost use Rattle.etcs_profile.specs.Parts.{end_timer_rows, end_timer_fields, end_timer_of, end_timer_laid};
+    ghost use Rattle.etcs_profile.specs.Parts.{end_timer};
 
-    ghost rows = { end_timer_rows };
-
-    ghost fields = { end_timer_fields };
-
-    ghost record_of = { end_timer_of };
-
-    // Its types keep their numbers in range.
-    ghost fit = { λ _. Unit {0} };
-
-    ghost grows = { ⊥ };
-
-    ghost laid = { end_timer_laid };
+    ghost format = { end_timer };
 
     #[tactic(auto, using(etcs_bits::proofs::PutLemmas::allowed_both))]
     fn is_allowed(&self) -> bool {

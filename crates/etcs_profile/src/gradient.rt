@@ -1,6 +1,6 @@
 //! The gradient profile, packet 21.
 
-ghost use Rattle.std.specs.Prelude.{◌≡◌, ◌<◌, ◌==◌};
+ghost use Rattle.std.specs.Prelude.{◌<◌, ◌==◌};
 
 use crate::element::Element;
 use crate::elements::Elements;
@@ -16,7 +16,7 @@ impl Packet<21, Elements<GradientElement>> {
     ghost use Rattle.std.specs.Prelude.{length};
     ghost use Rattle.etcs_profile.specs.Elements.{profile};
     ghost use Rattle.etcs_profile.specs.Built.{IsBuilt, IsTooLong};
-    ghost use Rattle.etcs_profile.specs.Gradient.{gradient_element_rows};
+    ghost use Rattle.etcs_profile.specs.Gradient.{gradient_element};
 
     /// The gradient profile of these elements. Takes no memory; after a refusal the elements are
     /// gone.
@@ -31,7 +31,7 @@ impl Packet<21, Elements<GradientElement>> {
     ) -> Result<Gradient, BuildError>
         ensures { IsBuilt result (dir, profile scale first further.items)
             (31 < length further.items)
-            (IsTooLong 21 gradient_element_rows (dir, profile scale first further.items)) }
+            (IsTooLong 21 gradient_element (dir, profile scale first further.items)) }
     {
         Packet::build(dir, scale, first, further)
     }
@@ -50,20 +50,9 @@ pub struct GradientElement {
 }
 
 impl Layout for GradientElement {
-    ghost use Rattle.etcs_profile.specs.Gradient.{gradient_element_rows, gradient_element_fields, gradient_element_of, gradient_element_laid};
+    ghost use Rattle.etcs_profile.specs.Gradient.{gradient_element};
 
-    ghost rows = { gradient_element_rows };
-
-    ghost fields = { gradient_element_fields };
-
-    ghost record_of = { gradient_element_of };
-
-    // Its types keep their numbers in range.
-    ghost fit = { λ _. Unit {0} };
-
-    ghost grows = { ⊥ };
-
-    ghost laid = { gradient_element_laid };
+    ghost format = { gradient_element };
 
     #[tactic(auto, using(etcs_bits::proofs::PutLemmas::allowed_both))]
     fn is_allowed(&self) -> bool {

@@ -24,21 +24,12 @@ pub(crate) fn other_packet(at: usize, end: usize) -> DecodeError
 #[tactic(auto, unfolding(etcs_bits::specs::Rows::alone))]
 impl<const N: u32> Layout for Number<N> {
     ghost use Rattle.std.specs.Prelude.{◌<◌, refl};
-    ghost use Rattle.etcs_bits.specs.Rows.{alone};
-    ghost use Rattle.etcs_bits.specs.Fields.{one};
-    ghost use Rattle.etcs_profile.specs.Packet.{nid_packet, number_laid};
+    ghost use Rattle.etcs_bits.specs.Format.{named};
+    ghost use Rattle.etcs_profile.specs.Packet.{nid_packet};
 
-    ghost rows = { λ _. alone (nid_packet N) N };
-
-    ghost fields = { one (nid_packet N) };
-
-    ghost record_of = { λ _. record {} };
+    ghost format = { named (nid_packet N) (λ _. record {}) (λ _. tt) (λ _. refl) (λ _. refl) };
 
     ghost fit = { λ _. N < 256 };
-
-    ghost grows = { ⊥ };
-
-    ghost laid = { number_laid N (record {}) (λ _. refl) };
 
     fn is_allowed(&self) -> bool {
         N < 256

@@ -19,20 +19,9 @@ pub struct Overlap {
 }
 
 impl Layout for Overlap {
-    ghost use Rattle.etcs_profile.specs.Parts.{overlap_rows, overlap_fields, overlap_of, overlap_laid};
+    ghost use Rattle.etcs_profile.specs.Parts.{overlap};
 
-    ghost rows = { overlap_rows };
-
-    ghost fields = { overlap_fields };
-
-    ghost record_of = { overlap_of };
-
-    // Its types keep their numbers in range.
-    ghost fit = { λ _. Unit {0} };
-
-    ghost grows = { ⊥ };
-
-    ghost laid = { overlap_laid };
+    ghost format = { overlap };
 
     #[tactic(auto, using(etcs_bits::proofs::PutLemmas::allowed_both))]
     fn is_allowed(&self) -> bool {

@@ -32,7 +32,7 @@ impl<const N: u32, T: Layout> Packet<N, T> {
     #[inline]
     pub fn of(dir: Dir, body: T) -> Option<Self>
         ensures some { IfSome result (λ p. p ≡ (dir, body)) }
-        ensures fit { IsSome result ↔ (T.fit body × (23 + width (T.rows body) ≤ 8191)) }
+        ensures fit { IsSome result ↔ (T.fit body × (23 + width (T.format.rows body) ≤ 8191)) }
     {
         let body = Body::new(body)?;
         Some(Packet { dir, body })
@@ -58,19 +58,13 @@ impl<const N: u32, T: Layout> Packet<N, T> {
 #[tactic(auto, using(etcs_bits::proofs::PutLemmas::puts_then, etcs_bits::proofs::PutLemmas::keeps_front, etcs_bits::proofs::PutLemmas::allowed_both))]
 impl<const N: u32, T: Layout> Layout for Packet<N, T> {
     ghost use Rattle.std.specs.Prelude.{◌<◌};
-    ghost use Rattle.etcs_profile.specs.Packet.{packet_rows, packet_fields, packet_of, packet_laid};
+    ghost use Rattle.etcs_profile.specs.Packet.{packet};
 
-    ghost rows = { packet_rows N T.rows };
-
-    ghost fields = { packet_fields N T.fields };
-
-    ghost record_of = { packet_of T.record_of };
+    ghost format = { packet N T.format };
 
     ghost fit = { λ _. N < 256 };
 
     ghost grows = { T.grows };
-
-    ghost laid = { packet_laid N T.laid };
 
     fn is_allowed(&self) -> bool {
         let number = Number::<N>;

@@ -22,7 +22,7 @@ impl<const N: u32, T: Element> Packet<N, Elements<T>> {
     ) -> Result<Self, BuildError>
         ensures { IsBuilt result (dir, profile scale first further.items)
             (HasMany T.fit first further.items)
-            (IsTooLong N T.rows (dir, profile scale first further.items)) }
+            (IsTooLong N T.format (dir, profile scale first further.items)) }
     {
         let elements = Elements::new(scale, first, further)?;
         // An element's own list may be too long for its N_ITER.

@@ -14,20 +14,9 @@ pub struct Section {
 }
 
 impl Layout for Section {
-    ghost use Rattle.etcs_profile.specs.Parts.{section_rows, section_fields, section_of, section_laid};
+    ghost use Rattle.etcs_profile.specs.Parts.{section};
 
-    ghost rows = { section_rows };
-
-    ghost fields = { section_fields };
-
-    ghost record_of = { section_of };
-
-    // Its types keep their numbers in range.
-    ghost fit = { λ _. Unit {0} };
-
-    ghost grows = { ⊥ };
-
-    ghost laid = { section_laid };
+    ghost format = { section };
 
     #[tactic(auto, using(etcs_bits::proofs::PutLemmas::allowed_both, etcs_bits::proofs::FitLemmas::some_fit))]
     fn is_allowed(&self) -> bool {
@@ -70,20 +59,9 @@ pub struct SectionTimer {
 }
 
 impl Layout for SectionTimer {
-    ghost use Rattle.etcs_profile.specs.Parts.{section_timer_rows, section_timer_fields, section_timer_of, section_timer_laid};
+    ghost use Rattle.etcs_profile.specs.Parts.{section_timer};
 
-    ghost rows = { section_timer_rows };
-
-    ghost fields = { section_timer_fields };
-
-    ghost record_of = { section_timer_of };
-
-    // Its types keep their numbers in range.
-    ghost fit = { λ _. Unit {0} };
-
-    ghost grows = { ⊥ };
-
-    ghost laid = { section_timer_laid };
+    ghost format = { section_timer };
 
     #[tactic(auto, using(etcs_bits::proofs::PutLemmas::allowed_both))]
     fn is_allowed(&self) -> bool {

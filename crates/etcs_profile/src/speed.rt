@@ -1,6 +1,6 @@
 //! The static speed profile, packet 27.
 
-ghost use Rattle.std.specs.Prelude.{◌≡◌, ◌==◌, ◌≤◌, length};
+ghost use Rattle.std.specs.Prelude.{◌==◌, ◌≤◌, length};
 
 use crate::element::Element;
 use crate::elements::Elements;
@@ -19,7 +19,7 @@ pub type SpeedProfile = Packet<27, Elements<SpeedElement>>;
 impl Packet<27, Elements<SpeedElement>> {
     ghost use Rattle.etcs_profile.specs.Elements.{profile};
     ghost use Rattle.etcs_profile.specs.Built.{IsBuilt, IsTooLong};
-    ghost use Rattle.etcs_profile.specs.Speed.{speed_element_rows};
+    ghost use Rattle.etcs_profile.specs.Speed.{speed_element};
     ghost use Rattle.etcs_profile.specs.Built.{HasMany};
     ghost use Rattle.etcs_profile.specs.declared.speed.SpeedElement.{SpeedElement};
 
@@ -36,7 +36,7 @@ impl Packet<27, Elements<SpeedElement>> {
     ) -> Result<SpeedProfile, BuildError>
         ensures { IsBuilt result (dir, profile scale first further.items)
             (HasMany (λ (e : SpeedElement). length e.differences ≤ 31) first further.items)
-            (IsTooLong 27 speed_element_rows (dir, profile scale first further.items)) }
+            (IsTooLong 27 speed_element (dir, profile scale first further.items)) }
     {
         Packet::build(dir, scale, first, further)
     }
@@ -56,20 +56,9 @@ pub struct Difference {
 }
 
 impl Layout for Difference {
-    ghost use Rattle.etcs_profile.specs.Speed.{difference_rows, difference_fields, difference_of, difference_laid};
+    ghost use Rattle.etcs_profile.specs.Speed.{difference};
 
-    ghost rows = { difference_rows };
-
-    ghost fields = { difference_fields };
-
-    ghost record_of = { difference_of };
-
-    // Its types keep their numbers in range.
-    ghost fit = { λ _. Unit {0} };
-
-    ghost grows = { ⊥ };
-
-    ghost laid = { difference_laid };
+    ghost format = { difference };
 
     #[tactic(auto, using(etcs_bits::proofs::PutLemmas::allowed_both))]
     fn is_allowed(&self) -> bool {
@@ -124,20 +113,15 @@ pub struct SpeedElement {
 }
 
 impl Layout for SpeedElement {
-    ghost use Rattle.etcs_profile.specs.Speed.{speed_element_rows, speed_element_fields, speed_element_of, speed_element_laid};
+    ghost use Rattle.etcs_profile.specs.Speed.{speed_element};
 
-    ghost rows = { speed_element_rows };
+    ghost format = { speed_element };
 
-    ghost fields = { speed_element_fields };
-
-    ghost record_of = { speed_element_of };
-
-    // Its types keep its numbers in range, but for the count of differences.
     ghost fit = { λ e. length e.differences ≤ 31 };
 
     ghost grows = { Unit {0} };
 
-    ghost laid = { speed_element_laid };
+    // Its types keep its numbers in range, but for the count of differences.
 
     #[tactic(auto, using(etcs_bits::proofs::PutLemmas::allowed_both, etcs_bits::proofs::FitLemmas::all_fit))]
     fn is_allowed(&self) -> bool {

@@ -35,20 +35,11 @@ impl Model for Terms {
 }
 
 impl Layout for Terms {
-    ghost use Rattle.etcs_profile.specs.Terms.{terms_rows, terms_fields, terms_of, terms_laid};
+    ghost use Rattle.etcs_profile.specs.Terms.{terms};
 
-    ghost rows = { terms_rows };
-
-    ghost fields = { terms_fields };
-
-    ghost record_of = { terms_of };
-
-    // Its types keep their numbers in range.
-    ghost fit = { λ _. Unit {0} };
+    ghost format = { terms };
 
     ghost grows = { Unit {0} };
-
-    ghost laid = { terms_laid };
 
     #[tactic(auto, using(etcs_bits::proofs::PutLemmas::allowed_both, etcs_bits::proofs::FitLemmas::some_fit, etcs_bits::proofs::FitLemmas::all_fit))]
     fn is_allowed(&self) -> bool {

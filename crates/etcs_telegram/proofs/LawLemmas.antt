@@ -13,12 +13,11 @@ use Rattle.etcs_bits.proofs.BindLemmas.{ok_is}
 use Rattle.etcs_bits.specs.Rows.{Place}
 use Rattle.etcs_packet.specs.declared.stop.Stop.TheVariants as stops
 use Rattle.etcs_packet.specs.declared.track.TrackPacket.{TrackPacket}
-use Rattle.etcs_packet.specs.Listed.{track_fields}
-use Rattle.etcs_packet.specs.Track.{track_of, track_laid}
+use Rattle.etcs_packet.specs.Track.{track_packet}
 use Rattle.etcs_packet.specs.Whole.{start, whole_at, whole_of}
 use Rattle.etcs_packet.proofs.WholeLemmas.{none_whole, read_is_whole, whole_fault_is_read, whole_fault_is_told}
 use Rattle.etcs_telegram.specs.declared.header.Header.{Header}
-use Rattle.etcs_telegram.specs.Header.{header_fields, header_of, header_laid}
+use Rattle.etcs_telegram.specs.Header.{header}
 use Rattle.etcs_telegram.specs.declared.error.TextError.TheVariants as errors
 use Rattle.etcs_telegram.specs.declared.size.Size.{Size}
 use Rattle.etcs_telegram.specs.Record.{Telegram}
@@ -36,7 +35,7 @@ one_meaning t u bits a b = let same = sym a ∙ b in cc
 
 -- reading a header and its packets
 abbrev read_at : List Bool → Result ((Header × List TrackPacket) × Place) Fault
-read_at bits = whole_at stops.Telegram header_fields header_of track_fields track_of (start bits)
+read_at bits = whole_at stops.Telegram header.fields header.of track_packet.fields track_packet.of (start bits)
 
 -- what reading gives, without the place
 abbrev told : ℕ → Result ((Header × List TrackPacket) × Place) Fault → Result Telegram Fault
@@ -67,7 +66,7 @@ means_telegram t bits count is =
       count = count_by (length bits) count ∙ ap user_bits x.size;
       begins = record {
         end = x.end;
-        whole = read_is_whole header_laid track_laid stops.Telegram t.header t.packets (start bits) x.end headed (omega arith) x.read;
+        whole = read_is_whole header.laid track_packet.laid stops.Telegram t.header t.packets (start bits) x.end headed (omega arith) x.read;
       };
     }
 
@@ -79,17 +78,17 @@ only_fault n (Err g) f is = let same : g ≡ f = cc in ap Err same
 
 pub fault_meant : (bits : List Bool) (f : Fault) → IsTelegramFault bits f → telegram_of bits ≡ Err f
 fault_meant bits f x =
-    let read = whole_fault_is_read header_of track_of stops.Telegram header_fields track_fields (start bits) f headed (omega arith) x in
+    let read = whole_fault_is_read header.of track_packet.of stops.Telegram header.fields track_packet.fields (start bits) f headed (omega arith) x in
     meant bits ∙ ap (told (length bits)) read
 
 pub meant_fault : (bits : List Bool) (f : Fault) → telegram_of bits ≡ Err f → IsTelegramFault bits f
 meant_fault bits f is =
-    whole_fault_is_told header_of track_of stops.Telegram header_fields track_fields (start bits) f (omega arith)
+    whole_fault_is_told header.of track_packet.of stops.Telegram header.fields track_packet.fields (start bits) f (omega arith)
     (only_fault (length bits) (read_at bits) f (sym (meant bits) ∙ is))
 
 pub fault_none : (bits : List Bool) (f : Fault) → IsTelegramFault bits f → IsNoTelegram bits f
 fault_none bits f x =
-    none_whole header_laid track_laid stops.Telegram (start bits) f headed (omega arith) x
+    none_whole header.laid track_packet.laid stops.Telegram (start bits) f headed (omega arith) x
 
 -- ---- texts
 

@@ -15,8 +15,7 @@ use Rattle.etcs_packet.specs.declared.stop.Stop.TheVariants as stops
 use Rattle.etcs_packet.specs.declared.track.TrackPacket.{TrackPacket}
 use Rattle.etcs_packet.specs.Laws.{HasNoMark}
 use Rattle.etcs_packet.specs.Lists.{IsHeaded, ends}
-use Rattle.etcs_packet.specs.Listed.{track_fields}
-use Rattle.etcs_packet.specs.Track.{track_rows, track_of, track_laid}
+use Rattle.etcs_packet.specs.Track.{track_packet}
 use Rattle.etcs_packet.specs.Whole.{BeginsWith, start, whole_of}
 use Rattle.etcs_packet.proofs.WholeLemmas.{whole_is_read, means_whole}
 use Rattle.etcs_packet.proofs.WrittenLemmas.{ends_only, mark_ends, whole_spelled, whole_written}
@@ -25,7 +24,7 @@ use Rattle.etcs_telegram.specs.declared.error.EncodeError.TheVariants as encode_
 use Rattle.etcs_telegram.specs.declared.header.Header.{Header}
 use Rattle.etcs_telegram.specs.declared.size.Size.{Size}
 use Rattle.etcs_telegram.specs.declared.size.Size.TheVariants.{Short, Long}
-use Rattle.etcs_telegram.specs.Header.{header_fields, header_rows, header_of, header_laid}
+use Rattle.etcs_telegram.specs.Header.{header}
 use Rattle.etcs_telegram.specs.Laws.{AreSpelledOut}
 use Rattle.etcs_telegram.specs.Record.{Telegram}
 use Rattle.etcs_telegram.specs.Sizes.{user_bits, size_of}
@@ -75,19 +74,19 @@ few_bits Long = omega arith
 
 -- ---- what bits mean
 
-pub headed : IsHeaded track_fields
+pub headed : IsHeaded track_packet.fields
 headed = (refl, refl)
 
-pub no_mark : HasNoMark track_fields
+pub no_mark : HasNoMark track_packet.fields
 no_mark = refl
 
 -- a header and packets at the front are read
 pub begins_meaning : (h : Header) (packets : List TrackPacket) (bits : List Bool)
-    → BeginsWith stops.Telegram header_rows track_rows h packets bits
-    → whole_of stops.Telegram header_fields header_of track_fields track_of bits ≡ Ok (h, packets)
+    → BeginsWith stops.Telegram header.rows track_packet.rows h packets bits
+    → whole_of stops.Telegram header.fields header.of track_packet.fields track_packet.of bits ≡ Ok (h, packets)
 begins_meaning h packets bits b =
-    means_whole stops.Telegram header_fields header_of track_fields track_of bits (h, packets) b.end
-    (whole_is_read header_laid track_laid stops.Telegram h packets (start bits) b.end headed (omega arith) b.whole)
+    means_whole stops.Telegram header.fields header.of track_packet.fields track_packet.of bits (h, packets) b.end
+    (whole_is_read header.laid track_packet.laid stops.Telegram h packets (start bits) b.end headed (omega arith) b.whole)
 
 -- a telegram of these parts
 abbrev pub made : Size → Header → List TrackPacket → Telegram
@@ -106,7 +105,7 @@ telegram_meaning t bits x =
 -- what was read, with its size
 pub read_meaning : (h : Header) (packets : List TrackPacket) (size : Size) (bits : List Bool)
     → size_of (length bits) ≡ Some size
-    → whole_of stops.Telegram header_fields header_of track_fields track_of bits ≡ Ok (h, packets)
+    → whole_of stops.Telegram header.fields header.of track_packet.fields track_packet.of bits ≡ Ok (h, packets)
     → telegram_of bits ≡ Ok (made size h packets)
 unfolding telegram_of
 read_meaning h packets size bits found read =
@@ -114,7 +113,7 @@ read_meaning h packets size bits found read =
 
 -- and what was not
 pub failed_meaning : (e : DecodeError) (bits : List Bool)
-    → Fails e (whole_of stops.Telegram header_fields header_of track_fields track_of bits)
+    → Fails e (whole_of stops.Telegram header.fields header.of track_packet.fields track_packet.of bits)
     → Fails e (telegram_of bits)
 unfolding telegram_of
 failed_meaning errors.Memory bits fails = tt
@@ -122,17 +121,17 @@ failed_meaning (errors.Fault f) bits fails = rw fails refl
 
 -- ---- encoding
 
-pub header_width : (h : Header) → length (join (header_rows h)) ≡ 50
+pub header_width : (h : Header) → length (join (header.rows h)) ≡ 50
 unfolding alone
-header_width h = length-join (header_rows h)
+header_width h = length-join (header.rows h)
 
 -- the header, the packets and the end mark have the bits that are counted
 pub front_width : (t : Telegram) → length (front_bits t) ≡ used_bits t
 front_width t =
-    let packets = flat_map track_rows t.packets in
+    let packets = flat_map track_packet.rows t.packets in
     omega (
       arith,
-      length-append (join (header_rows t.header)) (join packets ++ num 8 255),
+      length-append (join (header.rows t.header)) (join packets ++ num 8 255),
       length-append (join packets) (num 8 255),
       header_width t.header,
       length-join packets,
@@ -146,17 +145,17 @@ canonical_length t fits =
 
 -- what was written one after the other
 pub written_front : (t : Telegram) (none first second third : List Bool) → none ≡ []
-    → first ≡ none ++ join (header_rows t.header) → second ≡ first ++ join (flat_map track_rows t.packets)
+    → first ≡ none ++ join (header.rows t.header) → second ≡ first ++ join (flat_map track_packet.rows t.packets)
     → third ≡ second ++ num 8 255 → third ≡ front_bits t
 written_front t none first second third e f g h =
-    let header = join (header_rows t.header) in
-    let packets = join (flat_map track_rows t.packets) in
-    h ∙ ap (λ (xs : List Bool). xs ++ num 8 255) (g ∙ ap (λ (xs : List Bool). xs ++ packets) (f ∙ ap (λ (xs : List Bool). xs ++ header) e))
-    ∙ append_assoc header packets (num 8 255)
+    let head_bits = join (header.rows t.header) in
+    let packets = join (flat_map track_packet.rows t.packets) in
+    h ∙ ap (λ (xs : List Bool). xs ++ num 8 255) (g ∙ ap (λ (xs : List Bool). xs ++ packets) (f ∙ ap (λ (xs : List Bool). xs ++ head_bits) e))
+    ∙ append_assoc head_bits packets (num 8 255)
 
 -- and filled up
 pub is_encoding : (t : Telegram) (front bits : List Bool) → used_bits t ≤ user_bits t.size
-    → AreAllowed (header_rows t.header) → AreAllowed (flat_map track_rows t.packets) → front ≡ front_bits t
+    → AreAllowed (header.rows t.header) → AreAllowed (flat_map track_packet.rows t.packets) → front ≡ front_bits t
     → bits ≡ front ++ replicate (user_bits t.size - length front) true → IsEncoding t bits
 is_encoding t front bits fits header packets is filled = record {
   fits = fits;
@@ -170,13 +169,13 @@ is_encoding t front bits fits header packets is filled = record {
 -- bits that are spelled out are the telegram
 pub spelled_telegram : (t : Telegram) (bits : List Bool) → AreSpelledOut t bits → IsTelegram t bits
 spelled_telegram t bits x =
-    let header = join (header_rows t.header) in
-    let packets = join (flat_map track_rows t.packets) in
-    let parts = x.are ∙ append_assoc header (packets ++ num 8 255) x.fill ∙ ap (λ (xs : List Bool). header ++ xs) (append_assoc packets (num 8 255) x.fill) in
-    let whole = whole_written header_rows track_rows t.header t.packets stops.Telegram track_fields (num 8 255 ++ x.fill) bits headed no_mark track_laid.are_rows x.header x.packets (mark_ends stops.Telegram x.fill) parts in
+    let head_bits = join (header.rows t.header) in
+    let packets = join (flat_map track_packet.rows t.packets) in
+    let parts = x.are ∙ append_assoc head_bits (packets ++ num 8 255) x.fill ∙ ap (λ (xs : List Bool). head_bits ++ xs) (append_assoc packets (num 8 255) x.fill) in
+    let whole = whole_written header.rows track_packet.rows t.header t.packets stops.Telegram track_packet.fields (num 8 255 ++ x.fill) bits headed no_mark track_packet.laid.are_rows x.header x.packets (mark_ends stops.Telegram x.fill) parts in
     record {
       count = x.count;
-      begins = record { end = place_in bits (length header + length packets); whole = whole };
+      begins = record { end = place_in bits (length head_bits + length packets); whole = whole };
     }
 
 -- behind the packets of a telegram stands the end mark
@@ -191,9 +190,9 @@ marked rest over = mark_of rest (ends_only stops.Telegram rest over)
 -- and the other way round
 pub telegram_spelled : (t : Telegram) (bits : List Bool) → IsTelegram t bits → AreSpelledOut t bits
 telegram_spelled t bits x =
-    let header = join (header_rows t.header) in
-    let packets = join (flat_map track_rows t.packets) in
-    let parts = whole_spelled header_rows track_rows t.header t.packets stops.Telegram bits x.begins in
+    let head_bits = join (header.rows t.header) in
+    let packets = join (flat_map track_packet.rows t.packets) in
+    let parts = whole_spelled header.rows track_packet.rows t.header t.packets stops.Telegram bits x.begins in
     let mark = marked parts.rest parts.over in
     record {
       fill = mark.0;
@@ -201,9 +200,9 @@ telegram_spelled t bits x =
       header = parts.first;
       packets = parts.items;
       are =
-          parts.are ∙ ap (λ (xs : List Bool). header ++ (packets ++ xs)) mark.1
-          ∙ ap (λ (xs : List Bool). header ++ xs) (sym (append_assoc packets (num 8 255) mark.0))
-          ∙ sym (append_assoc header (packets ++ num 8 255) mark.0);
+          parts.are ∙ ap (λ (xs : List Bool). head_bits ++ (packets ++ xs)) mark.1
+          ∙ ap (λ (xs : List Bool). head_bits ++ xs) (sym (append_assoc packets (num 8 255) mark.0))
+          ∙ sym (append_assoc head_bits (packets ++ num 8 255) mark.0);
     }
 
 -- a telegram that is spelled out fits

@@ -3,11 +3,11 @@ use Rattle.std.specs.Prelude.{◌≡◌, ◌≢◌, ◌↔◌, ◌++◌, ℕ, Li
 use Rattle.std.specs.List.{flat_map}
 use Rattle.etcs_bits.specs.Rows.{AreAllowed}
 use Rattle.etcs_bits.specs.declared.fault.Fault.{Fault}
-use Rattle.etcs_packet.specs.Track.{track_rows}
+use Rattle.etcs_packet.specs.Track.{track_packet}
 use Rattle.etcs_telegram.specs.declared.error.TextError.{TextError}
 use Rattle.etcs_telegram.specs.declared.error.TextError.TheVariants as errors
 use Rattle.etcs_telegram.specs.Record.{Telegram}
-use Rattle.etcs_telegram.specs.Header.{header_rows}
+use Rattle.etcs_telegram.specs.Header.{header}
 use Rattle.etcs_telegram.specs.Sizes.{user_bits}
 use Rattle.etcs_telegram.specs.Telegram.{AreUserBits, IsTelegram, IsTelegramFault, IsNoTelegram, IsEncoding, canonical_bits, front_bits, telegram_of}
 use Rattle.etcs_telegram.specs.Text.{IsTelegramText, IsCanonicalText, IsReason, telegram_of_text}
@@ -30,8 +30,8 @@ pub record FaultsAreMeant : Type 0 where
 pub record AreSpelledOut (t : Telegram) (bits : List Bool) : Type 0 where
   pub fill : List Bool
   pub count : length bits ≡ user_bits t.size
-  pub header : AreAllowed (header_rows t.header)
-  pub packets : AreAllowed (flat_map track_rows t.packets)
+  pub header : AreAllowed (header.rows t.header)
+  pub packets : AreAllowed (flat_map track_packet.rows t.packets)
   pub are : bits ≡ front_bits t ++ fill
 
 -- Bits are a telegram exactly where they are it spelled out.

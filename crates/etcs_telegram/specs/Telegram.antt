@@ -7,13 +7,12 @@ use Rattle.etcs_bits.specs.Number.{num}
 use Rattle.etcs_bits.specs.Rows.{AreAllowed, join, width}
 use Rattle.etcs_packet.specs.declared.stop.Stop.TheVariants as stops
 use Rattle.etcs_packet.specs.declared.track.TrackPacket.{TrackPacket}
-use Rattle.etcs_packet.specs.Listed.{track_fields}
-use Rattle.etcs_packet.specs.Track.{track_rows, track_of}
+use Rattle.etcs_packet.specs.Track.{track_packet}
 use Rattle.etcs_packet.specs.Whole.{BeginsWith, IsWholeFault, NoneWhole, start, whole_of}
 use Rattle.etcs_telegram.specs.declared.header.Header.{Header}
 use Rattle.etcs_telegram.specs.declared.size.Size.{Size}
 use Rattle.etcs_telegram.specs.declared.size.Size.TheVariants.{Short, Long}
-use Rattle.etcs_telegram.specs.Header.{header_fields, header_rows, header_of}
+use Rattle.etcs_telegram.specs.Header.{header}
 use Rattle.etcs_telegram.specs.Record.{Telegram}
 use Rattle.etcs_telegram.specs.Sizes.{user_bits, size_of}
 
@@ -25,21 +24,21 @@ AreUserBits bits = IsSome (size_of (length bits))
 -- packets, up to the first end mark. What comes behind that says nothing.
 pub record IsTelegram (t : Telegram) (bits : List Bool) : Type 0 where
   pub count : length bits ≡ user_bits t.size
-  pub begins : BeginsWith stops.Telegram header_rows track_rows t.header t.packets bits
+  pub begins : BeginsWith stops.Telegram header.rows track_packet.rows t.header t.packets bits
 
 -- The first fault of the bits: that of the header, or of the packets behind a header that is whole.
 abbrev pub IsTelegramFault : List Bool → Fault → Type 0
-IsTelegramFault bits f = IsWholeFault stops.Telegram header_fields track_fields (start bits) f
+IsTelegramFault bits f = IsWholeFault stops.Telegram header.fields track_packet.fields (start bits) f
 
 -- No bits of the same number that begin with the same first `end` bits are a telegram.
 abbrev pub IsNoTelegram : List Bool → Fault → Type 0
-IsNoTelegram bits f = NoneWhole stops.Telegram header_rows track_rows (start bits) f
+IsNoTelegram bits f = NoneWhole stops.Telegram header.rows track_packet.rows (start bits) f
 
 -- ---- from a telegram to bits
 
 -- how many bits its header, its packets and the end mark have
 abbrev pub used_bits : Telegram → ℕ
-used_bits t = 50 + width (flat_map track_rows t.packets) + 8
+used_bits t = 50 + width (flat_map track_packet.rows t.packets) + 8
 
 -- they are more than the telegram's size has
 abbrev pub IsTooBig : Telegram → Type 0
@@ -47,7 +46,7 @@ IsTooBig t = user_bits t.size < used_bits t
 
 -- the header, the packets and the end mark, one after the other
 abbrev pub front_bits : Telegram → List Bool
-front_bits t = join (header_rows t.header) ++ (join (flat_map track_rows t.packets) ++ num 8 255)
+front_bits t = join (header.rows t.header) ++ (join (flat_map track_packet.rows t.packets) ++ num 8 255)
 
 -- the bits of a telegram, filled up with ones (this project's rule)
 abbrev pub canonical_bits : Telegram → List Bool
@@ -56,8 +55,8 @@ canonical_bits t = front_bits t ++ replicate (user_bits t.size - used_bits t) tr
 -- The bits are the telegram's canonical spelling, in which none of its numbers is spare.
 pub record IsEncoding (t : Telegram) (bits : List Bool) : Type 0 where
   pub fits : used_bits t ≤ user_bits t.size
-  pub header : AreAllowed (header_rows t.header)
-  pub packets : AreAllowed (flat_map track_rows t.packets)
+  pub header : AreAllowed (header.rows t.header)
+  pub packets : AreAllowed (flat_map track_packet.rows t.packets)
   pub canonical : bits ≡ canonical_bits t
 
 -- ---- as a function
@@ -74,4 +73,4 @@ telegram_by n (Err f) = Err f
 -- what 210 or 830 bits mean: their telegram, or their first fault
 unfoldable pub telegram_of : List Bool → Result Telegram Fault
 telegram_of bits =
-    telegram_by (length bits) (whole_of stops.Telegram header_fields header_of track_fields track_of bits)
+    telegram_by (length bits) (whole_of stops.Telegram header.fields header.of track_packet.fields track_packet.of bits)

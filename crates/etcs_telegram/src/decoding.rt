@@ -5,7 +5,7 @@ ghost use Rattle.etcs_bits.specs.declared.fault.Fault.{Fault};
 ghost use Rattle.etcs_bits.specs.Fault.{IsFault};
 ghost use Rattle.etcs_bits.specs.Layout.{IfFault, IsMeaning};
 ghost use Rattle.etcs_packet.specs.Whole.{start};
-ghost use Rattle.etcs_telegram.specs.Header.{header_fields};
+ghost use Rattle.etcs_telegram.specs.Header.{header};
 ghost use Rattle.etcs_telegram.specs.Telegram.{AreUserBits, IsNoTelegram, IsTelegram, IsTelegramFault, telegram_of};
 
 use crate::size::Size;
@@ -30,7 +30,7 @@ pub fn decode(alloc: Global, bits: &Bits) -> Result<Telegram, DecodeError>
     ensures exact { IsMeaning result (telegram_of bits.now) }
 
     // The header's fault is always told: reading it asks for no memory.
-    ensures header { (f : Fault) → IsFault header_fields (start bits.now) f
+    ensures header { (f : Fault) → IsFault header.fields (start bits.now) f
         → result ≡ Err (DecodeError.Fault f) }
 {
     let size = Size::of_len(bits.len()).unwrap();

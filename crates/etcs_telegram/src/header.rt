@@ -27,20 +27,10 @@ pub struct Header {
 }
 
 impl Layout for Header {
-    ghost use Rattle.etcs_telegram.specs.Header.{header_rows, header_fields, header_of, header_laid};
+    ghost use Rattle.etcs_telegram.specs.Header.{header};
+    ghost use Rattle.etcs_telegram.specs.Header.{header};
 
-    ghost rows = { header_rows };
-
-    ghost fields = { header_fields };
-
-    ghost record_of = { header_of };
-
-    // Its types keep its numbers in range.
-    ghost fit = { λ _. Unit {0} };
-
-    ghost grows = { ⊥ };
-
-    ghost laid = { header_laid };
+    ghost format = { header };
 
     #[tactic(auto, using(etcs_bits::proofs::PutLemmas::allowed_both))]
     fn is_allowed(&self) -> bool {

@@ -5,6 +5,6 @@ use Rattle.etcs_bits.proofs.items.are_allowed.Given as goal
 
 abbrev pub invariant-items : goal.invariant-items
 invariant-items g l = record {
-  allowed : AreAllowed (flat_map g.T.Layout.rows (take l.item-index l.items));
+  allowed : AreAllowed (flat_map g.T.Layout.format.rows (take l.item-index l.items));
   fit : AllByRecursion g.T.Layout.fit (take l.item-index l.items);
 }

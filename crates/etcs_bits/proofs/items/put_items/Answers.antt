@@ -5,7 +5,7 @@ use Rattle.etcs_bits.proofs.items.put_items.Goals as goal
 
 pub put-requires : goal.put-requires
 put-requires g c =
-    item_allowed g.T.Layout.rows c.args.items.now c.items.item-index c.item-item.result
+    item_allowed g.T.Layout.format.rows c.args.items.now c.items.item-index c.item-item.result
     (record { inside = c.items-test.true; is = c.item-item.is }) c.requires
 
 pub returns-in_err-put : goal.returns-in_err-put
@@ -15,5 +15,5 @@ returns-in_err-put g c =
 
 pub items-preserved : goal.items-preserved
 items-preserved g c =
-    item_put g.T.Layout.rows c.args.items.now c.items.item-index c.item-item.result c.args.out.now c.items.out c.put.new.out
+    item_put g.T.Layout.format.rows c.args.items.now c.items.item-index c.item-item.result c.args.out.now c.items.out c.put.new.out
     (record { inside = c.items-test.true; is = c.item-item.is }) c.items.invariant c.in_ok-put.ensures

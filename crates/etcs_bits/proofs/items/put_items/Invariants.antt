@@ -5,4 +5,4 @@ use Rattle.etcs_bits.proofs.items.put_items.Given as goal
 
 abbrev pub invariant-items : goal.invariant-items
 invariant-items g l =
-    l.out ≡ l.fn.out ++ join (flat_map g.T.Layout.rows (take l.item-index l.items))
+    l.out ≡ l.fn.out ++ join (flat_map g.T.Layout.format.rows (take l.item-index l.items))

@@ -8,7 +8,7 @@ use Rattle.etcs_bits.proofs.items.scan_items.Given as goal
 abbrev pub invariant-items : goal.invariant-items
 invariant-items g l = record {
   count : length l.items.items ≡ l.counter;
-  so_far : with_front (flat_map g.T.Layout.rows l.items.items)
-      (rows_at (times (l.count - l.counter) g.T.Layout.fields) l.cur)
-      ≡ rows_at (times l.count g.T.Layout.fields) l.fn.cur;
+  so_far : with_front (flat_map g.T.Layout.format.rows l.items.items)
+      (rows_at (times (l.count - l.counter) g.T.Layout.format.fields) l.cur)
+      ≡ rows_at (times l.count g.T.Layout.format.fields) l.fn.cur;
 }

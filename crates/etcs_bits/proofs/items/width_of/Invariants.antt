@@ -6,4 +6,4 @@ use Rattle.etcs_bits.proofs.items.width_of.Given as goal
 
 abbrev pub invariant-items : goal.invariant-items
 invariant-items g l =
-    l.sum ≡ min (width (flat_map g.T.Layout.rows (take l.item-index l.items))) (2 ^ 64 - 1)
+    l.sum ≡ min (width (flat_map g.T.Layout.format.rows (take l.item-index l.items))) (2 ^ 64 - 1)

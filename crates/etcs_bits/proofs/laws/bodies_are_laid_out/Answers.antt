@@ -1,7 +1,7 @@
-use Rattle.etcs_bits.specs.LaidLemmas.{body_laid}
+use Rattle.etcs_bits.specs.Format.{behind_length}
 use Rattle.etcs_bits.proofs.LayoutLemmas.{laid_out}
 use Rattle.etcs_bits.proofs.laws.bodies_are_laid_out.Goals as goal
 
 -- as for each layout: a call at `Body` would need a bound on the size of its record in memory
 pub returns : goal.returns
-returns g c = laid_out (body_laid g.row.BEFORE g.met.T.Layout.laid)
+returns g c = laid_out (behind_length g.row.BEFORE g.T.Layout.format)

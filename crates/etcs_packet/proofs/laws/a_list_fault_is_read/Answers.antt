@@ -4,6 +4,6 @@ use Rattle.etcs_packet.proofs.laws.a_list_fault_is_read.Goals as goal
 -- behind whole records both speak of the next one
 pub returns : goal.returns
 returns g c = λ stop p f within. (
-  λ told. list_fault_is_read g.T.Layout.record_of stop g.T.Layout.fields p f c.requires within told,
-  λ read. list_fault_is_told g.T.Layout.record_of stop g.T.Layout.fields p f within read,
+  λ told. list_fault_is_read g.T.Layout.format.of stop g.T.Layout.format.fields p f c.requires within told,
+  λ read. list_fault_is_told g.T.Layout.format.of stop g.T.Layout.format.fields p f within read,
 )

@@ -4,6 +4,6 @@ use Rattle.etcs_packet.proofs.laws.a_list_is_read.Goals as goal
 -- each record is read where it is spelled, and what is read of each is spelled
 pub returns : goal.returns
 returns g c = λ stop xs p q within. (
-  λ stand. stand_is_read g.met.T.Layout.laid xs stop p q c.requires within stand,
-  λ read. read_stands g.met.T.Layout.laid xs stop p q c.requires within read,
+  λ stand. stand_is_read g.T.Layout.format.laid xs stop p q c.requires within stand,
+  λ read. read_stands g.T.Layout.format.laid xs stop p q c.requires within read,
 )

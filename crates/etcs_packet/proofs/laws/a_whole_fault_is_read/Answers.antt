@@ -4,6 +4,6 @@ use Rattle.etcs_packet.proofs.laws.a_whole_fault_is_read.Goals as goal
 -- both speak of the head, or of the list behind a whole one
 pub returns : goal.returns
 returns g c = λ stop p f within. (
-  λ told. whole_fault_is_read g.H.Layout.record_of g.T.Layout.record_of stop g.H.Layout.fields g.T.Layout.fields p f c.requires within told,
-  λ read. whole_fault_is_told g.H.Layout.record_of g.T.Layout.record_of stop g.H.Layout.fields g.T.Layout.fields p f within read,
+  λ told. whole_fault_is_read g.H.Layout.format.of g.T.Layout.format.of stop g.H.Layout.format.fields g.T.Layout.format.fields p f c.requires within told,
+  λ read. whole_fault_is_told g.H.Layout.format.of g.T.Layout.format.of stop g.H.Layout.format.fields g.T.Layout.format.fields p f within read,
 )

@@ -3,4 +3,4 @@ use Rattle.etcs_packet.proofs.laws.a_whole_is_its_spellings.Goals as goal
 
 -- the list stands behind the head
 pub returns : goal.returns
-returns g c = λ stop h xs bits begins. whole_spelled g.H.Layout.rows g.T.Layout.rows h xs stop bits begins
+returns g c = λ stop h xs bits begins. whole_spelled g.H.Layout.format.rows g.T.Layout.format.rows h xs stop bits begins

@@ -12,7 +12,7 @@ pub returns-in_err-item-clause-none : goal.returns-in_err-item-clause-none
 returns-in_err-item-clause-none g c =
     let failed = err_from_is_err_and c.from_residual.result c.from_residual.ensures.1 in
     let goes : ends c.args.stop c.args.cur.now ≡ false = cc (c.is_end.ensures.value, c.if-is_end.false) in
-    rw (failed.1, failed.2) (no_step g.T.Layout.rows c.in_err-item.field-0.0 c.args.stop g.T.Layout.fields c.args.cur.now c.requires c.is_end.ensures.inside goes c.in_err-item.ensures.fault c.in_err-item.ensures.none)
+    rw (failed.1, failed.2) (no_step g.T.Layout.format.rows c.in_err-item.field-0.0 c.args.stop g.T.Layout.format.fields c.args.cur.now c.requires c.is_end.ensures.inside goes c.in_err-item.ensures.fault c.in_err-item.ensures.none)
 
 -- fewer than eight bits are a fault of their own
 pub returns-then-left-lt8-clause-fault : goal.returns-then-left-lt8-clause-fault
@@ -21,7 +21,7 @@ returns-then-left-lt8-clause-fault g c =
     let goes : ends c.args.stop p ≡ false = cc (c.is_end.ensures.value, c.if-is_end.false) in
     let few : length p.bits < p.at + 8 = omega (arith, c.left.ensures, c.if-left-lt8.true) in
     let is = c.refused.ensures ∙ ap (λ (at : ℕ). errors.Fault (record { at = at; end = p.at; why = NoEnd })) c.at.ensures.place in
-    rw is (goes, no_end_here g.T.Layout.fields p c.requires few)
+    rw is (goes, no_end_here g.T.Layout.format.fields p c.requires few)
 
 -- and then no packet and no end stands here
 pub returns-then-left-lt8-clause-none : goal.returns-then-left-lt8-clause-none
@@ -30,4 +30,4 @@ returns-then-left-lt8-clause-none g c =
     let goes : ends c.args.stop p ≡ false = cc (c.is_end.ensures.value, c.if-is_end.false) in
     let few : length p.bits < p.at + 8 = omega (arith, c.left.ensures, c.if-left-lt8.true) in
     let is = c.refused.ensures ∙ ap (λ (at : ℕ). errors.Fault (record { at = at; end = p.at; why = NoEnd })) c.at.ensures.place in
-    rw is (lacks_step g.met.T.Layout.laid c.args.stop p c.requires c.is_end.ensures.inside goes few)
+    rw is (lacks_step g.T.Layout.format.laid c.args.stop p c.requires c.is_end.ensures.inside goes few)

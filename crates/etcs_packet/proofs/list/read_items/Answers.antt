@@ -12,65 +12,65 @@ pub returns-in_err-item-clause-none : goal.returns-in_err-item-clause-none
 returns-in_err-item-clause-none g c =
     let failed = err_from_is_err_and c.from_residual.result c.from_residual.ensures.1 in
     let e = c.in_err-item.field-0.0 in
-    let told : OfFault e (λ f. IsListFault c.args.stop g.T.Layout.fields c.args.cur.now f) =
-    list_fault g.T.Layout.rows e c.loop-found.found.items c.args.stop g.T.Layout.fields c.args.cur.now c.loop-found.ahead c.loop-found.invariant.follow c.in_err-item.ensures.fault in
-    rw (failed.1, failed.2) (none_of g.T.Layout.rows e c.args.stop g.T.Layout.fields c.args.cur.now c.requires g.met.T.Layout.laid.are_rows c.loop-found.invariant.inside told)
+    let told : OfFault e (λ f. IsListFault c.args.stop g.T.Layout.format.fields c.args.cur.now f) =
+    list_fault g.T.Layout.format.rows e c.loop-found.found.items c.args.stop g.T.Layout.format.fields c.args.cur.now c.loop-found.ahead c.loop-found.invariant.follow c.in_err-item.ensures.fault in
+    rw (failed.1, failed.2) (none_of g.T.Layout.format.rows e c.args.stop g.T.Layout.format.fields c.args.cur.now c.requires g.T.Layout.format.laid.are_rows c.loop-found.invariant.inside told)
 
 -- and reading gives it
 pub returns-in_err-item-clause-exact : goal.returns-in_err-item-clause-exact
 returns-in_err-item-clause-exact g c =
     let failed = err_from_is_err_and c.from_residual.result c.from_residual.ensures.1 in
     let e = c.in_err-item.field-0.0 in
-    let told : OfFault e (λ f. IsListFault c.args.stop g.T.Layout.fields c.args.cur.now f) =
-    list_fault g.T.Layout.rows e c.loop-found.found.items c.args.stop g.T.Layout.fields c.args.cur.now c.loop-found.ahead c.loop-found.invariant.follow c.in_err-item.ensures.fault in
-    rw (failed.1, failed.2) (list_fails g.T.Layout.record_of e c.args.stop g.T.Layout.fields c.args.cur.now c.requires c.loop-found.invariant.inside told)
+    let told : OfFault e (λ f. IsListFault c.args.stop g.T.Layout.format.fields c.args.cur.now f) =
+    list_fault g.T.Layout.format.rows e c.loop-found.found.items c.args.stop g.T.Layout.format.fields c.args.cur.now c.loop-found.ahead c.loop-found.invariant.follow c.in_err-item.ensures.fault in
+    rw (failed.1, failed.2) (list_fails g.T.Layout.format.of e c.args.stop g.T.Layout.format.fields c.args.cur.now c.requires c.loop-found.invariant.inside told)
 
 -- a packet has eight bits
 pub loop-found-smaller : goal.loop-found-smaller
 loop-found-smaller g c =
     let item = c.in-Some.item in
-    let step : IsStep c.args.stop g.T.Layout.rows (Some item) c.loop-found.ahead c.next_item.new.cur = rw c.in-Some.is at c.in_ok-item.ensures.ok in
-    let inside = follow_within c.args.stop g.T.Layout.fields (map g.T.Layout.rows c.loop-found.found.items) c.args.cur.now c.loop-found.ahead c.loop-found.invariant.inside c.loop-found.invariant.follow in
-    less_left g.T.Layout.fields (g.T.Layout.rows item) c.loop-found.ahead c.next_item.new.cur c.requires inside (g.met.T.Layout.laid.are_rows item) step.1
+    let step : IsStep c.args.stop g.T.Layout.format.rows (Some item) c.loop-found.ahead c.next_item.new.cur = rw c.in-Some.is at c.in_ok-item.ensures.ok in
+    let inside = follow_within c.args.stop g.T.Layout.format.fields (map g.T.Layout.format.rows c.loop-found.found.items) c.args.cur.now c.loop-found.ahead c.loop-found.invariant.inside c.loop-found.invariant.follow in
+    less_left g.T.Layout.format.fields (g.T.Layout.format.rows item) c.loop-found.ahead c.next_item.new.cur c.requires inside (g.T.Layout.format.laid.are_rows item) step.1
 
 -- the packet that was read follows those before it
 pub loop-found-preserved : goal.loop-found-preserved
 loop-found-preserved g c =
     let item = c.in-Some.item in
-    let step : IsStep c.args.stop g.T.Layout.rows (Some item) c.loop-found.ahead c.next_item.new.cur = rw c.in-Some.is at c.in_ok-item.ensures.ok in
+    let step : IsStep c.args.stop g.T.Layout.format.rows (Some item) c.loop-found.ahead c.next_item.new.cur = rw c.in-Some.is at c.in_ok-item.ensures.ok in
     record {
       inside = c.loop-found.invariant.inside;
-      follow = rw c.in_ok-push.ensures.items (goes_on g.T.Layout.rows c.loop-found.found.items item c.args.stop g.T.Layout.fields c.args.cur.now c.loop-found.ahead c.next_item.new.cur c.loop-found.invariant.follow (g.met.T.Layout.laid.are_rows item) step);
+      follow = rw c.in_ok-push.ensures.items (goes_on g.T.Layout.format.rows c.loop-found.found.items item c.args.stop g.T.Layout.format.fields c.args.cur.now c.loop-found.ahead c.next_item.new.cur c.loop-found.invariant.follow (g.T.Layout.format.laid.are_rows item) step);
     }
 
 -- where none follows, the list ends
 pub returns-clause-ok : goal.returns-clause-ok
 returns-clause-ok g c =
-    let step : IsStep c.args.stop g.T.Layout.rows None c.loop-found.ahead c.next_item.new.cur = rw c.in_default.is at c.in_ok-item.ensures.ok in
-    over g.T.Layout.rows c.loop-found.found.items c.args.stop g.T.Layout.fields c.args.cur.now c.loop-found.ahead c.next_item.new.cur c.loop-found.invariant.follow step
+    let step : IsStep c.args.stop g.T.Layout.format.rows None c.loop-found.ahead c.next_item.new.cur = rw c.in_default.is at c.in_ok-item.ensures.ok in
+    over g.T.Layout.format.rows c.loop-found.found.items c.args.stop g.T.Layout.format.fields c.args.cur.now c.loop-found.ahead c.next_item.new.cur c.loop-found.invariant.follow step
 
 -- and a list that stands is what reading gives
 pub returns-clause-exact : goal.returns-clause-exact
 returns-clause-exact g c =
-    let step : IsStep c.args.stop g.T.Layout.rows None c.loop-found.ahead c.next_item.new.cur = rw c.in_default.is at c.in_ok-item.ensures.ok in
-    let stand : Stand c.args.stop g.T.Layout.rows c.loop-found.found.items c.args.cur.now c.next_item.new.cur =
-    over g.T.Layout.rows c.loop-found.found.items c.args.stop g.T.Layout.fields c.args.cur.now c.loop-found.ahead c.next_item.new.cur c.loop-found.invariant.follow step in
-    stand_is_read g.met.T.Layout.laid c.loop-found.found.items c.args.stop c.args.cur.now c.next_item.new.cur c.requires c.loop-found.invariant.inside stand
+    let step : IsStep c.args.stop g.T.Layout.format.rows None c.loop-found.ahead c.next_item.new.cur = rw c.in_default.is at c.in_ok-item.ensures.ok in
+    let stand : Stand c.args.stop g.T.Layout.format.rows c.loop-found.found.items c.args.cur.now c.next_item.new.cur =
+    over g.T.Layout.format.rows c.loop-found.found.items c.args.stop g.T.Layout.format.fields c.args.cur.now c.loop-found.ahead c.next_item.new.cur c.loop-found.invariant.follow step in
+    stand_is_read g.T.Layout.format.laid c.loop-found.found.items c.args.stop c.args.cur.now c.next_item.new.cur c.requires c.loop-found.invariant.inside stand
 
 -- where no end can come, the first step says so
 pub returns-in_err-item-clause-no_end : goal.returns-in_err-item-clause-no_end
 returns-in_err-item-clause-no_end g c = λ telegram few.
     let failed = err_from_is_err_and c.from_residual.result c.from_residual.ensures.1 in
-    let here = none_before c.args.stop g.T.Layout.fields (map g.T.Layout.rows c.loop-found.found.items) c.args.cur.now c.loop-found.ahead c.requires c.loop-found.invariant.inside few c.loop-found.invariant.follow in
+    let here = none_before c.args.stop g.T.Layout.format.fields (map g.T.Layout.format.rows c.loop-found.found.items) c.args.cur.now c.loop-found.ahead c.requires c.loop-found.invariant.inside few c.loop-found.invariant.follow in
     rw (failed.1, failed.2) (ap Err (same_error _ _ (rw here at c.in_err-item.ensures.no_end telegram few)))
 
 -- and it gives no packet
 pub returns-in_err-push-clause-no_end : goal.returns-in_err-push-clause-no_end
 returns-in_err-push-clause-no_end g c = λ telegram few.
-    let here = none_before c.args.stop g.T.Layout.fields (map g.T.Layout.rows c.loop-found.found.items) c.args.cur.now c.loop-found.ahead c.requires c.loop-found.invariant.inside few c.loop-found.invariant.follow in
+    let here = none_before c.args.stop g.T.Layout.format.fields (map g.T.Layout.format.rows c.loop-found.found.items) c.args.cur.now c.loop-found.ahead c.requires c.loop-found.invariant.inside few c.loop-found.invariant.follow in
     no_error _ _ (rw here at c.in_ok-item.ensures.no_end telegram few)
 
 pub returns-clause-no_end : goal.returns-clause-no_end
 returns-clause-no_end g c = λ telegram few.
-    let here = none_before c.args.stop g.T.Layout.fields (map g.T.Layout.rows c.loop-found.found.items) c.args.cur.now c.loop-found.ahead c.requires c.loop-found.invariant.inside few c.loop-found.invariant.follow in
+    let here = none_before c.args.stop g.T.Layout.format.fields (map g.T.Layout.format.rows c.loop-found.found.items) c.args.cur.now c.loop-found.ahead c.requires c.loop-found.invariant.inside few c.loop-found.invariant.follow in
     no_error _ _ (rw here at c.in_ok-item.ensures.no_end telegram few)

@@ -6,7 +6,7 @@ use Rattle.etcs_packet.proofs.list.read_items.Given as goal
 abbrev pub invariant-loop-found : goal.invariant-loop-found
 invariant-loop-found g l = record {
   inside : l.fn.cur.at ≤ length l.fn.cur.bits;
-  follow : Follow l.stop g.T.Layout.fields (map g.T.Layout.rows l.found.items) l.fn.cur l.ahead;
+  follow : Follow l.stop g.T.Layout.format.fields (map g.T.Layout.format.rows l.found.items) l.fn.cur l.ahead;
 }
 
 -- how many bits are left

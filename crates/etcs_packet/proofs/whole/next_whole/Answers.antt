@@ -13,8 +13,8 @@ returns-in_err-head-clause-exact g c =
     let failed = err_from_is_err_and c.from_residual.result c.from_residual.ensures.1 in
     let e = c.in_err-head.field-0.0 in
     let inside : c.args.cur.now.at ≤ length c.args.cur.now.bits = rw c.fork-ahead.ensures.same at c.fork-ahead.ensures.inside in
-    let told : OfFault e (λ f. IsFault g.H.Layout.fields c.args.cur.now f) = rw c.fork-ahead.ensures.same at c.in_err-head.ensures.fault in
-    rw (failed.1, failed.2) (whole_fails g.H.Layout.record_of g.T.Layout.record_of e c.args.stop g.H.Layout.fields g.T.Layout.fields c.args.cur.now c.requires inside (head_fault e c.args.stop g.H.Layout.fields g.T.Layout.fields c.args.cur.now told))
+    let told : OfFault e (λ f. IsFault g.H.Layout.format.fields c.args.cur.now f) = rw c.fork-ahead.ensures.same at c.in_err-head.ensures.fault in
+    rw (failed.1, failed.2) (whole_fails g.H.Layout.format.of g.T.Layout.format.of e c.args.stop g.H.Layout.format.fields g.T.Layout.format.fields c.args.cur.now c.requires inside (head_fault e c.args.stop g.H.Layout.format.fields g.T.Layout.format.fields c.args.cur.now told))
 
 -- where a head stands, the fault of the list is that of the whole, and then no whole stands
 pub returns-in_err-items-clause-none : goal.returns-in_err-items-clause-none
@@ -23,9 +23,9 @@ returns-in_err-items-clause-none g c =
     let e = c.in_err-items.field-0.0 in
     let head = c.in_ok-head.head in
     let inside : c.args.cur.now.at ≤ length c.args.cur.now.bits = rw c.fork-ahead.ensures.same at c.fork-ahead.ensures.inside in
-    let spelled : IsSpelled (g.H.Layout.rows head) c.args.cur.now c.read.new.cur = rw c.fork-ahead.ensures.same at c.in_ok-head.ensures.ok in
-    let told = later_fault e c.args.stop g.H.Layout.fields g.T.Layout.fields (g.H.Layout.rows head) c.args.cur.now c.read.new.cur (g.met.H.Layout.laid.are_rows head) spelled c.in_err-items.ensures.fault in
-    rw (failed.1, failed.2) (none_of_whole g.met.H.Layout.laid g.met.T.Layout.laid e c.args.stop c.args.cur.now c.requires inside told)
+    let spelled : IsSpelled (g.H.Layout.format.rows head) c.args.cur.now c.read.new.cur = rw c.fork-ahead.ensures.same at c.in_ok-head.ensures.ok in
+    let told = later_fault e c.args.stop g.H.Layout.format.fields g.T.Layout.format.fields (g.H.Layout.format.rows head) c.args.cur.now c.read.new.cur (g.H.Layout.format.laid.are_rows head) spelled c.in_err-items.ensures.fault in
+    rw (failed.1, failed.2) (none_of_whole g.H.Layout.format.laid g.T.Layout.format.laid e c.args.stop c.args.cur.now c.requires inside told)
 
 -- and reading gives it
 pub returns-in_err-items-clause-exact : goal.returns-in_err-items-clause-exact
@@ -34,18 +34,18 @@ returns-in_err-items-clause-exact g c =
     let e = c.in_err-items.field-0.0 in
     let head = c.in_ok-head.head in
     let inside : c.args.cur.now.at ≤ length c.args.cur.now.bits = rw c.fork-ahead.ensures.same at c.fork-ahead.ensures.inside in
-    let spelled : IsSpelled (g.H.Layout.rows head) c.args.cur.now c.read.new.cur = rw c.fork-ahead.ensures.same at c.in_ok-head.ensures.ok in
-    let told = later_fault e c.args.stop g.H.Layout.fields g.T.Layout.fields (g.H.Layout.rows head) c.args.cur.now c.read.new.cur (g.met.H.Layout.laid.are_rows head) spelled c.in_err-items.ensures.fault in
-    rw (failed.1, failed.2) (whole_fails g.H.Layout.record_of g.T.Layout.record_of e c.args.stop g.H.Layout.fields g.T.Layout.fields c.args.cur.now c.requires inside told)
+    let spelled : IsSpelled (g.H.Layout.format.rows head) c.args.cur.now c.read.new.cur = rw c.fork-ahead.ensures.same at c.in_ok-head.ensures.ok in
+    let told = later_fault e c.args.stop g.H.Layout.format.fields g.T.Layout.format.fields (g.H.Layout.format.rows head) c.args.cur.now c.read.new.cur (g.H.Layout.format.laid.are_rows head) spelled c.in_err-items.ensures.fault in
+    rw (failed.1, failed.2) (whole_fails g.H.Layout.format.of g.T.Layout.format.of e c.args.stop g.H.Layout.format.fields g.T.Layout.format.fields c.args.cur.now c.requires inside told)
 
 -- a whole that stands is what reading gives
 pub returns-clause-exact : goal.returns-clause-exact
 returns-clause-exact g c =
     let head = c.in_ok-head.head in
     let inside : c.args.cur.now.at ≤ length c.args.cur.now.bits = rw c.fork-ahead.ensures.same at c.fork-ahead.ensures.inside in
-    let spelled : IsSpelled (g.H.Layout.rows head) c.args.cur.now c.read.new.cur = rw c.fork-ahead.ensures.same at c.in_ok-head.ensures.ok in
-    let whole : IsWhole c.args.stop g.H.Layout.rows g.T.Layout.rows head c.in_ok-items.items.items c.args.cur.now c.read_items.new.cur = record { middle = c.read.new.cur; first = spelled; items = c.in_ok-items.ensures.ok } in
-    whole_is_read g.met.H.Layout.laid g.met.T.Layout.laid c.args.stop head c.in_ok-items.items.items c.args.cur.now c.read_items.new.cur c.requires inside whole
+    let spelled : IsSpelled (g.H.Layout.format.rows head) c.args.cur.now c.read.new.cur = rw c.fork-ahead.ensures.same at c.in_ok-head.ensures.ok in
+    let whole : IsWhole c.args.stop g.H.Layout.format.rows g.T.Layout.format.rows head c.in_ok-items.items.items c.args.cur.now c.read_items.new.cur = record { middle = c.read.new.cur; first = spelled; items = c.in_ok-items.ensures.ok } in
+    whole_is_read g.H.Layout.format.laid g.T.Layout.format.laid c.args.stop head c.in_ok-items.items.items c.args.cur.now c.read_items.new.cur c.requires inside whole
 
 -- where reading the head asks for no memory, its fault is what is answered
 pub returns-in_err-head-clause-head : goal.returns-in_err-head-clause-head
@@ -53,18 +53,18 @@ returns-in_err-head-clause-head g c = λ none f fault.
     let failed = err_from_is_err_and c.from_residual.result c.from_residual.ensures.1 in
     let e = c.in_err-head.field-0.0 in
     let inside : c.args.cur.now.at ≤ length c.args.cur.now.bits = rw c.fork-ahead.ensures.same at c.fork-ahead.ensures.inside in
-    let told : OfFault e (λ h. IsFault g.H.Layout.fields c.args.cur.now h) = rw c.fork-ahead.ensures.same at c.in_err-head.ensures.fault in
-    rw (failed.1, failed.2) (ap Err (head_told e g.H.Layout.grows g.H.Layout.fields c.args.cur.now f inside told c.in_err-head.ensures.memory none fault))
+    let told : OfFault e (λ h. IsFault g.H.Layout.format.fields c.args.cur.now h) = rw c.fork-ahead.ensures.same at c.in_err-head.ensures.fault in
+    rw (failed.1, failed.2) (ap Err (head_told e g.H.Layout.grows g.H.Layout.format.fields c.args.cur.now f inside told c.in_err-head.ensures.memory none fault))
 
 -- and where a head stands, it has no fault
 pub returns-in_err-items-clause-head : goal.returns-in_err-items-clause-head
 returns-in_err-items-clause-head g c = λ none f fault.
     let inside : c.args.cur.now.at ≤ length c.args.cur.now.bits = rw c.fork-ahead.ensures.same at c.fork-ahead.ensures.inside in
-    let spelled : IsSpelled (g.H.Layout.rows c.in_ok-head.head) c.args.cur.now c.read.new.cur = rw c.fork-ahead.ensures.same at c.in_ok-head.ensures.ok in
-    absurd (head_stands g.H.Layout.fields g.H.Layout.rows c.in_ok-head.head c.args.cur.now c.read.new.cur f inside g.met.H.Layout.laid.are_rows spelled fault)
+    let spelled : IsSpelled (g.H.Layout.format.rows c.in_ok-head.head) c.args.cur.now c.read.new.cur = rw c.fork-ahead.ensures.same at c.in_ok-head.ensures.ok in
+    absurd (head_stands g.H.Layout.format.fields g.H.Layout.format.rows c.in_ok-head.head c.args.cur.now c.read.new.cur f inside g.H.Layout.format.laid.are_rows spelled fault)
 
 pub returns-clause-head : goal.returns-clause-head
 returns-clause-head g c = λ none f fault.
     let inside : c.args.cur.now.at ≤ length c.args.cur.now.bits = rw c.fork-ahead.ensures.same at c.fork-ahead.ensures.inside in
-    let spelled : IsSpelled (g.H.Layout.rows c.in_ok-head.head) c.args.cur.now c.read.new.cur = rw c.fork-ahead.ensures.same at c.in_ok-head.ensures.ok in
-    absurd (head_stands g.H.Layout.fields g.H.Layout.rows c.in_ok-head.head c.args.cur.now c.read.new.cur f inside g.met.H.Layout.laid.are_rows spelled fault)
+    let spelled : IsSpelled (g.H.Layout.format.rows c.in_ok-head.head) c.args.cur.now c.read.new.cur = rw c.fork-ahead.ensures.same at c.in_ok-head.ensures.ok in
+    absurd (head_stands g.H.Layout.format.fields g.H.Layout.format.rows c.in_ok-head.head c.args.cur.now c.read.new.cur f inside g.H.Layout.format.laid.are_rows spelled fault)

@@ -4,7 +4,7 @@ use Rattle.etcs_packet.proofs.whole.read_whole.Goals as goal
 -- the cursor is at the beginning
 pub returns-clause-exact : goal.returns-clause-exact
 returns-clause-exact g c =
-    gives_means (λ w. (w.0, w.1.items)) c.next_whole.result c.args.stop g.H.Layout.fields g.H.Layout.record_of g.T.Layout.fields g.T.Layout.record_of c.args.bits.now c.next_whole.new.cur
+    gives_means (λ w. (w.0, w.1.items)) c.next_whole.result c.args.stop g.H.Layout.format.fields g.H.Layout.format.of g.T.Layout.format.fields g.T.Layout.format.of c.args.bits.now c.next_whole.new.cur
     (rw c.new-cur.ensures at c.next_whole.ensures.exact)
 
 pub returns-clause-head : goal.returns-clause-head

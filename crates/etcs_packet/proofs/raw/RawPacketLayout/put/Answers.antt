@@ -1,7 +1,7 @@
 use Rattle.std.proofs.Common.{◌≡◌, ◌+◌, ◌++◌, length, ap, ◌∙◌, arith}
 use Rattle.etcs_bits.specs.Number.{num}
 use Rattle.etcs_bits.specs.Rows.{alone, join}
-use Rattle.etcs_bits.specs.Variables.{q_dir, dir_number}
+use Rattle.etcs_bits.specs.VariableFormats.{q_dir}
 use Rattle.etcs_bits.proofs.PutLemmas.{puts_bits, puts_then}
 use Rattle.etcs_packet.specs.Free.{free_rows}
 use Rattle.etcs_packet.specs.Raw.{tail_rows, raw_rest}
@@ -17,5 +17,5 @@ returns c =
     let sum : c.len.result + 23 ≡ 23 + length r.body = omega (arith, c.len.ensures, bits) in
     let counted : c.push_num-2.new.self ≡ c.put.new.out ++ num 13 (23 + length r.body) = c.in_ok-push_num-2.ensures.ok ∙ ap (λ n. c.put.new.out ++ num 13 n) sum in
     let tail = puts_bits (num 13 (23 + length r.body)) (join (free_rows r.body)) c.put_body.result c.put.new.out c.push_num-2.new.self end counted c.put_body.ensures in
-    let rest = puts_then (alone q_dir (dir_number r.dir)) (tail_rows r.body) c.put_body.result c.push_num.new.self c.put.new.out end c.in_ok-put.ensures tail in
+    let rest = puts_then (q_dir.rows r.dir) (tail_rows r.body) c.put_body.result c.push_num.new.self c.put.new.out end c.in_ok-put.ensures tail in
     puts_bits (num 8 r.number) (join (raw_rest r.dir r.body)) c.put_body.result old c.push_num.new.self end number rest

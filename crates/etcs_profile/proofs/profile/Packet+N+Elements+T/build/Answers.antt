@@ -2,8 +2,8 @@ use Rattle.std.proofs.Common.{◌≡◌, ◌≤◌, ◌<◌, length, arith}
 use Rattle.std.proofs.Math.Nat.{lt_of_not-le}
 use Rattle.std.specs.Prelude.{◌↔◌, IsSome}
 use Rattle.etcs_bits.specs.Rows.{width, alone}
-use Rattle.etcs_profile.specs.Packet.{packet_rows}
-use Rattle.etcs_profile.specs.Elements.{elements_rows, profile}
+use Rattle.etcs_profile.specs.Packet.{packet}
+use Rattle.etcs_profile.specs.Elements.{elements, profile}
 use Rattle.etcs_profile.specs.Built.{HasMany}
 use Rattle.etcs_profile.proofs.BuiltLemmas.{built_of, few_of}
 use Rattle.etcs_profile.proofs.profile.Packet+N+Elements+T.build.Goals as goal
@@ -12,7 +12,7 @@ pub returns : goal.returns
 unfolding alone
 returns g c =
     let given = profile c.args.scale c.args.first c.args.further.items in
-    let bits = width (packet_rows g.row.N (elements_rows g.T.Layout.rows) (c.args.dir, given)) in
+    let bits = width ((packet g.row.N (elements g.T.Layout.format)).rows (c.args.dir, given)) in
     let same : c.in_ok-elements.elements ≡ given = c.in_ok-elements.ensures.ok in
     let fit = rw same at (c.is_allowed.ensures.fit.0 c.if-not-is_allowed.false) in
     let short : length c.args.further.items < 32 = lt_of_not-le (λ more. absurd (let err = c.in_ok-elements.ensures.many.1 more in cc)) in
