@@ -17,7 +17,7 @@ zero_bit n i = elim (cases_lt i n) [
   | inr past ↦ get_or_past (replicate n false) i false (rw length-replicate past)
 ]
 
--- behind the bits stand zeros
+-- zeros follow the bits
 pub filled_bit : (bits : List Bool) (i : ℕ) → get_or (filled_up bits) i false ≡ get_or bits i false
 filled_bit bits i =
     let zeros = replicate (8 * bytes_for (length bits) - length bits) false in
@@ -26,7 +26,7 @@ filled_bit bits i =
       | inr past ↦ get_or-append_right bits zeros (length bits) i false refl past ∙ zero_bit (8 * bytes_for (length bits) - length bits) (i - length bits) ∙ sym (get_or_past bits i false past)
     ]
 
--- one bit more of a byte
+-- one more bit of a byte
 pub byte_more : (bits : List Bool) (at n i : ℕ) → at + 8 ≤ 8 * bytes_for (length bits) → i < 8
     → n ≡ num_of_bits (take i (drop at (filled_up bits)))
     → bit_or (n * 2 % 2 ^ 64) (bool_byte (get_or bits (at + i) false)) ≡ num_of_bits (take (i + 1) (drop at (filled_up bits)))
@@ -36,7 +36,7 @@ byte_more bits at n i inside low so_far =
     let bit : get_or (drop at filled) i false ≡ get_or bits (at + i) false = get_or-drop at filled i false ∙ filled_bit bits (at + i) in
     rw bit at (number_more (drop at filled) n i long (omega arith) so_far)
 
--- one byte more
+-- one more byte
 bytes_next : (n : ℕ) (bits : List Bool)
     → bytes_in (suc n) bits ≡ bytes_in n bits ++ num_of_bits (take 8 (drop (8 * n) bits)) ∷ []
 unfolding bytes_in

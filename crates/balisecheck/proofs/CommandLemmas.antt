@@ -1,4 +1,4 @@
--- The command that the words are, by what the command line library answers.
+-- How the answer of the library `clap` gives the command of the words.
 use Rattle.std.proofs.Common.{◌≡◌, ◌∙◌, ap, sym, refl, true, List, [], ◌∷◌, Option, None, subst}
 use Rattle.clap.specs.Words.{App, Row, Text, fault_of, is_simple, is_simple_and_free, subcommand_of}
 use Rattle.clap.specs.Kinds.{IsAmong, Kinds}
@@ -7,7 +7,7 @@ use Rattle.clap.proofs.OnLiterals.{clap_on_literals}
 use Rattle.balisecheck.specs.Command.{command_line, command_of, entered, unless_fault}
 use Rattle.balisecheck.specs.declared.command.Command.{Command}
 
--- the command line is one whose meaning the library states whole
+-- `clap` states the whole meaning of a command line such as this one
 pub command_line_is_simple_and_free : is_simple_and_free command_line ≡ true
 unfolding clap_on_literals
 command_line_is_simple_and_free = refl
@@ -26,7 +26,7 @@ unless_some : (kinds : Kinds) (kind : ErrorKind) (command : Option Command) → 
 unless_some [] kind command among = absurd among
 unless_some (_ ∷ kinds) kind command among = refl
 
--- words without a fault are the command that was found
+-- words without a fault give the command that was found
 pub is_command : (p : App) (words : List Text) {command : Option Command}
     {rows : Option (Text × List Row)} → p ≡ command_line → fault_of p words ≡ []
     → rows ≡ subcommand_of p words → command ≡ entered rows → command ≡ command_of words
@@ -35,7 +35,7 @@ is_command p words is none found entry =
     entry ∙ ap entered (found ∙ ap (λ (a : App). subcommand_of a words) is)
     ∙ unless_none (sym (ap (λ (a : App). fault_of a words) is) ∙ none)
 
--- words with a fault are none
+-- words with a fault are no command
 pub no_command : (p : App) (words : List Text) (kind : ErrorKind) → p ≡ command_line
     → IsAmong kind (fault_of p words) → None ≡ command_of words
 unfolding command_of

@@ -9,8 +9,8 @@ use Rattle.balisecheck.specs.declared.text_lines.TextLines.{TextLines}
 use Rattle.balisecheck.proofs.LineLemmas.{IsLine-append, lines_of-last, lines_of-line}
 use Rattle.balisecheck.proofs.StreamLemmas.{Consumes-then}
 
--- While a line is looked for: these bytes were read, none if the end was met before, and with those
--- held at the start they are the line so far and what is held.
+-- The state while a line is looked for. These bytes were read, none if the end was met before. The
+-- bytes held at the start and these bytes are the line so far and what is held.
 pub record Filling (remaining_old remaining_new : Option (List ℕ)) (had_ended : Bool)
     (start line held : List ℕ) : Type 0 where
   pub bytes : List ℕ
@@ -19,7 +19,7 @@ pub record Filling (remaining_old remaining_new : Option (List ℕ)) (had_ended 
   pub whole : start ++ bytes ≡ line ++ held
   pub plain : IsLine line
 
--- all that is held was moved to the line
+-- all held bytes were moved to the line
 pub Filling-moved : {a b : Option (List ℕ)} {had_ended : Bool} {start line held now : List ℕ}
     → Filling a b had_ended start line held → now ≡ line ++ held → IsLine held
     → Filling a b had_ended start now []
@@ -31,7 +31,7 @@ Filling-moved {line} {held} {now} filling grown plain = record {
   plain = rw grown (IsLine-append line held filling.plain plain);
 }
 
--- more was read
+-- more bytes were read
 pub Filling-filled : {a b c : Option (List ℕ)} {had_ended : Bool} {start line more : List ℕ}
     → Filling a b had_ended start line [] → (had_ended ≡ true → more ≡ []) → Consumes b c more
     → Filling a c had_ended start line more
@@ -65,7 +65,7 @@ Filling-cut {start} {line} {now} {rest} front filling grown plain cut = record {
 is_long : (x : ℕ) (line : List ℕ) → not (length (x ∷ line) == 0) ≡ true
 is_long x line = grind (arith, nat_tests)
 
--- at the end of the input what is left is the last line, if it has any bytes
+-- at the end of the input the bytes left are the last line, if there are any
 last_gives : (line bytes : List ℕ) (ended found : Bool) → found ≡ not (length line == 0)
     → bytes ≡ line → IsLine line → ended ≡ true → GivesLine (Ok found) bytes line [] ended
 last_gives [] bytes ended found is same plain end = rw is (end, same, refl)
@@ -85,13 +85,13 @@ Filling-end {line} {ended} {found} filling none end is =
       gives = rw none (last_gives line _ ended found is whole filling.plain end);
     }
 
--- what was moved where there was no `\n`
+-- the bytes that were moved if there was no `\n`
 pub moved_on : {b : Bool} {old new : TextLines} → b ≡ false → MovesTo (Ok b) old new
     → Grows old new (held_of old) × (held_of new ≡ [])
 moved_on {b = true} is moved = cc
 moved_on {b = false} is moved = moved
 
--- what was moved where there was one
+-- the bytes that were moved if there was one
 pub moved_cut : {b : Bool} {old new : TextLines} → b ≡ true → MovesTo (Ok b) old new
     → (front : List ℕ) × Grows old new front × (held_of old ≡ front ++ 10 ∷ held_of new)
 moved_cut {b = true} is moved = moved

@@ -1,4 +1,4 @@
--- No form of a telegram has a number with a point or an exponent: so its JSON text is known.
+-- No form of a telegram has a number with a point or an exponent, so its JSON text is known.
 use Rattle.std.proofs.Common.{◌≡◌, ℕ, List, [], ◌∷◌, Option, Some, None, false, refl}
 use Rattle.std.proofs.lemmas.Bool.{or_from}
 use Rattle.etcs_bits.specs.declared.direction.Dir.{Dir}

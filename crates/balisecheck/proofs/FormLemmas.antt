@@ -33,7 +33,7 @@ array_sent form key xs n old named first last new key_sent begun count each ende
 
 -- ---- objects
 
--- an option makes a member or none
+-- an option adds one member or none
 pub members_len-maybe : {X : Type 0} (form : X → Data) (key : List ℕ) (o : Option X) (entries : List Entry)
     → members_len (members_of (maybe key form o ∷ entries)) ≡ count_of o + members_len (members_of entries)
 members_len-maybe form key None entries = omega arith
@@ -59,7 +59,7 @@ pub then : {entry : Entry} {entries : List Entry} {old mid new : Log}
 then {entry = entry} {entries = entries} {old = old} {mid = mid} {new = new} one rest =
     record { sent = entry_and entry entries old mid new one.sent rest.sent }
 
--- the beginning with the count of members, and then all of them
+-- the beginning of an object with the count of its members, and then all of them
 pub object_sent : {entries : List Entry} (n : ℕ) (old first new : Log)
     → Logs old first (map_begins (Some n)) → n ≡ members_len (members_of entries)
     → Finishes entries first new → SendsValue (object_of entries) old new

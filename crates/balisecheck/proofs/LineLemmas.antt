@@ -12,7 +12,7 @@ false_unless_true false not_true = refl
 is_ten : (x : ℕ) → (x == 10) ≡ true → x ≡ 10
 is_ten x h = grind arith
 
--- a `\n` stands at this place, as the search for it says so
+-- there is a `\n` at this place, in the words of the search for it
 abbrev IsTen : List ℕ → ℕ → Type 0
 IsTen xs k = (slice_index xs k == 10) ≡ true
 
@@ -26,7 +26,7 @@ IsLine-take (x ∷ xs) (suc n) within none = (
   IsLine-take xs n (omega arith) (λ k low high. none (suc k) (omega arith) (omega arith)),
 )
 
--- a `\n` cuts what is held in two
+-- a `\n` cuts the held bytes in two
 pub split_at : (xs : List ℕ) (i : ℕ) → i < length xs → IsTen xs i
     → xs ≡ take i xs ++ 10 ∷ drop (i + 1) xs
 split_at [] i within ten = absurd (omega arith)
@@ -35,11 +35,11 @@ split_at (x ∷ xs) (suc i) within ten =
     let next : suc i + 1 ≡ suc (i + 1) = omega arith in
     rw next (ap (λ ys. x ∷ ys) (split_at xs i (omega arith) ten))
 
--- what is held of a block from `from` up to `to`
+-- the bytes held of a block, from `from` up to `to`
 abbrev window : List ℕ → ℕ → ℕ → List ℕ
 window xs from to = take (to - from) (drop from xs)
 
--- what is held behind a place of what is held
+-- the held bytes after a place among them
 pub window-after : (xs : List ℕ) (from to i : ℕ) → i < to - from
     → window xs (from + (i + 1)) to ≡ drop (i + 1) (window xs from to)
 window-after xs from to i within =
@@ -48,7 +48,7 @@ window-after xs from to i within =
     sym (ap (λ n. drop (i + 1) (take n (drop from xs))) e ∙ drop-take (i + 1) left (drop from xs)
     ∙ ap (take left) (drop-drop (i + 1) from xs))
 
--- the first `\n` in what is held cuts it into a line and the rest
+-- the first `\n` among the held bytes cuts them into a line and the rest
 pub found : (xs d : List ℕ) (from to i : ℕ) → d ≡ xs
     → NoneBefore (λ k. IsTen (window d from to) k) 0 (length (window d from to)) i
     → IsTen (window d from to) i
@@ -67,7 +67,7 @@ found xs d from to i same first ten =
           ∙ ap (λ r. take i (window xs from to) ++ 10 ∷ r) (sym (window-after xs from to i room)),
     )
 
--- with no `\n` in it all that is held is of one line
+-- held bytes without a `\n` all belong to one line
 pub not_found : (xs d : List ℕ) → d ≡ xs
     → ((k : ℕ) → 0 ≤ k → k < length d → IsTen d k → ⊥) → IsLine xs
 not_found xs d same none =

@@ -1,5 +1,5 @@
--- How a run over lines goes on, and how it ends. `output` is what it is to write for an input, and
--- `left` what is left of that.
+-- How a run over lines goes on, and how it ends. `output` is what the run has to write for an
+-- input, and `left` is what is left to write.
 use Rattle.std.proofs.Common.{◌≡◌, ◌+◌, ◌++◌, ℕ, Bool, true, false, List, [], Option, Some, None, IfSome, Result, Ok, Err, inr, refl, sym, ap, ◌∙◌, append_assoc, take, drop, subst, arith}
 use Rattle.std.proofs.lemmas.List.{append-nil, take_all, take-append-drop}
 use Rattle.std.specs.Io.KnownBytes.{Appends, Consumes, IsAtEnd, Keeps}
@@ -15,8 +15,8 @@ use Rattle.balisecheck.specs.declared.status.Status.TheVariants.{Done}
 use Rattle.balisecheck.specs.declared.turn.Turn.TheVariants.{Next, Stop}
 use Rattle.balisecheck.proofs.StreamLemmas.{Appends-kept, Appends-none, Appends-then, Consumes-none, Consumes-then}
 
--- While lines are read: what was read and written so far, and what is left to tell of what is held
--- and of what follows.
+-- The state while lines are read: what was read and written so far, and what is left to write for
+-- the held bytes and for what follows.
 pub record Running (remaining_old remaining_new contents_old contents_new : Option (List ℕ))
     (ended : Bool) (output : List ℕ → Output) (left : List ℕ → Output) : Type 0 where
   pub bytes : List ℕ
@@ -26,7 +26,7 @@ pub record Running (remaining_old remaining_new contents_old contents_new : Opti
   pub says : (rest : List ℕ) → MayFollow ended rest
       → output (bytes ++ rest) ≡ prepend text (left rest)
 
--- what is left to tell after n lines
+-- what is left to write after n lines
 abbrev pub left_of : ℕ → List ℕ → List ℕ → Output
 left_of n held rest = answers (n + 1) (lines_of (held ++ rest))
 
@@ -42,7 +42,7 @@ Running-start {r} {c} none = record {
   says = λ rest may. rw none refl;
 }
 
--- what may follow after a read may follow the bytes that it read
+-- if `rest` may follow after a read, the bytes read and then `rest` may follow before it
 may_before : {before after : Bool} (bytes rest : List ℕ) → (before ≡ true → bytes ≡ [])
     → (before ≡ true → after ≡ true) → MayFollow after rest → MayFollow before (bytes ++ rest)
 may_before bytes rest quiet stays may ended = rw (quiet ended, may (stays ended)) refl
@@ -53,7 +53,7 @@ regroup output a b rest = ap output (append_assoc a b rest)
 
 module _ {r0 r r1 c0 c : Option (List ℕ)} {before after : Bool} {output : List ℕ → Output}
     {held line now : List ℕ} where
-  -- a line was found, and is to be told
+  -- a line was found, and its answer is not written yet
   pub Running-line : (n : ℕ) → Running r0 r c0 c before output (left_of n held)
       → Reads r r1 before held line now after (Ok true) → (before ≡ true → after ≡ true)
       → Running r0 r1 c0 c after output
@@ -113,7 +113,7 @@ module _ {r0 r r1 c0 c : Option (List ℕ)} {before after : Bool} {output : List
 module _ {r0 r c0 c c1 : Option (List ℕ)} {ended : Bool} {output : List ℕ → Output}
     {after : Output → Output} (left : List ℕ → Output)
     (run : Running r0 r c0 c ended output (λ rest. after (left rest))) where
-  -- a line was told
+  -- a line was answered
   pub Running-told : Turns c c1 after (Ok Next) → Running r0 r c0 c1 ended output left
   Running-told turn = record {
     bytes = run.bytes;
@@ -209,7 +209,7 @@ Ran-unread {r} writes = record {
   says = λ rest may. writes.says;
 }
 
--- the same for an output that is the same
+-- the same for an equal output
 pub Ran-as : {r0 r c0 c : Option (List ℕ)} {output other : List ℕ → Output}
     {result : Result Status RunError} → ((s : List ℕ) → other s ≡ output s)
     → Ran r0 r c0 c output result → Ran r0 r c0 c other result
@@ -225,7 +225,7 @@ Ran-as {result} same ran = record {
       subst P (sym (same (ran.bytes ++ rest))) (ran.says rest may);
 }
 
--- of a known input what was not read follows what was
+-- the rest of a known input follows the bytes that were read
 pub Ran-known : (remaining : Option (List ℕ)) {r c0 c : Option (List ℕ)} {output : List ℕ → Output}
     {result : Result Status RunError} → Ran remaining r c0 c output result
     → IfSome remaining (λ input. Writes c0 c (output input) result)
@@ -270,7 +270,7 @@ Writes-failed e writes = record {
   says = ([], ap (λ o. o.0) writes.says ∙ sym (append-nil writes.text));
 }
 
--- a device that failed is the writer, since the reader was not asked
+-- the device that failed is the writer, since the reader was not called
 pub counts_at_writer : {R W X : Type 0} (result : Result X RunError) (reader : Counted R)
     (old new : Counted W) → CountsDevice result old new
     → CountsOneDevice result reader reader old new

@@ -1,4 +1,4 @@
--- What reads one after another, and writes one after another, do to known bytes.
+-- What several reads, or several writes, do to known bytes.
 use Rattle.std.proofs.Common.{◌++◌, ℕ, List, [], Option, Some, None, sym, ap, ◌∙◌, append_assoc, refl, take, drop, length, ◌-◌, ◌+◌, subst}
 use Rattle.std.proofs.Math.Seq.{take-add}
 use Rattle.std.proofs.lemmas.List.{append-nil, take_rest}
@@ -38,7 +38,7 @@ Appends-kept None b kept = tt
 Appends-kept (Some x) None kept = kept
 Appends-kept (Some x) (Some y) kept = kept ∙ sym (append-nil x)
 
--- after the first `count` bytes the next n of the others
+-- the first `count` bytes, and then the next n of the others
 pub Appends-more : (a b c : Option (List ℕ)) (bytes : List ℕ) (count n : ℕ)
     → Appends a b (take count bytes)
     → Appends b c (take n (take (length bytes - count) (drop count bytes)))

@@ -1,4 +1,4 @@
--- What was told of a line where a write failed.
+-- What was written for a line when a write failed.
 use Rattle.std.proofs.Common.{◌≡◌, ◌++◌, ℕ, List, [], take, drop, Option, Result, Ok, Err, sym, ap, ◌∙◌, append_assoc, refl}
 use Rattle.std.proofs.lemmas.List.{append-nil, take-append-drop}
 use Rattle.etcs_telegram.specs.declared.error.TextError.{TextError}
@@ -7,7 +7,7 @@ use Rattle.balisecheck.specs.Ran.{Puts, Turns}
 use Rattle.balisecheck.specs.TelegramLines.{refusal_of}
 use Rattle.balisecheck.specs.declared.error.RunError.{RunError}
 
--- the text that was to be written begins what is told, so the part of it that was written does
+-- The text to be written is a beginning of the answer. So is the part of it that was written.
 pub put_failed : {old new : Option (List ℕ)} {bytes : List ℕ} {after : Output → Output}
     {result : Result (Unit {0}) RunError} (e : RunError) → Puts old new bytes result
     → ((rest : Output) → (more : List ℕ) × ((after rest).0 ≡ bytes ++ more))
@@ -23,13 +23,13 @@ put_failed {bytes} e puts begins = record {
       );
 }
 
--- a line's text begins what is told of the line
+-- the text of a line is a beginning of the answer to the line
 pub begins_told : (n : ℕ) {meaning : Result (List ℕ) TextError} {bytes : List ℕ}
     → meaning ≡ Ok bytes → (rest : Output)
     → (more : List ℕ) × ((told n meaning rest).0 ≡ bytes ++ more)
 begins_told n is rest = (rest.0, rw is refl)
 
--- and so does its refusal
+-- and so is its refusal
 pub begins_refused : (n : ℕ) (why : TextError) {bytes : List ℕ} → bytes ≡ refusal_of n why
     → (rest : Output) → (more : List ℕ) × ((told n (Err why) rest).0 ≡ bytes ++ more)
 begins_refused n why {bytes} is rest = ([], sym is ∙ sym (append-nil bytes))

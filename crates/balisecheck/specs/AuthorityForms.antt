@@ -1,8 +1,7 @@
--- The JSON form of a movement authority, packets 12 and 15. The keys are the standard's names of
--- variables in small letters (SUBSET-026, 7.4.2), in byte order; those of lists and parts are this
--- project's, and so are `end_speed` and `end_timeout`, V_LOA and T_LOA. A bit that
--- only says whether something follows is not written:
--- the key of what it qualifies is there or not.
+-- The JSON form of a movement authority, packets 12 and 15. Its keys are in byte order. They are
+-- the standard's names of variables in small letters (SUBSET-026, 7.4.2). The keys of lists and
+-- parts are this project's, and so are `end_speed` for V_LOA and `end_timeout` for T_LOA. A bit
+-- that only says whether something follows is not written: the key of what follows is there or not.
 use Rattle.std.specs.Prelude.{List, [], ◌∷◌, codes}
 use Rattle.etcs_bits.specs.Variables.{dir_number, scale_number}
 use Rattle.etcs_packet.specs.Track.{authority_number}
@@ -15,7 +14,7 @@ use Rattle.etcs_profile.specs.declared.overlap.Overlap.{Overlap}
 use Rattle.serde_json.specs.Data.{Data}
 use Rattle.balisecheck.specs.Forms.{Entry, always, array_of, maybe, object_of, whole}
 
--- for how long a section stays valid, and where its timer is stopped
+-- how long a section stays valid, and where its timer is stopped
 abbrev pub section_timer_form : SectionTimer → Data
 section_timer_form t = object_of (
     always (codes "d_sectiontimerstoploc") (whole t.stop)
@@ -29,7 +28,7 @@ section_form s = object_of (
     ∷ maybe (codes "section_timer") section_timer_form s.timer
     ∷ [])
 
--- for how long the end section is given, and where its timer is started
+-- how long the end section stays valid, and where its timer is started
 abbrev pub end_timer_form : EndTimer → Data
 end_timer_form t = object_of (
     always (codes "d_endtimerstartloc") (whole t.start)

@@ -1,5 +1,6 @@
--- Which command the words are, by the command line library's own meaning of them: its faults of
--- words and the subcommand that it finds. Whatever has a fault is no command, help included.
+-- The command that the words of a command line give. The library `clap` defines which faults the
+-- words have and which subcommand it finds. Words with a fault are no command. A request for help
+-- is one of the faults.
 use Rattle.std.specs.Prelude.{List, [], ◌∷◌, codes, Option, Some, None, if◌then◌else◌}
 use Rattle.std.specs.Str.{bytes_eq}
 use Rattle.clap.specs.Words.{App, Row, Text, fault_of, new_app, subcommand_of, with_subcommand}
@@ -20,12 +21,12 @@ abbrev pub entered : Option (Text × List Row) → Option Command
 entered None = None
 entered (Some found) = named found.0
 
--- only where the words have no fault
+-- the command, but only if the words have no fault
 abbrev pub unless_fault : Kinds → Option Command → Option Command
 unless_fault [] command = command
 unless_fault (_ ∷ _) command = None
 
--- the command that the words are, the program's name first; or none
+-- the command that the words give, or none; the first word is the program's name
 unfoldable pub command_of : List Text → Option Command
 command_of words =
     unless_fault (fault_of command_line words) (entered (subcommand_of command_line words))

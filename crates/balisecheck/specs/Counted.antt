@@ -1,6 +1,6 @@
 -- A reader or writer whose failed calls are counted: what it shows, and what each call does to its
--- count and to its budget. A read for which the budget does not suffice counts as failed, and so
--- does a write that takes none of what it was handed.
+-- count and to its budget. A read counts as failed if the budget does not suffice for it. A write
+-- counts as failed if it takes none of what it was handed.
 use Rattle.std.specs.Prelude.{◌≡◌, ◌<◌, ◌+◌, ◌-◌, ◌^◌, ℕ, Bool, max, min, Result, MatchResult}
 use Rattle.balisecheck.specs.declared.counted.Counted.{Counted}
 
@@ -8,11 +8,11 @@ use Rattle.balisecheck.specs.declared.counted.Counted.{Counted}
 abbrev pub failures_of : {T : Type 0} → Counted T → ℕ
 failures_of counted = counted.failures
 
--- how many bytes of room may still be offered to reads
+-- what is left of the budget, in bytes of room that reads may offer
 abbrev pub budget_of : {T : Type 0} → Counted T → ℕ
 budget_of counted = counted.budget
 
--- all that was written has been flushed
+-- whether everything written has been flushed
 abbrev pub is_flushed : {T : Type 0} → Counted T → Bool
 is_flushed counted = counted.is_flushed
 
@@ -37,6 +37,6 @@ abbrev pub CountsFailure : {X E : Type 0} → ℕ → ℕ → Result X E → Typ
 CountsFailure old new result =
     MatchResult result (λ _. new ≡ old) (λ _. new ≡ min (old + 1) (2 ^ 64 - 1))
 
--- what a read with this much room takes of the budget
+-- what a read with this much room takes off the budget
 abbrev pub cost_of : ℕ → ℕ
 cost_of room = max room 1

@@ -18,12 +18,12 @@ Entry = Option (List ℕ × Data)
 abbrev pub always : List ℕ → Data → Entry
 always key value = Some (key, value)
 
--- a key that is there exactly where the option is
+-- a key that is there exactly if the option has a value
 abbrev pub maybe : {X : Type 0} → List ℕ → (X → Data) → Option X → Entry
 maybe key form None = None
 maybe key form (Some x) = Some (key, form x)
 
--- how many keys an option makes
+-- how many keys an option adds
 abbrev pub count_of : {X : Type 0} → Option X → ℕ
 count_of None = 0
 count_of (Some x) = 1
@@ -43,13 +43,13 @@ abbrev pub items_of : {X : Type 0} → (X → Data) → List X → Items
 items_of form [] = no_items
 items_of form (x ∷ xs) = item (form x) (items_of form xs)
 
--- the array of them
+-- the array of these items
 abbrev pub array_of : {X : Type 0} → (X → Data) → List X → Data
 array_of form xs = array (items_of form xs)
 
 -- ---- what is sent
 
--- a key and then its value were sent, or nothing where the key is left out
+-- a key and then its value were sent, or nothing if the key is left out
 abbrev pub IsEntrySent : Entry → Log → Log → Type 0
 IsEntrySent None old new = new ≡ old
 IsEntrySent (Some entry) old new =

@@ -1,4 +1,4 @@
--- Reading line by line. Bytes come from the reader in blocks that are cut anywhere; some are held
+-- Reading line by line. Bytes come from the reader in blocks that are cut anywhere. Some are held
 -- until their line is whole. Once the end of the input was met nothing more is read, since a reader
 -- such as a terminal may give more after an end.
 use Rattle.std.specs.Prelude.{◌≡◌, ◌++◌, ◌<◌, ◌≤◌, ◌+◌, ◌-◌, ℕ, Bool, true, false, List, [], ◌∷◌, length, take, drop, Option, Result, Ok, Err, IfOk}
@@ -10,7 +10,7 @@ use Rattle.balisecheck.specs.declared.error.RunError.{RunError}
 use Rattle.balisecheck.specs.declared.error.RunError.TheVariants.{Memory, Device}
 use Rattle.balisecheck.specs.declared.text_lines.TextLines.{TextLines}
 
--- the bytes that were read and stand in no line yet
+-- the bytes that were read but belong to no line yet
 abbrev pub held_of : TextLines → List ℕ
 held_of lines = take (lines.to - lines.from) (drop lines.from lines.block.items)
 
@@ -18,7 +18,7 @@ held_of lines = take (lines.to - lines.from) (drop lines.from lines.block.items)
 abbrev pub line_of : TextLines → List ℕ
 line_of lines = lines.line.items
 
--- the end of the input was met
+-- whether the end of the input was met
 abbrev pub has_ended : TextLines → Bool
 has_ended lines = lines.has_ended
 
@@ -26,7 +26,7 @@ has_ended lines = lines.has_ended
 abbrev pub IsFresh : TextLines → Type 0
 IsFresh lines = (held_of lines ≡ []) × (has_ended lines ≡ false)
 
--- the rest may follow what was read: anything may, but nothing once the end was met
+-- `rest` may follow what was read: anything may before the end was met, and nothing after it
 abbrev pub MayFollow : Bool → List ℕ → Type 0
 MayFollow ended rest = ended ≡ true → rest ≡ []
 
@@ -34,17 +34,17 @@ MayFollow ended rest = ended ≡ true → rest ≡ []
 abbrev pub StaysEnded : TextLines → TextLines → Type 0
 StaysEnded old new = has_ended old ≡ true → has_ended new ≡ true
 
--- where the end was met, the reader has no byte left, if that is known
+-- if the end was met and the reader's bytes are known, none of them is left
 abbrev pub IsEndMet : {R : Type 0} → (R → Option (List ℕ)) → Bool → Counted R → Type 0
 IsEndMet remaining ended reader = ended ≡ true → IsAtEnd (remaining (inner_of reader))
 
--- a device that failed is counted once, and nothing else is
+-- a device that failed is counted once, and nothing else is counted
 abbrev pub CountsDevice : {X T : Type 0} → Result X RunError → Counted T → Counted T → Type 0
 CountsDevice (Ok _) old new = CountsNone old new
 CountsDevice (Err Memory) old new = CountsNone old new
 CountsDevice (Err Device) old new = CountsOne old new
 
--- so many bytes of the budget are spent, if not more, and some where any were read
+-- at least `count` bytes of the budget are spent, and some if `count` is not 0
 abbrev pub SpendsAtLeast : {R : Type 0} → ℕ → Counted R → Counted R → Type 0
 SpendsAtLeast count old new =
     (count + budget_of new ≤ budget_of old) × (0 < count → budget_of new < budget_of old)
@@ -54,15 +54,15 @@ pub record Grows (old new : TextLines) (front : List ℕ) : Type 0 where
   pub line : line_of new ≡ line_of old ++ front
   pub plain : IsLine front
 
--- the line has grown by the held bytes up to a `\n`, or by all of them
+-- the line has grown by the held bytes before a `\n`, or by all of them if there is none
 abbrev pub MovesTo : Result Bool RunError → TextLines → TextLines → Type 0
 MovesTo (Err _) old new = Unit {0}
 MovesTo (Ok true) old new =
     (front : List ℕ) × Grows old new front × (held_of old ≡ front ++ 10 ∷ held_of new)
 MovesTo (Ok false) old new = Grows old new (held_of old) × (held_of new ≡ [])
 
--- the line is the first of what was held and read, whatever may follow; or there is no line, and
--- the end was met
+-- The line is the first one of the bytes held and read, whatever may follow them. Or there is no
+-- line: the end was met, and no byte is left.
 abbrev pub GivesLine : Result Bool RunError → List ℕ → List ℕ → List ℕ → Bool → Type 0
 GivesLine (Err _) bytes line held ended = Unit {0}
 GivesLine (Ok true) bytes line held ended =
@@ -70,7 +70,8 @@ GivesLine (Ok true) bytes line held ended =
     → lines_of (bytes ++ rest) ≡ line ∷ lines_of (held ++ rest)
 GivesLine (Ok false) bytes line held ended = (ended ≡ true) × (bytes ≡ []) × (held ≡ [])
 
--- these bytes were read, none if the end was met before, and with those held they give a line
+-- These bytes were read, none if the end was met before. Together with the bytes held before, they
+-- give a line.
 pub record Reads (remaining_old remaining_new : Option (List ℕ)) (had_ended : Bool)
     (held line now : List ℕ) (ended : Bool) (result : Result Bool RunError) : Type 0 where
   pub bytes : List ℕ
@@ -78,14 +79,14 @@ pub record Reads (remaining_old remaining_new : Option (List ℕ)) (had_ended : 
   pub consumed : Consumes remaining_old remaining_new bytes
   pub gives : GivesLine result (held ++ bytes) line now ended
 
--- a line was looked for
+-- a search for a line
 abbrev pub ReadsLine : {R : Type 0} → (R → Option (List ℕ)) → Counted R → Counted R → TextLines → TextLines
     → Result Bool RunError → Type 0
 ReadsLine remaining reader_old reader_new old new result =
     Reads (remaining (inner_of reader_old)) (remaining (inner_of reader_new)) (has_ended old)
     (held_of old) (line_of new) (held_of new) (has_ended new) result
 
--- a line that is found is paid for, by bytes that were held or by the budget
+-- a line that is found is paid for, by held bytes or by the budget
 abbrev pub SpendsLine : {R : Type 0} → Result Bool RunError → Counted R → Counted R → TextLines → TextLines
     → Type 0
 SpendsLine result reader_old reader_new old new = IfOk result (λ found. found ≡ true

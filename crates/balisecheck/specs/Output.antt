@@ -1,6 +1,6 @@
--- What a run writes, and with which status it ends. Lines are told in order up to the first that is
--- refused; that one is told by its refusal, and ends the run. Lines count from 1; an empty line is
--- skipped, but counted.
+-- What a run writes, and the status with which it ends. Lines are answered in order, up to the
+-- first that is refused. The answer to that line is its refusal, which ends the run. Lines count
+-- from 1. An empty line is skipped, but counted.
 use Rattle.std.specs.Prelude.{◌+◌, ◌++◌, ℕ, List, [], ◌∷◌, codes, Option, Some, None, Result, Ok, Err}
 use Rattle.etcs_telegram.specs.declared.error.TextError.{TextError}
 use Rattle.balisecheck.specs.Command.{command_of}
@@ -11,7 +11,8 @@ use Rattle.balisecheck.specs.declared.command.Command.TheVariants.{Decode}
 use Rattle.balisecheck.specs.declared.status.Status.{Status}
 use Rattle.balisecheck.specs.declared.status.Status.TheVariants.{Done, Findings, Refused}
 
--- the exit status of a program that ended so; 3 is kept for a run that stopped without one
+-- the exit status of a program whose run ended with this status; 3 is kept for a run that stopped
+-- without one
 abbrev pub exit_code : Status → ℕ
 exit_code Done = 0
 exit_code Findings = 1
@@ -25,7 +26,7 @@ Output = List ℕ × Status
 abbrev pub prepend : List ℕ → Output → Output
 prepend text rest = (text ++ rest.0, rest.1)
 
--- what a line means, and then the rest; or its refusal, and nothing after it
+-- the text that a line means, and then the rest; or the line's refusal, and nothing after it
 abbrev pub told : ℕ → Result (List ℕ) TextError → Output → Output
 told number (Ok text) rest = prepend text rest
 told number (Err why) rest = (refusal_of number why, Refused)
@@ -35,7 +36,7 @@ abbrev pub after_line : ℕ → List ℕ → Output → Output
 after_line number [] rest = rest
 after_line number (byte ∷ line) rest = told number (meaning_of (byte ∷ line)) rest
 
--- the lines, of which the first has this number
+-- the answers to the lines, the first of which has this number
 unfoldable pub answers : ℕ → List (List ℕ) → Output
 answers number [] = ([], Done)
 answers number (line ∷ lines) = after_line number (trimmed line) (answers (number + 1) lines)
@@ -44,11 +45,11 @@ answers number (line ∷ lines) = after_line number (trimmed line) (answers (num
 unfoldable pub decode_output : List ℕ → Output
 decode_output input = answers 1 (lines_of input)
 
--- the line that is written where the words are no command
+-- the line that is written if the words are no command
 unfoldable pub usage_line : List ℕ
 usage_line = codes "refused: usage is balisecheck check, decode [--radio] or encode [--radio]\n"
 
--- what a command writes for an input, or no command
+-- what is written for a command and an input, or for no command
 abbrev pub of_command : Option Command → List ℕ → Output
 of_command (Some Decode) input = decode_output input
 of_command None input = (usage_line, Refused)

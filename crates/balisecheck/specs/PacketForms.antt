@@ -1,7 +1,7 @@
--- The JSON form of each packet from track to train. The keys are the standard's names of variables
--- in small letters (SUBSET-026, 7.4.2), in byte order; `links`, `transitions` and `body` are this
--- project's. Lists hold the first item and the N_ITER further ones, and a bit that only says whether
--- something follows is not written.
+-- The JSON form of each packet from track to train. The keys are in byte order. They are the
+-- standard's names of variables in small letters (SUBSET-026, 7.4.2), but `links`, `transitions`
+-- and `body` are this project's. Lists hold the first item and the N_ITER further ones. A bit that
+-- only says whether something follows is not written.
 use Rattle.std.specs.Prelude.{ℕ, ◌+◌, List, [], ◌∷◌, length, Option, Some, None, codes}
 use Rattle.etcs_bits.specs.Level.{level_number}
 use Rattle.etcs_bits.specs.Number.{worth}
@@ -30,7 +30,7 @@ cover_form c = object_of (
     ∷ always (codes "nid_vbcmk") (whole c.marker)
     ∷ [])
 
--- a balise group that comes; its country only where it is a new one
+-- a balise group ahead; its country is there only if it is a new one
 abbrev pub link_form : Link → Data
 link_form l = object_of (
     always (codes "d_link") (whole l.distance)
@@ -58,8 +58,8 @@ national_system levels.L1 = None
 national_system levels.L2 = None
 national_system levels.L3 = None
 
--- a level of the order, the first of which that a train can is its next; the national system only
--- at level NTC
+-- One level of the order. A train's next level is the first of the order that the train can use.
+-- The national system is there only at level NTC.
 abbrev pub order_form : LevelOrder → Data
 order_form o = object_of (
     always (codes "l_ackleveltr") (whole o.acknowledge)
@@ -77,7 +77,7 @@ transition_form p = object_of (
     ∷ always (codes "transitions") (array_of order_form (p.1.first ∷ p.1.further))
     ∷ [])
 
--- a packet whose body is kept as bits; L_PACKET counts the 23 bits up to its own end too
+-- A packet whose body is kept as bits. L_PACKET also counts the 23 bits up to its own end.
 abbrev pub raw_form : RawPacket → Data
 raw_form r = object_of (
     always (codes "body") (string (bit_text r.body))

@@ -1,6 +1,6 @@
--- The JSON forms of the packets that tell something along the track: 21, gradients, and 27, speeds.
--- The keys are the standard's names of variables in small letters (SUBSET-026, 7.4.2), in byte
--- order; `elements` and `differences` name lists, and `nc` is NC_CDDIFF or NC_DIFF.
+-- The JSON forms of the packets that describe the track from place to place: 21, gradients, and 27,
+-- speeds. The keys are the standard's names of variables in small letters (SUBSET-026, 7.4.2), in
+-- byte order. `elements` and `differences` name lists, and `nc` is NC_CDDIFF or NC_DIFF.
 use Rattle.std.specs.Prelude.{ℕ, [], ◌∷◌, codes}
 use Rattle.etcs_bits.specs.Number.{worth}
 use Rattle.etcs_bits.specs.Variables.{dir_number, scale_number}
@@ -12,7 +12,7 @@ use Rattle.etcs_profile.specs.declared.speed.SpeedElement.{SpeedElement}
 use Rattle.serde_json.specs.Data.{Data}
 use Rattle.balisecheck.specs.Forms.{always, array_of, object_of, whole}
 
--- a gradient from one place on
+-- a gradient, and the place where it begins
 abbrev pub gradient_element_form : GradientElement → Data
 gradient_element_form e = object_of (
     always (codes "d_gradient") (whole e.distance)
@@ -28,7 +28,7 @@ difference_form d = object_of (
     ∷ always (codes "v_diff") (whole d.speed)
     ∷ [])
 
--- a speed from one place on
+-- a speed, and the place where it begins
 abbrev pub speed_element_form : SpeedElement → Data
 speed_element_form e = object_of (
     always (codes "d_static") (whole e.distance)
@@ -37,7 +37,7 @@ speed_element_form e = object_of (
     ∷ always (codes "v_static") (whole e.speed)
     ∷ [])
 
--- packet k, a direction and a profile
+-- packet k: a direction and a profile
 abbrev pub profile_form : {X : Type 0} → ℕ → (X → Data) → Dir × Profile X → Data
 profile_form k form p = object_of (
     always (codes "elements") (array_of form (p.1.first ∷ p.1.further))

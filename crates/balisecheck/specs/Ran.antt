@@ -1,8 +1,9 @@
--- What a run promises. With a status, what was written and the status are the output for every
--- input that begins with what was read. Without one, what was written begins the text of each such
--- output. The end of the input, once met, counts as read. Nothing is said of a reader that does not
--- tell its bytes, and of a writer that does not tell its contents the status alone. Where the whole
--- input is known, it is simpler: what was written, and the status, are the output of that input.
+-- What a run promises. With a status, the text written and the status are the output for every
+-- input that begins with what was read. Without one, the text written is a beginning of the text of
+-- each such output. The end of the input, once met, counts as read. Nothing is promised of a reader
+-- whose bytes are not known. For a writer whose contents are not known, only the status is
+-- promised. If the whole input is known, the promise is simpler: the text written and the status
+-- are the output of that input.
 use Rattle.std.specs.Prelude.{◌≡◌, ◌≤◌, ◌++◌, ◌⊎◌, ℕ, Bool, true, List, take, length, Option, Result, Ok, Err, IfSome, OnOk}
 use Rattle.std.specs.Io.KnownBytes.{Appends, Consumes, IsAtEnd}
 use Rattle.balisecheck.specs.Counted.{CountsNone, CountsOne, inner_of, is_flushed}
@@ -15,14 +16,14 @@ use Rattle.balisecheck.specs.declared.status.Status.{Status}
 use Rattle.balisecheck.specs.declared.turn.Turn.{Turn}
 use Rattle.balisecheck.specs.declared.turn.Turn.TheVariants.{Next, Stop}
 
--- the text is the whole output, with this status; or a beginning of it
+-- with a status, the text is the whole output; without one, it is a beginning of the output
 abbrev pub Tells : Result Status RunError → List ℕ → Output → Type 0
 Tells (Ok status) text output = output ≡ (text, status)
 Tells (Err _) text output = (more : List ℕ) × (output.0 ≡ text ++ more)
 
--- These bytes were read, perhaps up to the end of the input, and this text was written: it tells the
--- output for each input that begins with these bytes, or with the end met is just these bytes. An end
--- can be met only where no byte is left.
+-- These bytes were read, perhaps up to the end of the input, and this text was written. The text is
+-- the output, or a beginning of it, for each input that begins with these bytes. If the end was
+-- met, that is only the input of just these bytes. An end can be met only if no byte is left.
 pub record Ran (remaining_old remaining_new contents_old contents_new : Option (List ℕ))
     (output : List ℕ → Output) (result : Result Status RunError) : Type 0 where
   pub bytes : List ℕ
@@ -40,25 +41,25 @@ Runs remaining contents reader_old reader_new writer_old writer_new output resul
     Ran (remaining (inner_of reader_old)) (remaining (inner_of reader_new))
     (contents (inner_of writer_old)) (contents (inner_of writer_new)) output result
 
--- a text was written that tells this output
+-- a text was written: this output, or a beginning of it
 pub record Writes (old new : Option (List ℕ)) (output : Output) (result : Result Status RunError)
     : Type 0 where
   pub text : List ℕ
   pub appended : Appends old new text
   pub says : Tells result text output
 
--- the run on a known input: what was written tells the output of that input
+-- the run on a known input: the text written is the output of that input, or a beginning of it
 abbrev pub Answers : {R W : Type 0} → (R → Option (List ℕ)) → (W → Option (List ℕ)) → Counted R
     → Counted W → Counted W → (List ℕ → Output) → Result Status RunError → Type 0
 Answers remaining contents reader writer_old writer_new output result =
     IfSome (remaining (inner_of reader)) (λ input.
     Writes (contents (inner_of writer_old)) (contents (inner_of writer_new)) (output input) result)
 
--- a status is answered only once all that was written is flushed
+-- a status is returned only once everything written is flushed
 abbrev pub EndsFlushed : {X W : Type 0} → Result X RunError → Counted W → Type 0
 EndsFlushed result writer = OnOk result (is_flushed writer ≡ true)
 
--- a device that failed is counted once, at the reader or at the writer, and nothing else is
+-- a device that failed is counted once, at the reader or at the writer, and nothing else is counted
 abbrev pub CountsOneDevice : {R W X : Type 0} → Result X RunError → Counted R → Counted R
     → Counted W → Counted W → Type 0
 CountsOneDevice (Ok _) reader_old reader_new writer_old writer_new =
@@ -69,7 +70,7 @@ CountsOneDevice (Err Device) reader_old reader_new writer_old writer_new =
     (CountsOne reader_old reader_new × CountsNone writer_old writer_new)
     ⊎ (CountsNone reader_old reader_new × CountsOne writer_old writer_new)
 
--- the first of these bytes were written, and with Ok all of them
+-- the first `count` of these bytes were written, and with Ok all of them
 pub record Puts (old new : Option (List ℕ)) (bytes : List ℕ)
     (result : Result (Unit {0}) RunError) : Type 0 where
   pub count : ℕ
@@ -77,14 +78,14 @@ pub record Puts (old new : Option (List ℕ)) (bytes : List ℕ)
   pub appended : Appends old new (take count bytes)
   pub whole : OnOk result (count ≡ length bytes)
 
--- what a line makes of the output after it: this text and then the rest, this text and the end, or
--- more than this text
+-- The output from a line onwards: this text and then the rest, this text and the end, or more than
+-- this text.
 abbrev pub TellsTurn : Result Turn RunError → List ℕ → (Output → Output) → Type 0
 TellsTurn (Ok Next) text after = (rest : Output) → after rest ≡ prepend text rest
 TellsTurn (Ok (Stop status)) text after = (rest : Output) → after rest ≡ (text, status)
 TellsTurn (Err _) text after = (rest : Output) → (more : List ℕ) × ((after rest).0 ≡ text ++ more)
 
--- this text was written, and it is what the line tells
+-- this text was written, and it is the answer to the line, or a beginning of it
 pub record Turns (old new : Option (List ℕ)) (after : Output → Output)
     (result : Result Turn RunError) : Type 0 where
   pub text : List ℕ

@@ -1,7 +1,7 @@
--- A telegram as a line of text. What is accepted becomes one JSON object, its keys in byte order
--- and without blanks; what is refused becomes the reason, in words and numbers. The keys are
--- the standard's names of variables in small letters, but `packets` and `user_bits`, which are this
--- project's, as the words are.
+-- A telegram as a line of text. A text that is accepted becomes one JSON object without blanks, its
+-- keys in byte order. A text that is refused becomes the reason, in words and numbers. The keys are
+-- the standard's names of variables in small letters. Only `packets` and `user_bits` are this
+-- project's, and so are the words.
 use Rattle.std.specs.Prelude.{◌≡◌, ◌++◌, ℕ, List, [], ◌∷◌, codes, decimal, Result, Ok, Err}
 use Rattle.etcs_bits.specs.Number.{worth}
 use Rattle.etcs_bits.specs.Variables.{dup_number, version_number}
@@ -37,7 +37,7 @@ telegram_form telegram = object_of (
 unfoldable pub json_line_of : Telegram → List ℕ
 json_line_of telegram = compact_text (telegram_form telegram) ++ codes "\n"
 
--- what is wrong at a fault
+-- the kind of a fault, in words
 abbrev pub kind_words : FaultKind → List ℕ
 kind_words kinds.Short = codes "short"
 kind_words kinds.Spare = codes "spare"
@@ -50,12 +50,12 @@ kind_words kinds.MessageKind = codes "message kind"
 kind_words kinds.NoAuthority = codes "no authority"
 kind_words kinds.NoReport = codes "no report"
 
--- what is wrong, where its field begins, and how many bits decide it
+-- the kind of a fault, the place where its field begins, and how many bits decide it
 abbrev pub fault_words : Fault → List ℕ
 fault_words fault = kind_words fault.why
     ++ (codes " at " ++ (decimal fault.at ++ (codes " end " ++ decimal fault.end)))
 
--- why a text is no telegram; that memory ran out is no such reason
+-- why a text is no telegram; want of memory is no such reason
 unfoldable pub reason_of : TextError → List ℕ
 reason_of errors.Memory = []
 reason_of errors.NotHex = codes "not hexadecimal"
@@ -63,7 +63,7 @@ reason_of errors.WrongSize = codes "wrong size"
 reason_of errors.PadBits = codes "pad bits set"
 reason_of (errors.Fault fault) = fault_words fault
 
--- the refusal of a line, by its number
+-- the refusal of the line with this number
 unfoldable pub refusal_of : ℕ → TextError → List ℕ
 refusal_of line_number why =
     codes "refused: line " ++ (decimal line_number ++ (codes ": " ++ (reason_of why ++ codes "\n")))
@@ -77,7 +77,7 @@ line_for (Err why) = Err why
 unfoldable pub meaning_of : List ℕ → Result (List ℕ) TextError
 meaning_of text = line_for (telegram_of_text text)
 
--- why there is no JSON line: because memory ran out, or for the line's own reason
+-- why there is no JSON line: memory ran out, or the line is refused for this reason
 abbrev pub Refuses : TextError → Result (List ℕ) TextError → Type 0
 Refuses errors.Memory meaning = Unit {0}
 Refuses why meaning = meaning ≡ Err why

@@ -1,9 +1,9 @@
--- The lines of a text. A line ends at a `\n`, which is no part of it, or at the end of the text;
--- after a last `\n` there is no further line.
+-- The lines of a text. A line ends at a `\n`, which is not part of it, or at the end of the text.
+-- After a last `\n` there is no further line.
 use Rattle.std.specs.Prelude.{◌≡◌, ◌==◌, ℕ, false, List, [], ◌∷◌, if◌then◌else◌}
 use Rattle.std.specs.Io.BufRead.{strip_last}
 
--- the byte, at the front of the first line
+-- the lines, with the byte at the front of the first one
 abbrev pub onto_first : ℕ → List (List ℕ) → List (List ℕ)
 onto_first byte [] = (byte ∷ []) ∷ []
 onto_first byte (line ∷ lines) = (byte ∷ line) ∷ lines
@@ -13,11 +13,11 @@ unfoldable pub lines_of : List ℕ → List (List ℕ)
 lines_of [] = []
 lines_of (byte ∷ text) = if byte == 10 then [] ∷ lines_of text else onto_first byte (lines_of text)
 
--- a line without one `\r` at its end
+-- a line without a `\r` at its end; only one is removed
 abbrev pub trimmed : List ℕ → List ℕ
 trimmed line = strip_last 13 line
 
--- no `\n` stands in it
+-- the line has no `\n`
 abbrev pub IsLine : List ℕ → Type 0
 IsLine [] = Unit {0}
 IsLine (byte ∷ line) = ((byte == 10) ≡ false) × IsLine line

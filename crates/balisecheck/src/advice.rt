@@ -1,8 +1,9 @@
-//! What is said to a person whose words are no command, besides the usage line.
+//! Advice for a person whose words are no command, besides the usage line.
 
-/// The advice for the words, the program's name first, if they are a usual mistake.
+/// The advice for the words of a command line, if they are a usual mistake. The first word is the
+/// program's name.
 ///
-/// It goes to standard error, so that standard output stays what the contract of `run` says.
+/// It goes to standard error, so that standard output stays as the contract of `run` states it.
 pub fn advice_for(words: &[&str]) -> Option<&'static str> {
     match words {
         [_, "check" | "encode", ..] | [_, _, "--radio", ..] => {

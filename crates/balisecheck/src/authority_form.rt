@@ -1,4 +1,4 @@
-//! The form of packets 12 and 15.
+//! The JSON form of movement authorities, packets 12 and 15.
 
 ghost use Rattle.std.specs.Prelude.{◌≡◌};
 ghost use Rattle.serde_json.specs.Events.{members_len};
@@ -77,7 +77,7 @@ impl Form for Overlap {
     }
 }
 
-// NID_PACKET: 12 where there is V_MAIN, else 15.
+// NID_PACKET: 12 if the authority has V_MAIN, else 15.
 fn packet_number(authority: &Authority) -> u32
     ensures { result ≡ authority_number authority.now.main }
 {
@@ -87,7 +87,7 @@ fn packet_number(authority: &Authority) -> u32
     }
 }
 
-// How many members the form has: seven are always there.
+// The number of members of the JSON object. Seven are always there.
 fn member_count(authority: &Authority) -> usize
     ensures { result ≡ members_len (members_of (authority_members authority.now)) }
 {

@@ -1,4 +1,4 @@
-//! Bits as hexadecimal text, made in place: no memory is asked for.
+//! Bits as hexadecimal text, made on the stack without a request for memory.
 
 ghost use Rattle.std.specs.Prelude.{◌≡◌, ◌+◌, ◌*◌, ◌≤◌, false, length, take, drop, slice_index_or, OnOk};
 ghost use Rattle.etcs_bits.specs.Number.{num_of_bits};
@@ -9,13 +9,13 @@ ghost use Rattle.balisecheck.specs.Forms.{always, SendsEntry};
 use etcs_bits::Bits;
 use serde::Serializer;
 
-// How many bytes hold 8,168 bits, the most that a packet's body has.
+// The number of bytes for 8,168 bits. No packet's body has more bits.
 const MOST_BYTES: usize = 1021;
 
-// How many digits they have.
+// The number of hexadecimal digits of these bytes.
 const MOST_DIGITS: usize = 2042;
 
-// The bit at this place; zeros stand behind the last one.
+// The bit at this place, or zero after the last bit.
 #[inline]
 fn bit_at(bits: &Bits, place: usize) -> bool
     ensures { result ≡ slice_index_or bits.now place false }
@@ -23,7 +23,7 @@ fn bit_at(bits: &Bits, place: usize) -> bool
     place < bits.len() && bits.bit(place)
 }
 
-// The byte of the eight bits from this place on.
+// The byte that eight bits make, the first of them at this place.
 fn byte_at(bits: &Bits, at: usize) -> u8
     requires inside { at + 8 ≤ 8 * bytes_for (length bits.now) }
     requires short { length bits.now ≤ 8168 }
@@ -36,7 +36,7 @@ fn byte_at(bits: &Bits, at: usize) -> u8
     byte as u8
 }
 
-// The bytes of bits, and then bytes that mean nothing.
+// The bytes of the bits. The rest of the array carries no information.
 fn bytes_of(bits: &Bits) -> [u8; MOST_BYTES]
     requires { length bits.now ≤ 8168 }
     ensures { take (bytes_for (length bits.now)) result ≡ bytes_of_bits bits.now }
@@ -48,8 +48,8 @@ fn bytes_of(bits: &Bits) -> [u8; MOST_BYTES]
     bytes
 }
 
-/// Sends a member of an object whose value is the text of bits, two lower-case hexadecimal digits
-/// for each byte.
+/// Sends a member of a JSON object. Its value is the text of the bits, two lower-case hexadecimal
+/// digits for each byte.
 pub fn send_bits<S: Serializer>(out: &mut S, key: &str, bits: &Bits) -> Result<(), S::Error>
     requires { length bits.now ≤ 8168 }
     ensures { OnOk result (SendsEntry (always key.now (string (bit_text bits.now)))

@@ -15,7 +15,7 @@ pub enum Command {
     Decode,
 }
 
-// The command line that is understood: `balisecheck decode`.
+// The command line that the program understands: `balisecheck decode`.
 fn grammar<'a>(alloc: Global) -> Result<CommandLine<'a>, AllocError>
     ensures { IfOk result (λ p. app_of p ≡ command_line) }
 {
@@ -25,7 +25,7 @@ fn grammar<'a>(alloc: Global) -> Result<CommandLine<'a>, AllocError>
     Ok(whole)
 }
 
-// The command that the library found among the words.
+// The command that `clap` found among the words.
 fn entered_command(matches: &ArgMatches<'_>) -> Option<Command>
     ensures { result ≡ entered (subcommand_rows_of matches.now) }
 {
@@ -36,9 +36,10 @@ fn entered_command(matches: &ArgMatches<'_>) -> Option<Command>
     }
 }
 
-/// The command that the words are, or `None`. The first word is the program's name.
+/// The command that the words of a command line give, or `None` if they are no command. The first
+/// word is the program's name.
 ///
-/// Help is no command: the library's own texts are never printed.
+/// A request for help is no command, so the texts of `clap` are never printed.
 pub fn read_command<'a>(alloc: Global, words: &'a [&'a str]) -> Result<Option<Command>, AllocError>
     ensures { IfOk result (λ c. c ≡ command_of (map (λ w. w.now) words.entry.now)) }
 {

@@ -8,13 +8,13 @@ ghost use Rattle.balisecheck.specs.Counted.{failures_of, inner_of, is_flushed};
 
 use std::io::{Error, ErrorKind, Read, Result, Write};
 
-/// A reader or writer, with the count of its calls that failed.
+/// A reader or writer with a count of its failed calls.
 ///
-/// It begins with a budget of 2^64 - 1 bytes to be read. Each read lowers it by the length of its
-/// buffer, or by 1 where that is 0; a read for which it does not suffice fails. So whoever reads on
-/// for as long as it gives something ends on every reader.
+/// It starts with a budget of 2^64 - 1 bytes to be read. Each read lowers the budget by the length
+/// of its buffer, or by 1 if the buffer is empty. A read fails if the budget does not suffice for
+/// it. So a loop that reads as long as bytes come ends on every reader.
 ///
-/// A writer knows besides whether all that was written through it has been flushed.
+/// A writer also records whether everything written through it has been flushed.
 #[derive(Drop)]
 pub struct Counted<T> {
     inner: T,
@@ -24,8 +24,8 @@ pub struct Counted<T> {
 }
 
 impl<T> Counted<T> {
-    /// Of this reader or writer no call has failed yet, and nothing of the budget is spent. It counts
-    /// as not flushed: it may hold back what was written before.
+    /// Wraps a reader or writer. No call of it has failed yet, and none of the budget is spent. It
+    /// counts as not flushed, since it may hold back what was written to it before.
     #[inline]
     pub fn new(inner: T) -> Counted<T>
         ensures inner { inner_of result ≡ inner }
@@ -41,7 +41,7 @@ impl<T> Counted<T> {
         }
     }
 
-    /// How many calls have failed. At 2^64 - 1 the count stays.
+    /// The number of calls that have failed. The count stops at 2^64 - 1.
     #[inline]
     pub fn failures(&self) -> u64
         ensures { result ≡ failures_of self.now }
@@ -50,7 +50,7 @@ impl<T> Counted<T> {
         self.failures
     }
 
-    /// How many bytes of room may still be offered to reads.
+    /// What is left of the budget, in bytes of buffer that reads may offer.
     #[inline]
     pub(crate) fn budget(&self) -> u64
         ensures { result ≡ budget_of self.now }
@@ -78,7 +78,7 @@ impl<T> Counted<T> {
 impl<R: Read> Read for Counted<R> {
     ghost remaining = { λ c. R.remaining (inner_of c) };
 
-    /// Reads once, within the budget; past it the reader is not asked.
+    /// Reads once. If the budget does not suffice, the read fails and the reader is not called.
     #[inline]
     fn read(&mut self, buf: &mut [u8]) -> Result<usize>
         ensures bound { ReadsAtMost result buf.new }
@@ -110,7 +110,7 @@ impl<R: Read> Read for Counted<R> {
 impl<W: Write> Write for Counted<W> {
     ghost contents = { λ c. W.contents (inner_of c) };
 
-    /// Writes once. A write that takes none of a piece that is not empty has failed.
+    /// Writes once. A write fails if it takes no byte of a piece that is not empty.
     #[inline]
     fn write(&mut self, buf: &[u8]) -> Result<usize>
         ensures bound { WritesAtMost result buf.now }

@@ -19,7 +19,7 @@ use etcs_telegram::TextError;
 use std::alloc::Global;
 use std::io::{Read, Write};
 
-// The line without one `\r` at its end.
+// The line without a `\r` at its end. Only one is removed.
 #[inline]
 fn trim(line: &[u8]) -> &[u8]
     ensures { result.now ≡ trimmed line.now }
@@ -30,7 +30,7 @@ fn trim(line: &[u8]) -> &[u8]
     }
 }
 
-// Writes why the line of this number is refused.
+// Writes the refusal of the line with this number.
 fn refuse_line<W: Write>(
     alloc: Global,
     number: u64,
@@ -52,7 +52,7 @@ fn refuse_line<W: Write>(
     }
 }
 
-// Writes what a line means, or why it is refused.
+// Writes the JSON line of a line of hexadecimal text, or its refusal.
 fn tell_line<W: Write>(
     alloc: Global,
     number: u64,
@@ -76,7 +76,7 @@ fn tell_line<W: Write>(
     }
 }
 
-// Tells the line that was found last. An empty line is skipped.
+// Writes the answer to the line that was found last. An empty line is skipped.
 fn take_turn<W: Write>(
     alloc: Global,
     number: u64,
@@ -96,7 +96,7 @@ fn take_turn<W: Write>(
     }
 }
 
-// Tells each line, up to the first that is refused.
+// Writes the answer to each line, up to the first that is refused.
 fn tell_lines<R: Read, W: Write>(
     alloc: Global,
     lines: &mut TextLines,
@@ -110,7 +110,7 @@ fn tell_lines<R: Read, W: Write>(
         decode_output result }
     ensures counts { CountsOneDevice result reader.old reader.new writer.old writer.new }
 {
-    // The budget bounds the number of lines; this call tells the proof the budget's own range.
+    // The budget bounds the number of lines. This call gives the proof the range of the budget.
     let _ = reader.budget();
     let mut number = 0;
     'lines: while lines.next(reader)? {
@@ -122,8 +122,8 @@ fn tell_lines<R: Read, W: Write>(
     Ok(Status::Done)
 }
 
-/// Writes the JSON line of each line of hexadecimal text, up to the first that is no telegram, for
-/// which it writes the refusal; then it flushes the writer.
+/// Writes the JSON line of each line of hexadecimal text, up to the first that is no telegram. For
+/// that one it writes the refusal. Then it flushes the writer.
 pub fn decode<R: Read, W: Write>(
     alloc: Global,
     reader: &mut Counted<R>,

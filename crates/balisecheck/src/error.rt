@@ -2,7 +2,7 @@
 
 use thiserror::Error;
 
-/// Why a run stopped without a status. The bytes that were written till then begin the output.
+/// Why a run stopped without a status. The bytes written so far are a beginning of the output.
 #[derive(Clone, Copy, Debug, PartialEq, Eq, Error)]
 pub enum RunError {
     /// A request for memory was refused.

@@ -8,17 +8,17 @@ ghost use Rattle.balisecheck.specs.Forms.{always, array_of, count_of, maybe, Sen
 
 use serde::{Described, Serialize, Serializer};
 
-/// What has a JSON form. Each value is sent piece by piece, and none is kept in memory.
+/// A value with a JSON form. The form is sent piece by piece, and none of it is kept in memory.
 pub trait Form {
-    /// The value that a record is sent as.
+    /// The JSON value that is sent for a record.
     ghost form: { Self → Data };
 
-    /// Sends the record's form. Takes no memory of its own.
+    /// Sends the record's JSON form. The call requests no memory of its own.
     fn send<S: Serializer>(&self, out: &mut S) -> Result<(), S::Error>
         ensures { OnOk result (SendsValue (form self.now) (S.written out.old) (S.written out.new)) };
 }
 
-/// How many members of an object an option makes.
+/// The number of members that an option adds to a JSON object: 1 if it has a value, else 0.
 pub fn count<T>(value: &Option<T>) -> usize
     ensures count { result ≡ count_of value.now }
     ensures small { result ≤ 1 }
@@ -29,7 +29,7 @@ pub fn count<T>(value: &Option<T>) -> usize
     }
 }
 
-/// Sends a member of an object.
+/// Sends a member of a JSON object.
 pub fn send_member<T: Form, S: Serializer>(
     out: &mut S,
     key: &str,
@@ -42,7 +42,7 @@ pub fn send_member<T: Form, S: Serializer>(
     value.send(out)
 }
 
-/// Sends a member of an object where there is a value, and nothing where there is none.
+/// Sends a member of a JSON object if there is a value, and nothing if there is none.
 pub fn send_optional<T: Form, S: Serializer>(
     out: &mut S,
     key: &str,
@@ -60,7 +60,7 @@ pub fn send_optional<T: Form, S: Serializer>(
     }
 }
 
-// Sends items one after the other, without the marks of an array.
+// Sends items one after the other, without the beginning and the end of the array.
 fn send_items<T: Form, S: Serializer>(out: &mut S, items: &[T]) -> Result<(), S::Error>
     ensures { OnOk result
         (WritesEach (λ x. SendsValue (T.form x)) items.now (S.written out.old) (S.written out.new)) }
@@ -71,7 +71,7 @@ fn send_items<T: Form, S: Serializer>(out: &mut S, items: &[T]) -> Result<(), S:
     Ok(())
 }
 
-/// Sends a member of an object whose value is the array of these items.
+/// Sends a member of a JSON object. Its value is the array of these items.
 pub fn send_several<T: Form, S: Serializer>(
     out: &mut S,
     key: &str,
@@ -86,7 +86,7 @@ pub fn send_several<T: Form, S: Serializer>(
     out.end_seq()
 }
 
-/// Sends a member of an object whose value is the array of a first item and further ones.
+/// Sends a member of a JSON object. Its value is the array of a first item and further ones.
 pub fn send_first_and<T: Form, S: Serializer>(
     out: &mut S,
     key: &str,
@@ -104,7 +104,7 @@ pub fn send_first_and<T: Form, S: Serializer>(
     out.end_seq()
 }
 
-/// A record, to be written in its form.
+/// Hands a record to a serializer, which writes its JSON form.
 #[derive(Clone, Copy)]
 pub struct Sent<'a, T>(pub &'a T);
 

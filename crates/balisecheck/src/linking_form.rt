@@ -1,4 +1,4 @@
-//! The form of packet 5.
+//! The JSON form of linking, packet 5.
 
 use crate::form::{Form, count, send_first_and, send_member, send_optional};
 use etcs_packet::{Link, Linking};

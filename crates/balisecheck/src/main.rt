@@ -1,11 +1,11 @@
 //! `balisecheck decode`: lines of hexadecimal text, each a Eurobalise telegram, to lines of JSON.
 //!
 //! `program::run` is the whole program, from words and a counted reader to a counted writer and a
-//! status. Its contract says what is written for every input; `specs/Output.antt` defines that text
-//! and `specs/Ran.antt` what is promised of it. `main` adds the arguments and standard input and
-//! output, of which no contract can speak. Read `program.rt` first, then `decoding.rt`,
-//! `text_lines.rt` and `telegram_lines.rt`; `form.rt` and `packet_form.rt` say what packets are as
-//! JSON. The commands `check` and `encode` are left out so far.
+//! status. Its contract says what is written for every input. `specs/Output.antt` defines that
+//! text, and `specs/Ran.antt` defines what is promised of it. `main` adds the arguments, standard
+//! input and standard output, which no contract can describe. Read `program.rt` first, then
+//! `decoding.rt`, `text_lines.rt` and `telegram_lines.rt`. `form.rt` and `packet_form.rt` show
+//! packets as JSON. The commands `check` and `encode` do not exist yet.
 #![tactic(auto)]
 
 mod advice;
@@ -58,7 +58,7 @@ fn arguments(rt: &HostRuntime) -> Result<Vec<String>, RunError> {
     }
 }
 
-// Why the arguments cannot be had: memory ran out, or one is no text.
+// Why there are no arguments: memory ran out, or one of them is no text.
 fn run_error(error: &io::Error) -> RunError {
     match error.kind() {
         io::ErrorKind::OutOfMemory => RunError::Memory,
@@ -66,7 +66,7 @@ fn run_error(error: &io::Error) -> RunError {
     }
 }
 
-// Runs the words from standard input to standard output.
+// Runs the command that the words give, from standard input to standard output.
 fn run_words(rt: &HostRuntime, words: &[String]) -> Result<Status, RunError> {
     let alloc = rt.alloc();
     let words: Vec<&str> = match words.iter().map(|word| word.as_str()).collect(alloc) {
@@ -84,14 +84,15 @@ fn run_words(rt: &HostRuntime, words: &[String]) -> Result<Status, RunError> {
         let _ = eprintln!(rt; "balisecheck: {text}");
     }
     if answer.is_err() {
-        // A run flushes only before a status, but what was written is to reach the output anyway.
+        // A run flushes only before it returns a status. What was written must reach the output
+        // anyway.
         let _ = writer.flush();
     }
     answer
 }
 
-/// Exit status 0 for done, 1 for findings, 2 for refused words or input, and 3, with a line on
-/// standard error, where memory was refused or a device failed.
+/// The exit status is 0 for done, 1 for findings and 2 for refused words or input. It is 3, with a
+/// line on standard error, if memory was refused or a device failed.
 fn main(rt: HostRuntime) -> ExitCode {
     let answer = match arguments(&rt) {
         Ok(words) => run_words(&rt, words.as_slice()),

@@ -1,4 +1,4 @@
-//! Variables as whole numbers.
+//! Variables as whole numbers of JSON.
 
 ghost use Rattle.std.specs.Prelude.{OnOk};
 ghost use Rattle.serde_json.specs.Events.{SendsValue};
@@ -16,7 +16,7 @@ impl Form for u32 {
     }
 }
 
-/// A flag is sent as the number of its bit.
+/// A flag is sent as the number of its bit, 1 or 0.
 impl Form for bool {
     ghost use Rattle.etcs_bits.specs.Number.{worth};
 

@@ -10,8 +10,10 @@ use crate::counted::Counted;
 use crate::error::RunError;
 use std::io::Write;
 
-/// Writes the text, or as much of it as the writer takes before it fails (`Device`).
-// Not `write_all`, which says nothing of what was written before it failed.
+/// Writes the text.
+///
+/// `Device`: the writer failed. What it took before that is a beginning of the text.
+// This is not `write_all`: its contract does not say what was written before a failure.
 pub fn put<W: Write>(writer: &mut Counted<W>, text: &[u8]) -> Result<(), RunError>
     requires { CanCount writer.old }
     ensures puts { Puts (W.contents (inner_of writer.old)) (W.contents (inner_of writer.new))
@@ -29,7 +31,7 @@ pub fn put<W: Write>(writer: &mut Counted<W>, text: &[u8]) -> Result<(), RunErro
     Ok(())
 }
 
-/// Flushes the writer, at the end of a run.
+/// Flushes the writer at the end of a run.
 pub fn finish<W: Write>(writer: &mut Counted<W>) -> Result<(), RunError>
     requires { CanCount writer.old }
     ensures kept { Keeps (W.contents (inner_of writer.old)) (W.contents (inner_of writer.new)) }

@@ -1,4 +1,4 @@
-//! The forms of the packets from track to train.
+//! The JSON forms of the packets from track to train.
 
 use crate::form::{Form, send_member};
 use etcs_packet::{CoverMarker, TrackPacket};
@@ -17,7 +17,7 @@ impl Form for CoverMarker {
     }
 }
 
-/// A packet is sent in the form of its number, a packet of no known layout as bits.
+/// NID_PACKET decides the form of a packet. A packet of no known layout is sent as bits.
 impl Form for TrackPacket {
     ghost use Rattle.balisecheck.specs.PacketForms.{packet_form};
 

@@ -1,4 +1,4 @@
-//! The forms of packets 21 and 27.
+//! The JSON forms of gradient profiles, packet 21, and static speed profiles, packet 27.
 
 ghost use Rattle.std.specs.Prelude.{OnOk};
 
@@ -50,7 +50,8 @@ impl Form for SpeedElement {
     }
 }
 
-/// A packet that tells something along the track: its elements, the first one and all further.
+/// A packet that describes the track from place to place. Its elements are the first one and all
+/// further ones.
 impl<const N: u32, T: Form + Layout> Form for Packet<N, Elements<T>> {
     ghost use Rattle.balisecheck.specs.ProfileForms.{profile_form};
 

@@ -32,7 +32,7 @@ fn refuse_words<W: Write>(writer: &mut Counted<W>) -> Result<Status, RunError>
     Ok(Status::Refused)
 }
 
-// Does what the command says, or writes the usage line where there is none.
+// Runs the command, or writes the usage line if there is none.
 fn obey<R: Read, W: Write>(
     alloc: Global,
     command: Option<Command>,
@@ -53,16 +53,17 @@ fn obey<R: Read, W: Write>(
     }
 }
 
-/// Runs the command that the words are, from the reader to the writer. The first word is the
-/// program's name; words that are no command give the usage line, and then nothing is read.
+/// Runs the command that the words give, from the reader to the writer. The first word is the
+/// program's name. Words that are no command give the usage line, and then nothing is read.
 ///
-/// On a known input, what is written and the status are the output of that input. A run rests on
-/// what it read alone: they are the output of every input that begins with that, where the end of
-/// the input, once met, counts as read. With a status, the last call of the writer was a flush that
+/// On a known input, the text written and the status are the output of that input. They depend only
+/// on what was read, so they are the output of every input that begins with it. The end of the
+/// input, once met, counts as read. With a status, the last call of the writer was a flush that
 /// succeeded.
 ///
 /// `Memory`: a request for memory was refused. `Device`: a read, a write or a flush failed, and the
-/// count of that one has risen by 1. In both cases what was written is a beginning of the output.
+/// count of that reader or writer has risen by 1. In both cases the text written is a beginning of
+/// the output.
 pub fn run<'a, R: Read, W: Write>(
     alloc: Global,
     words: &'a [&'a str],
@@ -73,7 +74,7 @@ pub fn run<'a, R: Read, W: Write>(
     requires reads { CanCount reader.old }
     requires writes { CanCount writer.old }
 
-    // For a reader that holds its whole input and a writer that tells its contents.
+    // For a reader with a known input and a writer with known contents.
     ensures known { Answers R.remaining W.contents reader.old writer.old writer.new
         (output_of (map (λ w. w.now) words.entry.now)) result }
 

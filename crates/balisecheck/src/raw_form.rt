@@ -1,11 +1,11 @@
-//! The form of a packet whose body is kept as bits.
+//! The JSON form of a packet whose body is kept as bits.
 
 use crate::bit_text::send_bits;
 use crate::form::{Form, send_member};
 use etcs_packet::RawPacket;
 use serde::Serializer;
 
-/// How many bits L_PACKET counts before the body.
+/// The number of bits that L_PACKET counts before the body.
 const HEAD_BITS: u32 = 23;
 
 impl Form for RawPacket {

@@ -5,7 +5,7 @@ ghost use Rattle.std.specs.Prelude.{◌≡◌};
 /// How a run ended.
 #[derive(Clone, Copy, Debug, PartialEq, Eq)]
 pub enum Status {
-    /// All that was asked for is done; of a check the answer is yes.
+    /// Everything asked for is done. For a check, the answer is yes.
     Done,
     /// A check has findings.
     Findings,
@@ -16,7 +16,7 @@ pub enum Status {
 impl Status {
     ghost use Rattle.balisecheck.specs.Output.{exit_code};
 
-    /// The exit status of a program that ended so.
+    /// The exit status of a program whose run ended with this status.
     pub fn code(self) -> u8
         ensures { result ≡ exit_code self }
     {

@@ -1,4 +1,4 @@
-//! The form of a telegram.
+//! The JSON form of a telegram.
 
 ghost use Rattle.std.specs.Prelude.{◌≡◌};
 ghost use Rattle.etcs_telegram.specs.Sizes.{user_bits};
@@ -7,7 +7,7 @@ use crate::form::{Form, send_member, send_several};
 use etcs_telegram::{Size, Telegram};
 use serde::Serializer;
 
-// How many user bits a telegram of this size has (SUBSET-036, 4.3).
+// The number of user bits of a telegram of this size (SUBSET-036, 4.3).
 fn user_bit_count(size: Size) -> u32
     ensures { result ≡ user_bits size }
 {
@@ -17,8 +17,8 @@ fn user_bit_count(size: Size) -> u32
     }
 }
 
-/// A telegram is one JSON object, its keys in byte order: the standard's variable names in small
-/// letters, and this project's `packets` and `user_bits`.
+/// A telegram is one JSON object with its keys in byte order. The keys are the standard's variable
+/// names in small letters, and this project's `packets` and `user_bits`.
 impl Form for Telegram {
     ghost use Rattle.balisecheck.specs.TelegramLines.{telegram_form};
 

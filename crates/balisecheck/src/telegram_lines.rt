@@ -1,4 +1,4 @@
-//! A telegram as a line of JSON, and the refusal of a line that is none.
+//! A telegram as a line of JSON, and the refusal of a line that is no telegram.
 
 ghost use Rattle.std.specs.Prelude.{◌≡◌, ◌≢◌, Ok, IfOk, MatchResult, string_bytes};
 ghost use Rattle.balisecheck.specs.TelegramLines.{Refuses, json_line_of};
@@ -23,7 +23,8 @@ fn json_line(alloc: Global, telegram: &Telegram) -> Result<String, AllocError>
 
 /// The JSON line of the telegram that the hexadecimal text is, with its `\n`.
 ///
-/// Each error but `Memory` is the text's own: it is the reason to be told by `refusal`.
+/// `Memory`: a request for memory was refused. Each other error is the reason why the text is no
+/// telegram, and `refusal` puts it into words.
 #[tactic(auto, unfolding(crate::specs::TelegramLines::meaning_of))]
 pub fn answer(alloc: Global, text: &[u8]) -> Result<String, TextError>
     ensures { MatchResult result (λ s. meaning_of text.now ≡ Ok (string_bytes s))
@@ -36,7 +37,7 @@ pub fn answer(alloc: Global, text: &[u8]) -> Result<String, TextError>
     }
 }
 
-// What is wrong at a fault, in words.
+// The kind of a fault, in words.
 fn kind_text(kind: FaultKind) -> &'static str
     ensures { result.now ≡ kind_words kind }
 {
@@ -73,7 +74,7 @@ fn reason(alloc: Global, why: &TextError) -> Result<String, AllocError>
     }
 }
 
-/// The refusal of the line of this number, with its `\n`. Lines count from 1. That memory ran out is
+/// The refusal of the line with this number, with its `\n`. Lines count from 1. Want of memory is
 /// no reason to refuse a line.
 #[tactic(auto, unfolding(crate::specs::TelegramLines::refusal_of))]
 pub fn refusal(alloc: Global, number: u64, why: &TextError) -> Result<String, AllocError>

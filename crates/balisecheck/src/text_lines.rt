@@ -1,4 +1,4 @@
-//! `TextLines`: the lines of a reader, read by the block.
+//! `TextLines`: the lines of a reader, read in blocks.
 
 ghost use Rattle.std.specs.Prelude.{◌≤◌, ◌<◌, vec_len};
 
@@ -10,13 +10,13 @@ use std::io::Read;
 /// How many bytes one read may give.
 const ROOM: usize = 65_536;
 
-/// The line that was found last, and the bytes that were read and stand in no line yet.
+/// The line that was found last, and the bytes that were read but belong to no line yet.
 ///
-/// A line ends at a `\n`, which is no part of it, or at the end of the input. Its length has no
-/// limit but memory's.
+/// A line ends at a `\n`, which is not part of it, or at the end of the input. Only memory limits
+/// its length.
 #[derive(Drop)]
 pub struct TextLines {
-    // What the last read gave, of which `from..to` stands in no line yet.
+    // What the last read gave. The bytes `from..to` belong to no line yet.
     block: Vec<u8>,
     from: usize,
     to: usize,
@@ -57,7 +57,8 @@ impl TextLines {
         self.line.as_slice()
     }
 
-    // Moves the held bytes up to the first `\n` to the line, and says whether there is one.
+    // Moves the held bytes before the first `\n` to the line, and all of them if there is none.
+    // Returns whether there is one.
     fn move_line(&mut self) -> Result<bool, RunError>
         ensures moves { MovesTo result self.old self.new }
         ensures memory { IfErr result (λ e. e ≡ RunError.Memory) }
@@ -82,7 +83,7 @@ impl TextLines {
         }
     }
 
-    // Reads more bytes in place of the held ones. Once the end was met nothing is read any more.
+    // Reads more bytes in place of the held ones. Reads nothing once the end of the input was met.
     fn refill<R: Read>(&mut self, reader: &mut Counted<R>) -> Result<usize, RunError>
         requires { CanCount reader.old }
         ensures line { line_of self.new ≡ line_of self.old }
@@ -91,7 +92,7 @@ impl TextLines {
             × (length (held_of self.new) ≡ n) × (n ≡ 0 → has_ended self.new ≡ true)) }
         ensures spends { IfOk result (λ n. SpendsAtLeast n reader.old reader.new) }
 
-        // Nothing is lost by a read that failed.
+        // A failed read loses no bytes.
         ensures kept { OnErr result (Keeps (R.remaining (inner_of reader.old))
             (R.remaining (inner_of reader.new))) }
         ensures device { IfErr result (λ e. e ≡ RunError.Device) }
@@ -119,10 +120,10 @@ impl TextLines {
         }
     }
 
-    /// Looks for the next line, and says whether there is one.
+    /// Looks for the next line, and returns whether there is one. Nothing is read once the end of
+    /// the input was met.
     ///
-    /// `Memory`: the line is longer than memory. `Device`: a read failed. Nothing is read once the
-    /// end of the input was met.
+    /// `Memory`: the line is longer than memory. `Device`: a read failed.
     pub fn next<R: Read>(&mut self, reader: &mut Counted<R>) -> Result<bool, RunError>
         requires { CanCount reader.old }
         ensures reads { ReadsLine R.remaining reader.old reader.new self.old self.new result }

@@ -1,4 +1,4 @@
-//! The form of packet 41.
+//! The JSON form of level transition orders, packet 41.
 
 ghost use Rattle.std.specs.Prelude.{◌≡◌};
 ghost use Rattle.balisecheck.specs.PacketForms.{national_system};
@@ -8,7 +8,7 @@ use etcs_bits::Level;
 use etcs_packet::{LevelOrder, Transition};
 use serde::Serializer;
 
-// NID_NTC, which level NTC alone has.
+// NID_NTC, which only level NTC has.
 fn system_of(level: Level) -> Option<u32>
     ensures { result ≡ national_system level }
 {

@@ -1,12 +1,12 @@
-//! `Turn`: what one line leads to.
+//! `Turn`: what follows a line.
 
 use crate::status::Status;
 
-/// What one line leads to.
+/// What follows a line.
 #[derive(Clone, Copy, Debug, PartialEq, Eq)]
 pub enum Turn {
-    /// To the next line.
+    /// The next line.
     Next,
-    /// To the end of the run.
+    /// The end of the run, with its status.
     Stop(Status),
 }

@@ -1,4 +1,4 @@
--- A fault that an open list tells is the one that reading gives, and then no record stands there.
+-- The fault of an open list is the one that reading gives, and then no record stands there.
 use Rattle.std.proofs.Common.{◌≡◌, ℕ, ◌+◌, ◌-◌, ◌≤◌, Bool, true, false, eqb, List, ◌++◌, length, take, Result, Ok, Err, refl, sym, ap, subst, ◌∙◌, arith, inl, inr}
 use Rattle.std.proofs.lemmas.Bool.{ne_eqb}
 use Rattle.std.proofs.lemmas.List.{drop_at, append_cancel_left}
@@ -74,7 +74,7 @@ told (sized before body) rows d p q f within (inr (l, more, e, inr (w, wrong, is
     let back : q.at - width rows ≡ p.at = omega (arith, past) in
     rw (field_again l_packet l p middle here.allowed.0.0 here.allowed.0.1 within parts.0, second, test, tells_here, back) refl
 
--- What an open list tells is what reading gives: no two tell different faults.
+-- The fault of an open list is the one that reading gives: no two lists have different faults.
 pub told_is_given : (fields : Fields) (p : Place) (f : Fault) → p.at ≤ length p.bits → IsFault fields p f → rows_at fields p ≡ Err f
 told_is_given fields p f within t = told fields t.rows t.next p t.reached f within t.is_open t.spelled t.tells
 
@@ -118,7 +118,8 @@ fault_stays fields p f bits within len same t = go t.next t.is_open t.tells
         moved (due x) o (omega (arith, end_is)) (inr (n, place_in bits after.at, there, small, spare, e))
     go (differs back) o e = moved (differs back) o (let end_is : f.end ≡ t.reached.at = ap (λ (g : Fault). g.end) e in omega (arith, end_is)) e
 
--- Where a fault is told, no record of the fields stands, in any list of the same length with the same front.
+-- If a place has a fault, no record of the fields stands there, in any list of the same length with
+-- the same front.
 pub none_stands : (fields : Fields) (p : Place) (f : Fault) (bits : List Bool) (rows : List Row) (q : Place) → p.at ≤ length p.bits → length bits ≡ length p.bits → take f.end bits ≡ take f.end p.bits
     → IsFault fields p f → AreRowsOf fields rows → IsSpelled rows (place_in bits p.at) q → ⊥
 none_stands fields p f bits rows q within len same t w spelled =
@@ -127,7 +128,7 @@ none_stands fields p f bits rows q within len same t w spelled =
     let reads = spelled_is_read fields rows (place_in bits p.at) q inside w spelled in
     cc
 
--- Two lists of rows that stand at one place are one, and end at one place.
+-- Two lists of rows that stand at one place are equal, and end at one place.
 pub one_reading : (fields : Fields) (xs ys : List Row) (p q r : Place) → p.at ≤ length p.bits → AreRowsOf fields xs → AreRowsOf fields ys → IsSpelled xs p q → IsSpelled ys p r → (xs ≡ ys) × (q ≡ r)
 one_reading fields xs ys p q r within v w first second =
     let a = spelled_is_read fields xs p q within v first in
@@ -136,14 +137,14 @@ one_reading fields xs ys p q r within v w first second =
     let pairs = ok_is (xs, q) (ys, r) same in
     (ap (λ (x : List Row × Place). x.0) pairs, ap (λ (x : List Row × Place). x.1) pairs)
 
--- One fault alone is told.
+-- A place has at most one fault.
 pub one_told : (fields : Fields) (p : Place) (f g : Fault) → p.at ≤ length p.bits → IsFault fields p f → IsFault fields p g → f ≡ g
 one_told fields p f g within t u =
     let a = told_is_given fields p f within t in
     let b = told_is_given fields p g within u in
     err_is f g (let same : failing f ≡ failing g = sym a ∙ b in same)
 
--- Where two lists of rows are spelled at the front of one list of bits, they are one.
+-- Two lists of rows that are spelled at the front of one list of bits are equal.
 pub spelled_at_front : (rows : List Row) (x : List Bool) → AreAllowed rows → IsSpelled rows (place_in (join rows ++ x) 0) (place_in (join rows ++ x) (length (join rows)))
 spelled_at_front rows x allowed = record { allowed = allowed; stands = record { same = refl; here = ap (λ (bits : List Bool). join rows ++ bits) (sym (drop_at (join rows) x (length (join rows)) refl)); past = omega arith } }
 

@@ -1,4 +1,4 @@
--- Records of which each is allowed, in an option and in a list.
+-- Records that are all allowed, in an option and in a list.
 use Rattle.std.specs.Prelude.{List, [], ◌∷◌, Option, Some, None, IfSome}
 use Rattle.std.specs.List.{AllByRecursion}
 

@@ -1,4 +1,4 @@
--- What a reader that gives the rows at a place may say of it.
+-- What holds at a place if a reader gives the rows there.
 use Rattle.std.proofs.Common.{◌≡◌, ◌≤◌, List, length, Ok, sym, ap, ◌∙◌}
 use Rattle.etcs_bits.specs.declared.fault.DecodeError.{DecodeError}
 use Rattle.etcs_bits.specs.declared.fault.DecodeError.TheVariants as errors
@@ -24,11 +24,11 @@ none_begins rows errors.Memory fields p within are_rows fails = tt
 none_begins rows (errors.Fault f) fields p within are_rows fails =
     λ bits len front x to spelled. none_stands fields p f bits (rows x) to within len front (fault_is_told fields p f within fails) (are_rows x) spelled
 
--- records with the same rows are one
+-- records with the same rows are equal
 pub same_record : {X : Type 0} (x : Format X) (v w : X) → x.rows v ≡ x.rows w → v ≡ w
 same_record x v w e = sym (x.laid.is_record v) ∙ ap x.of e ∙ x.laid.is_record w
 
--- and so the laws hold of each layout
+-- so the laws hold for each layout
 pub laid_out : {X : Type 0} (x : Format X) → AreLaidOut x
 laid_out x = record {
   -- both lists of rows are what reading gives there
@@ -42,17 +42,17 @@ laid_out x = record {
   -- the fault stays in the other input, and reading gives one answer there
   fault_or_record = λ p f within t bits len front v to spelled.
       none_stands x.fields p f bits (x.rows v) to within len front t (x.laid.are_rows v) spelled;
-  -- each is what reading gives
+  -- each fault is what reading gives
   one_fault = λ p f h within t u. one_told x.fields p f h within t u;
 }
 
--- whole lists of allowed rows are those of the record that they make
+-- a whole list of allowed rows is that of the record that it makes
 pub rows_again : {X : Type 0} (x : Format X) (r : List Row) → AreRowsOf x.fields r → AreAllowed r → x.rows (x.of r) ≡ r
 rows_again x r whole allowed =
     let v = x.laid.has_record r whole allowed in
     ap x.rows (ap x.of (sym v.1) ∙ x.laid.is_record v.0) ∙ v.1
 
--- a record is spelled exactly where reading gives it
+-- a record is spelled at a place exactly if reading gives it there
 pub read_as_spelled : {X : Type 0} (x : Format X) → IsReadAsSpelled x
 read_as_spelled x p q v within = (
   λ spelled. (x.rows v, spelled_is_read x.fields (x.rows v) p q within (x.laid.are_rows v) spelled, x.laid.is_record v),
@@ -61,6 +61,6 @@ read_as_spelled x p q v within = (
       rw (sym (rows_again x r here.whole here.spelled.allowed) ∙ ap x.rows is) at here.spelled,
 )
 
--- and there is a fault exactly there
+-- a place has a fault exactly if reading gives that fault there
 pub fault_is_read : {X : Type 0} (x : Format X) → FaultIsRead x
 fault_is_read x p f within = (told_is_given x.fields p f within, fault_is_told x.fields p f within)

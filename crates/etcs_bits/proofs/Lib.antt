@@ -11,3 +11,4 @@ pub mod ListLemmas
 pub mod SizedLemmas
 pub mod ValueLemmas
 pub mod FitLemmas
+pub mod SumLemmas

@@ -14,9 +14,9 @@ use Rattle.etcs_bits.proofs.StandLemmas.{join-append}
 use Rattle.etcs_bits.specs.RowLemmas.{allowed_first, allowed_second}
 use Rattle.etcs_bits.proofs.WidthLemmas.{width_both}
 
--- ---- the items up to one, that one, and those behind it
+-- ---- the items up to one, that one, and those after it
 
--- what is at a place of the list, with what a loop knows of it
+-- the item at a place of the list, with what a loop knows of it
 pub record IsItem {X : Type 0} (xs : List X) (i : ℕ) (x : X) : Type 0 where
   pub inside : i < length xs
   pub is : x ≡ get_or xs i x
@@ -64,7 +64,7 @@ item_put rows xs i x old mid new item before here =
 
 -- ---- reading
 
--- what was read before, and what is still read
+-- what was read before, and what is still to be read
 abbrev pub with_front : List Row → Result (List Row × Place) Fault → Result (List Row × Place) Fault
 with_front front read = read >>= λ x. Ok (front ++ x.0, x.1)
 
@@ -73,7 +73,7 @@ regroup : (front rows : List Row) (read : Result (List Row × Place) Fault)
 regroup front rows (Ok x) = ap (λ (rs : List Row). Ok (rs, x.1)) (sym (append_assoc front rows x.0))
 regroup front rows (Err f) = refl
 
--- one item more was read
+-- one more item was read
 pub goes_on : {X : Type 0} (rows : X → List Row) (fields : Fields) (xs : List X) (x : X)
     (count i : ℕ) (p q : Place) (total : Result (List Row × Place) Fault)
     → i < count → rows_at fields p ≡ Ok (rows x, q)

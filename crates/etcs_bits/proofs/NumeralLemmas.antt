@@ -20,7 +20,7 @@ get_or-num (suc w) n (suc k) h =
     let e : w - 1 - k ≡ suc w - 1 - suc k = omega arith in
     get_or-num w n k (omega arith) ∙ ap (λ j. eqb (n / 2 ^ j % 2) 1) e
 
--- one bit more
+-- one more bit
 pub bits_more : (w n k : ℕ) (block : List Bool) → k < w → k < length block → take k block ≡ take k (num w n)
     → take (k + 1) (set block k (eqb (bit_and (n / 2 ^ (w - 1 - k)) 1) 1)) ≡ take (k + 1) (num w n)
 bits_more w n k block h l e =
@@ -57,7 +57,7 @@ pub num_of_none : num_of_bits [] ≡ 0
 unfolding num_of_bits
 num_of_none = refl
 
--- one bit more
+-- one more bit
 pub number_more : (xs : List Bool) (n i : ℕ) → i < length xs → i < 32 → n ≡ num_of_bits (take i xs)
     → bit_or (n * 2 % 2 ^ 64) (bool_byte (get_or xs i false)) ≡ num_of_bits (take (i + 1) xs)
 number_more xs n i h small e =
@@ -97,7 +97,7 @@ byte_filled xs n few is =
     ap₂ num e z ∙ num-cat (length xs) k n 0 (pow_pos k)
     ∙ ap₂ ◌++◌ (ap (num (length xs)) is ∙ num-num_of_bits xs) (zeros_are k)
 
--- one byte more
+-- one more byte
 pub bytes_more : (bs : List ℕ) (b : ℕ) → bits_of_bytes (bs ++ b ∷ []) ≡ bits_of_bytes bs ++ num 8 b
 bytes_more bs b = bits_of_bytes-append bs (b ∷ []) ∙ ap (λ xs. bits_of_bytes bs ++ xs) (bits_of_one b)
 
@@ -122,11 +122,11 @@ pub bits_of_none : bits_of_bytes [] ≡ []
 unfolding bits_of_bytes
 bits_of_none = refl
 
--- the bits of one byte more
+-- the bits of one more byte
 pub bits_of_next : (bs : List ℕ) (i : ℕ) → i < length bs → bits_of_bytes (take (i + 1) bs) ≡ bits_of_bytes (take i bs) ++ num 8 (get_or bs i 0)
 bits_of_next bs i within = ap bits_of_bytes (take_more bs i 0 within) ∙ bytes_more (take i bs) (get_or bs i 0)
 
--- whole bytes alone
+-- only whole bytes
 pub whole_bytes : (bs : List ℕ) (n : ℕ) → n % 8 ≡ 0 → take n (bits_of_bytes bs) ≡ bits_of_bytes (take (n / 8) bs)
 whole_bytes bs n e =
     let whole : n ≡ 8 * (n / 8) = omega arith in
@@ -138,7 +138,7 @@ whole_and_front bs n within =
     let whole : n ≡ 8 * (n / 8) + n % 8 = omega arith in
     ap (λ k. take k (bits_of_bytes bs)) whole ∙ front_of_bytes bs (n / 8) (n % 8) within (omega arith)
 
--- as many bits as were asked for
+-- the first n bits are n bits
 pub front_length : (bs : List ℕ) (n : ℕ) → n ≤ 8 * length bs → length (take n (bits_of_bytes bs)) ≡ n
 front_length bs n fits = length-take-le n (bits_of_bytes bs) (rw length-bits_of_bytes fits)
 
@@ -161,7 +161,7 @@ next_byte xs bs b i fits is so_far =
     let more : 8 * (i + 1) ≡ 8 * i + k = omega arith in
     bytes_more bs b ∙ ap₂ ◌++◌ so_far here ∙ sym (ap (λ n. take n xs) more ∙ take-add (8 * i) k xs)
 
--- what is left begins the last byte, and zeros fill it
+-- the bits that are left begin the last byte, and zeros fill it
 pub last_byte : (xs : List Bool) (bs : List ℕ) (b q : ℕ) → 8 * q ≤ length xs → length bs ≡ q
     → num 8 b ≡ take (length xs - 8 * q) (drop (8 * q) xs) ++ replicate (8 - length (take (length xs - 8 * q) (drop (8 * q) xs))) false
     → bits_of_bytes bs ≡ take (8 * q) xs → bits_of_bytes (bs ++ b ∷ []) ≡ xs ++ replicate (8 * length (bs ++ b ∷ []) - length xs) false
@@ -174,7 +174,7 @@ last_byte xs bs b q fits count is so_far =
     ∙ sym (append_assoc (take (8 * q) xs) (drop (8 * q) xs) (replicate (8 * length (bs ++ b ∷ []) - length xs) false))
     ∙ ap (λ ys. ys ++ replicate (8 * length (bs ++ b ∷ []) - length xs) false) (take-append-drop (8 * q) xs)
 
--- nothing is left
+-- no bit is left
 pub no_last_byte : (xs : List Bool) (bs : List ℕ) (q : ℕ) → length xs ≤ 8 * q → length bs ≡ q → 8 * q ≤ length xs
     → bits_of_bytes bs ≡ take (8 * q) xs → bits_of_bytes bs ≡ xs ++ replicate (8 * length bs - length xs) false
 no_last_byte xs bs q whole count fits so_far =

@@ -7,7 +7,7 @@ use Rattle.etcs_bits.specs.Layout.{Puts}
 use Rattle.etcs_bits.proofs.StandLemmas.{join-append, allowed-append}
 use Rattle.etcs_bits.specs.RowLemmas.{allowed_first, allowed_second}
 
--- bits after bits
+-- bits put after other bits
 pub puts_bits : {X E : Type 0} (x y : List Bool) (r : Result X E) (old mid new : List Bool) → mid ≡ old ++ x → Puts y r mid new → Puts (x ++ y) r old new
 puts_bits x y (Ok v) old mid new e p = p ∙ ap (λ (bits : List Bool). bits ++ y) e ∙ append_assoc old x y
 puts_bits x y (Err v) old mid new e p =
@@ -23,6 +23,6 @@ keeps_front y old mid new before kept =
 pub puts_then : {X E : Type 0} (a b : List Row) (r : Result X E) (old mid new : List Bool) → mid ≡ old ++ join a → Puts (join b) r mid new → Puts (join (a ++ b)) r old new
 puts_then a b r old mid new e p = rw join-append (puts_bits (join a) (join b) r old mid new e p)
 
--- rows are allowed where both parts are
+-- rows are allowed if both parts are
 pub allowed_both : (a b : List Row) → AreAllowed (a ++ b) ↔ (AreAllowed a × AreAllowed b)
 allowed_both a b = (λ h. (allowed_first a b h, allowed_second a b h), λ h. allowed-append a b h.0 h.1)

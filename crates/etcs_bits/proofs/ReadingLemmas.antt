@@ -1,4 +1,4 @@
--- What is read is spelled so, and what is spelled so is read.
+-- What is read is spelled there, and what is spelled there is read.
 use Rattle.std.proofs.Common.{◌≡◌, ℕ, ◌+◌, ◌-◌, ◌^◌, ◌<◌, ◌≤◌, Bool, true, false, cond, ltb, eqb, List, [], ◌∷◌, ◌++◌, length, take, drop, Result, Ok, Err, refl, sym, ap, subst, ◌∙◌, arith, inl, inr}
 use Rattle.std.proofs.lemmas.Bool.{ltb-false, ltb-true, le-ltb, lt-ltb, eqb-true, eqb-false, eq-eqb}
 use Rattle.std.proofs.lemmas.List.{length-take, length-drop}
@@ -98,7 +98,7 @@ pub record IsRead (fields : Fields) (from : Place) (rows : List Row) (to : Place
   pub spelled : IsSpelled rows from to
   pub within : to.at ≤ length from.bits
 
--- What is read is spelled so.
+-- What is read is spelled there.
 pub read_is_spelled : (fields : Fields) (p : Place) (x : List Row × Place) → p.at ≤ length p.bits → rows_at fields p ≡ Ok x → IsRead fields p x.0 x.1
 read_is_spelled nothing p x within e =
     let made : IsRead nothing p [] p = record { whole = refl; spelled = record { allowed = tt; stands = stands_nothing p }; within = within } in
@@ -151,7 +151,7 @@ read_is_spelled (sized before body) p x within e =
     } in
     subst (λ (y : List Row × Place). IsRead (sized before body) p y.0 y.1) g.1 made
 
--- What is spelled so is read.
+-- What is spelled there is read.
 pub spelled_is_read : (fields : Fields) (rows : List Row) (p q : Place) → p.at ≤ length p.bits → AreRowsOf fields rows → IsSpelled rows p q → rows_at fields p ≡ Ok (rows, q)
 spelled_is_read nothing rows p q within w spelled =
     let none = subst (λ (rs : List Row). IsSpelled rs p q) w spelled in
@@ -198,7 +198,7 @@ field_err x p f within e =
           inr (t.0.0, t.0.1, took.stands, took.small, g.0, sym g.1)
     ]
 
--- A fault is told by an open list.
+-- A fault of reading is the fault of an open list.
 pub fault_is_told : (fields : Fields) (p : Place) (f : Fault) → p.at ≤ length p.bits → rows_at fields p ≡ Err f → IsFault fields p f
 fault_is_told nothing p f within e = absurd cc
 fault_is_told (field v next) p f within e =

@@ -1,4 +1,4 @@
--- L_PACKET and the record behind it.
+-- L_PACKET and the record after it.
 use Rattle.std.proofs.Common.{◌≡◌, ℕ, ◌+◌, ◌-◌, ◌≤◌, List, ◌∷◌, length, Ok, ap, arith}
 use Rattle.std.proofs.lemmas.Bool.{eq-eqb}
 use Rattle.etcs_bits.specs.Rows.{Row, row, Place, width}

@@ -42,7 +42,7 @@ stands_then a b p q r s t =
 left_after : (a rest : List Bool) (p : Place) → drop p.at p.bits ≡ a ++ rest → drop (p.at + length a) p.bits ≡ rest
 left_after a rest p e = sym (drop-drop (length a) p.at p.bits) ∙ ap (drop (length a)) e ∙ drop_at a rest (length a) refl
 
--- where bits stand one after the other, each stands
+-- if bits stand one after the other, each part stands
 pub stands_parts : (a b : List Bool) (p r : Place) → Stands (a ++ b) p r → Stands a p (forward p (length a)) × Stands b (forward p (length a)) r
 stands_parts a b p r s =
     let whole : drop p.at p.bits ≡ a ++ (b ++ drop r.at p.bits) = s.here ∙ append_assoc a b (drop r.at p.bits) in
@@ -53,7 +53,7 @@ stands_parts a b p r s =
 
 -- ---- one field
 
--- the bits that stand are within the list, from a place that is
+-- bits that stand at a place within the list end within it
 pub stands_within : (a : List Bool) (p q : Place) → p.at ≤ length p.bits → Stands a p q → q.at ≤ length p.bits
 stands_within a p q within s =
     omega (arith, within, s.past, ap length s.here, length-append a (drop q.at p.bits), length-drop p.at p.bits, length-drop q.at p.bits)
@@ -74,7 +74,7 @@ pub standing_number : (w n : ℕ) (p q : Place) → n < 2 ^ w → Stands (num w 
 standing_number w n p q small s =
     ap (λ (bits : List Bool). num_of_bits (take w bits)) s.here ∙ ap num_of_bits (take_at (num w n) (drop q.at p.bits) w (length-num w n)) ∙ num_of_bits-small w n small
 
--- bits that stand before a place stand in each list with the same front up to that place
+-- bits that end before a place also stand in each list with the same front up to that place
 pub stands_moved : (a : List Bool) (p q : Place) (bits : List Bool) (n : ℕ) → Stands a p q → q.at ≤ n → take n bits ≡ take n p.bits → Stands a (place_in bits p.at) (place_in bits q.at)
 stands_moved a p q bits n s le same =
     let k = p.at + length a in

@@ -8,7 +8,7 @@ use Rattle.etcs_bits.specs.Laid.{IsLayout}
 use Rattle.etcs_bits.specs.Choice.{Choice, either_allows, either_next, either_number, either_rows, either_of}
 use Rattle.etcs_bits.specs.CombinedLemmas.{field_records}
 
--- one number alone
+-- only one number
 pub last_value : {A : Type 0} {a : Fields} {rows_a : A → List Row} {of_a : List Row → A}
     → IsLayout a rows_a of_a → (k n : ℕ) (more : List Row) → (n == k) ≡ true → AreRowsOf a more → AreAllowed more
     → (x : A) × (k ≡ n) × (rows_a x ≡ more)
@@ -18,7 +18,7 @@ last_value laid k n more is w allowed =
 pub is_itself : (k : ℕ) → (k == k) ≡ true
 is_itself k = eq-eqb k k refl
 
--- the others do not have the number k
+-- no value of the other choice has the number k
 apart : {B : Type 0} (k : ℕ) (c : Choice B) → c.allows k ≡ false → (y : B) → (c.number y == k) ≡ false
 apart k c fresh y = ne_eqb (c.number y) k (λ is. absurd (let both = sym (c.is_number y) ∙ ap c.allows is ∙ fresh in cc))
 

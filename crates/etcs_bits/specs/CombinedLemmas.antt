@@ -9,7 +9,7 @@ use Rattle.etcs_bits.specs.CutLemmas.{cut_whole}
 use Rattle.etcs_bits.specs.Laid.{HaveFields, AreOf, HaveRecords}
 use Rattle.etcs_bits.specs.Combined.{qualifier, n_iter, pair_rows, pair_of, option_rows, option_of, counted_rows, items_of, counted_of, body_rows, body_of}
 
--- the same where a field's number decides what follows it
+-- each whole list of rows has a record, if a field's number decides what follows it
 pub field_records : {X : Type 0} {x : Variable} {rows : X → List Row} (next : ℕ → Fields)
     → ((n : ℕ) (more : List Row) → IsAllowed (row x n) → AreRowsOf (next n) more → AreAllowed more
     → (v : X) × (rows v ≡ row x n ∷ more))
@@ -97,7 +97,7 @@ pub counted_record : {X : Type 0} (fields : Fields) (rows : X → List Row) (of 
 unfolding alone
 counted_record fields rows of have is xs = items_are fields rows of have is xs
 
--- so many records, whose rows are these
+-- that many records, whose rows are these
 items_with : {X : Type 0} (fields : Fields) (rows : X → List Row) → HaveRecords fields rows
     → (n : ℕ) (r : List Row) → AreRowsOf (times n fields) r → AreAllowed r
     → (xs : List X) × (length xs ≡ n) × (flat_map rows xs ≡ r)

@@ -1,10 +1,10 @@
--- The record that rows begin with, found by its table of fields alone: where a whole list of the
--- fields ends, other rows may follow.
+-- The record at the front of a list of rows, found by its table of fields alone. Other rows may
+-- follow a whole list of the fields.
 use Rattle.std.specs.Prelude.{List, [], ◌∷◌, ◌++◌}
 use Rattle.etcs_bits.specs.Rows.{Row}
 use Rattle.etcs_bits.specs.Fields.{Fields, nothing, field, ◌▹◌, sized}
 
--- the rows of these fields at the front, and the rows behind them
+-- the rows of these fields at the front, and the rows after them
 unfoldable pub cut : Fields → List Row → List Row × List Row
 cut nothing rows = ([], rows)
 cut (field x next) [] = ([], [])

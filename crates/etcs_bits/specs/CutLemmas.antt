@@ -1,4 +1,4 @@
--- Whole lists of fields are cut off again, whatever rows follow them.
+-- A whole list of fields is cut off again, whatever rows follow it.
 use Rattle.std.specs.Prelude.{◌≡◌, List, ◌++◌, refl}
 use Rattle.std.proofs.Common.{append_assoc}
 use Rattle.etcs_bits.specs.Rows.{Row}

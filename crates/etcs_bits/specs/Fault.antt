@@ -1,5 +1,5 @@
--- The fault of bits that spell no record: which field it is told of, why, and how many bits decide
--- it. A fault is what an open list of fields tells that stands at the front of the input.
+-- The fault of bits that spell no record: the field that has it, why, and how many bits decide it.
+-- It is the fault of an open list of fields at the front of the input.
 use Rattle.std.specs.Prelude.{◌≡◌, ℕ, ◌+◌, ◌-◌, ◌<◌, ◌^◌, Bool, true, false, ◌⊎◌, List, length, take}
 use Rattle.etcs_bits.specs.declared.fault.Fault.{Fault}
 use Rattle.etcs_bits.specs.declared.fault.FaultKind.TheVariants.{Short, Length, NoEnd}
@@ -7,12 +7,12 @@ use Rattle.etcs_bits.specs.Number.{num}
 use Rattle.etcs_bits.specs.Rows.{Variable, Row, Place, Stands, IsSpelled}
 use Rattle.etcs_bits.specs.Fields.{Fields, Due, due, differs, IsOpen}
 
--- the field here does not fit: the input's length decides it
+-- the field here does not fit; the input's length decides the fault
 abbrev pub short : Place → Fault
 short p = record { at = p.at; end = length p.bits; why = Short }
 
--- Fewer bits are left than a field has. Where a telegram's packets may end, no end is met, and any
--- input of the same length has as few there, so that no bit past this place decides it.
+-- Fewer bits are left than the field has. Where a telegram's packets may end, the fault is NoEnd.
+-- Any input of the same length has as few bits left there, so no bit past this place decides it.
 abbrev pub lack : Bool → Place → Fault
 lack true p = record { at = p.at; end = p.at; why = NoEnd }
 lack false p = short p
@@ -21,8 +21,9 @@ lack false p = short p
 abbrev pub refused : Variable → Place → Fault
 refused x p = record { at = p.at; end = p.at + x.width; why = x.refusal }
 
--- What an open list that ends here tells: the field that is due does not fit, or it fits and its
--- number is not allowed; or the L_PACKET of a whole packet, so many bits back, is not its width.
+-- The fault of an open list that ends here. Either the field that is due does not fit, or it fits
+-- and its number is not allowed, or the L_PACKET of a whole packet, `back` bits back, is not its
+-- width.
 abbrev pub Tells : Due → Place → Fault → Type 0
 Tells (due x) e fault =
     ((length e.bits < e.at + x.width) × (fault ≡ lack x.closes e))
@@ -30,7 +31,7 @@ Tells (due x) e fault =
     × (x.allows n ≡ false) × (fault ≡ refused x e))
 Tells (differs back) e fault = fault ≡ record { at = e.at - back; end = e.at; why = Length }
 
--- Some open list of these fields, each row allowed, stands here and tells the fault.
+-- Some open list of these fields stands here, each row is allowed, and the list has the fault.
 pub record IsFault (fields : Fields) (from : Place) (fault : Fault) : Type 0 where
   pub rows : List Row
   pub next : Due
@@ -39,7 +40,7 @@ pub record IsFault (fields : Fields) (from : Place) (fault : Fault) : Type 0 whe
   pub spelled : IsSpelled rows from reached
   pub tells : Tells next reached fault
 
--- No input of the same length that begins with the same first `end` bits has such a record here.
+-- No input of the same length with the same first `end` bits has such a record here.
 abbrev pub NoneBegins : {X : Type 0} → (X → List Row) → Place → Fault → Type 0
 NoneBegins {X} rows from fault =
     (bits : List Bool) → length bits ≡ length from.bits

@@ -1,10 +1,10 @@
 -- Layouts, as the standard's tables give them (SUBSET-026, 7.4): which variables come, in which
--- order, and which of them only where an earlier number says so.
+-- order, and which of them come only if an earlier number says so.
 use Rattle.std.specs.Prelude.{◌≡◌, ◌≢◌, ℕ, zero, suc, ◌+◌, ◌⊎◌, ◌==◌, true, false, if◌then◌else◌, List, [], ◌∷◌, ◌++◌}
 use Rattle.etcs_bits.specs.declared.fault.FaultKind.TheVariants.{Spare}
 use Rattle.etcs_bits.specs.Rows.{Variable, Row, row, width}
 
--- L_PACKET, the length of a packet: all its bits, its own head included
+-- L_PACKET, the length of a packet: it counts all bits of the packet, its own head included
 abbrev pub l_packet : Variable
 l_packet = record { width = 13; allows = λ _. true; refusal = Spare; closes = false }
 
@@ -13,22 +13,22 @@ infixr 5 ◌▹◌
 pub data Fields : Type 0 where
   -- no field
   nothing : Fields
-  -- a field, and the fields that come after it by its number
+  -- a field, and the fields after it, which its number decides
   field : Variable → (ℕ → Fields) → Fields
-  -- fields, and then others
+  -- fields, and then other fields
   ◌▹◌ : Fields → Fields → Fields
-  -- L_PACKET and a body, behind so many bits of the packet: its number is the width of all three
+  -- L_PACKET and a body, after that many bits of the packet; L_PACKET is the width of all three
   sized : ℕ → Fields → Fields
 
 -- a field by itself
 abbrev pub one : Variable → Fields
 one x = field x (λ _. nothing)
 
--- fields that are there if the qualifier before them is 1
+-- fields that are present if the qualifier before them is 1
 abbrev pub option : Variable → Fields → Fields
 option qualifier fields = field qualifier (λ n. if n == 1 then fields else nothing)
 
--- the same fields so many times
+-- the same fields, that many times
 abbrev pub times : ℕ → Fields → Fields
 times zero item = nothing
 times (suc n) item = item ▹ times n item
@@ -48,14 +48,14 @@ AreRowsOf (a ▹ b) rows =
 AreRowsOf (sized before body) rows =
     (more : List Row) × (rows ≡ row l_packet (before + width rows) ∷ more) × AreRowsOf body more
 
--- What an open list leaves to be said: a field is due; or a packet is whole whose L_PACKET, this
--- many bits back, is not its width.
+-- What is open after an open list. Either a field is due, or a packet is whole and its L_PACKET,
+-- this many bits back, is not its width.
 pub data Due : Type 0 where
   due : Variable → Due
   differs : ℕ → Due
 
--- The rows are an open list of these fields: a beginning of a whole one, in which the last L_PACKET
--- may be any number.
+-- The rows are an open list of these fields: the beginning of a whole list, in which the last
+-- L_PACKET may be any number.
 abbrev pub IsOpen : Fields → List Row → Due → Type 0
 IsOpen nothing rows d = ⊥
 IsOpen (field x next) rows d =

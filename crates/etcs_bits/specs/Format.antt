@@ -1,5 +1,5 @@
--- The layout of a record as one value, and how layouts are made of others (SUBSET-026, 7.4). A record
--- is described by one expression, which reads as its table in the standard.
+-- The layout of a record as one value, and how layouts are made of others (SUBSET-026, 7.4). One
+-- expression describes a record, and reads as its table in the standard.
 use Rattle.std.specs.Prelude.{◌≡◌, ℕ, ◌==◌, ◌⊎◌, Bool, false, List, [], ◌++◌, Option, drop, refl}
 use Rattle.etcs_bits.specs.declared.fault.FaultKind.{FaultKind}
 use Rattle.etcs_bits.specs.Number.{worth}
@@ -13,7 +13,7 @@ use Rattle.etcs_bits.specs.Combined.{qualifier, n_iter, pair_rows, pair_of, opti
 use Rattle.etcs_bits.specs.ChoiceLemmas.{is_itself, last_value, either_is_number, either_are_rows, either_is_value, either_has_value, chosen_laid}
 use Rattle.etcs_bits.specs.LaidLemmas.{alone_laid, empty_laid, only_laid, named_laid, flag_laid, pair_laid, option_laid, counted_laid, body_laid, parted_laid}
 
--- which fields come, the rows of a record, the record of rows, and that these agree
+-- the table of fields, the rows of a record, the record of rows, and the proof that these agree
 pub record Format (X : Type 0) : Type 0 where
   pub fields : Fields
   pub rows : X → List Row
@@ -30,7 +30,7 @@ variable x = record { fields = one x; rows = alone x; of = number_at 0; laid = a
 abbrev pub number : ℕ → Format ℕ
 number w = variable (plain w)
 
--- a number of w bits, up to `last` or at least `from`; those between are spare
+-- a number of w bits, up to `last` or at least `from`; the numbers between are spare
 abbrev pub ranges : ℕ → ℕ → ℕ → Format ℕ
 ranges w last from = variable (ranged w last from)
 
@@ -53,7 +53,7 @@ names x w number of values = record {
   laid = named_laid values;
 }
 
--- a number k of w bits, the only one that is read: it carries no information
+-- the number k of w bits, the only one that is read: it carries no information
 abbrev pub fixed : ℕ → ℕ → FaultKind → Format (Unit {0})
 fixed w k why = record {
   fields = one (only w k why);
@@ -78,7 +78,7 @@ a then b = record {
   laid = pair_laid a.laid b.laid;
 }
 
--- a qualifier of one bit, such as Q_OVERLAP, and the record if it is 1
+-- a qualifier of one bit, such as Q_OVERLAP, and the record if the qualifier is 1
 abbrev pub if_there : {A : Type 0} → Format A → Format (Option A)
 if_there a = record {
   fields = option qualifier a.fields;
@@ -96,7 +96,7 @@ several a = record {
   laid = counted_laid a.laid;
 }
 
--- L_PACKET, which counts the `before` bits ahead of it, its own and the record's, and the record
+-- L_PACKET and the record; L_PACKET counts the `before` bits ahead of it, its own and the record's
 abbrev pub behind_length : {A : Type 0} → ℕ → Format A → Format A
 behind_length before a = record {
   fields = sized before a.fields;
@@ -107,7 +107,7 @@ behind_length before a = record {
 
 -- ---- sums
 
--- the number k alone, and this record
+-- only the number k, and this record
 abbrev pub last : {A : Type 0} → ℕ → Format A → Choice A
 last k a = record {
   allows = λ n. n == k;
@@ -121,7 +121,7 @@ last k a = record {
   has_value = last_value a.laid k;
 }
 
--- the number k and this record, or another number, which is not k, and its own
+-- the number k and this record, or another number, which is not k, and that number's record
 abbrev pub either : {A B : Type 0} (k : ℕ) → Format A → (c : Choice B) → c.allows k ≡ false → Choice (A ⊎ B)
 either k a c fresh = record {
   allows = either_allows k c.allows;
@@ -135,7 +135,7 @@ either k a c fresh = record {
   has_value = either_has_value k a.laid c;
 }
 
--- the variable that has the numbers of a choice, and the record of its number
+-- a variable with the numbers of a choice, and the record that its number decides
 abbrev pub chosen : {X : Type 0} (x : Variable) (c : Choice X) → ((n : ℕ) → x.allows n ≡ c.allows n) → Format X
 chosen x c same = record {
   fields = field x c.next;
@@ -146,8 +146,8 @@ chosen x c same = record {
 
 -- ---- another type
 
--- The same layout for another type, such as a struct instead of pairs: there is a way from each to
--- the other, and they are inverse.
+-- The same layout for another type, such as a struct instead of pairs. `make` and `parts` turn each
+-- type into the other, and are inverse.
 abbrev pub named : {X Y : Type 0} → Format X → (make : X → Y) (parts : Y → X)
     → ((x : X) → parts (make x) ≡ x) → ((y : Y) → make (parts y) ≡ y) → Format Y
 named a make parts back again = record {

@@ -1,5 +1,5 @@
--- When a table of fields, the rows of records and the records of rows agree, so that each record has
--- one spelling and each spelling is that of a record.
+-- When a table of fields, the rows of a record and the record of rows agree. Each record then has
+-- one spelling, and each spelling is that of a record.
 use Rattle.std.specs.Prelude.{◌≡◌, List}
 use Rattle.etcs_bits.specs.Rows.{Row, AreAllowed}
 use Rattle.etcs_bits.specs.Fields.{Fields, AreRowsOf}
@@ -8,7 +8,7 @@ use Rattle.etcs_bits.specs.Fields.{Fields, AreRowsOf}
 abbrev pub HaveFields : {X : Type 0} → Fields → (X → List Row) → Type 0
 HaveFields {X} fields rows = (x : X) → AreRowsOf fields (rows x)
 
--- each record is the one of its rows
+-- the rows of each record give that record again
 abbrev pub AreOf : {X : Type 0} → (List Row → X) → (X → List Row) → Type 0
 AreOf {X} of rows = (x : X) → of (rows x) ≡ x
 

@@ -1,4 +1,4 @@
--- The law of `Layout` that a record brings, for each form of record.
+-- The law of `Layout` that a record has to give, for each form of record.
 use Rattle.std.specs.Prelude.{◌≡◌, ℕ, List, [], refl}
 use Rattle.std.proofs.Common.{ap, sym, ◌∙◌}
 use Rattle.std.proofs.lemmas.Bool.{eqb-true}
@@ -90,7 +90,7 @@ alone_laid x = record {
 pub empty_laid : IsLayout nothing (λ (_ : Unit {0}). []) (λ _. tt)
 empty_laid = record { are_rows = λ _. refl; is_record = λ _. refl; has_record = λ r none allowed. (tt, sym none) }
 
--- a variable with one number alone says nothing: its row is that of a type with one value
+-- a variable with only one number carries no information: its row is that of a type with one value
 pub only_laid : {X : Type 0} (w k : ℕ) (why : FaultKind) (x : X) → ((y : X) → x ≡ y)
     → IsLayout (one (only w k why)) (λ _. alone (only w k why) k) (λ _. x)
 unfolding alone

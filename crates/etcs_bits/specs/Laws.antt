@@ -1,4 +1,4 @@
--- What holds of every layout, whatever reads or writes it, and of numbers and their bits.
+-- The laws of every layout, whatever reads or writes it, and of numbers and their bits.
 use Rattle.std.specs.Prelude.{◌≡◌, ◌↔◌, ℕ, ◌≤◌, ◌<◌, ◌^◌, List, Bool, ◌++◌, length, Ok, Err}
 use Rattle.etcs_bits.specs.declared.fault.Fault.{Fault}
 use Rattle.etcs_bits.specs.Number.{num, num_of_bits}
@@ -7,19 +7,19 @@ use Rattle.etcs_bits.specs.Fault.{IsFault, NoneBegins}
 use Rattle.etcs_bits.specs.Reading.{rows_at}
 use Rattle.etcs_bits.specs.Format.{Format}
 
--- A place spells at most one record, and it has one end.
+-- At most one record is spelled at a place, and it has one end.
 abbrev pub SpellsOneRecord : {X : Type 0} → Format X → Type 0
 SpellsOneRecord {X} x =
     (p q r : Place) (v w : X) → p.at ≤ length p.bits
     → IsSpelled (x.rows v) p q → IsSpelled (x.rows w) p r → (v ≡ w) × (q ≡ r)
 
--- No spelling begins another: whatever follows it, it is the spelling of one record.
+-- No spelling begins another: whatever follows a spelling, it is that of one record.
 abbrev pub NoSpellingBegins : {X : Type 0} → Format X → Type 0
 NoSpellingBegins {X} x =
     (v w : X) (a b : List Bool) → AreAllowed (x.rows v) → AreAllowed (x.rows w)
     → join (x.rows v) ++ a ≡ join (x.rows w) ++ b → (v ≡ w) × (a ≡ b)
 
--- Where there is a fault, no record is spelled, in any input with the same length and front.
+-- If a place has a fault, no record is spelled there, in any input with the same length and front.
 abbrev pub FaultMeansNone : {X : Type 0} → Format X → Type 0
 FaultMeansNone x =
     (p : Place) (f : Fault) → p.at ≤ length p.bits → IsFault x.fields p f → NoneBegins x.rows p f
@@ -30,14 +30,14 @@ HasOneFault x =
     (p : Place) (f g : Fault) → p.at ≤ length p.bits
     → IsFault x.fields p f → IsFault x.fields p g → f ≡ g
 
--- A record is spelled exactly where reading gives it, and up to the place where that ends.
+-- A record is spelled at a place exactly if reading gives it there. Both end at the same place.
 abbrev pub IsReadAsSpelled : {X : Type 0} → Format X → Type 0
 IsReadAsSpelled {X} x =
     (p q : Place) (v : X) → p.at ≤ length p.bits
     → IsSpelled (x.rows v) p q
     ↔ ((r : List Row) × (rows_at x.fields p ≡ Ok (r, q)) × (x.of r ≡ v))
 
--- There is a fault exactly where reading gives it.
+-- A place has a fault exactly if reading gives that fault there.
 abbrev pub FaultIsRead : {X : Type 0} → Format X → Type 0
 FaultIsRead x =
     (p : Place) (f : Fault) → p.at ≤ length p.bits
@@ -50,7 +50,7 @@ pub record AreLaidOut {X : Type 0} (x : Format X) : Type 0 where
   pub fault_or_record : FaultMeansNone x
   pub one_fault : HasOneFault x
 
--- A number that fits in w bits is the one that its w bits spell, and bits are those of the number
+-- A number that fits in w bits is the number that its w bits spell. Bits are the bits of the number
 -- that they spell.
 pub record NumbersAreBits : Type 0 where
   pub count : (w n : ℕ) → length (num w n) ≡ w

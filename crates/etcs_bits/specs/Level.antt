@@ -25,11 +25,11 @@ numbered =
     either 3 empty (
     last 4 empty) refl) refl) refl) refl
 
--- M_LEVELTR and M_LEVEL, 3 bits: these numbers; 5 to 7 are spare
+-- M_LEVELTR and M_LEVEL, 3 bits: the numbers of a level; 5 to 7 are spare
 abbrev pub level_variable : Variable
 level_variable = record { width = 3; allows = numbered.allows; refusal = Spare; closes = false }
 
--- ---- the way between a level and its number with what follows
+-- ---- a level, and its number with what follows
 
 abbrev pub level_of : Numbered → Level
 level_of (inl _) = levels.L0

@@ -1,8 +1,8 @@
 -- Numbers and their bits. A variable of a telegram is an unsigned number, most significant bit
--- first (SUBSET-026, 7.5); bytes are eight bits each, in the same order.
+-- first (SUBSET-026, 7.5). A byte has eight bits, in the same order.
 use Rattle.std.specs.Prelude.{ℕ, zero, suc, ◌+◌, ◌*◌, ◌/◌, ◌%◌, ◌^◌, ◌==◌, Bool, true, false, List, [], ◌∷◌, ◌++◌, length}
 
--- what a bit counts in the lowest place
+-- the value of a bit in the lowest place
 abbrev pub worth : Bool → ℕ
 worth true = 1
 worth false = 0

@@ -1,4 +1,4 @@
--- Reading fields from a place on, as a function: the rows that stand there and the place behind
+-- Reading fields at a place, as a function. It gives the rows that stand there and the place after
 -- them, or the first fault. Each field has to fit, and then its number has to be allowed.
 use Rattle.std.specs.Prelude.{ℕ, ◌+◌, ◌-◌, ◌==◌, nat_lt, Bool, true, false, if◌then◌else◌, List, [], ◌∷◌, ◌++◌, length, take, drop, Result, Ok, Err}
 use Rattle.etcs_bits.specs.declared.fault.Fault.{Fault}
@@ -9,12 +9,12 @@ use Rattle.etcs_bits.specs.Fields.{Fields, nothing, field, ◌▹◌, sized, l_p
 use Rattle.etcs_bits.specs.Fault.{short, lack, refused}
 
 infixl 10 ◌>>=◌
--- one step, and then another that uses what the first gave; the first fault ends it
+-- one step, and then another that uses what the first gave; the first fault ends the chain
 abbrev pub ◌>>=◌ : {A B : Type 0} → Result A Fault → (A → Result B Fault) → Result B Fault
 (Ok x) >>= f = f x
 (Err e) >>= f = Err e
 
--- the place so many bits further on
+-- the place that many bits further on
 abbrev pub forward : Place → ℕ → Place
 forward p w = record { bits = p.bits; at = p.at + w }
 
@@ -24,7 +24,7 @@ taken w p =
     if nat_lt (length p.bits) (p.at + w) then Err (short p)
     else Ok (num_of_bits (take w (drop p.at p.bits)), forward p w)
 
--- the same; where packets may end, too few bits mean that no end is met
+-- the same, but where packets may end, too few bits are a NoEnd fault
 abbrev pub taken_or_closed : Bool → ℕ → Place → Result (ℕ × Place) Fault
 taken_or_closed true w p =
     if nat_lt (length p.bits) (p.at + w) then Err (lack true p) else taken w p

@@ -1,4 +1,4 @@
--- Rows of one variable, and rows of which each is allowed.
+-- Rows of one variable, and rows that are all allowed.
 use Rattle.std.specs.Prelude.{ℕ, List, [], ◌∷◌, ◌++◌, refl}
 use Rattle.etcs_bits.specs.Rows.{Variable, Row, AreAllowed, alone}
 use Rattle.etcs_bits.specs.Fields.{AreRowsOf, one}
@@ -8,7 +8,7 @@ pub alone_rows : (x : Variable) (n : ℕ) → AreRowsOf (one x) (alone x n)
 unfolding alone
 alone_rows x n = (n, [], refl, refl)
 
--- rows of which each is allowed, in two parts
+-- rows that are all allowed, in two parts
 pub allowed_first : (xs ys : List Row) → AreAllowed (xs ++ ys) → AreAllowed xs
 allowed_first [] ys a = tt
 allowed_first (r ∷ xs) ys a = (a.0, allowed_first xs ys a.1)

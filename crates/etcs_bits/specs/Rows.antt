@@ -1,5 +1,6 @@
--- A record is a list of rows, each a variable of the standard with a number, and its spelling is
--- the bits of these numbers, one after the other without a gap (SUBSET-026, 7.4 and 7.5).
+-- A record is a list of rows. Each row is a variable of the standard with a number. The spelling of
+-- a record is the bits of these numbers, one after the other without a gap (SUBSET-026, 7.4 and
+-- 7.5).
 use Rattle.std.specs.Prelude.{◌≡◌, ℕ, zero, suc, ◌+◌, ◌<◌, ◌^◌, Bool, IsTrue, List, [], ◌∷◌, ◌++◌, length, drop}
 use Rattle.std.specs.List.{AllByRecursion}
 use Rattle.etcs_bits.specs.declared.fault.FaultKind.{FaultKind}
@@ -10,7 +11,7 @@ pub record Variable : Type 0 where
   pub width : ℕ
   pub allows : ℕ → Bool
   pub refusal : FaultKind
-  -- whether a telegram's packets may end where it is due: then too few bits mean that no end is met
+  -- whether a telegram's packets may end where it is due; too few bits are then a NoEnd fault
   pub closes : Bool
 
 -- one variable of a record, with its number
@@ -44,7 +45,7 @@ abbrev pub width : List Row → ℕ
 width [] = 0
 width (r ∷ rows) = r.variable.width + width rows
 
--- the number of the row with this place in the list, from 0 on; 0 past the end
+-- the number of the row at this place in the list, counted from 0; 0 past the end
 abbrev pub number_at : ℕ → List Row → ℕ
 number_at n [] = 0
 number_at zero (r ∷ rows) = r.number
@@ -55,14 +56,14 @@ pub record Place : Type 0 where
   pub bits : List Bool
   pub at : ℕ
 
--- The bits stand from one place up to the other: in one list, these bits follow the first place,
--- then comes what follows the second, and the second is as many bits further on.
+-- The bits stand from one place up to the other. Both places are in one list. These bits follow the
+-- first place, and then comes what follows the second. The second is that many bits further on.
 pub record Stands (bits : List Bool) (from to : Place) : Type 0 where
   pub same : to.bits ≡ from.bits
   pub here : drop from.at from.bits ≡ bits ++ drop to.at from.bits
   pub past : to.at ≡ from.at + length bits
 
--- The record with these rows is spelled from one place up to the other: each row is allowed, and
+-- The record with these rows is spelled from one place up to the other. Each row is allowed, and
 -- their join stands there.
 pub record IsSpelled (rows : List Row) (from to : Place) : Type 0 where
   pub allowed : AreAllowed rows

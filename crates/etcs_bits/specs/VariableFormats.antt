@@ -1,5 +1,5 @@
--- The variables with named values, and those of a balise group's identity, as layouts. Each has the
--- name of the standard's table (SUBSET-026, 7.5.1).
+-- The variables with named values, and those of a balise group's identity, as layouts. Each has its
+-- name in the standard's table (SUBSET-026, 7.5.1).
 use Rattle.std.specs.Prelude.{ℕ}
 use Rattle.etcs_bits.specs.declared.transmission.Transmission.{Transmission}
 use Rattle.etcs_bits.specs.declared.medium.Medium.{Medium}
@@ -15,7 +15,7 @@ use Rattle.etcs_bits.specs.VariableLemmas.{transmissions_have_values, media_have
 abbrev pub q_updown : Format Transmission
 q_updown = names transmission_variable 1 transmission_number transmission_of transmissions_have_values
 
--- Q_MEDIA, 1 bit: what sends the telegram
+-- Q_MEDIA, 1 bit: the medium that sends the telegram
 abbrev pub q_media : Format Medium
 q_media = names medium_variable 1 medium_number medium_of media_have_values
 
@@ -31,7 +31,7 @@ m_dup = names duplicate_variable 2 dup_number dup_of marks_have_values
 abbrev pub q_scale : Format Scale
 q_scale = names scale_variable 2 scale_number scale_of scales_have_values
 
--- Q_DIR, 2 bits: for which running direction a packet is
+-- Q_DIR, 2 bits: the running directions that a packet is for
 abbrev pub q_dir : Format Dir
 q_dir = names dir_variable 2 dir_number dir_of directions_have_values
 
@@ -39,6 +39,6 @@ q_dir = names dir_variable 2 dir_number dir_of directions_have_values
 abbrev pub nid_c : Format ℕ
 nid_c = number 10
 
--- NID_BG, 14 bits: the balise group in it
+-- NID_BG, 14 bits: the number of the balise group there
 abbrev pub nid_bg : Format ℕ
 nid_bg = number 14

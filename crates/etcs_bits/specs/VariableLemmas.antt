@@ -52,7 +52,7 @@ pub flag_back : (b : Bool) → flag_of (worth b) ≡ b
 flag_back true = refl
 flag_back false = refl
 
--- ---- and which numbers are those of a value
+-- ---- the numbers that belong to a value
 
 flag_value : (n : ℕ) → IsAllowed (row (plain 1) n) → IsNumberOf worth n
 flag_value zero allowed = (false, refl)

@@ -1,6 +1,6 @@
 -- The variables of telegrams and packets, by the standard's table (SUBSET-026, 7.5.1): the width of
--- each, its numbers, and which of them are spare. That one number alone of Q_UPDOWN and Q_MEDIA is
--- read, and two of M_VERSION, is this project's rule.
+-- each, its numbers, and which of them are spare. By this project's rule, only one number of
+-- Q_UPDOWN and of Q_MEDIA is read, and only two of M_VERSION.
 use Rattle.std.specs.Prelude.{ℕ, Bool, ◌==◌, ◌||◌, ◌&&◌, nat_le, nat_lt, if◌then◌else◌, true, false}
 use Rattle.etcs_bits.specs.declared.fault.FaultKind.{FaultKind}
 use Rattle.etcs_bits.specs.declared.fault.FaultKind.TheVariants.{Spare, Version as WrongVersion, Loop, Downlink}
@@ -18,7 +18,8 @@ use Rattle.etcs_bits.specs.declared.duplicate.Dup.{Dup}
 use Rattle.etcs_bits.specs.declared.duplicate.Dup.TheVariants as dups
 use Rattle.etcs_bits.specs.Rows.{Variable}
 
--- a variable of w bits without a spare number, for w from 1 to 32; no other w has any number
+-- a variable of w bits without a spare number, for w from 1 to 32; no number of any other w is
+-- allowed
 abbrev pub plain : ℕ → Variable
 plain w = record {
   width = w;
@@ -31,7 +32,7 @@ plain w = record {
 abbrev pub free : ℕ → Variable
 free w = record { width = w; allows = λ _. true; refusal = Spare; closes = false }
 
--- a variable of w bits of which the number k alone is read; another has the fault `why`
+-- a variable of w bits of which only the number k is read; any other has the fault `why`
 abbrev pub only : ℕ → ℕ → FaultKind → Variable
 only w k why = record { width = w; allows = λ n. n == k; refusal = why; closes = false }
 
@@ -74,7 +75,7 @@ version_number versions.V2_1 = 33
 abbrev pub version_of : ℕ → Version
 version_of n = if n == 32 then versions.V2_0 else versions.V2_1
 
--- M_DUP, 2 bits: 0 no duplicate, 1 of the next balise, 2 of the previous one; 3 is spare
+-- M_DUP, 2 bits: 0 is no duplicate, 1 duplicates the next balise, 2 the previous one; 3 is spare
 abbrev pub duplicate_variable : Variable
 duplicate_variable = record { width = 2; allows = λ n. nat_lt n 3; refusal = Spare; closes = false }
 
@@ -91,7 +92,7 @@ dup_of n = if n == 0 then dups.Single else (if n == 1 then dups.Next else dups.P
 abbrev pub flag_of : ℕ → Bool
 flag_of n = n == 1
 
--- a variable of w bits, 1 to 32, whose numbers are those up to `last` and those from `from` on
+-- a variable of w bits, 1 to 32, whose numbers are 0 to `last`, and `from` and above
 abbrev pub ranged : ℕ → ℕ → ℕ → Variable
 ranged w last from = record {
   width = w;

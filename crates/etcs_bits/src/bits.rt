@@ -26,7 +26,7 @@ impl Model for Bits {
 }
 
 impl Bits {
-    /// No bits. Takes no memory.
+    /// An empty list. Takes no memory.
     pub fn new(alloc: Global) -> Bits
         ensures { result ≡ [] }
     {
@@ -35,7 +35,7 @@ impl Bits {
         }
     }
 
-    /// How many bits there are.
+    /// The number of bits.
     #[inline]
     pub fn len(&self) -> usize
         ensures { result ≡ length self.now }
@@ -43,7 +43,7 @@ impl Bits {
         self.items.len()
     }
 
-    /// The bit at place `i`, counted from 0 and below the length: 1 is true.
+    /// The bit at place `i`, counted from 0: 1 is true. `i` is below the length.
     #[inline]
     pub fn bit(&self, i: usize) -> bool
         requires { i < length self.now }
@@ -52,8 +52,8 @@ impl Bits {
         self.items[i]
     }
 
-    /// Appends the `width` bits of `n`, most significant first: 1 to 32 bits, into which `n` fits
-    /// (SUBSET-026, 7.5). If memory runs out, nothing is appended.
+    /// Appends the `width` bits of `n`, most significant first. `width` is 1 to 32, and `n` fits in
+    /// that many bits (SUBSET-026, 7.5). If memory runs out, nothing is appended.
     pub fn push_num(&mut self, width: u32, n: u64) -> Result<(), Memory>
         requires low { 1 ≤ width }
         requires high { width ≤ 32 }
@@ -76,8 +76,8 @@ impl Bits {
         Ok(())
     }
 
-    /// The first `len` bits of the bytes, eight for each, most significant first. The bytes must
-    /// have as many. Fails only if memory runs out.
+    /// The first `len` bits of the bytes. Each byte has eight bits, most significant first. The
+    /// bytes must have at least `len` bits. Fails only if memory runs out.
     pub fn from_bytes(alloc: Global, bytes: &[u8], len: usize) -> Result<Bits, Memory>
         requires { len ≤ 8 * length bytes.now }
         ensures bits { IfOk result (λ b. b ≡ take len (bits_of_bytes bytes.now)) }
@@ -94,8 +94,8 @@ impl Bits {
         Ok(Bits { items })
     }
 
-    /// The bits as bytes, eight in each, most significant first, with zeros up to a whole byte.
-    /// Fails only if memory runs out.
+    /// The bits as bytes, eight in each, most significant first. Zeros fill the last byte. Fails
+    /// only if memory runs out.
     pub fn to_bytes(&self, alloc: Global) -> Result<Vec<u8>, Memory>
         ensures bits { IfOk result (λ v. bits_of_bytes v.items
             ≡ self.now ++ replicate (8 * length v.items - length self.now) false) }
@@ -121,7 +121,7 @@ impl Bits {
         self.items.as_slice()
     }
 
-    /// Keeps the first `len` bits, or all where there are fewer.
+    /// Keeps the first `len` bits, or all if there are fewer.
     pub fn truncate(&mut self, len: usize)
         ensures { self.new ≡ take len self.old }
     {

@@ -1,4 +1,4 @@
-//! A packet's body, behind the length that the packet says of itself.
+//! A packet's body, after the packet's own length.
 
 use crate::bits::Bits;
 use crate::cursor::Cursor;
@@ -9,10 +9,10 @@ use crate::same::Same;
 use std::alloc::Global;
 use std::marker::Model;
 
-/// L_PACKET, 13 bits, and the record behind it. L_PACKET counts all bits of the packet: the `BEFORE`
-/// that stand before it, its own and the record's (SUBSET-026, 7.4 and 7.5.1); another number is a
-/// Length fault at L_PACKET, told behind the record's last field. Each body is allowed: no packet
-/// has more than 8,191 bits, which L_PACKET cannot count. Contracts see the record.
+/// L_PACKET, 13 bits, and the record after it. L_PACKET counts all bits of the packet: the `BEFORE`
+/// bits before it, its own and the record's. Any other number is a Length fault at L_PACKET,
+/// reported after the record's last field (SUBSET-026, 7.4 and 7.5.1). Each body is allowed: no
+/// packet has more than 8,191 bits, because L_PACKET cannot count more. Contracts see the record.
 #[derive(Debug, Drop)]
 pub struct Body<const BEFORE: u32, T: Layout> {
     content: T,
@@ -33,8 +33,8 @@ impl<const BEFORE: u32, T: Layout> Body<BEFORE, T> {
     ghost use Rattle.std.specs.Prelude.{◌≡◌, ◌↔◌, ◌≤◌, ◌+◌, IsSome, IfSome};
     ghost use Rattle.etcs_bits.specs.Rows.{width};
 
-    /// The body that is this record; None where the record is not allowed or the packet has more
-    /// than 8,191 bits, and then the record is gone.
+    /// The body with this record. None if the record is not allowed or the packet has more than
+    /// 8,191 bits; the record is then lost.
     #[tactic(auto, unfolding(crate::specs::Rows::alone))]
     pub fn new(content: T) -> Option<Self>
         ensures some { IfSome result (λ b. b ≡ content) }
@@ -50,7 +50,7 @@ impl<const BEFORE: u32, T: Layout> Body<BEFORE, T> {
         Some(Body { content })
     }
 
-    /// The record behind L_PACKET.
+    /// The record after L_PACKET.
     #[inline]
     pub fn content(&self) -> &T
         ensures { result.now ≡ self.now }

@@ -12,8 +12,8 @@ use crate::numerals::num_of;
 use std::alloc::Global;
 use std::marker::Model;
 
-/// Where a reader stands: borrowed bits, and the place of the next one. Contracts see it as such a
-/// place. None of its calls takes memory.
+/// The place where a reader stands: borrowed bits, and the place of the next bit. Contracts see it
+/// as such a place. None of its calls takes memory.
 #[derive(Drop)]
 pub struct Cursor<'a> {
     bits: &'a [bool],
@@ -67,7 +67,7 @@ impl<'a> Cursor<'a> {
         self.at
     }
 
-    /// How many bits are left.
+    /// The number of bits that are left.
     #[inline]
     pub fn left(&self) -> usize
         ensures { self.now.at + result ≡ length self.now.bits }
@@ -75,11 +75,11 @@ impl<'a> Cursor<'a> {
         self.bits.len() - self.at
     }
 
-    /// The number of the next `width` bits, 1 to 32, most significant first (SUBSET-026, 7.5); the
-    /// cursor then stands behind them.
+    /// The number that the next `width` bits spell, most significant first (SUBSET-026, 7.5).
+    /// `width` is 1 to 32. The cursor then stands after them.
     ///
-    /// Where fewer are left: a Short fault at the cursor, whose `end` is the length of the bits.
-    /// The cursor then stays.
+    /// If fewer bits are left, the error is a Short fault at the cursor, whose `end` is the length
+    /// of the bits. The cursor then does not move.
     #[inline(always)]
     pub fn take(&mut self, width: u32) -> Result<u64, Fault>
         requires low { 1 ≤ width }
@@ -98,16 +98,16 @@ impl<'a> Cursor<'a> {
         Ok(n)
     }
 
-    /// A copy of the next `width` bits, as they are; the cursor then stands behind them.
+    /// A copy of the next `width` bits, as they are. The cursor then stands after them.
     ///
-    /// Where fewer are left: a Short fault at the cursor, whose `end` is the length of the bits.
-    /// After an error the cursor stays.
+    /// If fewer bits are left, the error is a Short fault at the cursor, whose `end` is the length
+    /// of the bits. After an error the cursor has not moved.
     pub fn take_bits(&mut self, alloc: Global, width: usize) -> Result<Bits, DecodeError>
         ensures gives { Gives num_of_bits result (field_at (free width) self.old) self.new }
         ensures len { IfOk result (λ bits. length bits ≡ width) }
         ensures err { OnErr result (self.new ≡ self.old) }
 
-        // No memory is asked for.
+        // If too few bits are left, no memory is asked for.
         ensures short { length self.old.bits < self.old.at + width
             → result ≡ Err (DecodeError.Fault (short self.old)) }
     {

@@ -1,4 +1,4 @@
-//! For which running direction a packet is.
+//! The running directions that a packet is for.
 
 ghost use Rattle.std.specs.Prelude.{◌≡◌, ◌↔◌, IsTrue, IsSome, IfSome};
 
@@ -10,22 +10,22 @@ use crate::memory::Memory;
 use crate::same::Same;
 use std::alloc::Global;
 
-/// Q_DIR, 2 bits: for which running directions a packet is, seen from the group that sends it
-/// (SUBSET-026, 7.5.1). 3 is spare: a Spare fault.
+/// Q_DIR, 2 bits: the running directions that a packet is for, as seen from the group that sends
+/// it. 3 is spare: a Spare fault (SUBSET-026, 7.5.1).
 #[derive(Clone, Copy, Debug, PartialEq, Eq)]
 pub enum Dir {
     /// 0: for trains that pass the group in reverse direction.
     Reverse,
-    /// 1: for trains that pass it in nominal direction.
+    /// 1: for trains that pass the group in nominal direction.
     Nominal,
-    /// 2: for both.
+    /// 2: for trains in both directions.
     Both,
 }
 
 impl Dir {
     ghost use Rattle.etcs_bits.specs.Variables.{dir_variable, dir_number};
 
-    /// The direction of a number; None from 3 on.
+    /// The direction with this number; None from 3 on.
     #[inline]
     pub fn new(n: u32) -> Option<Dir>
         ensures some { IfSome result (λ v. dir_number v ≡ n) }

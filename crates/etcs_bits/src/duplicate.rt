@@ -1,4 +1,4 @@
-//! The mark by which balises declare each other duplicates.
+//! The mark of a balise that duplicates a neighbour.
 
 ghost use Rattle.std.specs.Prelude.{◌≡◌, ◌↔◌, IsTrue, IsSome, IfSome};
 
@@ -10,22 +10,22 @@ use crate::memory::Memory;
 use crate::same::Same;
 use std::alloc::Global;
 
-/// M_DUP, 2 bits: whether a balise says the same as a neighbour in its group, so that a train may
-/// miss one of the two (SUBSET-026, 3.16.2 and 7.5.1). 3 is spare: a Spare fault.
+/// M_DUP, 2 bits: whether a balise sends the same information as a neighbour in its group, so that
+/// a train may miss one of the two. 3 is spare: a Spare fault (SUBSET-026, 3.16.2 and 7.5.1).
 #[derive(Clone, Copy, Debug, PartialEq, Eq)]
 pub enum Dup {
     /// 0: no duplicate.
     Single,
-    /// 1: a duplicate of the next balise, the one with N_PIG one greater.
+    /// 1: a duplicate of the next balise, whose N_PIG is one greater.
     Next,
-    /// 2: a duplicate of the previous balise, the one with N_PIG one less.
+    /// 2: a duplicate of the previous balise, whose N_PIG is one less.
     Previous,
 }
 
 impl Dup {
     ghost use Rattle.etcs_bits.specs.Variables.{duplicate_variable, dup_number};
 
-    /// The mark of a number; None from 3 on.
+    /// The mark with this number; None from 3 on.
     #[inline]
     pub fn new(n: u32) -> Option<Dup>
         ensures some { IfSome result (λ v. dup_number v ≡ n) }

@@ -8,7 +8,7 @@ use crate::memory::Memory;
 use std::alloc::AllocFailed;
 use thiserror::Error;
 
-/// What is wrong in the place of a field, by the standard's tables of variables, packets and
+/// What is wrong at the place of a field, by the standard's tables of variables, packets and
 /// messages (SUBSET-026, 7.4, 7.5 and 8.4 to 8.7) and this project's rules. The program prints the
 /// same words.
 #[derive(Clone, Copy, Debug, PartialEq, Eq, Error)]
@@ -52,9 +52,9 @@ pub enum FaultKind {
 #[derive(Clone, Copy, Debug, PartialEq, Eq, Error)]
 #[error("{why} at {at} end {end}")]
 pub struct Fault {
-    /// The first bit of the field in whose place the fault was found.
+    /// The first bit of the field at whose place the fault is found.
     pub at: usize,
-    /// How many bits of the input, from its start, decide it.
+    /// The number of bits of the input, from its start, that decide the fault.
     pub end: usize,
     /// What is wrong there.
     pub why: FaultKind,
@@ -95,7 +95,7 @@ impl<T: Drop> From<AllocFailed<T>> for DecodeError {
     }
 }
 
-/// The refusal of the field that began at `at` and ends at the cursor, for a reader.
+/// The fault `why` of the field that begins at `at` and ends at the cursor, as a reader's error.
 #[cold]
 pub fn refused(at: usize, cur: &Cursor<'_>, why: FaultKind) -> DecodeError
     ensures { result ≡ DecodeError.Fault (record { at = at; end = cur.now.at; why = why }) }

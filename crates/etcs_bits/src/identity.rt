@@ -9,8 +9,8 @@ use crate::plain::{Country, GroupNumber};
 use crate::same::Same;
 use std::alloc::Global;
 
-/// Which balise group it is: 24 bits, NID_C and then NID_BG (SUBSET-026, 7.5.1). Every number of
-/// their widths is allowed, so its only fault is Short.
+/// The identity of a balise group, 24 bits: NID_C and then NID_BG. Every number of their widths is
+/// allowed, so the only fault is Short (SUBSET-026, 7.5.1).
 #[derive(Clone, Copy, Debug, PartialEq, Eq)]
 pub struct Identity {
     /// NID_C, 10 bits: the country or region.

@@ -1,4 +1,4 @@
-//! A list behind its count.
+//! A list after its count.
 
 ghost use Rattle.std.specs.Prelude.{◌≡◌, ◌↔◌, ◌<◌, ◌≤◌, min, length, IsTrue, IfOk};
 ghost use Rattle.std.specs.List.{AllByRecursion, flat_map};
@@ -16,8 +16,9 @@ use crate::same::{Same, are_same};
 use std::alloc::Global;
 use std::marker::Model;
 
-/// The items behind N_ITER, 5 bits, which says how many they are, such as the sections of a packet
-/// (SUBSET-026, 7.4 and 7.5.1). A list of more than 31 is not allowed. Contracts see it as a list.
+/// The items after N_ITER, such as the sections of a packet. N_ITER has 5 bits and is the number of
+/// items (SUBSET-026, 7.4 and 7.5.1). A list of more than 31 is not allowed. Contracts see it as a
+/// list.
 #[derive(Debug, Drop)]
 pub struct Items<T> {
     items: Vec<T>,
@@ -32,7 +33,7 @@ impl<T> Model for Items<T> {
 }
 
 impl<T> Items<T> {
-    /// The list of these items, in this order; with more than 31 it is not allowed.
+    /// The list of these items, in this order. A list of more than 31 is not allowed.
     #[inline]
     pub fn new(items: Vec<T>) -> Items<T>
         ensures { result ≡ items.items }
@@ -64,7 +65,7 @@ pub fn are_allowed<T: Layout>(items: &[T]) -> bool
     true
 }
 
-/// How many bits the items have, one after the other; `u64::MAX` where they have more.
+/// The number of bits of the items, one after the other; `u64::MAX` if they have more.
 pub fn width_of<T: Layout>(items: &[T]) -> u64
     ensures { result ≡ min (width (flat_map T.format.rows items.now)) u64.MAX }
 {
@@ -86,7 +87,7 @@ fn put_items<T: Layout>(items: &[T], out: &mut Bits) -> Result<(), Memory>
     Ok(())
 }
 
-// Reads so many items.
+// Reads `count` items.
 fn scan_items<T: Layout>(
     alloc: Global,
     count: u64,
@@ -96,7 +97,7 @@ fn scan_items<T: Layout>(
         (rows_at (times count T.format.fields) cur.old) cur.new }
     ensures count { IfOk result (λ v. length v.items ≡ count) }
 
-    // Without an item no memory is asked for.
+    // If `count` is 0, no memory is asked for.
     ensures memory { IfMemory result (0 < count) }
 {
     let mut items = Vec::new(alloc);
@@ -143,7 +144,7 @@ impl<T: Layout> Layout for Items<T> {
         // The count has five bits.
         ensures few { IfOk result (λ l. length l < 32) }
 
-        // Memory is asked for behind a count alone, and not behind a count of none.
+        // Memory is asked for only after the count, and not if the count is 0.
         ensures short { length cur.old.bits < cur.old.at + 5
             → result ≡ Err (DecodeError.Fault (short cur.old)) }
         ensures memory { IfMemory result (taken 5 cur.old ≢ Ok (0, forward cur.old 5)) }

@@ -1,6 +1,6 @@
-//! What holds of every record and of every variable, as contracts of calls that do nothing: laws for
-//! users, over the definitions alone (`specs/Laws.antt`). Records of other crates have those of every
-//! record, by [`Layout`].
+//! The laws of every record and every variable, for users. Each law is the contract of a call that
+//! does nothing, over the definitions alone (`specs/Laws.antt`). The laws of every record also hold
+//! for the records of other crates, by [`Layout`].
 
 ghost use Rattle.std.specs.Prelude.{ℕ, ◌≤◌, ◌<◌, ◌^◌, ◌⊎◌};
 ghost use Rattle.etcs_bits.specs.Laws.{IsReadAsSpelled, FaultIsRead, SpellsOneRecord, NoSpellingBegins, FaultMeansNone, HasOneFault, NumbersAreBits, AreLaidOut};
@@ -28,39 +28,39 @@ use crate::version::Version;
 
 // ---- every record
 
-/// A record is spelled exactly where reading, as a function of the bits, gives it, and up to the
-/// place where that ends.
+/// A record is spelled at a place exactly if reading, as a function of the bits, gives it there.
+/// The spelling ends where reading ends.
 pub fn a_record_is_read_as_it_is_spelled<T: Layout>()
     ensures { IsReadAsSpelled T.format }
 {}
 
-/// A fault is told exactly where reading gives it.
+/// A place has a fault exactly if reading gives that fault there.
 pub fn a_fault_is_read_as_it_is_told<T: Layout>()
     ensures { FaultIsRead T.format }
 {}
 
-/// A place spells at most one record, and it has one end.
+/// At most one record is spelled at a place, and it has one end.
 pub fn a_place_spells_one_record<T: Layout>()
     ensures { SpellsOneRecord T.format }
 {}
 
-/// No spelling begins another: what is read is what was written, whatever follows it.
+/// No spelling begins another. What is read is what was written, whatever follows it.
 pub fn no_spelling_begins_another<T: Layout>()
     ensures { NoSpellingBegins T.format }
 {}
 
-/// Where a fault is told, no record is spelled, in any input of the same length with the same first
-/// `end` bits.
+/// If a place has a fault, no record is spelled there, in any input of the same length with the
+/// same first `end` bits.
 pub fn a_fault_means_no_record<T: Layout>()
     ensures { FaultMeansNone T.format }
 {}
 
-/// A place tells at most one fault.
+/// A place has at most one fault.
 pub fn a_place_tells_one_fault<T: Layout>()
     ensures { HasOneFault T.format }
 {}
 
-/// Records are laid out in their fields: the four laws of spellings and faults hold of them.
+/// A record is laid out in its fields: the four laws of spellings and faults hold for it.
 pub fn records_are_laid_out<T: Layout>()
     ensures { AreLaidOut T.format }
 {
@@ -79,21 +79,21 @@ pub fn pairs_are_laid_out<A: Layout, B: Layout>()
     records_are_laid_out::<(A, B)>();
 }
 
-/// A record that may be there is laid out behind the qualifier that says whether it is.
+/// An optional record is laid out after the qualifier that says whether it is present.
 pub fn options_are_laid_out<T: Layout>()
     ensures { AreLaidOut (if_there T.format) }
 {
     records_are_laid_out::<Option<T>>();
 }
 
-/// Items are laid out behind N_ITER, which counts them.
+/// Items are laid out after N_ITER, which counts them.
 pub fn lists_are_laid_out<T: Layout>()
     ensures { AreLaidOut (several T.format) }
 {
     records_are_laid_out::<Items<T>>();
 }
 
-/// A packet's body is laid out behind L_PACKET, which counts the bits before it too.
+/// A packet's body is laid out after L_PACKET, which also counts the bits before it.
 pub fn bodies_are_laid_out<const BEFORE: u32, T: Layout>()
     ensures { AreLaidOut (behind_length BEFORE T.format) }
 {}
@@ -112,7 +112,7 @@ pub fn numbers_are_their_bits()
     ensures { NumbersAreBits }
 {}
 
-/// A variable of `W` bits without a spare number has all that fit, if `W` is 1 to 32.
+/// A variable without a spare number has all numbers that fit in its `W` bits, if `W` is 1 to 32.
 #[tactic(auto, using(crate::proofs::ValueLemmas::plain_has_numbers))]
 pub fn plain_variables_have_all_numbers<const W: u32>()
     ensures numbers { HasNumbers (plain W) W (λ n. (1 ≤ W) × (W ≤ 32) × (n < 2 ^ W)) }
@@ -138,7 +138,7 @@ pub fn free_bits_have_all_numbers()
     ensures laid_out { (w : ℕ) → AreLaidOut (variable (free w)) }
 {}
 
-/// A flag has one bit, whose two numbers are its values.
+/// A flag has one bit. Its two numbers are its two values.
 #[tactic(auto, using(crate::specs::VariableLemmas::flags_have_values))]
 pub fn flags_have_their_numbers()
     ensures numbers { HasValues (plain 1) 1 worth flag_of }
@@ -147,7 +147,7 @@ pub fn flags_have_their_numbers()
     records_are_laid_out::<bool>();
 }
 
-/// Q_UPDOWN has one bit; the direction that is read has its number.
+/// Q_UPDOWN has one bit. The direction that is read has its number.
 #[tactic(auto, using(crate::specs::VariableLemmas::transmissions_have_values))]
 pub fn transmissions_have_their_numbers()
     ensures numbers { HasValues transmission_variable 1 transmission_number transmission_of }
@@ -156,7 +156,7 @@ pub fn transmissions_have_their_numbers()
     records_are_laid_out::<Transmission>();
 }
 
-/// Q_MEDIA has one bit; the medium that is read has its number.
+/// Q_MEDIA has one bit. The medium that is read has its number.
 #[tactic(auto, using(crate::specs::VariableLemmas::media_have_values))]
 pub fn media_have_their_numbers()
     ensures numbers { HasValues medium_variable 1 medium_number medium_of }
@@ -165,7 +165,7 @@ pub fn media_have_their_numbers()
     records_are_laid_out::<Medium>();
 }
 
-/// M_VERSION has seven bits; the versions that are read have their numbers.
+/// M_VERSION has seven bits. The versions that are read have their numbers.
 #[tactic(auto, using(crate::specs::VariableLemmas::versions_have_values))]
 pub fn versions_have_their_numbers()
     ensures numbers { HasValues version_variable 7 version_number version_of }
@@ -174,7 +174,7 @@ pub fn versions_have_their_numbers()
     records_are_laid_out::<Version>();
 }
 
-/// M_DUP has two bits; each mark has its number, and no other is allowed.
+/// M_DUP has two bits. Each mark has its number, and no other number is allowed.
 #[tactic(auto, using(crate::specs::VariableLemmas::marks_have_values))]
 pub fn marks_have_their_numbers()
     ensures numbers { HasValues duplicate_variable 2 dup_number dup_of }
@@ -183,7 +183,7 @@ pub fn marks_have_their_numbers()
     records_are_laid_out::<Dup>();
 }
 
-/// Q_SCALE has two bits; each unit has its number, and no other is allowed.
+/// Q_SCALE has two bits. Each unit has its number, and no other number is allowed.
 #[tactic(auto, using(crate::specs::VariableLemmas::scales_have_values))]
 pub fn scales_have_their_numbers()
     ensures numbers { HasValues scale_variable 2 scale_number scale_of }
@@ -192,7 +192,7 @@ pub fn scales_have_their_numbers()
     records_are_laid_out::<Scale>();
 }
 
-/// Q_DIR has two bits; each direction has its number, and no other is allowed.
+/// Q_DIR has two bits. Each direction has its number, and no other number is allowed.
 #[tactic(auto, using(crate::specs::VariableLemmas::directions_have_values))]
 pub fn directions_have_their_numbers()
     ensures numbers { HasValues dir_variable 2 dir_number dir_of }
@@ -201,8 +201,8 @@ pub fn directions_have_their_numbers()
     records_are_laid_out::<Dir>();
 }
 
-/// M_LEVEL and M_LEVELTR have three bits; each level has its number, and no other is allowed.
-/// NID_NTC has eight bits, and stands behind level NTC alone.
+/// M_LEVEL and M_LEVELTR have three bits. Each level has its number, and no other number is
+/// allowed. NID_NTC has eight bits and follows only level NTC.
 #[tactic(auto, using(crate::proofs::ValueLemmas::levels_have_numbers, crate::proofs::ValueLemmas::ntcs_have_numbers))]
 pub fn levels_have_their_numbers()
     ensures numbers { HasNumbers level_variable 3 (IsNumberOf level_number) }

@@ -16,34 +16,37 @@ use std::alloc::Global;
 /// A record of variables that is spelled field after field, without a gap (SUBSET-026, 7.4).
 ///
 /// Users call [`is_allowed`](Layout::is_allowed), [`write`](Layout::write) and
-/// [`read`](Layout::read). A record gives the rest: its format and the plain steps `width`, `put` and `scan`.
+/// [`read`](Layout::read). A record's type gives the rest: its format and the plain steps `width`,
+/// `put` and `scan`.
 pub trait Layout: Drop {
-    /// The layout of a record, as one value: its table of fields, the rows of a record, the record of
-    /// rows, and that these agree, so that each record has one spelling.
+    /// The layout of a record, as one value. It has the table of fields, the rows of a record, the
+    /// record of rows, and the proof that these agree. Each record therefore has one spelling.
     ghost format: { Format Self };
 
-    /// When each number of a record is allowed, in the record's own terms: always, where its types
-    /// keep them in range.
+    /// The condition, in the record's own terms, that each of its numbers is allowed. It always
+    /// holds if the record's types keep the numbers in range.
     ghost fit: { Self → Type 0 } = { λ _. Unit {0} };
 
-    /// Whether reading a record may ask for memory: only where it holds a list or bits of its own.
+    /// Whether reading a record may ask for memory: only if it holds a list or bits of its own.
     ghost grows: { Type 0 } = { ⊥ };
 
-    /// Whether each variable has a number that fits in its bits and is allowed. Takes no memory.
+    /// Whether the number of each variable fits in its bits and is allowed. Takes no memory.
     fn is_allowed(&self) -> bool
         ensures allowed { IsTrue result ↔ AreAllowed (format.rows self.now) }
         ensures fit { IsTrue result ↔ fit self.now };
 
-    /// How many bits the spelling has; `u64::MAX` where it has more.
+    /// The number of bits of the spelling; `u64::MAX` if it has more.
     fn width(&self) -> u64
         ensures { result ≡ min (width (format.rows self.now)) u64.MAX };
 
-    /// Appends the spelling. If memory runs out, a part of it may stand there: users call `write`.
+    /// Appends the spelling. If memory runs out, a part of it may be appended, so users call
+    /// `write`.
     fn put(&self, out: &mut Bits) -> Result<(), Memory>
         requires { AreAllowed (format.rows self.now) }
         ensures { Puts (join (format.rows self.now)) result out.old out.new };
 
-    /// Reads on from the cursor. After an error it may stand anywhere: users call `read`.
+    /// Reads a record at the cursor. After an error the cursor may stand anywhere, so users call
+    /// `read`.
     fn scan(alloc: Global, cur: &mut Cursor<'_>) -> Result<Self, DecodeError>
         ensures gives { Gives format.rows result (rows_at format.fields cur.old) cur.new }
         ensures memory { IfMemory result grows };
@@ -62,11 +65,11 @@ pub trait Layout: Drop {
         done
     }
 
-    /// Reads the record whose spelling stands at the cursor, which then stands behind it.
+    /// Reads the record that is spelled at the cursor. The cursor then stands after it.
     ///
-    /// A fault is the first one of the fields that stand there, and then no record is spelled
-    /// there, in any input of the same length with the same first `end` bits. If memory runs out, a
-    /// fault may go unseen. After an error the cursor stands where it stood.
+    /// A fault is the first one of the fields at the cursor. No record is then spelled there, in
+    /// any input of the same length with the same first `end` bits. If memory runs out, a fault may
+    /// go unseen. After an error the cursor has not moved.
     final fn read(alloc: Global, cur: &mut Cursor<'_>) -> Result<Self, DecodeError>
         ensures ok { IfOk result (λ v. IsSpelled (format.rows v) cur.old cur.new) }
 
@@ -74,7 +77,7 @@ pub trait Layout: Drop {
         ensures none { IfFault result (λ f. NoneBegins format.rows cur.old f) }
         ensures err { OnErr result (cur.new ≡ cur.old) }
 
-        // A record that does not grow never answers that memory ran out.
+        // Reading a record that does not grow never reports that memory ran out.
         ensures memory { IfMemory result grows }
     {
         let mut ahead = cur.fork();

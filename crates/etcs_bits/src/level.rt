@@ -10,14 +10,13 @@ use crate::memory::Memory;
 use crate::same::Same;
 use std::alloc::Global;
 
-/// M_LEVELTR and M_LEVEL, 3 bits: the level of ETCS in which a train runs, or has to run from a
-/// place on; level NTC has NID_NTC, 8 bits, behind it (SUBSET-026, 7.5.1). 5 to 7 are spare: a Spare
-/// fault.
+/// M_LEVELTR and M_LEVEL, 3 bits: the ETCS level in which a train runs, or has to run from a given
+/// place. NID_NTC, 8 bits, follows level NTC. 5 to 7 are spare: a Spare fault (SUBSET-026, 7.5.1).
 #[derive(Clone, Copy, Debug, PartialEq, Eq)]
 pub enum Level {
-    /// 0: level 0, where ETCS supervises no more than a ceiling speed.
+    /// 0: level 0, where ETCS supervises only a ceiling speed.
     L0,
-    /// 1: level NTC, and NID_NTC: the national system that supervises the train.
+    /// 1: level NTC, with NID_NTC, the national system that supervises the train.
     Ntc(u8),
     /// 2: level 1.
     L1,

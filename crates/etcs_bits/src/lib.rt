@@ -1,13 +1,14 @@
 //! The bits of balise telegrams, and the records of variables that they spell (SUBSET-026, 7.4 and
 //! 7.5).
 //!
-//! [`Bits`] is a list of bits, [`Cursor`] a place in one, [`Layout`] a record of variables, such as
-//! [`Version`] or [`Identity`]. Pairs, options, [`Items`] and [`Body`] make records of others
-//! (`specs/Combined.antt`). Layers above stand on the contract of [`Layout::scan`]: it reads
-//! the record that stands at the cursor, and where none does it tells the first [`Fault`]. [`Same`]
-//! tells two values apart. Read `layout.rt` first, with `specs/Rows.antt`, `Fields.antt` and
-//! `Fault.antt`; what holds of every record and variable is in [`laws`]. Left out: packets, whole
-//! telegrams and their text, and the channel coding of the user bits (SUBSET-036, 4.3).
+//! [`Bits`] is a list of bits. [`Cursor`] is a place in such a list. [`Layout`] is a record of
+//! variables, such as [`Version`] or [`Identity`]. Pairs, options, [`Items`] and [`Body`] make
+//! records of others (`specs/Combined.antt`). Layers above rely on the contract of
+//! [`Layout::scan`]: it reads the record at the cursor, or reports the first [`Fault`] if no record
+//! stands there. [`Same`] compares two values. Read `layout.rt` first, with `specs/Rows.antt`,
+//! `Fields.antt` and `Fault.antt`. The laws of every record and variable are in [`laws`]. This
+//! crate leaves out packets, whole telegrams and their text, and the channel coding of the user
+//! bits (SUBSET-036, 4.3).
 #![tactic(auto)]
 
 mod bits;

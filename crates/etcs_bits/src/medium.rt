@@ -1,4 +1,4 @@
-//! What sends a telegram.
+//! The medium that sends a telegram.
 
 ghost use Rattle.std.specs.Prelude.{◌≡◌, ◌↔◌, IsTrue, IsSome, IfSome};
 
@@ -10,8 +10,8 @@ use crate::memory::Memory;
 use crate::same::Same;
 use std::alloc::Global;
 
-/// Q_MEDIA, 1 bit: what sends a telegram (SUBSET-026, 7.5.1). Only a balise (0) is read, by this
-/// project's rule; the other number is a Loop fault.
+/// Q_MEDIA, 1 bit: the medium that sends a telegram. By this project's rule, only a balise (0) is
+/// read. The other number is a Loop fault (SUBSET-026, 7.5.1).
 #[derive(Clone, Copy, Debug, PartialEq, Eq)]
 pub enum Medium {
     /// 0: a balise.
@@ -21,7 +21,7 @@ pub enum Medium {
 impl Medium {
     ghost use Rattle.etcs_bits.specs.Variables.{medium_variable, medium_number};
 
-    /// The value of a number; None for every number but 0.
+    /// The value with this number; None for every number but 0.
     #[inline]
     pub fn new(n: u32) -> Option<Medium>
         ensures some { IfSome result (λ v. medium_number v ≡ n) }

@@ -1,10 +1,10 @@
-//! The refusal of memory.
+//! The error when memory runs out.
 
 use std::alloc::{AllocError, AllocFailed};
 use thiserror::Error;
 
-/// Memory ran out: the allocator refused to let a list grow. A list that would have more than
-/// `usize::MAX` bits is refused in the same way.
+/// Memory ran out: the allocator did not let a list grow. A list that would have more than
+/// `usize::MAX` bits gives the same error.
 #[derive(Clone, Copy, Debug, PartialEq, Eq, Error)]
 #[error("out of memory")]
 pub struct Memory;

@@ -5,7 +5,7 @@ ghost use Rattle.etcs_bits.specs.Number.{num, num_of_bits, bits_of_bytes};
 
 use std::alloc::{AllocError, Global};
 
-// The `width` bits of `n`, most significant first, and then bits that mean nothing.
+// The `width` bits of `n`, most significant first, and then bits without a meaning.
 pub fn bits_of_num(width: u32, n: u64) -> [bool; 32]
     requires { width ≤ 32 }
     ensures { take width result ≡ num width n }
@@ -34,7 +34,7 @@ pub fn bits_of_byte(byte: u8) -> [bool; 8]
     ]
 }
 
-// The number that bits spell.
+// The number that these bits spell.
 #[inline]
 pub fn num_of(bits: &[bool]) -> u64
     requires { length bits.now ≤ 32 }
@@ -48,7 +48,7 @@ pub fn num_of(bits: &[bool]) -> u64
     n
 }
 
-// The byte that bits begin, filled up with zeros.
+// The byte that begins with these bits. Zeros fill it.
 pub fn byte_of(bits: &[bool]) -> u8
     requires { length bits.now ≤ 8 }
     ensures { num 8 result ≡ bits.now ++ replicate (8 - length bits.now) false }
@@ -56,7 +56,7 @@ pub fn byte_of(bits: &[bool]) -> u8
     (num_of(bits) << (8 - bits.len())) as u8
 }
 
-// The bytes that bits begin, the last of them filled up with zeros.
+// These bits as bytes. Zeros fill the last byte.
 pub fn bytes_of(alloc: Global, bits: &[bool]) -> Result<Vec<u8>, AllocError>
     ensures bits { IfOk result (λ v. bits_of_bytes v.items
         ≡ bits.now ++ replicate (8 * length v.items - length bits.now) false) }

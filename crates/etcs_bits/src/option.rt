@@ -1,4 +1,4 @@
-//! A record that is there only where the qualifier before it says so.
+//! A record that is present only if the qualifier before it is 1.
 
 use crate::bits::Bits;
 use crate::cursor::Cursor;
@@ -8,8 +8,9 @@ use crate::memory::Memory;
 use crate::same::Same;
 use std::alloc::Global;
 
-/// A record behind a qualifier of one bit, such as Q_OVERLAP: 1 where the record follows, 0 where
-/// it does not (SUBSET-026, 7.4). Its faults are Short at the qualifier, and those of the record.
+/// A record after a qualifier of one bit, such as Q_OVERLAP. The qualifier is 1 if the record
+/// follows, 0 if it does not. The faults are Short at the qualifier, and those of the record
+/// (SUBSET-026, 7.4).
 #[tactic(auto, using(crate::proofs::PutLemmas::puts_bits), unfolding(crate::specs::Rows::alone))]
 impl<T: Layout> Layout for Option<T> {
     ghost use Rattle.std.specs.Prelude.{IfSome};

@@ -11,20 +11,20 @@ use crate::same::Same;
 use std::alloc::Global;
 use std::marker::Model;
 
-/// A variable of `W` bits, 1 to 32, each of whose numbers is allowed (SUBSET-026, 7.5.1). At any
-/// other `W` no number is. Contracts see it as its number.
+/// A variable of `W` bits, 1 to 32, without a spare number (SUBSET-026, 7.5.1). For any other `W`,
+/// no number is allowed. Contracts see it as its number.
 #[derive(Clone, Copy, Debug, PartialEq, Eq)]
 pub struct Plain<const W: u32> {
     number: u32,
 }
 
-/// N_PIG, 3 bits: the position of a balise in its group, from 0 on.
+/// N_PIG, 3 bits: the position of a balise in its group, counted from 0.
 pub type Position = Plain<3>;
 
-/// N_TOTAL, 3 bits: how many balises a group has, less one.
+/// N_TOTAL, 3 bits: the number of balises in a group, less one.
 pub type Total = Plain<3>;
 
-/// M_MCOUNT, 8 bits: the message counter. 254 fits no message of the group, 255 fits every one.
+/// M_MCOUNT, 8 bits: the message counter. 254 fits no message of the group. 255 fits every one.
 pub type Counter = Plain<8>;
 
 /// NID_C, 10 bits: the country or region of a balise group.
@@ -33,11 +33,11 @@ pub type Country = Plain<10>;
 /// NID_BG, 14 bits: the number of a balise group in its country or region.
 pub type GroupNumber = Plain<14>;
 
-/// Distances and lengths in packets, 15 bits: in the packet's scale, so up to 327,670 metres
-/// (SUBSET-026, 7.5.1).
+/// Distances and lengths in packets, 15 bits: in the unit of the packet's scale, so up to 327,670
+/// metres (SUBSET-026, 7.5.1).
 pub type Distance = Plain<15>;
 
-/// Times in packets 12 and 15, 10 bits: in seconds; 1023 means that there is no time-out
+/// Times in packets 12 and 15, 10 bits: in seconds. 1023 means that there is no time-out
 /// (SUBSET-026, 7.5.1).
 pub type Time = Plain<10>;
 
@@ -57,7 +57,7 @@ impl<const W: u32> Model for Plain<W> {
 impl<const W: u32> Plain<W> {
     ghost use Rattle.etcs_bits.specs.Variables.{plain};
 
-    /// The variable with this number; None exactly where the number does not fit in `W` bits, and
+    /// The variable with this number. None exactly if the number does not fit in `W` bits, and
     /// always for a `W` outside 1 to 32.
     #[inline]
     pub fn new(n: u32) -> Option<Self>

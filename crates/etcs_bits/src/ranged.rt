@@ -11,25 +11,25 @@ use crate::same::Same;
 use std::alloc::Global;
 use std::marker::Model;
 
-/// A variable of `W` bits, 1 to 32, whose numbers are 0 to `LAST` and those from `FROM` on; between
-/// them they are spare: a Spare fault (SUBSET-026, 7.5.1). At any other `W` no number is allowed.
-/// Contracts see it as its number.
+/// A variable of `W` bits, 1 to 32, whose numbers are 0 to `LAST`, and `FROM` and above. A number
+/// between these ranges is spare: a Spare fault (SUBSET-026, 7.5.1). For any other `W`, no number
+/// is allowed. Contracts see it as its number.
 #[derive(Clone, Copy, Debug, PartialEq, Eq)]
 pub struct Ranged<const W: u32, const LAST: u32, const FROM: u32> {
     number: u32,
 }
 
-/// V_MAIN, V_LOA and V_DIFF, 7 bits: a speed in steps of 5 km/h, 0 to 120 (600 km/h); 121 to 127 are
-/// spare: a Spare fault (SUBSET-026, 7.5.1).
+/// V_MAIN, V_LOA and V_DIFF, 7 bits: a speed in steps of 5 km/h, 0 to 120 (600 km/h). 121 to 127
+/// are spare: a Spare fault (SUBSET-026, 7.5.1).
 pub type Speed = Ranged<7, 120, 128>;
 
-/// V_STATIC, 7 bits: a speed in steps of 5 km/h, 0 to 120; 127 is the end mark, from which on no
-/// profile is told; 121 to 126 are spare: a Spare fault (SUBSET-026, 7.5.1).
+/// V_STATIC, 7 bits: a speed in steps of 5 km/h, 0 to 120. 127 is the end mark: the profile reaches
+/// no further. 121 to 126 are spare: a Spare fault (SUBSET-026, 7.5.1).
 pub type StaticSpeed = Ranged<7, 120, 127>;
 
-/// V_RELEASEDP and V_RELEASEOL, 7 bits: a release speed in steps of 5 km/h, 0 to 120; 126 is
-/// calculated on board, 127 is the national value; 121 to 125 are spare: a Spare fault (SUBSET-026,
-/// 7.5.1).
+/// V_RELEASEDP and V_RELEASEOL, 7 bits: a release speed in steps of 5 km/h, 0 to 120. 126 means
+/// that the speed is calculated on board. 127 means the national value. 121 to 125 are spare: a
+/// Spare fault (SUBSET-026, 7.5.1).
 pub type ReleaseSpeed = Ranged<7, 120, 126>;
 
 impl<const W: u32, const LAST: u32, const FROM: u32> Model for Ranged<W, LAST, FROM> {
@@ -48,7 +48,7 @@ impl<const W: u32, const LAST: u32, const FROM: u32> Model for Ranged<W, LAST, F
 impl<const W: u32, const LAST: u32, const FROM: u32> Ranged<W, LAST, FROM> {
     ghost use Rattle.etcs_bits.specs.Variables.{ranged};
 
-    /// The variable with this number; None exactly where the number does not fit in `W` bits or is
+    /// The variable with this number. None exactly if the number does not fit in `W` bits or is
     /// spare, and always for a `W` outside 1 to 32.
     #[inline]
     pub fn new(n: u32) -> Option<Self>

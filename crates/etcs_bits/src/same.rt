@@ -2,10 +2,10 @@
 
 ghost use Rattle.std.specs.Prelude.{◌≡◌, ◌↔◌, IsTrue};
 
-/// Values that can be told apart by what contracts see of them: records, variables and lists of
-/// bits. `==` promises less to code over any type: it may hold of two values that differ.
+/// Values that can be compared by what contracts see of them: records, variables and lists of bits.
+/// `==` promises less to generic code: it may hold for two values that differ.
 pub trait Same {
-    /// Whether two values are one. Takes no memory.
+    /// Whether two values are equal. Takes no memory.
     fn same(&self, other: &Self) -> bool
         ensures { IsTrue result ↔ (self.now ≡ other.now) };
 }

@@ -1,4 +1,4 @@
-//! In which unit a packet gives its distances.
+//! The unit of a packet's distances.
 
 ghost use Rattle.std.specs.Prelude.{◌≡◌, ◌↔◌, IsTrue, IsSome, IfSome};
 
@@ -10,8 +10,8 @@ use crate::memory::Memory;
 use crate::same::Same;
 use std::alloc::Global;
 
-/// Q_SCALE, 2 bits: the unit of all distances in a packet (SUBSET-026, 7.5.1). 3 is spare: a Spare
-/// fault.
+/// Q_SCALE, 2 bits: the unit of all distances in a packet. 3 is spare: a Spare fault (SUBSET-026,
+/// 7.5.1).
 #[derive(Clone, Copy, Debug, PartialEq, Eq)]
 pub enum Scale {
     /// 0: 10 centimetres.
@@ -25,7 +25,7 @@ pub enum Scale {
 impl Scale {
     ghost use Rattle.etcs_bits.specs.Variables.{scale_variable, scale_number};
 
-    /// The unit of a number; None from 3 on.
+    /// The unit with this number; None from 3 on.
     #[inline]
     pub fn new(n: u32) -> Option<Scale>
         ensures some { IfSome result (λ v. scale_number v ≡ n) }

@@ -1,4 +1,4 @@
-//! In which direction a telegram goes.
+//! The direction in which a telegram goes.
 
 ghost use Rattle.std.specs.Prelude.{◌≡◌, ◌↔◌, IsTrue, IsSome, IfSome};
 
@@ -10,8 +10,8 @@ use crate::memory::Memory;
 use crate::same::Same;
 use std::alloc::Global;
 
-/// Q_UPDOWN, 1 bit: in which direction a telegram goes (SUBSET-026, 7.5.1). Only track to train (1)
-/// is read, by this project's rule; the other number is a Downlink fault.
+/// Q_UPDOWN, 1 bit: the direction in which a telegram goes. By this project's rule, only track to
+/// train (1) is read. The other number is a Downlink fault (SUBSET-026, 7.5.1).
 #[derive(Clone, Copy, Debug, PartialEq, Eq)]
 pub enum Transmission {
     /// 1: from the track to the train.
@@ -21,7 +21,7 @@ pub enum Transmission {
 impl Transmission {
     ghost use Rattle.etcs_bits.specs.Variables.{transmission_variable, transmission_number};
 
-    /// The value of a number; None for every number but 1.
+    /// The value with this number; None for every number but 1.
     #[inline]
     pub fn new(n: u32) -> Option<Transmission>
         ensures some { IfSome result (λ v. transmission_number v ≡ n) }

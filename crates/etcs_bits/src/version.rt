@@ -10,8 +10,8 @@ use crate::memory::Memory;
 use crate::same::Same;
 use std::alloc::Global;
 
-/// M_VERSION, 7 bits: the system version that a telegram is written for (SUBSET-026, 7.5.1). Only
-/// 2.0 (32) and 2.1 (33) are read, by this project's rule; another number is a Version fault.
+/// M_VERSION, 7 bits: the system version that a telegram is written for. By this project's rule,
+/// only 2.0 (32) and 2.1 (33) are read. Any other number is a Version fault (SUBSET-026, 7.5.1).
 #[derive(Clone, Copy, Debug, PartialEq, Eq)]
 pub enum Version {
     /// 32: system version 2.0.
@@ -23,7 +23,7 @@ pub enum Version {
 impl Version {
     ghost use Rattle.etcs_bits.specs.Variables.{version_variable, version_number};
 
-    /// The version of a number; None for every number but 32 and 33.
+    /// The version with this number; None for every number but 32 and 33.
     #[inline]
     pub fn new(n: u32) -> Option<Version>
         ensures some { IfSome result (λ v. version_number v ≡ n) }

@@ -1,4 +1,4 @@
--- Eight bits settle whether a list ends, and what begins with NID_PACKET has as many.
+-- Eight bits decide whether a list ends. A record that begins with NID_PACKET has as many.
 use Rattle.std.proofs.Common.{◌≡◌, ℕ, ◌+◌, ◌-◌, ◌<◌, ◌≤◌, Bool, true, false, List, [], length, take, drop, refl, sym, ap, subst, ◌∙◌, arith, inl, inr, ◌⊎◌}
 use Rattle.std.proofs.lemmas.Bool.{lt-ltb}
 use Rattle.std.proofs.lemmas.List.{take-take, drop-take}
@@ -10,8 +10,8 @@ use Rattle.etcs_bits.proofs.StandLemmas.{place_in, length-join, stands_nothing, 
 use Rattle.etcs_packet.specs.declared.stop.Stop.{Stop}
 use Rattle.etcs_packet.specs.Lists.{IsHeaded, ends}
 
--- A list ends in one input where it ends in another that is as long, where their first bits are the
--- same and hold the eight that count, or where both have fewer.
+-- Two inputs have the same length and the same first `n` bits. A list ends at a place in both or in
+-- neither, if these bits hold the eight that count, or if both have fewer there.
 pub settled : (stop : Stop) (p : Place) (bits : List Bool) (n : ℕ)
     → length bits ≡ length p.bits → take n bits ≡ take n p.bits
     → (p.at + 8 ≤ n) ⊎ (length p.bits < p.at + 8) → ends stop (place_in bits p.at) ≡ ends stop p
@@ -24,7 +24,7 @@ settled stop p bits n len same (inl le) =
     rw (len, eight) refl
 settled stop p bits n len same (inr lt) = rw (len, lt-ltb (length p.bits) (p.at + 8) lt) refl
 
--- ---- a fault behind NID_PACKET's eight bits
+-- ---- a fault after NID_PACKET's eight bits
 
 lack_past : (closes : Bool) (p : Place) → p.at ≤ length p.bits → p.at ≤ (lack closes p).end
 lack_past true p within = omega arith
@@ -37,7 +37,7 @@ tells_past (due x) e f within (inr (n, after, stands, small, spare, is)) =
     omega (arith, ap (λ (g : Fault). g.end) is)
 tells_past (differs back) e f within is = omega (arith, ap (λ (g : Fault). g.end) is)
 
--- The fault is decided by the eight bits here, or there are fewer.
+-- The eight bits here are among those that decide the fault, or fewer than eight are left.
 abbrev pub IsPast : Place → Fault → Type 0
 IsPast p f = (p.at ≤ f.end) × ((p.at + 8 ≤ f.end) ⊎ (length p.bits < p.at + 8))
 
@@ -75,7 +75,7 @@ told_past nothing p f head within t = absurd head
 told_past (a ▹ b) p f head within t = absurd head
 told_past (sized before body) p f head within t = absurd head
 
--- too few bits for NID_PACKET are a fault of their own
+-- too few bits for NID_PACKET are a NoEnd fault
 pub no_end_here : (fields : Fields) (p : Place) → IsHeaded fields → length p.bits < p.at + 8
     → IsFault fields p (lack true p)
 no_end_here (field x next) p head few = record {
@@ -104,7 +104,7 @@ pub next_within : (rows : List Row) (p q : Place) → p.at ≤ length p.bits →
 next_within rows p q within s =
     omega (arith, stands_within (join rows) p q within s.stands, ap length s.stands.same)
 
--- the bits that are left become fewer by a record
+-- fewer bits are left after a record
 pub less_left : (fields : Fields) (rows : List Row) (p q : Place) → IsHeaded fields
     → p.at ≤ length p.bits → AreRowsOf fields rows → IsSpelled rows p q
     → length q.bits - q.at < length p.bits - p.at

@@ -1,4 +1,4 @@
--- Lists of rows that follow one another: how far they reach, and in which inputs they do.
+-- Lists of rows that follow one another: how far they reach, and in which inputs they stand.
 use Rattle.std.proofs.Common.{◌≡◌, ℕ, ◌+◌, ◌≤◌, Bool, false, List, [], ◌∷◌, ◌++◌, length, take, refl, sym, ap, subst, ◌∙◌, arith, inl}
 use Rattle.etcs_bits.specs.declared.fault.Fault.{Fault}
 use Rattle.etcs_bits.specs.Rows.{Row, Place, IsSpelled, join}
@@ -28,7 +28,7 @@ follow_within stop fields [] p q within there =
 follow_within stop fields (rows ∷ xs) p q within (goes, (m, w, spelled, rest)) =
     follow_within stop fields xs m q (next_within rows p m within spelled) rest
 
--- one more
+-- one more list of rows at the end
 pub follow_more : (stop : Stop) (fields : Fields) (xs : List (List Row)) (rows : List Row)
     (p q r : Place) → Follow stop fields xs p q → ends stop q ≡ false
     → AreRowsOf fields rows → IsSpelled rows q r → Follow stop fields (xs ++ rows ∷ []) p r
@@ -63,7 +63,7 @@ follow_moved stop fields (rows ∷ xs) p q bits n head len same le (goes, (m, w,
       ),
     )
 
--- A fault is told in each input of the same length with the same first `end` bits.
+-- A list's fault stays in each input of the same length with the same first `end` bits.
 pub list_fault_stays : (stop : Stop) (fields : Fields) (p : Place) (f : Fault) (bits : List Bool)
     → IsHeaded fields → p.at ≤ length p.bits → length bits ≡ length p.bits
     → take f.end bits ≡ take f.end p.bits

@@ -1,4 +1,4 @@
--- What reading a list gives: the records that follow one another up to its end, or the fault behind
+-- What reading a list gives: the records that follow one another up to its end, or the fault after
 -- them.
 use Rattle.std.proofs.Common.{◌≡◌, ℕ, zero, suc, ◌+◌, ◌<◌, ◌≤◌, Bool, true, false, cond, List, [], ◌∷◌, map, length, Result, Ok, Err, refl, sym, ap, subst, ◌∙◌, arith, inl, inr, ◌⊎◌}
 use Rattle.etcs_bits.specs.declared.fault.Fault.{Fault}
@@ -18,7 +18,7 @@ use Rattle.etcs_packet.proofs.EndLemmas.{headed_wide, next_within}
 abbrev with_first : {X : Type 0} → X → Result (List X × Place) Fault → Result (List X × Place) Fault
 with_first x read = read >>= λ more. Ok (x ∷ more.0, more.1)
 
--- the record here, and at most so many behind it
+-- the record here, and at most `n` after it
 abbrev then_most : {X : Type 0}
     → ℕ → Stop → Fields → (List Row → X) → Place → Result (List X × Place) Fault
 then_most n stop fields of p =
@@ -39,7 +39,7 @@ all_items : {X : Type 0} (stop : Stop) (fields : Fields) (of : List Row → X) (
 unfolding items_at
 all_items stop fields of p = refl
 
--- So many records have no place in the bits that are left.
+-- Fewer than `n` bits are left, so `n` records do not fit.
 abbrev IsEnough : ℕ → Place → Type 0
 IsEnough n p = length p.bits < p.at + n
 
@@ -73,7 +73,7 @@ follow_is_read of xs stop fields p q head within follow over =
     all_items stop fields of p
     ∙ stands_read of xs (suc (length p.bits)) stop fields p q head within (omega arith) follow over
 
--- ---- what is told is read
+-- ---- a fault of the list is read
 
 told_read : {X : Type 0} (of : List Row → X) (xs : List (List Row)) (n : ℕ) (stop : Stop)
     (fields : Fields) (p q : Place) (f : Fault) → IsHeaded fields → p.at ≤ length p.bits
@@ -98,7 +98,7 @@ list_fault_is_read of stop fields p f head within t =
     all_items stop fields of p
     ∙ told_read of t.whole (suc (length p.bits)) stop fields p t.reached f head within (omega arith) t.follow t.goes_on t.told
 
--- ---- what is read stands, and a fault that is read is told
+-- ---- what is read stands, and a fault that is read is a fault of the list
 
 chosen : {A : Type 0} (b : Bool) (x y z : A) → cond b x y ≡ z
     → ((b ≡ true) × (x ≡ z)) ⊎ ((b ≡ false) × (y ≡ z))
@@ -110,7 +110,7 @@ not_after : {X : Type 0} (read : Result (List X × Place) Fault) (x : X) (f : Fa
 not_after (Ok y) x f h = absurd cc
 not_after (Err c) x f h = cc
 
--- Lists of rows follow one another up to the end of the list, and the records are theirs.
+-- Lists of rows follow one another up to the end of the list, and these are their records.
 pub record AreRead {X : Type 0} (of : List Row → X) (stop : Stop) (fields : Fields) (xs : List X) (p q : Place) : Type 0 where
   pub whole : List (List Row)
   pub are : map of whole ≡ xs

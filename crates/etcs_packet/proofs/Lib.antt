@@ -6,5 +6,4 @@ pub mod WholeLemmas
 pub mod WrittenLemmas
 pub mod ShortLemmas
 pub mod RawLemmas
-pub mod ListedLemmas
 pub mod TrackLemmas

@@ -1,4 +1,4 @@
--- A list of records, as a reader goes through it and as a user knows it.
+-- A list of records, as a reader goes through it and as contracts describe it.
 use Rattle.std.proofs.Common.{◌≡◌, ◌+◌, ◌<◌, ◌≤◌, Bool, true, false, List, [], ◌∷◌, ◌++◌, map, length, take, Option, Some, None, Result, Ok, Err, refl, sym, ap, subst, ◌∙◌, arith}
 use Rattle.std.specs.Result.{is_err, OnOk}
 use Rattle.std.proofs.lemmas.List.{map-append}
@@ -49,7 +49,7 @@ lacks_step {rows = rows} {of = of} {fields = fields} laid stop p head within goe
 
 -- ---- the loop
 
--- where too few bits are left for a record, none was found
+-- where too few bits are left for a record, no record was found
 pub none_before : (stop : Stop) (fields : Fields) (whole : List (List Row)) (p q : Place)
     → IsHeaded fields → p.at ≤ length p.bits → length p.bits < p.at + 8
     → Follow stop fields whole p q → q ≡ p
@@ -74,7 +74,7 @@ goes_on rows xs x stop fields p q r follow w step =
     subst (λ (ys : List (List Row)). Follow stop fields ys p r) (sym (map-append rows xs (x ∷ [])))
     (follow_more stop fields (map rows xs) (rows x) p q r follow step.0 w step.1)
 
--- none more: the records stand up to the end
+-- no more records: those that were found stand up to the end
 pub over : {X : Type 0} (rows : X → List Row) (xs : List X) (stop : Stop) (fields : Fields)
     (p q r : Place) → Follow stop fields (map rows xs) p q → IsStep stop rows None q r
     → Stand stop rows xs p r
@@ -83,7 +83,7 @@ over rows [] stop fields p q r there step =
 over rows (x ∷ xs) stop fields p q r (goes, (m, w, spelled, rest)) step =
     (goes, (m, spelled, over rows xs stop fields m q r rest step))
 
--- the next has a fault
+-- the next record has a fault
 pub list_fault : {X : Type 0} (rows : X → List Row) (e : DecodeError) (xs : List X) (stop : Stop)
     (fields : Fields) (p q : Place) → Follow stop fields (map rows xs) p q
     → OfFault e (λ f. (ends stop q ≡ false) × IsFault fields q f)
@@ -124,7 +124,7 @@ stand_is_read {fields = fields} {rows = rows} {of = of} laid xs stop p q head wi
     follow_is_read of (map rows xs) stop fields p q head within listed.follow listed.over
     ∙ ap (λ ys. Ok (ys, q)) (map_back rows of xs laid.is_record)
 
--- the records of rows that follow one another up to the end stand there
+-- where rows follow one another up to the end, their records stand
 follow_stands : {X : Type 0} {fields : Fields} {rows : X → List Row} {of : List Row → X}
     → IsLayout fields rows of → (stop : Stop) (whole : List (List Row)) (p q : Place)
     → Follow stop fields whole p q → ends stop q ≡ true → Stand stop rows (map of whole) p q
@@ -140,9 +140,9 @@ read_stands {fields = fields} {rows = rows} {of = of} laid xs stop p q head with
     let read = read_follows of stop fields p (xs, q) head within e in
     subst (λ ys. Stand stop rows ys p q) read.are (follow_stands laid stop read.whole p q read.follow read.over)
 
--- ---- a fault that is told
+-- ---- a list's fault
 
--- A fault that is told is what reading gives.
+-- Reading a list reports the list's fault.
 pub list_fails : {X : Type 0} (of : List Row → X) (e : DecodeError) (stop : Stop) (fields : Fields)
     (p : Place) → IsHeaded fields → p.at ≤ length p.bits
     → OfFault e (λ f. IsListFault stop fields p f) → Fails e (items_at stop fields of p)
@@ -150,7 +150,8 @@ list_fails of errors.Memory stop fields p head within t = tt
 list_fails of (errors.Fault f) stop fields p head within t =
     list_fault_is_read of stop fields p f head within t
 
--- Where a fault is told, no list stands, in any input of the same length with the same front.
+-- A place with a list's fault has no list. This holds in every input of the same length with the
+-- same front.
 pub none_stand : {X : Type 0} (rows : X → List Row) (stop : Stop) (fields : Fields) (p : Place)
     (f : Fault) → IsHeaded fields → ((x : X) → AreRowsOf fields (rows x)) → p.at ≤ length p.bits
     → IsListFault stop fields p f → NoneStand stop rows p f
@@ -174,7 +175,7 @@ none_of rows (errors.Fault f) stop fields p head are_rows within t =
 
 -- ---- writing
 
--- a fact of a result that is no error
+-- a fact of a result that is not an error
 pub was_done : {A E P : Type 0} (r : Result A E) → is_err r ≡ false → OnOk r P → P
 was_done (Ok x) good p = p
 was_done (Err e) good p = absurd cc

@@ -1,4 +1,4 @@
--- Packets that are kept as bits: which can be written, and how.
+-- Packets that are kept as bits: which of them can be written, and how.
 use Rattle.std.proofs.Common.{◌≡◌, ℕ, ◌+◌, ◌≤◌, Bool, true, List, ◌++◌, length, Result, Ok, Err, OnOk, OnErr, refl, sym, ap, ◌∙◌, arith}
 use Rattle.std.proofs.lemmas.List.{append-nil, take_all}
 use Rattle.std.proofs.lemmas.Bool.{le-leb}
@@ -21,9 +21,9 @@ pub put_free : {X E : Type 0} (r : Result X E) (bits old new : List Bool)
 put_free (Ok x) bits old new ok err = ok ∙ ap (λ (y : List Bool). old ++ y) (sym (join_free bits))
 put_free (Err e) bits old new ok err = rw err (take_all (length old) old (omega arith))
 
--- the part behind NID_PACKET is allowed
+-- the part after NID_PACKET is allowed
 pub rest_allowed : (dir : Dir) (body : List Bool) → AreAllowed (q_dir.rows dir)
-    → length body ≤ 8168 → AreAllowed (raw_rest dir body)
+    → length body ≤ 8168 → AreAllowed (raw_rest.rows (dir, body))
 rest_allowed dir body allowed few =
     allowed-append (q_dir.rows dir) (tail_rows body) allowed
     ((omega (arith, few), le-leb 23 (23 + length body) (omega arith)), ((num_of_bits-lt body, refl), tt))

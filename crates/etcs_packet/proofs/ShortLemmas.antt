@@ -1,5 +1,5 @@
--- Packets whose lists are counted by N_ITER and whose items are short have fewer bits than L_PACKET
--- can count; and a packet that is allowed has no more items than N_ITER can count.
+-- Packets with lists of short items, counted by N_ITER, have fewer bits than L_PACKET can count. An
+-- allowed packet has no more items than N_ITER can count.
 use Rattle.std.proofs.Common.{ℕ, ◌+◌, ◌*◌, ◌≤◌, ◌<◌, List, [], ◌∷◌, length, Option, Some, None, arith}
 use Rattle.std.specs.List.{flat_map}
 use Rattle.etcs_bits.specs.declared.level.Level.{Level}

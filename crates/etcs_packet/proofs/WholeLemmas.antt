@@ -1,4 +1,4 @@
--- A head and its list: what stands is read, what is told is read, and there is one of them alone.
+-- A head and its list: what stands is read, a fault is read, and there is only one of them.
 use Rattle.std.proofs.Common.{◌≡◌, ◌≤◌, Bool, List, length, take, Result, Ok, Err, refl, sym, ap, subst, ◌∙◌, arith, inl, inr}
 use Rattle.etcs_bits.specs.declared.fault.Fault.{Fault}
 use Rattle.etcs_bits.specs.declared.fault.DecodeError.{DecodeError}
@@ -22,7 +22,7 @@ use Rattle.etcs_packet.proofs.FollowLemmas.{follow_forward, follow_within, list_
 use Rattle.etcs_packet.proofs.ItemLemmas.{list_fault_is_read, list_fault_is_told}
 use Rattle.etcs_packet.proofs.ListLemmas.{stand_is_read, read_stands}
 
--- the list behind a head, and both
+-- the list after a head, then both
 abbrev then_items : {H X : Type 0} → Stop → (List Row → H) → Fields → (List Row → X)
     → List Row × Place → Result ((H × List X) × Place) Fault
 then_items stop head_of item item_of first =
@@ -69,7 +69,7 @@ read_is_whole {H = H} {X = X} {header = header} {item = item} {head = head} {hea
     } in
     subst (λ (y : (H × List X) × Place). IsWhole stop head rows y.0.0 y.0.1 p y.1) same made
 
--- What is told is read.
+-- A fault of a whole is read.
 pub whole_fault_is_read : {H X : Type 0} (head_of : List Row → H) (item_of : List Row → X) (stop : Stop)
     (header item : Fields) (p : Place) (f : Fault) → IsHeaded item → p.at ≤ length p.bits
     → IsWholeFault stop header item p f → whole_at stop header head_of item item_of p ≡ Err f
@@ -90,7 +90,7 @@ not_after : {H X : Type 0} (read : Result (List X × Place) Fault) (h : H) (f : 
 not_after (Ok y) h f e = absurd cc
 not_after (Err c) h f e = cc
 
--- A fault that is read is told.
+-- A fault that is read is a fault of the whole.
 pub whole_fault_is_told : {H X : Type 0} (head_of : List Row → H) (item_of : List Row → X) (stop : Stop)
     (header item : Fields) (p : Place) (f : Fault) → p.at ≤ length p.bits
     → whole_at stop header head_of item item_of p ≡ Err f → IsWholeFault stop header item p f
@@ -136,7 +136,7 @@ whole_fault_stays stop header item p f bits headed within len same (inr t) =
       told = list_fault_stays stop item t.middle f bits headed inside (len ∙ ap length back) (same ∙ ap (take f.end) back) t.told;
     })
 
--- Where a fault is told, no whole stands.
+-- A place with a whole's fault has no whole.
 pub none_whole : {H X : Type 0} {header item : Fields} {head : H → List Row} {head_of : List Row → H}
     {rows : X → List Row} {item_of : List Row → X} → IsLayout header head head_of → IsLayout item rows item_of
     → (stop : Stop) (p : Place) (f : Fault) → IsHeaded item → p.at ≤ length p.bits
@@ -149,7 +149,7 @@ none_whole {header = header} {item = item} {head_of = head_of} {item_of = item_o
     let fails = whole_fault_is_read head_of item_of stop header item there f headed inside (whole_fault_stays stop header item p f bits headed within len same t) in
     cc
 
--- ---- what a reader may say
+-- ---- what a reader may report
 
 pub head_fault : (e : DecodeError) (stop : Stop) (header item : Fields) (p : Place)
     → OfFault e (λ f. IsFault header p f) → OfFault e (λ f. IsWholeFault stop header item p f)
@@ -178,7 +178,7 @@ pub none_of_whole : {H X : Type 0} {header item : Fields} {head : H → List Row
 none_of_whole head_laid laid errors.Memory stop p headed within t = tt
 none_of_whole head_laid laid (errors.Fault f) stop p headed within t = none_whole head_laid laid stop p f headed within t
 
--- What reading gives at the beginning of bits, they mean.
+-- What reading gives at the beginning of bits is what they mean.
 pub means_whole : {H X : Type 0} (stop : Stop) (head : Fields) (head_of : List Row → H) (item : Fields)
     (item_of : List Row → X) (bits : List Bool) (w : H × List X) (q : Place)
     → whole_at stop head head_of item item_of (start bits) ≡ Ok (w, q)
@@ -197,9 +197,9 @@ gives_means view (Err errors.Memory) stop head head_of item item_of bits q gives
 gives_means view (Err (errors.Fault f)) stop head head_of item item_of bits q gives =
     of_bits stop head head_of item item_of bits ∙ rw gives refl
 
--- ---- the fault of a head is always answered
+-- ---- the fault of a head is always reported
 
--- Where a head without a list has a fault, that is what reading it answers.
+-- Where a head without a list has a fault, reading the head reports that fault.
 pub head_told : (e : DecodeError) (grows : Type 0) (header : Fields) (p : Place) (f : Fault)
     → p.at ≤ length p.bits → OfFault e (λ g. IsFault header p g) → OfMemory e grows → (grows → ⊥)
     → IsFault header p f → e ≡ errors.Fault f
@@ -207,7 +207,7 @@ head_told errors.Memory grows header p f within told memory none fault = absurd 
 head_told (errors.Fault g) grows header p f within told memory none fault =
     ap errors.Fault (one_told header p g f within told fault)
 
--- A head that stands has none.
+-- A head that stands has no fault.
 pub head_stands : {H : Type 0} (header : Fields) (head : H → List Row) (h : H) (p q : Place)
     (f : Fault) → p.at ≤ length p.bits → ((k : H) → AreRowsOf header (head k))
     → IsSpelled (head h) p q → IsFault header p f → ⊥

@@ -1,4 +1,4 @@
--- Which bits end a list, and that what was written is there.
+-- Which bits end a list, and that a list that was written stands.
 use Rattle.std.proofs.Common.{◌≡◌, ℕ, ◌+◌, ◌^◌, ◌<◌, ◌≤◌, Bool, true, false, eqb, ltb, List, [], ◌∷◌, ◌++◌, length, take, drop, refl, sym, ap, subst, ◌∙◌, append_assoc, arith, inl, inr, ◌⊎◌}
 use Rattle.std.specs.List.{flat_map}
 use Rattle.std.proofs.lemmas.Bool.{lt-ltb, le-ltb, ne_eqb, ltb-true, ltb-false, eqb-true}
@@ -18,7 +18,7 @@ use Rattle.etcs_packet.proofs.EndLemmas.{next_within}
 
 -- ---- the end of a list
 
--- The bits from a place on alone say whether a list ends there.
+-- The bits from a place to the end of the input decide alone whether a list ends there.
 pub ends_by_rest : (stop : Stop) (p : Place) (rest : List Bool) → drop p.at p.bits ≡ rest
     → length p.bits ≡ p.at + length rest → ends stop p ≡ ends stop (start rest)
 ends_by_rest stop p rest is len = go (ltb (length rest) 8) refl
@@ -118,7 +118,7 @@ whole_spelled head rows h xs stop bits b =
 
 -- ---- a list that was written
 
--- the first of the bits that are left stand, and then the others are left
+-- the bits `a` stand here, and after them the bits `rest` are left
 record Next (a rest : List Bool) (p : Place) : Type 0 where
   stands : Stands a p (place_in p.bits (p.at + length a))
   after : drop (p.at + length a) p.bits ≡ rest
@@ -128,7 +128,7 @@ is_next a rest p e =
     let after : drop (p.at + length a) p.bits ≡ rest = sym (drop-drop (length a) p.at p.bits) ∙ ap (drop (length a)) e ∙ drop_at a rest (length a) refl in
     record { stands = record { same = refl; here = e ∙ ap (λ (bits : List Bool). a ++ bits) (sym after); past = refl }; after = after }
 
--- a list goes on where a record stands that has no mark at its front
+-- a list does not end where a record stands that does not begin with the end mark
 not_end : (fields : Fields) (rows : List Row) (stop : Stop) (p q : Place) → IsHeaded fields
     → HasNoMark fields → p.at ≤ length p.bits → AreRowsOf fields rows → IsSpelled rows p q
     → ends stop p ≡ false
@@ -144,7 +144,7 @@ not_end nothing rows stop p q head mark within w spelled = absurd head
 not_end (a ▹ b) rows stop p q head mark within w spelled = absurd head
 not_end (sized before body) rows stop p q head mark within w spelled = absurd head
 
--- a list that stands, and ends so many bits further on
+-- a list that stands, and ends `n` bits further on
 record Listed {X : Type 0} (rows : X → List Row) (stop : Stop) (xs : List X) (p : Place) (n : ℕ) : Type 0 where
   end : Place
   same : end.bits ≡ p.bits

@@ -1,5 +1,5 @@
--- What holds of every list of packets, and of every head with its packets, whatever reads or writes
--- them, where the packets are records whose table of fields begins with NID_PACKET.
+-- Laws of every list of packets, and of every head with its packets, whatever reads or writes them.
+-- The packets are records whose table of fields begins with NID_PACKET.
 use Rattle.std.specs.Prelude.{◌≡◌, ◌+◌, ◌<◌, ◌≤◌, ◌↔◌, ◌⊎◌, Bool, true, false, List, ◌++◌, length, Ok, Err}
 use Rattle.std.specs.List.{flat_map}
 use Rattle.etcs_bits.specs.declared.fault.Fault.{Fault}
@@ -19,8 +19,8 @@ HasNoMark nothing = ⊥
 HasNoMark (a ▹ b) = ⊥
 HasNoMark (sized before body) = ⊥
 
--- A list ends at eight ones, whatever follows them. Fewer than eight bits end that of a message,
--- but not that of a telegram. What comes before does not count, and no list ends at other bits.
+-- A list ends at eight ones, whatever follows them. Fewer than eight bits end a message's list, but
+-- not a telegram's. The bits before do not count. No list ends at other bits.
 pub record ListsEnd : Type 0 where
   pub mark : (stop : Stop) (fill : List Bool) → ends stop (start (num 8 255 ++ fill)) ≡ true
   pub message : (fill : List Bool) → length fill < 8 → ends stops.Message (start fill) ≡ true
@@ -31,45 +31,47 @@ pub record ListsEnd : Type 0 where
       → ((stop ≡ stops.Message) × (length rest < 8))
       ⊎ ((fill : List Bool) × (rest ≡ num 8 255 ++ fill))
 
--- A list stands exactly where reading gives it, and up to the place where that ends.
+-- A list stands exactly where reading gives it. Both end at the same place.
 abbrev pub ListIsRead : {X : Type 0} → (X → List Row) → (List Row → X) → Fields → Type 0
 ListIsRead {X} rows record_of fields =
     (stop : Stop) (xs : List X) (p q : Place) → p.at ≤ length p.bits
     → Stand stop rows xs p q ↔ (items_at stop fields record_of p ≡ Ok (xs, q))
 
--- A list that stands is the spellings of its records, one after the other, up to where it ends.
+-- A list that stands consists of the spellings of its records, one after the other, up to its end.
 abbrev pub StandIsSpelled : {X : Type 0} → (X → List Row) → Type 0
 StandIsSpelled {X} rows =
     (stop : Stop) (xs : List X) (p q : Place) → Stand stop rows xs p q
     → IsSpelled (flat_map rows xs) p q × (ends stop q ≡ true)
 
--- A place has at most one list, and it has one end.
+-- A place has at most one list, and that list has one end.
 abbrev pub OneListStands : {X : Type 0} → (X → List Row) → Type 0
 OneListStands {X} rows =
     (stop : Stop) (xs ys : List X) (p q r : Place) → p.at ≤ length p.bits
     → Stand stop rows xs p q → Stand stop rows ys p r → (xs ≡ ys) × (q ≡ r)
 
--- A fault is told exactly where reading gives it: so a place tells one fault at most.
+-- Reading a list reports a fault exactly where the list has that fault. So a place has at most one
+-- fault.
 abbrev pub ListFaultIsRead : {X : Type 0} → (List Row → X) → Fields → Type 0
 ListFaultIsRead {X} record_of fields =
     (stop : Stop) (p : Place) (f : Fault) → p.at ≤ length p.bits
     → IsListFault stop fields p f ↔ (items_at stop fields record_of p ≡ Err f)
 
--- Where a telegram has fewer than eight bits left, no end is met: any input as long has as few
--- there.
+-- A telegram with fewer than eight bits left has the fault NoEnd there. Any input of the same
+-- length has as few bits there.
 abbrev pub NoEndIsTold : Fields → Type 0
 NoEndIsTold fields =
     (p : Place) → p.at ≤ length p.bits → length p.bits < p.at + 8
     → IsListFault stops.Telegram fields p (record { at = p.at; end = p.at; why = NoEnd })
 
--- Where a fault is told, no list stands, in any input with the same length and front.
+-- A place with a list's fault has no list. This holds in every input with the same length and
+-- front.
 abbrev pub ListFaultMeansNone : {X : Type 0} → (X → List Row) → Fields → Type 0
 ListFaultMeansNone rows fields =
     (stop : Stop) (p : Place) (f : Fault) → p.at ≤ length p.bits
     → IsListFault stop fields p f → NoneStand stop rows p f
 
--- Spellings one after the other, and behind them bits at which a list ends, are that list: it
--- stands behind whatever comes before it, and ends where the spellings end.
+-- Spellings one after the other are a list if a list ends at the bits after them. The list stands
+-- after any bits, and ends where the spellings end.
 abbrev pub WrittenStands : {X : Type 0} → (X → List Row) → Fields → Type 0
 WrittenStands {X} rows fields =
     HasNoMark fields → (stop : Stop) (xs : List X) (front rest : List Bool)
@@ -78,7 +80,7 @@ WrittenStands {X} rows fields =
     → Stand stop rows xs (record { bits = bits; at = length front })
     (record { bits = bits; at = length front + length (join (flat_map rows xs)) })
 
--- A whole stands exactly where reading gives it, and up to the place where that ends.
+-- A whole stands exactly where reading gives it. Both end at the same place.
 abbrev pub WholeIsRead : {H X : Type 0}
     → (H → List Row) → (List Row → H) → Fields → (X → List Row) → (List Row → X) → Fields → Type 0
 WholeIsRead {H} {X} head head_of header rows record_of item =
@@ -93,21 +95,23 @@ OneWholeBegins {H} {X} head rows =
     → BeginsWith stop head rows h xs bits → BeginsWith stop head rows k ys bits
     → (h ≡ k) × (xs ≡ ys)
 
--- A fault of a whole is told exactly where reading gives it.
+-- Reading a whole reports a fault exactly where the whole has that fault.
 abbrev pub WholeFaultIsRead : {H X : Type 0}
     → (List Row → H) → Fields → (List Row → X) → Fields → Type 0
 WholeFaultIsRead head_of header record_of item =
     (stop : Stop) (p : Place) (f : Fault) → p.at ≤ length p.bits
     → IsWholeFault stop header item p f ↔ (whole_at stop header head_of item record_of p ≡ Err f)
 
--- Where a fault of a whole is told, none stands, in any input with the same length and front.
+-- A place with a whole's fault has no whole. This holds in every input with the same length and
+-- front.
 abbrev pub WholeFaultMeansNone : {H X : Type 0}
     → (H → List Row) → Fields → (X → List Row) → Fields → Type 0
 WholeFaultMeansNone head header rows item =
     (stop : Stop) (p : Place) (f : Fault) → p.at ≤ length p.bits
     → IsWholeFault stop header item p f → NoneWhole stop head rows p f
 
--- Bits that begin with a head and a list are their spellings and a rest at which a list ends.
+-- Bits that begin with a head and a list consist of their spellings and a rest. A list ends where
+-- that rest begins.
 abbrev pub WholeIsSpelled : {H X : Type 0} → (H → List Row) → (X → List Row) → Type 0
 WholeIsSpelled {H} {X} head rows =
     (stop : Stop) (h : H) (xs : List X) (bits : List Bool)

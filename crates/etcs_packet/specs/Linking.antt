@@ -1,4 +1,5 @@
--- Packet 5, linking (SUBSET-026, 3.4.4 and 7.4.2): which balise groups come next, and how far away.
+-- Packet 5, linking (SUBSET-026, 3.4.4 and 7.4.2): which balise groups come next, and how far away
+-- they are.
 use Rattle.std.specs.Prelude.{ℕ, Bool, refl}
 use Rattle.etcs_bits.specs.declared.direction.Dir.{Dir}
 use Rattle.etcs_bits.specs.Format.{Format, number, ranges, flag, ◌then◌, if_there, named}

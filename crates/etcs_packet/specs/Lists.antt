@@ -1,5 +1,6 @@
--- A list of packets: one after the other, up to the first place where the list ends (SUBSET-026,
--- 7.4 and 8.4). The packets may be any records whose table of fields begins with NID_PACKET.
+-- A list of packets (SUBSET-026, 7.4 and 8.4). The packets stand one after the other, up to the
+-- first place where the list ends. They may be any records whose table of fields begins with
+-- NID_PACKET.
 use Rattle.std.specs.Prelude.{◌≡◌, ℕ, zero, suc, ◌+◌, ◌==◌, nat_lt, Bool, true, false, if◌then◌else◌, List, [], ◌∷◌, length, take, drop, Option, Some, None, Result, Ok}
 use Rattle.etcs_bits.specs.declared.fault.Fault.{Fault}
 use Rattle.etcs_bits.specs.Number.{num_of_bits}
@@ -10,45 +11,46 @@ use Rattle.etcs_bits.specs.Reading.{◌>>=◌, rows_at}
 use Rattle.etcs_packet.specs.declared.stop.Stop.{Stop}
 use Rattle.etcs_packet.specs.declared.stop.Stop.TheVariants as stops
 
--- The fields begin with NID_PACKET, eight bits, in whose place packets may end.
+-- The fields begin with NID_PACKET, eight bits. A list may end in its place.
 abbrev pub IsHeaded : Fields → Type 0
 IsHeaded (field x next) = (x.width ≡ 8) × (x.closes ≡ true)
 IsHeaded nothing = ⊥
 IsHeaded (a ▹ b) = ⊥
 IsHeaded (sized before body) = ⊥
 
--- whether too few bits for a NID_PACKET end the list: those of a message do
+-- whether too few bits for NID_PACKET end the list: in a message they do
 abbrev pub ends_short : Stop → Bool
 ends_short stops.Telegram = false
 ends_short stops.Message = true
 
--- whether the list ends here: eight ones stand here, or fewer than eight bits are left and they do
+-- Whether the list ends here. Either eight ones stand here, or fewer than eight bits are left and
+-- these end the list.
 abbrev pub ends : Stop → Place → Bool
 ends stop p =
     if nat_lt (length p.bits) (p.at + 8) then ends_short stop
     else num_of_bits (take 8 (drop p.at p.bits)) == 255
 
--- The records stand one after the other, none of them where the list ends, and then it ends.
+-- The records stand one after the other, and none of them where the list ends. Then the list ends.
 abbrev pub Stand : {X : Type 0} → Stop → (X → List Row) → List X → Place → Place → Type 0
 Stand stop rows [] p q = (ends stop p ≡ true) × (q ≡ p)
 Stand stop rows (x ∷ xs) p q =
     (ends stop p ≡ false) × ((m : Place) × IsSpelled (rows x) p m × Stand stop rows xs m q)
 
--- One step of a list: none where it ends, else the record that stands here.
+-- One step of a list: no record where the list ends, else the record that stands here.
 abbrev pub IsStep : {X : Type 0} → Stop → (X → List Row) → Option X → Place → Place → Type 0
 IsStep stop rows None p q = (ends stop p ≡ true) × (q ≡ p)
 IsStep stop rows (Some x) p q = (ends stop p ≡ false) × IsSpelled (rows x) p q
 
--- Whole lists of rows of these fields are spelled one after the other, none of them where the list
--- ends.
+-- Whole lists of rows of these fields are spelled one after the other. None of them stands where
+-- the list ends.
 abbrev pub Follow : Stop → Fields → List (List Row) → Place → Place → Type 0
 Follow stop fields [] p q = q ≡ p
 Follow stop fields (rows ∷ more) p q =
     (ends stop p ≡ false)
     × ((m : Place) × AreRowsOf fields rows × IsSpelled rows p m × Follow stop fields more m q)
 
--- The fault of a list: behind records that are whole, where it does not end, it is that of the
--- next.
+-- The fault of a list. It comes after whole records, where the list does not end. It is the fault
+-- of the next record.
 pub record IsListFault (stop : Stop) (fields : Fields) (from : Place) (fault : Fault) : Type 0 where
   pub whole : List (List Row)
   pub reached : Place
@@ -70,7 +72,7 @@ NoneStand {X} stop rows from fault =
     → take fault.end bits ≡ take fault.end from.bits → (xs : List X) (to : Place)
     → Stand stop rows xs (record { bits = bits; at = from.at }) to → ⊥
 
--- at most so many records of a list
+-- at most `n` records of a list
 unfoldable pub at_most : {X : Type 0}
     → ℕ → Stop → Fields → (List Row → X) → Place → Result (List X × Place) Fault
 at_most zero stop fields record_of p = Ok ([], p)
@@ -80,7 +82,7 @@ at_most (suc n) stop fields record_of p =
     >>= λ more. Ok (record_of first.0 ∷ more.0, more.1))
 
 -- What reading a list gives: its records and the place where it ends, or the first fault. A record
--- has eight bits or more, so that the count never runs out.
+-- has eight bits or more, so the count never runs out.
 unfoldable pub items_at : {X : Type 0}
     → Stop → Fields → (List Row → X) → Place → Result (List X × Place) Fault
 items_at stop fields record_of p = at_most (suc (length p.bits)) stop fields record_of p

@@ -1,11 +1,11 @@
--- For which trains a packet is (SUBSET-026, 7.5.1, Q_DIR).
+-- Which trains a packet is for (SUBSET-026, 7.5.1, Q_DIR).
 use Rattle.std.specs.Prelude.{Bool, true, false}
 use Rattle.etcs_bits.specs.declared.direction.Dir.{Dir}
 use Rattle.etcs_bits.specs.declared.direction.Dir.TheVariants as dirs
 use Rattle.etcs_packet.specs.declared.run.Run.{Run}
 use Rattle.etcs_packet.specs.declared.run.Run.TheVariants as runs
 
--- whether a packet for this direction is for trains that run so
+-- whether a packet with this Q_DIR is for trains that run in this direction
 abbrev pub is_meant : Run → Dir → Bool
 is_meant runs.Nominal dirs.Reverse = false
 is_meant runs.Nominal dirs.Nominal = true

@@ -1,72 +1,135 @@
--- The packets from track to train: those whose layout is known, and all others.
-use Rattle.std.specs.Prelude.{◌≡◌, ℕ, ◌==◌, ◌||◌, not, if◌then◌else◌, nat_le, Bool, true, false, List, [], ◌∷◌, length, Option, Some, None, refl}
-use Rattle.std.proofs.Common.{ap, sym, subst, ◌∙◌, inl, inr}
-use Rattle.std.proofs.lemmas.Bool.{ne_eqb, eqb-true, and_parts, not-true, or_cases}
+-- The packets from track to train (SUBSET-026, 7.4.2): those whose layout is known, and all others.
+use Rattle.std.specs.Prelude.{◌≡◌, ℕ, ◌==◌, ◌||◌, ◌⊎◌, not, if◌then◌else◌, Bool, true, false, List, Option, Some, None, refl}
+use Rattle.std.proofs.Common.{ap, inl, inr}
+use Rattle.std.proofs.lemmas.Bool.{ne_eqb}
 use Rattle.etcs_bits.specs.declared.direction.Dir.{Dir}
-use Rattle.etcs_bits.specs.Rows.{Row, row, AreAllowed, alone, number_at}
-use Rattle.etcs_bits.specs.Fields.{AreRowsOf}
-use Rattle.etcs_bits.specs.Cut.{cut}
-use Rattle.etcs_bits.specs.Format.{Format}
-use Rattle.etcs_bits.specs.Laid.{HaveFields, AreOf}
-use Rattle.etcs_bits.specs.CombinedLemmas.{field_records}
-use Rattle.etcs_bits.specs.Laid.{IsLayout}
+use Rattle.etcs_bits.specs.Rows.{Row}
+use Rattle.etcs_bits.specs.Choice.{Choice}
+use Rattle.etcs_bits.specs.Format.{Format, either, chosen, named}
 use Rattle.etcs_profile.specs.declared.gradient.GradientElement.{GradientElement}
 use Rattle.etcs_profile.specs.declared.speed.SpeedElement.{SpeedElement}
 use Rattle.etcs_profile.specs.Profile.{Profile}
 use Rattle.etcs_profile.specs.Packet.{rest, packet}
 use Rattle.etcs_profile.specs.Elements.{elements}
-use Rattle.etcs_profile.specs.Authority.{Permission, permission, with_main, without_main, level_1, level_2, authority}
+use Rattle.etcs_profile.specs.Authority.{Permission, permission, WithMain, WithoutMain, with_main, without_main, level_1, level_2, numbered_by, authority}
 use Rattle.etcs_profile.specs.Gradient.{gradient_element}
 use Rattle.etcs_profile.specs.Speed.{speed_element}
+use Rattle.etcs_packet.specs.declared.linking.Link.{Link}
+use Rattle.etcs_packet.specs.declared.raw.RawPacket.{RawPacket}
 use Rattle.etcs_packet.specs.declared.run.Run.{Run}
 use Rattle.etcs_packet.specs.declared.track.TrackPacket.{TrackPacket}
 use Rattle.etcs_packet.specs.declared.track.TrackPacket.TheVariants as packets
 use Rattle.etcs_packet.specs.Linking.{link, linking}
-use Rattle.etcs_packet.specs.Transition.{level_orders, transition}
+use Rattle.etcs_packet.specs.Transition.{Orders, level_orders, transition}
 use Rattle.etcs_packet.specs.Cover.{nid_vbcmk, cover_marker}
-use Rattle.etcs_packet.specs.Raw.{raw_rest_fields, raw_rest, raw_rows, raw_of, raw_rest_laid, raw_here, raw_laid, raw_packet}
-use Rattle.etcs_packet.specs.Numbers.{is_known, is_other, is_kept, nid_track}
+use Rattle.etcs_packet.specs.Raw.{others, raw_packet}
+use Rattle.etcs_packet.specs.Numbers.{is_known, nid_track}
 use Rattle.etcs_packet.specs.Meant.{is_meant}
-use Rattle.etcs_packet.specs.Listed.{rest_by, track_fields, renamed}
 
--- packets 21 and 27
-abbrev pub gradients : Format (Dir × Profile GradientElement)
-gradients = packet 21 (elements gradient_element)
+-- NID_PACKET, and what follows it
+abbrev pub Numbered : Type 0
+Numbered =
+    ℕ ⊎ ((Dir × Profile Link) ⊎ (WithMain ⊎ (WithoutMain ⊎ ((Dir × Profile GradientElement)
+    ⊎ ((Dir × Profile SpeedElement) ⊎ ((Dir × Orders) ⊎ RawPacket))))))
 
-abbrev pub speeds : Format (Dir × Profile SpeedElement)
-speeds = packet 27 (elements speed_element)
+abbrev pub track_numbered : Choice Numbered
+track_numbered =
+    either 0 nid_vbcmk (
+    either 5 (rest (elements link)) (
+    either 12 with_main (
+    either 15 without_main (
+    either 21 (rest (elements gradient_element)) (
+    either 27 (rest (elements speed_element)) (
+    either 41 (rest level_orders)
+    others refl) refl) refl) refl) refl) refl) refl
 
--- the rows of a packet by itself
+-- ---- the way between a packet and its number with what follows
+
+abbrev pub track_of : Numbered → TrackPacket
+track_of (inl marker) = packets.Cover (record { marker = marker })
+track_of (inr (inl p)) = packets.Linking p
+track_of (inr (inr (inl p))) = packets.Authority (level_1 p)
+track_of (inr (inr (inr (inl p)))) = packets.Authority (level_2 p)
+track_of (inr (inr (inr (inr (inl p))))) = packets.Gradient p
+track_of (inr (inr (inr (inr (inr (inl p)))))) = packets.Speed p
+track_of (inr (inr (inr (inr (inr (inr (inl p))))))) = packets.Transition p
+track_of (inr (inr (inr (inr (inr (inr (inr p))))))) = packets.Raw p
+
+-- an authority's packet as one of them all
+abbrev pub authority_in : WithMain ⊎ WithoutMain → Numbered
+authority_in (inl p) = inr (inr (inl p))
+authority_in (inr p) = inr (inr (inr (inl p)))
+
+abbrev pub parts_of : TrackPacket → Numbered
+parts_of (packets.Cover p) = inl p.marker
+parts_of (packets.Linking p) = inr (inl p)
+parts_of (packets.Authority p) = authority_in (numbered_by p.main p)
+parts_of (packets.Gradient p) = inr (inr (inr (inr (inl p))))
+parts_of (packets.Speed p) = inr (inr (inr (inr (inr (inl p)))))
+parts_of (packets.Transition p) = inr (inr (inr (inr (inr (inr (inl p))))))
+parts_of (packets.Raw p) = inr (inr (inr (inr (inr (inr (inr p))))))
+
+pub back : (n : Numbered) → parts_of (track_of n) ≡ n
+back (inl marker) = refl
+back (inr (inl p)) = refl
+back (inr (inr (inl p))) = refl
+back (inr (inr (inr (inl p)))) = refl
+back (inr (inr (inr (inr (inl p))))) = refl
+back (inr (inr (inr (inr (inr (inl p)))))) = refl
+back (inr (inr (inr (inr (inr (inr (inl p))))))) = refl
+back (inr (inr (inr (inr (inr (inr (inr p))))))) = refl
+
+pub authority_again : (main : Option ℕ) (a : Permission)
+    → track_of (authority_in (numbered_by main a)) ≡ packets.Authority (permission a.dir a.scale main a.terms)
+authority_again (Some v) a = refl
+authority_again None a = refl
+
+pub again : (p : TrackPacket) → track_of (parts_of p) ≡ p
+again (packets.Cover p) = refl
+again (packets.Linking p) = refl
+again (packets.Authority p) = authority_again p.main p
+again (packets.Gradient p) = refl
+again (packets.Speed p) = refl
+again (packets.Transition p) = refl
+again (packets.Raw p) = refl
+
+-- ---- any number but the end mark's has a packet
+
+allowed_by : (a b c d e f g m : Bool)
+    → ((a || (b || (c || (d || (e || (f || g)))))) ≡ true → m ≡ false)
+    → not m ≡ (if a then true else (if b then true else (if c then true else (if d then true
+    else (if e then true else (if f then true else (if g then true
+    else not ((a || (b || (c || (d || (e || (f || g)))))) || m))))))))
+allowed_by true b c d e f g m no_end = rw (no_end refl) refl
+allowed_by false true c d e f g m no_end = rw (no_end refl) refl
+allowed_by false false true d e f g m no_end = rw (no_end refl) refl
+allowed_by false false false true e f g m no_end = rw (no_end refl) refl
+allowed_by false false false false true f g m no_end = rw (no_end refl) refl
+allowed_by false false false false false true g m no_end = rw (no_end refl) refl
+allowed_by false false false false false false true m no_end = rw (no_end refl) refl
+allowed_by false false false false false false false m no_end = refl
+
+known_is_no_end : (n : ℕ) → is_known n ≡ true → (n == 255) ≡ false
+known_is_no_end n known =
+    ne_eqb n 255 (λ end. absurd (let unknown : is_known n ≡ false = ap is_known end in cc))
+
+pub all_but_the_end : (n : ℕ) → nid_track.allows n ≡ track_numbered.allows n
+all_but_the_end n =
+    allowed_by (n == 0) (n == 5) (n == 12) (n == 15) (n == 21) (n == 27) (n == 41) (n == 255) (known_is_no_end n)
+
+-- a packet of a list
+abbrev pub track_packet : Format TrackPacket
+track_packet = named (chosen nid_track track_numbered all_but_the_end) track_of parts_of back again
+
+-- the rows of a packet by itself, which have the same bits
 abbrev pub own_rows : TrackPacket → List Row
 own_rows (packets.Cover p) = cover_marker.rows p
 own_rows (packets.Linking p) = linking.rows p
 own_rows (packets.Authority p) = authority.rows p
-own_rows (packets.Gradient p) = gradients.rows p
-own_rows (packets.Speed p) = speeds.rows p
+own_rows (packets.Gradient p) = (packet 21 (elements gradient_element)).rows p
+own_rows (packets.Speed p) = (packet 27 (elements speed_element)).rows p
 own_rows (packets.Transition p) = transition.rows p
 own_rows (packets.Raw p) = raw_packet.rows p
-
--- the rows of an authority by itself, which has this V_MAIN or none
-abbrev pub own_authority : Option ℕ → Permission → List Row
-own_authority main a = authority.rows (permission a.dir a.scale main a.terms)
-
--- its rows as one of a list
-abbrev pub track_rows : TrackPacket → List Row
-track_rows p = renamed (own_rows p)
-
--- the packet of rows
-abbrev pub track_by : ℕ → List Row → TrackPacket
-track_by n rows =
-    if n == 0 then packets.Cover (cover_marker.of rows)
-    else (if n == 5 then packets.Linking (linking.of rows)
-    else (if (n == 12) || (n == 15) then packets.Authority (authority.of rows)
-    else (if n == 21 then packets.Gradient (gradients.of rows)
-    else (if n == 27 then packets.Speed (speeds.of rows)
-    else (if n == 41 then packets.Transition (transition.of rows)
-    else packets.Raw (raw_of rows))))))
-
-abbrev pub track_of : List Row → TrackPacket
-track_of rows = track_by (number_at 0 rows) rows
 
 -- ---- what users ask of a packet
 
@@ -85,7 +148,7 @@ track_number (packets.Speed p) = 27
 track_number (packets.Transition p) = 41
 track_number (packets.Raw p) = p.number
 
--- whether a packet is for trains that run so; packet 0 has no direction and is for all
+-- whether a packet is for trains that run in this direction; packet 0 is for all and has no Q_DIR
 abbrev pub holds : Run → TrackPacket → Bool
 holds run (packets.Cover p) = true
 holds run (packets.Linking p) = is_meant run p.0
@@ -94,164 +157,3 @@ holds run (packets.Gradient p) = is_meant run p.0
 holds run (packets.Speed p) = is_meant run p.0
 holds run (packets.Transition p) = is_meant run p.0
 holds run (packets.Raw p) = is_meant run p.dir
-
--- ---- proofs of the laws of `Layout`
-
-cover_are_rows : HaveFields track_fields (λ c. renamed (cover_marker.rows c))
-unfolding alone
-cover_are_rows c = (0, nid_vbcmk.rows c.marker, refl, (c.marker, [], refl, refl))
-
--- a number that is kept as bits is none of those that are known
-not_known : (n k : ℕ) → is_other n ≡ true → is_other k ≡ false → n == k ≡ false
-not_known n k other known = ne_eqb n k (λ same. absurd (let both = sym (ap is_other same) ∙ other in cc))
-
-pub other_of : (n bits : ℕ) → is_kept n bits ≡ true → is_other n ≡ true
-other_of n bits kept = (and_parts (is_other n) (nat_le bits 8168) kept).0
-
-pub rest_other : (n : ℕ) → is_other n ≡ true → rest_by n ≡ raw_rest_fields
-rest_other n other =
-    rw (
-      not_known n 0 other refl,
-      not_known n 5 other refl,
-      not_known n 12 other refl,
-      not_known n 15 other refl,
-      not_known n 21 other refl,
-      not_known n 27 other refl,
-      not_known n 41 other refl,
-    ) refl
-
-authority_are_rows : (main : Option ℕ) (a : Permission) → AreRowsOf track_fields (renamed (own_authority main a))
-unfolding alone
-authority_are_rows (Some v) a =
-    (12, with_main.rows (a.dir, (a.scale, (v, a.terms))), refl, with_main.laid.are_rows (a.dir, (a.scale, (v, a.terms))))
-authority_are_rows None a =
-    (15, without_main.rows (a.dir, (a.scale, a.terms)), refl, without_main.laid.are_rows (a.dir, (a.scale, a.terms)))
-
-track_are_rows : HaveFields track_fields track_rows
-unfolding alone
-track_are_rows (packets.Cover p) = cover_are_rows p
-track_are_rows (packets.Linking p) = (5, (rest (elements link)).rows p, refl, (rest (elements link)).laid.are_rows p)
-track_are_rows (packets.Authority p) = authority_are_rows p.main p
-track_are_rows (packets.Gradient p) = (21, (rest (elements gradient_element)).rows p, refl, (rest (elements gradient_element)).laid.are_rows p)
-track_are_rows (packets.Speed p) = (27, (rest (elements speed_element)).rows p, refl, (rest (elements speed_element)).laid.are_rows p)
-track_are_rows (packets.Transition p) = (41, (rest level_orders).rows p, refl, (rest level_orders).laid.are_rows p)
-track_are_rows (packets.Raw p) =
-    (p.number, raw_rest p.dir p.body, refl, rw (rest_other p.number (other_of p.number (length p.body) p.kept)) (raw_rest_laid.are_rows (p.dir, p.body)))
-
-authority_back : (main : Option ℕ) (a : Permission) (b : Permission) → authority.of (own_authority main a) ≡ b
-    → track_of (renamed (own_authority main a)) ≡ packets.Authority b
-unfolding alone
-authority_back (Some v) a b is = ap packets.Authority is
-authority_back None a b is = ap packets.Authority is
-
-raw_back : (n : ℕ) (rows : List Row) → is_other n ≡ true → track_by n rows ≡ packets.Raw (raw_of rows)
-raw_back n rows other =
-    rw (
-      not_known n 0 other refl,
-      not_known n 5 other refl,
-      not_known n 12 other refl,
-      not_known n 15 other refl,
-      not_known n 21 other refl,
-      not_known n 27 other refl,
-      not_known n 41 other refl,
-    ) refl
-
-track_record : AreOf track_of track_rows
-unfolding alone cut
-track_record (packets.Cover p) = ap packets.Cover (cover_marker.laid.is_record p)
-track_record (packets.Linking p) = ap packets.Linking (linking.laid.is_record p)
-track_record (packets.Authority p) = authority_back p.main p p (authority.laid.is_record p)
-track_record (packets.Gradient p) = ap packets.Gradient (gradients.laid.is_record p)
-track_record (packets.Speed p) = ap packets.Speed (speeds.laid.is_record p)
-track_record (packets.Transition p) = ap packets.Transition (transition.laid.is_record p)
-track_record (packets.Raw p) =
-    raw_back p.number (renamed (raw_rows p)) (other_of p.number (length p.body) p.kept)
-    ∙ ap packets.Raw (raw_laid.is_record p)
-
--- The rows that may follow this NID_PACKET are those of a packet.
-abbrev HasPackets : ℕ → Type 0
-HasPackets n =
-    (more : List Row) → AreRowsOf (rest_by n) more → AreAllowed more
-    → (p : TrackPacket) × (track_rows p ≡ row nid_track n ∷ more)
-
--- a case of the packets that has the same fields behind the number
-case_of : {X : Type 0} {rows : X → List Row} {of : List Row → X} (n : ℕ) (case : X → TrackPacket)
-    → IsLayout (rest_by n) rows of → ((x : X) → track_rows (case x) ≡ row nid_track n ∷ rows x) → HasPackets n
-case_of n case laid own more w allowed =
-    let x = laid.has_record more w allowed in
-    (case x.0, own x.0 ∙ ap (λ rows. row nid_track n ∷ rows) x.1)
-
-covers : HasPackets 0
-unfolding alone
-covers = case_of 0 (λ m. packets.Cover (record { marker = m })) nid_vbcmk.laid (λ _. refl)
-
-linkings : HasPackets 5
-unfolding alone
-linkings = case_of 5 (λ p. packets.Linking p) (rest (elements link)).laid (λ _. refl)
-
-authorities_12 : HasPackets 12
-unfolding alone
-authorities_12 = case_of 12 (λ p. packets.Authority (level_1 p)) with_main.laid (λ _. refl)
-
-authorities_15 : HasPackets 15
-unfolding alone
-authorities_15 = case_of 15 (λ p. packets.Authority (level_2 p)) without_main.laid (λ _. refl)
-
-gradients_there : HasPackets 21
-unfolding alone
-gradients_there = case_of 21 (λ p. packets.Gradient p) (rest (elements gradient_element)).laid (λ _. refl)
-
-speeds_there : HasPackets 27
-unfolding alone
-speeds_there = case_of 27 (λ p. packets.Speed p) (rest (elements speed_element)).laid (λ _. refl)
-
-transitions : HasPackets 41
-unfolding alone
-transitions = case_of 41 (λ p. packets.Transition p) (rest level_orders).laid (λ _. refl)
-
-others : (n : ℕ) → is_other n ≡ true → HasPackets n
-others n other more w allowed =
-    let here : AreRowsOf raw_rest_fields more = rw (rest_other n other) at w in
-    let v = raw_here n more other here allowed in
-    (packets.Raw v.0, ap renamed v.1)
-
--- the same of a number that a test finds
-found : (n k : ℕ) → n == k ≡ true → HasPackets k → HasPackets n
-found n k test = subst HasPackets (sym (eqb-true n k test))
-
--- the number of a packet that is known
-known : (n : ℕ) → is_known n ≡ true → HasPackets n
-known n test = elim (or_cases _ _ test) [
-  | inl e ↦ found n 0 e covers
-  | inr t ↦ elim (or_cases _ _ t) [
-    | inl e ↦ found n 5 e linkings
-    | inr t ↦ elim (or_cases _ _ t) [
-      | inl e ↦ found n 12 e authorities_12
-      | inr t ↦ elim (or_cases _ _ t) [
-        | inl e ↦ found n 15 e authorities_15
-        | inr t ↦ elim (or_cases _ _ t) [
-          | inl e ↦ found n 21 e gradients_there
-          | inr t ↦ elim (or_cases _ _ t) [
-            | inl e ↦ found n 27 e speeds_there
-            | inr e ↦ found n 41 e transitions
-          ]
-        ]
-      ]
-    ]
-  ]
-]
-
--- any number but the end mark's is that of a packet
-numbered : (n : ℕ) (b : Bool) → is_known n ≡ b → not (n == 255) ≡ true → HasPackets n
-numbered n true here not_end = known n here
-numbered n false here not_end = others n (rw (here, not-true (n == 255) not_end) refl)
-
-pub track_laid : IsLayout track_fields track_rows track_of
-track_laid = record {
-  are_rows = track_are_rows;
-  is_record = track_record;
-  has_record = field_records rest_by (λ n more here w allowed. numbered n (is_known n) refl here.1 more w allowed);
-}
-
-abbrev pub track_packet : Format TrackPacket
-track_packet = record { fields = track_fields; rows = track_rows; of = track_of; laid = track_laid }

@@ -1,5 +1,5 @@
--- Packet 41, level transition order (SUBSET-026, 5.10 and 7.4.2): in which level a train has to run,
--- and from where on.
+-- Packet 41, level transition order (SUBSET-026, 5.10 and 7.4.2): in which level a train has to
+-- run, and from which place.
 use Rattle.std.specs.Prelude.{ℕ, List, refl}
 use Rattle.etcs_bits.specs.declared.direction.Dir.{Dir}
 use Rattle.etcs_bits.specs.declared.scale.Scale.{Scale}
@@ -9,11 +9,11 @@ use Rattle.etcs_bits.specs.VariableFormats.{q_scale}
 use Rattle.etcs_profile.specs.Packet.{packet}
 use Rattle.etcs_packet.specs.declared.transition.LevelOrder.{LevelOrder}
 
--- D_LEVELTR, 15 bits: the distance to the place of the change; 32,767 is now
+-- D_LEVELTR, 15 bits: the distance to the place of the change; 32,767 means now
 abbrev pub d_leveltr : Format ℕ
 d_leveltr = number 15
 
--- L_ACKLEVELTR, 15 bits: how far before that place the driver may acknowledge
+-- L_ACKLEVELTR, 15 bits: how far before that place the driver may acknowledge the change
 abbrev pub l_ackleveltr : Format ℕ
 l_ackleveltr = number 15
 

@@ -1,5 +1,6 @@
--- A head and the list of packets behind it: a telegram's header and its packets (SUBSET-026,
--- 8.4.2), a radio message's own fields and its packets (SUBSET-026, 8.6 and 8.7).
+-- A whole: a head and the list of packets after it. In a telegram the head is the header
+-- (SUBSET-026, 8.4.2). In a radio message the head is the message's own fields (SUBSET-026, 8.6 and
+-- 8.7).
 use Rattle.std.specs.Prelude.{◌≡◌, ◌⊎◌, List, Bool, true, ◌++◌, length, take, Result, Ok, Err}
 use Rattle.std.specs.List.{flat_map}
 use Rattle.etcs_bits.specs.declared.fault.Fault.{Fault}
@@ -12,24 +13,26 @@ use Rattle.etcs_bits.specs.Layout.{Fails}
 use Rattle.etcs_packet.specs.declared.stop.Stop.{Stop}
 use Rattle.etcs_packet.specs.Lists.{ends, Stand, IsListFault, items_at}
 
--- the beginning of bits
+-- the place at which bits begin
 abbrev pub start : List Bool → Place
 start bits = record { bits = bits; at = 0 }
 
--- The head stands here, the records behind it, up to the place where their list ends.
+-- The head stands here. The records stand after it, up to the place where their list ends.
 pub record IsWhole {H X : Type 0} (stop : Stop) (head : H → List Row) (rows : X → List Row)
     (h : H) (xs : List X) (from to : Place) : Type 0 where
   pub middle : Place
   pub first : IsSpelled (head h) from middle
   pub items : Stand stop rows xs middle to
 
--- Bits begin with this head and these records; what comes behind the end of the list says nothing.
+-- Bits begin with this head and these records. What comes after the end of the list carries no
+-- information.
 pub record BeginsWith {H X : Type 0} (stop : Stop) (head : H → List Row) (rows : X → List Row)
     (h : H) (xs : List X) (bits : List Bool) : Type 0 where
   pub end : Place
   pub whole : IsWhole stop head rows h xs (start bits) end
 
--- The bits are the spelling of this head, those of these records, and a rest at which a list ends.
+-- The bits are the spelling of this head, the spellings of these records, and a rest. A list ends
+-- where the rest begins.
 pub record AreSpelled {H X : Type 0} (stop : Stop) (head : H → List Row) (rows : X → List Row)
     (h : H) (xs : List X) (bits : List Bool) : Type 0 where
   pub rest : List Bool
@@ -38,7 +41,7 @@ pub record AreSpelled {H X : Type 0} (stop : Stop) (head : H → List Row) (rows
   pub over : ends stop (start rest) ≡ true
   pub are : bits ≡ join (head h) ++ (join (flat_map rows xs) ++ rest)
 
--- the fault of the list behind a head that is whole
+-- the fault of the list after a whole head
 pub record IsLaterFault (stop : Stop) (head item : Fields) (from : Place)
     (fault : Fault) : Type 0 where
   pub rows : List Row
@@ -47,7 +50,8 @@ pub record IsLaterFault (stop : Stop) (head item : Fields) (from : Place)
   pub first : IsSpelled rows from middle
   pub told : IsListFault stop item middle fault
 
--- The fault of a head and its list: that of the head, or, where a head stands, that of the list.
+-- The fault of a head and its list: the fault of the head or, where a head stands, the fault of the
+-- list.
 abbrev pub IsWholeFault : Stop → Fields → Fields → Place → Fault → Type 0
 IsWholeFault stop head item from fault =
     IsFault head from fault ⊎ IsLaterFault stop head item from fault
@@ -60,8 +64,8 @@ NoneWhole {H} {X} stop head rows from fault =
     → take fault.end bits ≡ take fault.end from.bits → (h : H) (xs : List X) (to : Place)
     → IsWhole stop head rows h xs (record { bits = bits; at = from.at }) to → ⊥
 
--- What reading a head and its list gives: both and the place where the list ends, or the first
--- fault.
+-- What reading a head and its list gives: the head, the list and the place where the list ends, or
+-- the first fault.
 unfoldable pub whole_at : {H X : Type 0} → Stop → Fields → (List Row → H) → Fields → (List Row → X)
     → Place → Result ((H × List X) × Place) Fault
 whole_at stop head head_of item item_of p = do
@@ -75,7 +79,7 @@ unfoldable pub whole_of : {H X : Type 0} → Stop → Fields → (List Row → H
 whole_of stop head head_of item item_of bits =
     whole_at stop head head_of item item_of (start bits) >>= λ read. Ok read.0
 
--- What a function returned, seen by `view`, is what the bits mean, unless memory ran out.
+-- The result of a function, seen through `view`, is what the bits mean, unless memory ran out.
 abbrev pub Means : {X Y : Type 0} → (X → Y) → Result X DecodeError → Result Y Fault → Type 0
 Means view (Ok x) meaning = meaning ≡ Ok (view x)
 Means view (Err e) meaning = Fails e meaning

@@ -4,12 +4,12 @@ use etcs_bits::{Bits, Cursor, DecodeError, Layout, Memory, Plain, Same};
 use etcs_profile::Number;
 use std::alloc::Global;
 
-/// Packet 0, the virtual balise cover marker: a train in which the cover of this number is set, for
-/// the header's country or region, ignores the telegram (SUBSET-026, 3.15.9 and 7.4.2). 14 bits; it
-/// has neither Q_DIR nor L_PACKET.
+/// Packet 0, the virtual balise cover marker. A train ignores the telegram if the train has the
+/// cover of this number set for the header's country or region. The packet has 14 bits. It has
+/// neither Q_DIR nor L_PACKET (SUBSET-026, 3.15.9 and 7.4.2).
 #[derive(Clone, Copy, Debug, PartialEq, Eq)]
 pub struct CoverMarker {
-    /// NID_VBCMK, 6 bits: the number of the cover.
+    /// The number of the cover: NID_VBCMK, 6 bits.
     pub marker: Plain<6>,
 }
 
@@ -17,8 +17,6 @@ impl Layout for CoverMarker {
     ghost use Rattle.etcs_packet.specs.Cover.{cover_marker};
 
     ghost format = { cover_marker };
-
-    // Its type keeps its number in range.
 
     #[tactic(auto, using(etcs_bits::proofs::PutLemmas::allowed_both))]
     fn is_allowed(&self) -> bool {

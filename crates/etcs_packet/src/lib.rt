@@ -1,16 +1,18 @@
-//! The packets from track to train, and their lists, as balise telegrams and radio messages have
-//! them (SUBSET-026, 7.4 and 8.4).
+//! The packets from track to train, and the lists of packets in balise telegrams and radio messages
+//! (SUBSET-026, 7.4 and 8.4).
 //!
-//! [`TrackPacket`] is any of these packets; [`Linking`], [`Transition`] and [`CoverMarker`] are
-//! packets 5, 41 and 0, and [`RawPacket`] is one whose layout is not known here. [`read_packets`]
-//! and [`write_packets`] read and write lists of them. They stand on calls that take any record
-//! whose table of fields begins with NID_PACKET: a [`Stop`] says where a list ends, [`next_item`]
-//! reads one packet, [`read_items`] all of them, [`next_whole`] and [`read_whole`] the head before
-//! them too, and [`write_items`] writes packets. All stand on the contract of
-//! [`etcs_bits::Layout`]. Read `track.rt` and `packets.rt` first, with `specs/Track.antt` and
-//! `specs/Listed.antt`, then `list.rt`, with `specs/Lists.antt`, and `whole.rt`, with
-//! `specs/Whole.antt`; what holds of every list is in [`laws`]. Left out: packets from train to
-//! track.
+//! [`TrackPacket`] is any packet from track to train. [`CoverMarker`], [`Linking`] and
+//! [`Transition`] are packets 0, 5 and 41. [`RawPacket`] is a packet whose layout is not known
+//! here. [`read_packets`] and [`write_packets`] read and write lists of track packets.
+//!
+//! Below them are calls that take any record whose table of fields begins with NID_PACKET.
+//! [`next_item`] reads one packet, [`read_items`] reads all packets of a list, and [`write_items`]
+//! writes packets. [`next_whole`] and [`read_whole`] also read the head before the packets. A
+//! [`Stop`] says where a list ends. All these calls rest on the contract of [`etcs_bits::Layout`].
+//!
+//! Read `track.rt` and `packets.rt` first, with `specs/Track.antt`. Then
+//! read `list.rt` with `specs/Lists.antt`, and `whole.rt` with `specs/Whole.antt`. The laws that
+//! hold of every list are in [`laws`]. Packets from train to track are left out.
 #![tactic(auto)]
 
 mod cover;

@@ -10,26 +10,26 @@ use etcs_profile::{BuildError, Elements, Packet};
 use std::alloc::Global;
 use std::marker::Model;
 
-/// Q_LINKREACTION, 2 bits: what the train does where the group is missed: 0 train trip, 1 service
-/// brake, 2 nothing; 3 is spare: a Spare fault (SUBSET-026, 7.5.1).
+/// What the train does where it misses the group: Q_LINKREACTION, 2 bits. 0 is train trip, 1
+/// service brake, 2 nothing. 3 is spare: a Spare fault (SUBSET-026, 7.5.1).
 pub type Reaction = Ranged<2, 2, 4>;
 
-/// A balise group that comes, and how far away: 39 bits, and 10 for another country (SUBSET-026,
-/// 3.4.4 and 7.4.2).
+/// A balise group that comes, and how far away it is. A link has 39 bits, and 10 more where it
+/// names another country (SUBSET-026, 3.4.4 and 7.4.2).
 #[derive(Clone, Copy, Debug, PartialEq, Eq)]
 pub struct Link {
-    /// D_LINK, 15 bits: the distance from the group before, in the packet's scale.
+    /// The distance from the group before: D_LINK, 15 bits, in the packet's scale.
     pub distance: Distance,
-    /// Q_NEWCOUNTRY, 1 bit, and NID_C, 10 bits: the country or region, where it is another than that
-    /// of the group before.
+    /// The country or region of the group, if it differs from that of the group before:
+    /// Q_NEWCOUNTRY, 1 bit, and NID_C, 10 bits.
     pub country: Option<Country>,
-    /// NID_BG, 14 bits: which group of its country or region it is.
+    /// The number of the group in its country or region: NID_BG, 14 bits.
     pub group: GroupNumber,
-    /// Q_LINKORIENTATION, 1 bit: whether the group is passed in its nominal direction.
+    /// Whether the train passes the group in its nominal direction: Q_LINKORIENTATION, 1 bit.
     pub nominal: bool,
-    /// Q_LINKREACTION, 2 bits: what the train does where it misses the group.
+    /// What the train does where it misses the group: Q_LINKREACTION, 2 bits.
     pub reaction: Reaction,
-    /// Q_LOCACC, 6 bits: how exactly the group's place is known, in metres to either side.
+    /// How exactly the group's place is known, in metres to either side: Q_LOCACC, 6 bits.
     pub accuracy: Plain<6>,
 }
 
@@ -92,8 +92,8 @@ impl Same for Link {
     }
 }
 
-/// Packet 5, linking: which balise groups come next, so that a train notices one that it misses
-/// (SUBSET-026, 3.4.4 and 7.4.2). Contracts see the direction, and the scale with the links.
+/// Packet 5, linking: the balise groups that come next. It lets a train notice a group that it
+/// misses. Contracts see the direction, and the scale with the links (SUBSET-026, 3.4.4 and 7.4.2).
 #[derive(Debug, Drop)]
 pub struct Linking {
     packet: Packet<5, Elements<Link>>,
@@ -110,13 +110,17 @@ impl Model for Linking {
 }
 
 impl Linking {
-    ghost use Rattle.etcs_profile.specs.Elements.{profile};
+    ghost use Rattle.etcs_profile.specs.Elements.{elements, profile};
+    ghost use Rattle.etcs_bits.specs.Reading.{rows_at};
+    ghost use Rattle.etcs_bits.specs.Layout.{Gives};
     ghost use Rattle.etcs_profile.specs.Built.{IsBuilt};
+    ghost use Rattle.etcs_profile.specs.Packet.{rest};
+    ghost use Rattle.etcs_packet.specs.Linking.{link};
 
-    /// The packet of these links; the first one's distance is from the group that sends it. Takes no
-    /// memory; after a refusal the links are gone.
+    /// The packet of these links. The distance of the first link counts from the group that sends
+    /// the packet. The call takes no memory. After a refusal the links are gone.
     ///
-    /// `TooMany`: more than 31 links behind the first.
+    /// `TooMany`: more than 31 links after the first.
     pub fn new(
         dir: Dir,
         scale: Scale,
@@ -128,19 +132,28 @@ impl Linking {
         let links = Elements::new(scale, first, further)?;
         match Packet::of(dir, links) {
             Some(packet) => Ok(Linking { packet }),
-            // 32 links have at most 1,598 bits, so that this does not come.
+            // A packet with 32 links has at most 1,598 bits, so this never happens.
             None => Err(BuildError::TooLong),
         }
     }
 
-    /// Q_DIR: for which running directions the packet is.
+    /// Reads what follows NID_PACKET. After an error the cursor may stand anywhere.
+    pub(crate) fn scan_rest(alloc: Global, cur: &mut Cursor<'_>) -> Result<Self, DecodeError>
+        ensures { Gives (rest (elements link)).rows result
+            (rows_at (rest (elements link)).fields cur.old) cur.new }
+    {
+        let packet = Packet::scan_rest(alloc, cur)?;
+        Ok(Linking { packet })
+    }
+
+    /// The running directions that the packet is for: Q_DIR.
     pub fn dir(&self) -> Dir
         ensures { result ≡ self.now.0 }
     {
         self.packet.dir()
     }
 
-    /// Q_SCALE: the unit of all distances.
+    /// The unit of all distances: Q_SCALE.
     pub fn scale(&self) -> Scale
         ensures { result ≡ self.now.1.scale }
     {
@@ -154,7 +167,7 @@ impl Linking {
         self.packet.body().first()
     }
 
-    /// The groups behind the first, in order; at most 31.
+    /// The groups after the first, in order: at most 31.
     pub fn further(&self) -> &[Link]
         ensures links { result.now ≡ self.now.1.further }
         ensures few { length result.now < 32 }

@@ -1,4 +1,4 @@
-//! A list of packets, as a telegram and a message have one.
+//! Lists of packets, as telegrams and messages have them.
 
 ghost use Rattle.std.specs.Prelude.{◌≡◌, ◌+◌, ◌<◌, ◌≤◌, ◌++◌, length, true, false, Err, IfOk, OnOk, OnErr};
 ghost use Rattle.std.specs.List.{flat_map};
@@ -26,12 +26,13 @@ pub fn is_end(cur: &Cursor<'_>, stop: Stop) -> bool
     }
 }
 
-/// The packet at the cursor, which then stands behind it; none where the list ends.
+/// Reads the packet at the cursor. The cursor then stands after the packet. The result is `None`
+/// where the list ends.
 ///
-/// A fault is the first one of the packet that is due, and then there is no packet and no end, in
-/// any input of the same length with the same first `end` bits. Fewer than eight bits in a telegram
-/// are a NoEnd fault. If memory runs out, a fault may go unseen. After an error the cursor stands
-/// where it stood.
+/// A reported fault is the first one of the packet that is due. No input of the same length with
+/// the same first `end` bits has a packet or the end of the list at this place. Fewer than eight
+/// bits in a telegram are a NoEnd fault. If memory runs out, a fault may go unseen. After an error
+/// the cursor stands where it stood.
 pub fn next_item<T: Layout>(
     alloc: Global,
     cur: &mut Cursor<'_>,
@@ -44,7 +45,7 @@ pub fn next_item<T: Layout>(
     ensures none { IfFault result (λ f. NoStep stop T.format.rows cur.old f) }
     ensures err { OnErr result (cur.new ≡ cur.old) }
 
-    // That no end can come is always told: no memory is asked for.
+    // This NoEnd fault is always reported: finding it takes no memory.
     ensures no_end { stop ≡ Stop.Telegram → length cur.old.bits < cur.old.at + 8
         → result ≡ Err (DecodeError.Fault (lack true cur.old)) }
 {
@@ -58,12 +59,12 @@ pub fn next_item<T: Layout>(
     Ok(Some(item))
 }
 
-/// The packets from the cursor up to the place where the list ends; there the cursor then stands,
-/// at the end mark or at the bits that are left.
+/// Reads the packets from the cursor up to the end of the list. The cursor then stands at that end:
+/// at the end mark, or at the bits that are left.
 ///
-/// A fault is the first one of the list, and then there is no list, in any input of the same length
-/// with the same first `end` bits. If memory runs out, a fault may go unseen. After an error the
-/// cursor stands where it stood.
+/// A reported fault is the first one of the list. No input of the same length with the same first
+/// `end` bits has a list at this place. If memory runs out, a fault may go unseen. After an error
+/// the cursor stands where it stood.
 pub fn read_items<T: Layout>(
     alloc: Global,
     cur: &mut Cursor<'_>,
@@ -76,11 +77,11 @@ pub fn read_items<T: Layout>(
     ensures none { IfFault result (λ f. NoneStand stop T.format.rows cur.old f) }
     ensures err { OnErr result (cur.new ≡ cur.old) }
 
-    // The same as a function of the bits.
+    // The same result, as a function of the bits.
     ensures exact { Gives (λ v. v.items) result
         (items_at stop T.format.fields T.format.of cur.old) cur.new }
 
-    // That no end can come is always told: no memory is asked for.
+    // This NoEnd fault is always reported: finding it takes no memory.
     ensures no_end { stop ≡ Stop.Telegram → length cur.old.bits < cur.old.at + 8
         → result ≡ Err (DecodeError.Fault (lack true cur.old)) }
 {
@@ -93,7 +94,7 @@ pub fn read_items<T: Layout>(
     Ok(found)
 }
 
-/// Appends the spellings of packets that are allowed, one after the other, and no end mark. If
+/// Appends the spellings of allowed packets, one after the other. No end mark is appended. If
 /// memory runs out, nothing is appended.
 pub fn write_items<T: Layout>(items: &[T], out: &mut Bits) -> Result<(), Memory>
     requires { AreAllowed (flat_map T.format.rows items.now) }

@@ -14,12 +14,12 @@ use crate::track::TrackPacket;
 use etcs_bits::{Bits, Cursor, DecodeError, Memory, are_allowed};
 use std::alloc::Global;
 
-/// The packets from the cursor up to the place where their list ends; there the cursor then stands,
-/// at the end mark or at the bits that are left (SUBSET-026, 7.4.2 and 8.4).
+/// Reads the packets from the cursor up to the end of their list. The cursor then stands at that
+/// end: at the end mark, or at the bits that are left.
 ///
-/// A fault is the first one of the list, and then there is no list, in any input of the same length
-/// with the same first `end` bits. If memory runs out, a fault may go unseen. After an error the
-/// cursor stands where it stood.
+/// A reported fault is the first one of the list. No input of the same length with the same first
+/// `end` bits has a list at this place. If memory runs out, a fault may go unseen. After an error
+/// the cursor stands where it stood. See SUBSET-026, 7.4.2 and 8.4.
 pub fn read_packets(
     alloc: Global,
     cur: &mut Cursor<'_>,
@@ -31,18 +31,18 @@ pub fn read_packets(
     ensures none { IfFault result (λ f. NoneStand stop track_packet.rows cur.old f) }
     ensures err { OnErr result (cur.new ≡ cur.old) }
 
-    // The same as a function of the bits.
+    // The same result, as a function of the bits.
     ensures exact { Gives (λ v. v.items) result (items_at stop track_packet.fields track_packet.of cur.old) cur.new }
 
-    // That no end can come is always told: no memory is asked for.
+    // This NoEnd fault is always reported: finding it takes no memory.
     ensures no_end { stop ≡ Stop.Telegram → length cur.old.bits < cur.old.at + 8
         → result ≡ Err (DecodeError.Fault (lack true cur.old)) }
 {
     read_items(alloc, cur, stop)
 }
 
-/// Appends the spellings of the packets, one after the other, and no end mark. If memory runs out,
-/// nothing is appended. Their types keep all numbers in range.
+/// Appends the spellings of the packets, one after the other. No end mark is appended. The types of
+/// the packets keep all numbers in range. If memory runs out, nothing is appended.
 #[tactic(auto, using(etcs_bits::proofs::FitLemmas::all_fit))]
 pub fn write_packets(packets: &[TrackPacket], out: &mut Bits) -> Result<(), Memory>
     ensures ok { OnOk result (out.new ≡ out.old ++ join (flat_map track_packet.rows packets.now)) }

@@ -1,4 +1,4 @@
-//! Packets of which no layout is known here.
+//! Packets whose layout is not known here.
 
 ghost use Rattle.std.specs.Prelude.{◌≡◌, ◌≤◌, ◌<◌, ◌+◌, length, true, IfOk, IfErr, IsOk, ◌↔◌};
 ghost use Rattle.etcs_bits.specs.Reading.{field_at};
@@ -10,23 +10,23 @@ ghost use Rattle.etcs_packet.specs.Numbers.{is_kept, is_other, l_raw};
 use etcs_bits::{Bits, Cursor, DecodeError, Dir, FaultKind, Layout, Memory, Same, refused};
 use std::alloc::Global;
 
-// How many bits a body may have: L_PACKET, 13 bits, counts the 23 of the head too.
+// The most bits that a body may have. L_PACKET has 13 bits, and counts the 23 of the head too.
 const MOST_BITS: usize = 8168;
 
-/// Whether a number is none of the known packets' and not the end mark.
+/// Whether a number is neither that of a known packet nor that of the end mark.
 pub(crate) fn is_raw(number: u64) -> bool
     ensures { result ≡ is_other number }
 {
     !matches!(number, 0 | 5 | 12 | 15 | 21 | 27 | 41 | 255)
 }
 
-// L_PACKET of a packet that is kept as bits.
+// Reads L_PACKET of a packet that is kept as bits.
 fn scan_length(cur: &mut Cursor<'_>) -> Result<u64, DecodeError>
     ensures gives { Gives (λ n. n) result (field_at l_raw cur.old) cur.new }
     ensures least { IfOk result (λ n. 23 ≤ n) }
     ensures most { IfOk result (λ n. n < 8192) }
 
-    // No memory is asked for.
+    // Reading L_PACKET takes no memory.
     ensures memory { IfMemory result ⊥ }
 {
     let at = cur.at();
@@ -44,9 +44,9 @@ fn put_body(body: &Bits, out: &mut Bits) -> Result<(), Memory>
     out.push_bits(body)
 }
 
-/// A packet of which no layout is known here (SUBSET-026, 7.4.1): NID_PACKET, Q_DIR, L_PACKET and
-/// its body, kept as it is. Its number is none of 0, 5, 12, 15, 21, 27, 41 and 255, and its body has
-/// at most 8,168 bits.
+/// A packet whose layout is not known here: NID_PACKET, Q_DIR, L_PACKET and a body that is kept as
+/// it is. Its number is none of 0, 5, 12, 15, 21, 27, 41 and 255. Its body has at most 8,168 bits
+/// (SUBSET-026, 7.4.1).
 #[derive(Debug, Drop)]
 pub struct RawPacket {
     number: u8,
@@ -56,8 +56,10 @@ pub struct RawPacket {
 }
 
 impl RawPacket {
-    /// The packet of these parts; the body back where the number is that of a known packet or of the
-    /// end mark, or the body has more than 8,168 bits.
+    /// The packet of these parts.
+    ///
+    /// The error gives the body back. Either the number is that of a known packet or of the end
+    /// mark, or the body has more than 8,168 bits.
     pub fn new(number: u8, dir: Dir, body: Bits) -> Result<Self, Bits>
         ensures ok { IfOk result (λ r. (r.number ≡ number) × ((r.dir ≡ dir) × (r.body ≡ body))) }
         ensures made { IsOk result ↔ (is_kept number (length body) ≡ true) }
@@ -69,7 +71,7 @@ impl RawPacket {
         Ok(RawPacket { number, dir, body })
     }
 
-    /// NID_PACKET.
+    /// The number of the packet: NID_PACKET.
     pub fn number(&self) -> u8
         ensures number { result ≡ self.now.number }
         ensures other { is_other result ≡ true }
@@ -77,19 +79,44 @@ impl RawPacket {
         self.number
     }
 
-    /// Q_DIR: for which running directions the packet is.
+    /// The running directions that the packet is for: Q_DIR.
     pub fn dir(&self) -> Dir
         ensures { result ≡ self.now.dir }
     {
         self.dir
     }
 
-    /// The bits behind L_PACKET, at most 8,168.
+    /// The bits after L_PACKET: at most 8,168.
     pub fn body(&self) -> &Bits
         ensures bits { result.now ≡ self.now.body }
         ensures short { length result.now ≤ 8168 }
     {
         &self.body
+    }
+}
+
+impl RawPacket {
+    ghost use Rattle.etcs_bits.specs.Choice.{chosen_at, numbered_rows};
+    ghost use Rattle.etcs_packet.specs.Raw.{others};
+
+    /// Reads what follows a number that is kept as bits. After an error the cursor may stand anywhere.
+    pub(crate) fn scan_rest(
+        alloc: Global,
+        number: u64,
+        cur: &mut Cursor<'_>,
+    ) -> Result<Self, DecodeError>
+        requires small { number < 256 }
+        requires other { is_other number ≡ true }
+        ensures { Gives (numbered_rows others) result (chosen_at others number cur.old) cur.new }
+    {
+        let dir = Dir::scan(alloc, cur)?;
+        let length = scan_length(cur)?;
+        let body = cur.take_bits(alloc, (length - 23) as usize)?;
+        Ok(RawPacket {
+            number: number as u8,
+            dir,
+            body,
+        })
     }
 }
 
@@ -99,8 +126,6 @@ impl Layout for RawPacket {
     ghost format = { raw_packet };
 
     ghost grows = { Unit {0} };
-
-    // Its type keeps number and body in range.
 
     fn is_allowed(&self) -> bool {
         let _number = self.number();
@@ -127,14 +152,7 @@ impl Layout for RawPacket {
         if !is_raw(number) {
             return Err(refused(at, cur, FaultKind::Spare));
         }
-        let dir = Dir::scan(alloc, cur)?;
-        let length = scan_length(cur)?;
-        let body = cur.take_bits(alloc, (length - 23) as usize)?;
-        Ok(RawPacket {
-            number: number as u8,
-            dir,
-            body,
-        })
+        RawPacket::scan_rest(alloc, number, cur)
     }
 }
 

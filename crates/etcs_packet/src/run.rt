@@ -1,10 +1,10 @@
 //! The direction in which a train runs.
 
-/// In which direction a train runs over a balise group: in the order of its balises, or against it
-/// (SUBSET-026, 3.4.2).
+/// The direction in which a train runs over a balise group: in the order of its balises, or against
+/// that order (SUBSET-026, 3.4.2).
 #[derive(Clone, Copy, Debug, PartialEq, Eq)]
 pub enum Run {
-    /// From the balise with N_PIG 0 on.
+    /// Away from the balise with N_PIG 0.
     Nominal,
     /// Towards the balise with N_PIG 0.
     Reverse,

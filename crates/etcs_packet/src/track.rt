@@ -1,25 +1,27 @@
 //! The packets from track to train.
 
-ghost use Rattle.std.specs.Prelude.{◌≡◌, ◌==◌, true, min, not, Ok, IfOk, IfErr};
-ghost use Rattle.etcs_bits.specs.Reading.{forward, rows_at, taken};
-ghost use Rattle.etcs_bits.specs.Layout.{Fails, Gives, IfMemory, Puts};
+ghost use Rattle.std.specs.Prelude.{◌≡◌, ◌==◌, ◌<◌, true, min, not, IfOk};
+ghost use Rattle.etcs_bits.specs.Reading.{field_at};
+ghost use Rattle.etcs_bits.specs.Layout.{Gives, IfMemory, Puts};
 ghost use Rattle.etcs_bits.specs.Rows.{AreAllowed, join, width};
 ghost use Rattle.etcs_packet.specs.Meant.{is_meant};
-ghost use Rattle.etcs_packet.specs.Listed.{IsListed, renamed, track_fields};
+ghost use Rattle.etcs_packet.specs.Numbers.{nid_track};
 
 use crate::cover::CoverMarker;
 use crate::linking::Linking;
 use crate::raw::RawPacket;
 use crate::run::Run;
 use crate::transition::Transition;
-use etcs_bits::{Bits, Cursor, DecodeError, Dir, Fault, FaultKind, Layout, Memory, Same, refused};
-use etcs_profile::{Authority, Gradient, SpeedProfile};
+use etcs_bits::{
+    Bits, Cursor, DecodeError, Dir, Fault, FaultKind, Layout, Memory, Plain, Same, refused,
+};
+use etcs_profile::{Authority, Gradient, Packet, SpeedProfile};
 use std::alloc::Global;
 
 /// A packet from track to train (SUBSET-026, 7.4.2).
 #[derive(Debug, Drop)]
 pub enum TrackPacket {
-    /// Packet 0: the telegram is ignored by trains in which this cover is set.
+    /// Packet 0: trains in which this cover is set ignore the telegram.
     Cover(CoverMarker),
     /// Packet 5: which balise groups come next.
     Linking(Linking),
@@ -31,25 +33,23 @@ pub enum TrackPacket {
     Speed(SpeedProfile),
     /// Packet 41: in which level a train has to run.
     Transition(Transition),
-    /// Any other packet, whose body is kept as bits.
+    /// Any other packet. Its body is kept as bits.
     Raw(RawPacket),
 }
 
-// NID_PACKET of the packet at the cursor.
-fn next_number(cur: &Cursor<'_>) -> Result<u64, DecodeError>
-    ensures ok { IfOk result (λ n. (taken 8 cur.now ≡ Ok (n, forward cur.now 8))
-        × (not (n == 255) ≡ true)) }
-    ensures err { IfErr result (λ e. Fails e (rows_at track_fields cur.now)) }
+// NID_PACKET of the packet at the cursor, which no end mark is.
+fn scan_number(cur: &mut Cursor<'_>) -> Result<u64, DecodeError>
+    ensures gives { Gives (λ n. n) result (field_at nid_track cur.old) cur.new }
+    ensures number { IfOk result (λ n. (n < 256) × (not (n == 255) ≡ true)) }
 
-    // No memory is asked for.
+    // Looking at the number takes no memory.
     ensures memory { IfMemory result ⊥ }
 {
     let at = cur.at();
-    let mut ahead = cur.fork();
-    match ahead.take(8) {
-        Ok(255) => Err(refused(at, &ahead, FaultKind::Spare)),
+    match cur.take(8) {
+        Ok(255) => Err(refused(at, cur, FaultKind::Spare)),
         Ok(number) => Ok(number),
-        // No end mark can come any more.
+        // No end mark fits in the bits that are left.
         Err(_) => Err(DecodeError::Fault(Fault {
             at,
             end: at,
@@ -58,16 +58,7 @@ fn next_number(cur: &Cursor<'_>) -> Result<u64, DecodeError>
     }
 }
 
-// Reads the packet at the cursor as one of a list.
-#[tactic(auto, using(crate::proofs::ListedLemmas::as_listed))]
-fn scan_listed<T: Layout>(alloc: Global, cur: &mut Cursor<'_>) -> Result<T, DecodeError>
-    requires { IsListed T.format.fields cur.old }
-    ensures { Gives (λ v. renamed (T.format.rows v)) result (rows_at track_fields cur.old) cur.new }
-{
-    T::scan(alloc, cur)
-}
-
-// Appends the spelling of a packet that its type keeps in range.
+// Appends the spelling of a packet whose type keeps it in range.
 fn put_fit<T: Layout>(packet: &T, out: &mut Bits) -> Result<(), Memory>
     requires { T.fit packet.now }
     ensures { Puts (join (T.format.rows packet.now)) result out.old out.new }
@@ -76,7 +67,7 @@ fn put_fit<T: Layout>(packet: &T, out: &mut Bits) -> Result<(), Memory>
     packet.put(out)
 }
 
-// Whether a packet for this direction is for trains that run so.
+// Whether a packet for direction `dir` is for trains that run in direction `run`.
 fn is_for(run: Run, dir: Dir) -> bool
     ensures { result ≡ is_meant run dir }
 {
@@ -89,7 +80,7 @@ fn is_for(run: Run, dir: Dir) -> bool
 impl TrackPacket {
     ghost use Rattle.etcs_packet.specs.Track.{holds, track_number};
 
-    /// NID_PACKET.
+    /// The number of the packet: NID_PACKET.
     pub fn number(&self) -> u8
         ensures { result ≡ track_number self.now }
     {
@@ -104,8 +95,8 @@ impl TrackPacket {
         }
     }
 
-    /// Whether the packet is for trains that run so: by Q_DIR nominal, reverse or both; packet 0 is
-    /// for all.
+    /// Whether the packet is for trains that run in direction `run`. Q_DIR decides it: nominal,
+    /// reverse or both. Packet 0 is for all trains.
     pub fn holds_in(&self, run: Run) -> bool
         ensures { result ≡ holds run self.now }
     {
@@ -125,7 +116,7 @@ impl TrackPacket {
 impl TrackPacket {
     ghost use Rattle.etcs_packet.specs.Track.{own_rows};
 
-    // Its types keep its numbers in range.
+    // The types of the packets keep their numbers in range.
     fn is_sound(&self) -> bool
         ensures allowed { AreAllowed (own_rows self.now) }
         ensures always { result ≡ true }
@@ -141,7 +132,7 @@ impl TrackPacket {
         }
     }
 
-    // How many bits it has.
+    // How many bits the packet has.
     fn own_width(&self) -> u64
         ensures { result ≡ min (width (own_rows self.now)) u64.MAX }
     {
@@ -156,7 +147,7 @@ impl TrackPacket {
         }
     }
 
-    // Appends its spelling.
+    // Appends the spelling of the packet.
     fn put_own(&self, out: &mut Bits) -> Result<(), Memory>
         ensures { Puts (join (own_rows self.now)) result out.old out.new }
     {
@@ -192,27 +183,29 @@ impl Layout for TrackPacket {
     }
 
     fn scan(alloc: Global, cur: &mut Cursor<'_>) -> Result<Self, DecodeError> {
-        let number = next_number(cur)?;
-        // Each test says to the prover what the number is not; a match would not.
+        let number = scan_number(cur)?;
+        // Each failed test shows the prover what the number is not. A match would not.
         if number == 0 {
-            return Ok(TrackPacket::Cover(scan_listed(alloc, cur)?));
+            let marker = Plain::scan(alloc, cur)?;
+            return Ok(TrackPacket::Cover(CoverMarker { marker }));
         }
         if number == 5 {
-            return Ok(TrackPacket::Linking(scan_listed(alloc, cur)?));
+            return Ok(TrackPacket::Linking(Linking::scan_rest(alloc, cur)?));
         }
         if number == 12 || number == 15 {
-            return Ok(TrackPacket::Authority(scan_listed(alloc, cur)?));
+            let packet = Authority::scan_rest(alloc, number, cur)?;
+            return Ok(TrackPacket::Authority(packet));
         }
         if number == 21 {
-            return Ok(TrackPacket::Gradient(scan_listed(alloc, cur)?));
+            return Ok(TrackPacket::Gradient(Packet::scan_rest(alloc, cur)?));
         }
         if number == 27 {
-            return Ok(TrackPacket::Speed(scan_listed(alloc, cur)?));
+            return Ok(TrackPacket::Speed(Packet::scan_rest(alloc, cur)?));
         }
         if number == 41 {
-            return Ok(TrackPacket::Transition(scan_listed(alloc, cur)?));
+            return Ok(TrackPacket::Transition(Transition::scan_rest(alloc, cur)?));
         }
-        Ok(TrackPacket::Raw(scan_listed(alloc, cur)?))
+        Ok(TrackPacket::Raw(RawPacket::scan_rest(alloc, number, cur)?))
     }
 }
 

@@ -9,14 +9,15 @@ use etcs_profile::{BuildError, Packet};
 use std::alloc::Global;
 use std::marker::Model;
 
-/// A level of an order, of which a train goes to the first that is available on board (SUBSET-026,
-/// 5.10 and 7.4.2): 18 bits, and 8 more for level NTC.
+/// A level of a level transition order. A train goes to the first level of the order that is
+/// available on board. The level has 18 bits, and 8 more if it is level NTC (SUBSET-026, 5.10 and
+/// 7.4.2).
 #[derive(Clone, Copy, Debug, PartialEq, Eq)]
 pub struct LevelOrder {
-    /// M_LEVELTR, 3 bits, and NID_NTC, 8 bits, at level NTC: the level.
+    /// The level: M_LEVELTR, 3 bits, and at level NTC also NID_NTC, 8 bits.
     pub level: Level,
-    /// L_ACKLEVELTR, 15 bits: the length of the area in which the driver may acknowledge the change,
-    /// which ends at its place, in the packet's scale.
+    /// The length of the area in which the driver may acknowledge the change: L_ACKLEVELTR, 15
+    /// bits, in the packet's scale. The area ends at the place of the change.
     pub acknowledge: Distance,
 }
 
@@ -54,9 +55,9 @@ impl Same for LevelOrder {
     }
 }
 
-/// Packet 41, a level transition order: from where on a train has to run in another level, by
-/// priority (SUBSET-026, 5.10 and 7.4.2). Contracts see the direction, and scale, distance and
-/// orders.
+/// Packet 41, a level transition order: the place from which a train has to run in another level,
+/// and the levels by priority. Contracts see the direction, and the scale, distance and orders
+/// (SUBSET-026, 5.10 and 7.4.2).
 #[derive(Debug, Drop)]
 pub struct Transition {
     packet: Packet<41, (Scale, (Distance, (LevelOrder, Items<LevelOrder>)))>,
@@ -73,12 +74,15 @@ impl Model for Transition {
 
 impl Transition {
     ghost use Rattle.etcs_profile.specs.Built.{IsBuilt};
-    ghost use Rattle.etcs_packet.specs.Transition.{orders};
+    ghost use Rattle.etcs_bits.specs.Reading.{rows_at};
+    ghost use Rattle.etcs_bits.specs.Layout.{Gives};
+    ghost use Rattle.etcs_profile.specs.Packet.{rest};
+    ghost use Rattle.etcs_packet.specs.Transition.{level_orders, orders};
 
-    /// The order for these levels, the one of highest priority first. Takes no memory; after a
-    /// refusal the levels are gone.
+    /// The order for these levels. The level of highest priority comes first. The call takes no
+    /// memory. After a refusal the levels are gone.
     ///
-    /// `TooMany`: more than 31 levels behind the first.
+    /// `TooMany`: more than 31 levels after the first.
     pub fn new(
         dir: Dir,
         scale: Scale,
@@ -95,26 +99,35 @@ impl Transition {
         let body = (scale, (d_leveltr, (first, Items::new(further))));
         match Packet::of(dir, body) {
             Some(packet) => Ok(Transition { packet }),
-            // 32 orders have at most 877 bits, so that this does not come.
+            // A packet with 32 orders has at most 877 bits, so this never happens.
             None => Err(BuildError::TooLong),
         }
     }
 
-    /// Q_DIR: for which running directions the packet is.
+    /// Reads what follows NID_PACKET. After an error the cursor may stand anywhere.
+    pub(crate) fn scan_rest(alloc: Global, cur: &mut Cursor<'_>) -> Result<Self, DecodeError>
+        ensures { Gives (rest level_orders).rows result
+            (rows_at (rest level_orders).fields cur.old) cur.new }
+    {
+        let packet = Packet::scan_rest(alloc, cur)?;
+        Ok(Transition { packet })
+    }
+
+    /// The running directions that the packet is for: Q_DIR.
     pub fn dir(&self) -> Dir
         ensures { result ≡ self.now.0 }
     {
         self.packet.dir()
     }
 
-    /// Q_SCALE: the unit of all distances.
+    /// The unit of all distances: Q_SCALE.
     pub fn scale(&self) -> Scale
         ensures { result ≡ self.now.1.scale }
     {
         self.packet.body().0
     }
 
-    /// D_LEVELTR: how far away the place of the change is, in the packet's scale; 32,767 is now.
+    /// The distance to the place of the change: D_LEVELTR, in the packet's scale. 32,767 means now.
     pub fn d_leveltr(&self) -> Distance
         ensures { result ≡ self.now.1.d_leveltr }
     {
@@ -128,12 +141,12 @@ impl Transition {
         &self.packet.body().1.1.0
     }
 
-    /// The other levels, by priority; at most 31.
+    /// The other levels, by priority: at most 31.
     pub fn further(&self) -> &[LevelOrder]
         ensures levels { result.now ≡ self.now.1.further }
         ensures few { length result.now < 32 }
     {
-        // Its type keeps N_ITER within five bits.
+        // The type of the packet keeps N_ITER within five bits.
         let _allowed = self.packet.is_allowed();
         self.packet.body().1.1.1.as_slice()
     }

@@ -1,4 +1,4 @@
-//! A head and the packets behind it, as telegrams and messages are.
+//! A head and the packets after it, as telegrams and messages have them.
 
 ghost use Rattle.std.specs.Prelude.{◌≡◌, Err, IfOk, OnErr};
 ghost use Rattle.etcs_bits.specs.declared.fault.Fault.{Fault};
@@ -12,12 +12,12 @@ use crate::stop::Stop;
 use etcs_bits::{Bits, Cursor, DecodeError, Layout};
 use std::alloc::Global;
 
-/// The head at the cursor and the packets behind it; the cursor then stands where they end, at the
-/// end mark or at the bits that are left.
+/// Reads the head at the cursor and the packets after it. The cursor then stands where the packets
+/// end: at the end mark, or at the bits that are left.
 ///
-/// A fault is the first one of the head and the packets, and then no such whole stands there, in
-/// any input of the same length with the same first `end` bits. If memory runs out, a fault may go
-/// unseen. After an error the cursor stands where it stood.
+/// A reported fault is the first one of the head and the packets. No input of the same length with
+/// the same first `end` bits has such a head and packets at this place. If memory runs out, a fault
+/// may go unseen. After an error the cursor stands where it stood.
 pub fn next_whole<H: Layout, T: Layout>(
     alloc: Global,
     cur: &mut Cursor<'_>,
@@ -30,11 +30,11 @@ pub fn next_whole<H: Layout, T: Layout>(
     ensures none { IfFault result (λ f. NoneWhole stop H.format.rows T.format.rows cur.old f) }
     ensures err { OnErr result (cur.new ≡ cur.old) }
 
-    // The same as a function of the bits.
+    // The same result, as a function of the bits.
     ensures exact { Gives (λ w. (w.0, w.1.items)) result
         (whole_at stop H.format.fields H.format.of T.format.fields T.format.of cur.old) cur.new }
 
-    // The fault of a head without a list is always told: reading one asks for no memory.
+    // A fault of a head that holds no list is always reported: reading such a head takes no memory.
     ensures head { (H.grows → ⊥) → (f : Fault) → IsFault H.format.fields cur.old f
         → result ≡ Err (DecodeError.Fault f) }
 {
@@ -45,11 +45,11 @@ pub fn next_whole<H: Layout, T: Layout>(
     Ok((head, items))
 }
 
-/// The head and the packets that bits begin with. What comes behind the place where the packets end
-/// is ignored.
+/// Reads the head and the packets that `bits` begin with. What comes after the place where the
+/// packets end is ignored.
 ///
-/// A fault is the first one of the bits, and then they begin with no such whole, in any input of
-/// the same length with the same first `end` bits. If memory runs out, a fault may go unseen.
+/// A reported fault is the first one of the bits. No input of the same length with the same first
+/// `end` bits begins with such a head and packets. If memory runs out, a fault may go unseen.
 pub fn read_whole<H: Layout, T: Layout>(
     alloc: Global,
     bits: &Bits,
@@ -61,11 +61,11 @@ pub fn read_whole<H: Layout, T: Layout>(
     ensures fault { IfFault result (λ f. IsWholeFault stop H.format.fields T.format.fields (start bits.now) f) }
     ensures none { IfFault result (λ f. NoneWhole stop H.format.rows T.format.rows (start bits.now) f) }
 
-    // The same as a function of the bits.
+    // The same result, as a function of the bits.
     ensures exact { Means (λ w. (w.0, w.1.items)) result
         (whole_of stop H.format.fields H.format.of T.format.fields T.format.of bits.now) }
 
-    // The fault of a head without a list is always told: reading one asks for no memory.
+    // A fault of a head that holds no list is always reported: reading such a head takes no memory.
     ensures head { (H.grows → ⊥) → (f : Fault) → IsFault H.format.fields (start bits.now) f
         → result ≡ Err (DecodeError.Fault f) }
 {

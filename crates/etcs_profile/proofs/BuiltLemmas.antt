@@ -1,4 +1,4 @@
--- What a constructor answers.
+-- What a constructor returns.
 use Rattle.std.specs.Prelude.{◌≡◌, ◌↔◌, ◌<◌, ◌≤◌, ℕ, List, ◌∷◌, length, Option, Some, None, IsSome, IfSome, Result, Ok, Err}
 use Rattle.std.specs.List.{AllByRecursion}
 use Rattle.std.proofs.Common.{arith, inl, inr, refl}
@@ -9,7 +9,7 @@ use Rattle.etcs_profile.specs.declared.error.BuildError.{BuildError}
 use Rattle.etcs_profile.specs.declared.error.BuildError.TheVariants as errors
 use Rattle.etcs_profile.specs.Built.{IsBuilt, HasMany}
 
--- what is built under one test is built under another that says the same
+-- a test for too many items may be replaced by an equivalent one
 pub built_too : {X : Type 0} (r : Result X BuildError) (x : X) (many other long : Type 0)
     → (many → other) → (other → many) → IsBuilt r x many long → IsBuilt r x other long
 built_too (Ok y) x many other long to from b = (b.0, λ o. b.1 (from o), b.2)
@@ -22,7 +22,7 @@ pub many_alone : {X : Type 0} (first : X) (further : List X)
 many_alone first further (inl more) = more
 many_alone first further (inr some) = absurd (some (all_fit (first ∷ further)))
 
--- What is given is built where it has few items and few bits; else it is too long.
+-- A packet with few items is built if it has few bits. If not, it is too long.
 pub built_of : {X : Type 0} (o : Option X) (given : X) (many : Type 0) (n : ℕ)
     → (many → ⊥) → IfSome o (λ p. p ≡ given) → (IsSome o ↔ (n ≤ 8191))
     → IsBuilt (ok_or o errors.TooLong) given many (8191 < n)
@@ -30,7 +30,7 @@ built_of (Some x) given many n few is fits = (is, few, λ long. absurd (omega (a
 built_of None given many n few is fits =
     (few, lt_of_not-le (λ le. absurd (let some = fits.1 le in cc)))
 
--- not many, as it is looked for
+-- at most 31 further elements, all of which fit, are not too many
 pub few_of : {X : Type 0} (fit : X → Type 0) (first : X) (further : List X)
     → length further ≤ 31 → fit first → AllByRecursion fit further → HasMany fit first further → ⊥
 few_of fit first further short one all (inl more) = absurd (omega (arith, more, short))

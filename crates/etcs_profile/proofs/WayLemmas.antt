@@ -1,4 +1,4 @@
--- The way to the mark, as a loop goes along it.
+-- The way to the end mark, as a loop adds it up.
 use Rattle.std.proofs.Common.{◌≡◌, ℕ, ◌+◌, Bool, true, false, List, ◌∷◌, drop, Option, Some, None, refl, ap, arith}
 use Rattle.std.proofs.lemmas.List.{drop_more}
 use Rattle.etcs_bits.proofs.ListLemmas.{IsItem}

@@ -1,5 +1,5 @@
 -- A movement authority, packets 12 and 15 (SUBSET-026, 3.8 and 7.4.2): how far a train may run. The
--- two differ by V_MAIN, which packet 12 alone has.
+-- two packets differ by V_MAIN, which only packet 12 has.
 use Rattle.std.specs.Prelude.{◌≡◌, ℕ, ◌+◌, ◌*◌, ◌<◌, ◌⊎◌, false, Option, Some, None, refl, sum_by}
 use Rattle.std.proofs.Common.{inl, inr}
 use Rattle.etcs_bits.specs.declared.fault.FaultKind.TheVariants.{Spare}
@@ -13,7 +13,7 @@ use Rattle.etcs_profile.specs.Packet.{rest}
 use Rattle.etcs_profile.specs.Reach.{scale_factor}
 use Rattle.etcs_profile.specs.Terms.{Conditions, speed, terms}
 
--- a movement authority, as contracts see it: Q_DIR, Q_SCALE, V_MAIN where the packet is 12, and the
+-- a movement authority, as contracts see it: Q_DIR, Q_SCALE, V_MAIN if the packet is 12, and the
 -- conditions
 pub record Permission : Type 0 where
   pub dir : Dir
@@ -21,7 +21,7 @@ pub record Permission : Type 0 where
   pub main : Option ℕ
   pub terms : Conditions
 
--- a permission of these parts
+-- a permission made of these parts
 abbrev pub permission : Dir → Scale → Option ℕ → Conditions → Permission
 permission dir scale main terms =
     record { dir = dir; scale = scale; main = main; terms = terms }
@@ -47,7 +47,7 @@ numbered = either 12 with_main (last 15 without_main) refl
 abbrev pub authority_variable : Variable
 authority_variable = record { width = 8; allows = numbered.allows; refusal = Spare; closes = false }
 
--- ---- the way between a permission and its packet
+-- ---- from a packet to its permission, and back
 
 abbrev pub level_1 : WithMain → Permission
 level_1 p = permission p.0 p.1.0 (Some p.1.1.0) p.1.1.1
@@ -84,7 +84,8 @@ authority =
 
 -- ---- how far the train may run
 
--- from the group that sends the packet to the end of the authority, in decimetres
+-- the distance from the balise group that sends the packet to the end of the authority, in
+-- decimetres
 abbrev pub authority_end : Permission → ℕ
 authority_end a =
     scale_factor a.scale * (sum_by (λ s. s.length) a.terms.sections + a.terms.l_endsection)

@@ -1,4 +1,4 @@
--- What a constructor answers.
+-- What a constructor returns.
 use Rattle.std.specs.Prelude.{◌≡◌, ℕ, ◌<◌, ◌⊎◌, List, ◌∷◌, length, Result, Ok, Err}
 use Rattle.std.specs.List.{AllByRecursion}
 use Rattle.etcs_bits.specs.declared.direction.Dir.{Dir}
@@ -15,8 +15,8 @@ abbrev pub IsReason : BuildError → Type 0 → Type 0 → Type 0
 IsReason errors.TooMany many long = many
 IsReason errors.TooLong many long = (many → ⊥) × long
 
--- The packet is the one that was given, and neither has too many items nor too many bits; or why it
--- is refused is so.
+-- A packet that is built is the given one, and has neither too many items nor too many bits. For a
+-- packet that is refused, the reason holds.
 abbrev pub IsBuilt : {X : Type 0} → Result X BuildError → X → Type 0 → Type 0 → Type 0
 IsBuilt (Ok x) given many long = (x ≡ given) × (many → ⊥) × (long → ⊥)
 IsBuilt (Err e) given many long = IsReason e many long
@@ -25,6 +25,6 @@ IsBuilt (Err e) given many long = IsReason e many long
 abbrev pub IsTooLong : {X : Type 0} → ℕ → Format X → Dir × Profile X → Type 0
 IsTooLong k element p = 8191 < width ((packet k (elements element)).rows p)
 
--- There are more than 31 elements behind the first, or one of them all has a list of more than 31.
+-- There are more than 31 elements after the first, or an element has a list of more than 31.
 abbrev pub HasMany : {X : Type 0} → (X → Type 0) → X → List X → Type 0
 HasMany few first further = (31 < length further) ⊎ (AllByRecursion few (first ∷ further) → ⊥)

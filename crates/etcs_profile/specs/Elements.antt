@@ -1,5 +1,5 @@
--- A scale, a first element and further ones: the body of the packets that describe the track, each
--- element from its distance on (SUBSET-026, 7.4.2).
+-- The body of a packet that describes the track: a scale, a first element and further elements.
+-- Each element holds from its place onwards (SUBSET-026, 7.4.2).
 use Rattle.std.specs.Prelude.{ℕ, Bool, List, ◌∷◌, refl}
 use Rattle.etcs_bits.specs.declared.scale.Scale.{Scale}
 use Rattle.etcs_bits.specs.Format.{Format, ◌then◌, several, named}
@@ -8,11 +8,11 @@ use Rattle.etcs_profile.specs.Profile.{Profile}
 use Rattle.etcs_profile.specs.declared.reach.Reach.{Reach}
 use Rattle.etcs_profile.specs.Reach.{way_to_mark, reach_of}
 
--- a profile of these parts
+-- a profile made of these parts
 abbrev pub profile : {X : Type 0} → Scale → X → List X → Profile X
 profile scale first further = record { scale = scale; first = first; further = further }
 
--- Q_SCALE, an element, N_ITER and that many more
+-- Q_SCALE, an element, N_ITER and that many further elements
 abbrev pub elements : {X : Type 0} → Format X → Format (Profile X)
 elements element =
     named

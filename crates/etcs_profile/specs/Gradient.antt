@@ -1,4 +1,4 @@
--- Packet 21, gradients (SUBSET-026, 7.4.2): how steep the track is from each place on.
+-- Packet 21, gradients (SUBSET-026, 7.4.2): how steep the track is, place by place.
 use Rattle.std.specs.Prelude.{ℕ, Bool, refl}
 use Rattle.etcs_bits.specs.Format.{Format, number, flag, ◌then◌, named}
 use Rattle.etcs_profile.specs.declared.gradient.GradientElement.{GradientElement}
@@ -11,7 +11,7 @@ d_gradient = number 15
 abbrev pub q_gdir : Format Bool
 q_gdir = flag
 
--- G_A, 8 bits: how steep, in metres of height per 1,000 metres; 255 is the end mark
+-- G_A, 8 bits: how steep the track is, in metres of height per 1,000 metres; 255 is the end mark
 abbrev pub g_a : Format ℕ
 g_a = number 8
 

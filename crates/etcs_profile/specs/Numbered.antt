@@ -1,4 +1,4 @@
--- What is kept of a movement authority, as the permission that it is.
+-- A movement authority, as contracts see it, from the packet that the code keeps.
 use Rattle.etcs_profile.specs.declared.authority.Numbered.{Numbered}
 use Rattle.etcs_profile.specs.declared.authority.Numbered.TheVariants.{Level1, Level2}
 use Rattle.etcs_profile.specs.Authority.{Permission, level_1, level_2}

@@ -5,7 +5,7 @@ use Rattle.etcs_bits.specs.declared.direction.Dir.{Dir}
 use Rattle.etcs_bits.specs.Format.{Format, fixed, ◌then◌, behind_length, named}
 use Rattle.etcs_bits.specs.VariableFormats.{q_dir}
 
--- NID_PACKET of a packet that is known: its own number
+-- NID_PACKET of a known packet: the packet's own number
 abbrev pub nid_packet : ℕ → Format (Unit {0})
 nid_packet k = fixed 8 k Spare
 

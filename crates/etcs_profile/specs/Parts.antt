@@ -12,11 +12,12 @@ use Rattle.etcs_profile.specs.declared.overlap.Overlap.{Overlap}
 abbrev pub distance : Format ℕ
 distance = number 15
 
--- times in seconds, 10 bits; 1023 is no time-out
+-- times in seconds, 10 bits; 1023 means no time-out
 abbrev pub time : Format ℕ
 time = number 10
 
--- release speeds, 7 bits: 0 to 120 in steps of 5 km/h, 126 calculated on board, 127 the national value
+-- release speeds, 7 bits: 0 to 120 in steps of 5 km/h; 126 is calculated on board; 127 is the
+-- national value
 abbrev pub release_speed : Format ℕ
 release_speed = ranges 7 120 126
 

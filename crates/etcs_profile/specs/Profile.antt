@@ -1,8 +1,8 @@
--- What a packet tells along the track.
+-- A profile of the track.
 use Rattle.std.specs.Prelude.{List}
 use Rattle.etcs_bits.specs.declared.scale.Scale.{Scale}
 
--- a scale, a first element and further ones
+-- a scale, a first element and further elements
 pub record Profile (X : Type 0) : Type 0 where
   pub scale : Scale
   pub first : X

@@ -1,4 +1,4 @@
--- How far a profile tells the track.
+-- How far along the track a profile reaches.
 use Rattle.std.specs.Prelude.{ℕ, ◌+◌, ◌*◌, Bool, if◌then◌else◌, List, [], ◌∷◌, Option, Some, None}
 use Rattle.etcs_bits.specs.declared.scale.Scale.{Scale}
 use Rattle.etcs_bits.specs.declared.scale.Scale.TheVariants as scales
@@ -11,18 +11,18 @@ scale_factor scales.TenCentimetres = 1
 scale_factor scales.Metre = 10
 scale_factor scales.TenMetres = 100
 
--- a distance, and what comes behind it
+-- a distance, and the way after it
 abbrev pub further_on : ℕ → Option ℕ → Option ℕ
 further_on n (Some m) = Some (n + m)
 further_on n None = None
 
--- the sum of the distances up to and with the first element that is marked; None where none is
+-- the sum of the distances up to and including the first element that is marked; None if none is
 unfoldable pub way_to_mark : {X : Type 0} → (X → ℕ) → (X → Bool) → List X → Option ℕ
 way_to_mark distance marked [] = None
 way_to_mark distance marked (x ∷ xs) =
     if marked x then Some (distance x) else further_on (distance x) (way_to_mark distance marked xs)
 
--- the reach of a way in steps of a scale
+-- the reach of a way that is given in steps of a scale
 abbrev pub reach_of : Scale → Option ℕ → Reach
 reach_of scale (Some n) = Ends (scale_factor scale * n)
 reach_of scale None = Open

@@ -1,4 +1,4 @@
--- Packet 27, static speed profile (SUBSET-026, 7.4.2): how fast trains may go from each place on.
+-- Packet 27, static speed profile (SUBSET-026, 7.4.2): how fast trains may go, place by place.
 use Rattle.std.specs.Prelude.{ℕ, Bool, refl}
 use Rattle.etcs_bits.specs.Format.{Format, number, ranges, flag, ◌then◌, several, named}
 use Rattle.etcs_profile.specs.declared.speed.Difference.{Difference}
@@ -12,16 +12,16 @@ d_static = number 15
 abbrev pub v_static : Format ℕ
 v_static = ranges 7 120 127
 
--- Q_FRONT, 1 bit: whether the train's length delays the end of this element. At 0 its speed holds
--- until the train's rear has passed the end, at 1 only until the train's front has
+-- Q_FRONT, 1 bit: whether the train's length delays the end of this element. At 0 the speed holds
+-- until the train's rear passes the end. At 1 it holds only until the train's front passes it.
 abbrev pub q_front : Format Bool
 q_front = flag
 
--- Q_DIFF, 2 bits: 0, 1 and 2 say for which trains a difference is; 3 is spare
+-- Q_DIFF, 2 bits: 0, 1 and 2 give the trains that a difference is for; 3 is spare
 abbrev pub q_diff : Format ℕ
 q_diff = ranges 2 2 4
 
--- NC_CDDIFF where Q_DIFF is 0, NC_DIFF where it is 1 or 2: 4 bits either way, the category of train
+-- NC_CDDIFF if Q_DIFF is 0, NC_DIFF if it is 1 or 2: the category of train, 4 bits either way
 abbrev pub nc_diff : Format ℕ
 nc_diff = number 4
 

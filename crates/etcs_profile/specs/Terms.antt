@@ -1,4 +1,4 @@
--- What packets 12 and 15 have in common: how far and under which conditions a train may run
+-- What packets 12 and 15 have in common: how far a train may run, and under which conditions
 -- (SUBSET-026, 3.8 and 7.4.2).
 use Rattle.std.specs.Prelude.{ℕ, List, Option, refl}
 use Rattle.etcs_bits.specs.Format.{Format, ranges, ◌then◌, if_there, several, named}
@@ -13,8 +13,8 @@ use Rattle.etcs_profile.specs.Parts.{distance, time, section_timer, section, end
 abbrev pub speed : Format ℕ
 speed = ranges 7 120 128
 
--- the speed at the end, for how long it is given, the sections, the end section and its two timers,
--- danger point and overlap
+-- the speed at the end, how long it is allowed, the sections, the end section and its two timers,
+-- the danger point and the overlap
 pub record Conditions : Type 0 where
   pub end_speed : ℕ
   pub end_timeout : ℕ
@@ -25,7 +25,7 @@ pub record Conditions : Type 0 where
   pub danger_point : Option DangerPoint
   pub overlap : Option Overlap
 
--- conditions of these parts
+-- conditions made of these parts
 abbrev pub conditions : ℕ → ℕ → List Section → ℕ → Option SectionTimer → Option EndTimer
     → Option DangerPoint → Option Overlap → Conditions
 conditions end_speed end_timeout sections l_endsection section_timer end_timer danger_point overlap = record {
@@ -39,8 +39,8 @@ conditions end_speed end_timeout sections l_endsection section_timer end_timer d
   overlap = overlap;
 }
 
--- V_LOA, T_LOA, N_ITER and that many sections, L_ENDSECTION, and after a qualifier each: the timer of
--- the end section, the end timer, the danger point and the overlap
+-- V_LOA, T_LOA, N_ITER and that many sections, L_ENDSECTION. Then come the section timer of the end
+-- section, the end timer, the danger point and the overlap, each after a qualifier.
 abbrev pub terms : Format Conditions
 terms =
     named

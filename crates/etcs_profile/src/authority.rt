@@ -16,18 +16,18 @@ use etcs_bits::{
 use std::alloc::Global;
 use std::marker::Model;
 
-/// Packet 12, the movement authority of level 1, and packet 15, that of levels 2 and 3: how far a
-/// train may run, and under which conditions (SUBSET-026, 3.8 and 7.4.2). Packet 12 alone has
-/// V_MAIN, the signalling related speed restriction.
+/// A movement authority: how far a train may run, and under which conditions. Packet 12 is the
+/// authority of level 1, packet 15 that of levels 2 and 3. Only packet 12 has V_MAIN, the
+/// signalling related speed restriction (SUBSET-026, 3.8 and 7.4.2).
 #[derive(Debug, Drop)]
 pub struct Authority {
     packet: Numbered,
 }
 
-// What follows NID_PACKET.
+// The fields after NID_PACKET.
 #[derive(Debug, Drop)]
 enum Numbered {
-    // Packet 12: V_MAIN stands behind Q_SCALE.
+    // Packet 12: V_MAIN comes after Q_SCALE.
     Level1((Dir, Body<10, (Scale, (Speed, Terms))>)),
     // Packet 15.
     Level2((Dir, Body<10, (Scale, Terms)>)),
@@ -42,7 +42,7 @@ impl Model for Authority {
     ghost view = { λ a. permission_in a.packet };
 }
 
-// How long the sections are, one after the other.
+// The length of all sections together.
 fn length_of(sections: &[Section]) -> u64
     requires { length sections.now < 32 }
     ensures sum { result ≡ sum_by (λ s. s.length) sections.now }
@@ -61,11 +61,11 @@ impl Authority {
     ghost use Rattle.etcs_profile.specs.Authority.{permission, authority, authority_end, IsAuthorityTooLong};
     ghost use Rattle.etcs_profile.specs.Built.{IsBuilt};
 
-    /// The movement authority of these parts: packet 12 where there is a `main` speed, else packet
-    /// 15. Takes no memory; after a refusal the sections are gone.
+    /// Makes a movement authority of these parts: packet 12 if there is a `main` speed, else packet
+    /// 15. The call takes no memory. After an error the sections are lost.
     ///
-    /// `TooMany`: more than 31 sections. `TooLong`: more than 8,191 bits, which no list of 31
-    /// sections has.
+    /// `TooMany`: there are more than 31 sections. `TooLong`: the packet has more than 8,191 bits,
+    /// which no list of 31 sections reaches.
     pub fn new(
         dir: Dir,
         scale: Scale,
@@ -102,7 +102,7 @@ impl Authority {
         Authority::of(dir, scale, main, terms).ok_or(BuildError::TooLong)
     }
 
-    // The packet of these parts; None where it has more than 8,191 bits.
+    // The packet of these parts. None if it has more than 8,191 bits.
     #[tactic(auto, unfolding(etcs_bits::specs::Rows::alone))]
     fn of(dir: Dir, scale: Scale, main: Option<Speed>, terms: Terms) -> Option<Authority>
         ensures some { IfSome result (λ a. a ≡ permission dir scale main terms) }
@@ -122,7 +122,7 @@ impl Authority {
         }
     }
 
-    // What both packets have.
+    // The part that both packets have.
     fn terms(&self) -> &Terms
         ensures { result.now ≡ self.now.terms }
     {
@@ -132,7 +132,7 @@ impl Authority {
         }
     }
 
-    /// Q_DIR: for which running directions the packet is.
+    /// Q_DIR: the running directions that the packet is for.
     pub fn dir(&self) -> Dir
         ensures { result ≡ self.now.dir }
     {
@@ -152,8 +152,7 @@ impl Authority {
         }
     }
 
-    /// V_MAIN, which packet 12 alone has: the signalling related speed restriction, in steps of
-    /// 5 km/h.
+    /// V_MAIN: the signalling related speed restriction, in steps of 5 km/h. Only packet 12 has it.
     pub fn main(&self) -> Option<Speed>
         ensures { result ≡ self.now.main }
     {
@@ -170,14 +169,14 @@ impl Authority {
         self.terms().end_speed
     }
 
-    /// T_LOA: for how long that speed is allowed, in seconds; 1023 is no time-out.
+    /// T_LOA: how long the speed at the end is allowed, in seconds. 1023 means no time-out.
     pub fn end_timeout(&self) -> Time
         ensures { result ≡ self.now.terms.end_timeout }
     {
         self.terms().end_timeout
     }
 
-    /// The sections before the end section, in order; at most 31.
+    /// The sections before the end section, in order. There are at most 31.
     pub fn sections(&self) -> &[Section]
         ensures sections { result.now ≡ self.now.terms.sections }
         ensures few { length result.now < 32 }
@@ -185,21 +184,21 @@ impl Authority {
         self.terms().sections.as_slice()
     }
 
-    /// L_ENDSECTION: how long the last section is, in the packet's scale.
+    /// L_ENDSECTION: the length of the end section, in the packet's scale.
     pub fn l_endsection(&self) -> Distance
         ensures { result ≡ self.now.terms.l_endsection }
     {
         self.terms().l_endsection
     }
 
-    /// For how long the end section is valid as a section, if that is limited.
+    /// How long the end section is valid as a section, if that is limited.
     pub fn section_timer(&self) -> Option<SectionTimer>
         ensures { result ≡ self.now.terms.section_timer }
     {
         self.terms().section_timer
     }
 
-    /// Until when the end section is given, if that is limited.
+    /// The timer that limits the end section, if there is one.
     pub fn end_timer(&self) -> Option<EndTimer>
         ensures { result ≡ self.now.terms.end_timer }
     {
@@ -220,14 +219,36 @@ impl Authority {
         self.terms().overlap
     }
 
-    /// How far the train may run, in decimetres from the group that sends the packet: all sections
-    /// and the end section, one after the other. At most 104,854,400.
+    /// How far the train may run, in decimetres from the balise group that sends the packet: the
+    /// length of all sections and the end section together. At most 104,854,400.
     pub fn end(&self) -> u64
         ensures sum { result ≡ authority_end self.now }
         ensures bound { result ≤ 104854400 }
     {
         let end_section = u64::from(self.l_endsection().number());
         factor(self.scale()) * (length_of(self.sections()) + end_section)
+    }
+}
+
+impl Authority {
+    ghost use Rattle.std.specs.Prelude.{IsTrue};
+    ghost use Rattle.etcs_bits.specs.Choice.{chosen_at, numbered_rows};
+    ghost use Rattle.etcs_bits.specs.Layout.{Gives};
+    ghost use Rattle.etcs_profile.specs.Authority.{numbered, numbered_of};
+
+    /// Reads what follows NID_PACKET, whose number is 12 or 15. After an error the cursor may stand
+    /// anywhere.
+    pub fn scan_rest(alloc: Global, number: u64, cur: &mut Cursor<'_>) -> Result<Self, DecodeError>
+        requires { IsTrue (numbered.allows number) }
+        ensures { Gives (λ a. numbered_rows numbered (numbered_of a)) result
+            (chosen_at numbered number cur.old) cur.new }
+    {
+        let packet = if number == 12 {
+            Numbered::Level1(Layout::scan(alloc, cur)?)
+        } else {
+            Numbered::Level2(Layout::scan(alloc, cur)?)
+        };
+        Ok(Authority { packet })
     }
 }
 
@@ -269,12 +290,11 @@ impl Layout for Authority {
 
     fn scan(alloc: Global, cur: &mut Cursor<'_>) -> Result<Self, DecodeError> {
         let at = cur.at();
-        let packet = match cur.take(8)? {
-            12 => Numbered::Level1(Layout::scan(alloc, cur)?),
-            15 => Numbered::Level2(Layout::scan(alloc, cur)?),
-            _ => return Err(other_packet(at, cur.at())),
-        };
-        Ok(Authority { packet })
+        let number = cur.take(8)?;
+        if number != 12 && number != 15 {
+            return Err(other_packet(at, cur.at()));
+        }
+        Authority::scan_rest(alloc, number, cur)
     }
 }
 

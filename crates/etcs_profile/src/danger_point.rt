@@ -3,13 +3,15 @@
 use etcs_bits::{Bits, Cursor, DecodeError, Distance, Layout, Memory, ReleaseSpeed, Same};
 use std::alloc::Global;
 
-/// The place beyond the end of the authority that the front of a train may reach without danger
-/// (SUBSET-026, 3.8 and 7.4.2): 22 bits.
+/// The place beyond the end of the authority that the front of a train may reach without danger: 22
+/// bits (SUBSET-026, 3.8 and 7.4.2).
 #[derive(Clone, Copy, Debug, PartialEq, Eq)]
 pub struct DangerPoint {
-    /// D_DP, 15 bits: from the end of the authority to the danger point, in the packet's scale.
+    /// D_DP, 15 bits: the distance from the end of the authority to the danger point, in the
+    /// packet's scale.
     pub distance: Distance,
-    /// V_RELEASEDP, 7 bits: up to which speed a train may approach the end before it.
+    /// V_RELEASEDP, 7 bits: the highest speed at which a train may approach the end of the
+    /// authority.
     pub release_speed: ReleaseSpeed,
 }
 

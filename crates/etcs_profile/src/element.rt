@@ -4,15 +4,16 @@ ghost use Rattle.std.specs.Prelude.{◌≡◌, ◌<◌, ℕ, Bool};
 
 use etcs_bits::Layout;
 
-/// An element of a profile: something that is told from a place on (SUBSET-026, 7.4.2).
+/// An element of a profile: a place on the track, and what holds from there onwards (SUBSET-026,
+/// 7.4.2).
 pub trait Element: Layout {
-    /// The number of its distance.
+    /// The element's distance, as a number.
     ghost distance_of: { Self → ℕ };
 
     /// Whether it is marked as the end.
     ghost marked: { Self → Bool };
 
-    /// How far it is from the element before, in the packet's scale.
+    /// The distance from the element before, in the packet's scale.
     fn distance(&self) -> u32
         ensures number { result ≡ distance_of self.now }
         ensures small { result < 32768 };

@@ -1,4 +1,4 @@
-//! What a packet tells along the track.
+//! The body of a packet that describes the track.
 
 ghost use Rattle.std.specs.Prelude.{◌≡◌, ◌<◌, ◌≤◌, ◌*◌, length, IfSome};
 ghost use Rattle.etcs_profile.specs.Reach.{way_to_mark};
@@ -11,9 +11,9 @@ use etcs_bits::{Bits, Cursor, DecodeError, Items, Layout, Memory, Same, Scale};
 use std::alloc::Global;
 use std::marker::Model;
 
-/// A scale, a first element and further ones: the body of the packets that tell something along the
-/// track (SUBSET-026, 7.4.2). Each element's distance is from the one before it, the first one's
-/// from the group that sends the packet.
+/// The body of a packet that describes the track: a scale, a first element and further elements
+/// (SUBSET-026, 7.4.2). The first element's distance starts at the balise group that sends the
+/// packet. Each further element's distance starts at the element before it.
 #[derive(Debug, Drop)]
 pub struct Elements<T> {
     scale: Scale,
@@ -36,7 +36,7 @@ impl<T: Drop> Elements<T> {
     ghost use Rattle.std.specs.Prelude.{IfOk, IfErr, IsErr, ◌↔◌, ◌≤◌};
     ghost use Rattle.etcs_profile.specs.Elements.{profile};
 
-    /// These elements. TooMany: more than 31 behind the first.
+    /// Makes the body of these elements. `TooMany`: there are more than 31 after the first.
     pub fn new(scale: Scale, first: T, further: Vec<T>) -> Result<Elements<T>, BuildError>
         ensures ok { IfOk result (λ e. e ≡ profile scale first further.items) }
         ensures many { IsErr result ↔ (32 ≤ length further.items) }
@@ -66,7 +66,7 @@ impl<T: Drop> Elements<T> {
         &self.first
     }
 
-    /// The elements behind the first, in order.
+    /// The elements after the first, in order.
     pub fn further(&self) -> &[T]
         ensures elements { result.now ≡ self.now.further }
         ensures few { length result.now < 32 }
@@ -75,7 +75,7 @@ impl<T: Drop> Elements<T> {
     }
 }
 
-// The sum of the distances up to and with the first element that is marked as the end.
+// The sum of the distances up to and including the first element that is marked as the end.
 fn way_to_end<T: Element>(elements: &[T]) -> Option<u64>
     requires { length elements.now < 32 }
     ensures way { result ≡ way_to_mark T.distance_of T.marked elements.now }
@@ -94,8 +94,9 @@ fn way_to_end<T: Element>(elements: &[T]) -> Option<u64>
 impl<T: Element> Elements<T> {
     ghost use Rattle.etcs_profile.specs.Elements.{elements_reach};
 
-    /// How far along the track the elements are given: the sum of the distances up to and with the
-    /// first that is marked as the end, in decimetres; open where none is marked.
+    /// How far along the track the profile reaches, in decimetres: the sum of the distances up to
+    /// and including the first element that is marked as the end. The reach is open if none is
+    /// marked.
     pub fn reach(&self) -> Reach
         ensures { result ≡ elements_reach T.distance_of T.marked self.now }
     {

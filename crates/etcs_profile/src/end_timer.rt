@@ -3,13 +3,14 @@
 use etcs_bits::{Bits, Cursor, DecodeError, Distance, Layout, Memory, Same, Time};
 use std::alloc::Global;
 
-/// Until when the end section is given (SUBSET-026, 3.8 and 7.4.2): 25 bits.
+/// How long the end section is granted: 25 bits (SUBSET-026, 3.8 and 7.4.2).
 #[derive(Clone, Copy, Debug, PartialEq, Eq)]
 pub struct EndTimer {
-    /// T_ENDTIMER, 10 bits: for how long the end section is given, in seconds; 1023 is no time-out.
+    /// T_ENDTIMER, 10 bits: how long the end section is granted, in seconds. 1023 means no
+    /// time-out.
     pub time: Time,
-    /// D_ENDTIMERSTARTLOC, 15 bits: where the timer is started, from there to the end of the end
-    /// section, in the packet's scale.
+    /// D_ENDTIMERSTARTLOC, 15 bits: the distance from the place where the timer starts to the end
+    /// of the end section, in the packet's scale.
     pub start: Distance,
 }
 

@@ -2,7 +2,7 @@
 
 use thiserror::Error;
 
-/// Why a packet cannot be built of what was given (SUBSET-026, 7.4).
+/// Why a packet cannot be built from the given parts (SUBSET-026, 7.4).
 #[derive(Clone, Copy, Debug, PartialEq, Eq, Error)]
 pub enum BuildError {
     /// A list has more than 31 items, which N_ITER, 5 bits, cannot count.

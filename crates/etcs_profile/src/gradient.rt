@@ -9,7 +9,7 @@ use crate::packet::Packet;
 use etcs_bits::{Bits, Cursor, DecodeError, Dir, Distance, Layout, Memory, Plain, Same, Scale};
 use std::alloc::Global;
 
-/// Packet 21, the gradient profile: how steep the track is, from each place on (SUBSET-026, 7.4.2).
+/// Packet 21, the gradient profile: how steep the track is, place by place (SUBSET-026, 7.4.2).
 pub type Gradient = Packet<21, Elements<GradientElement>>;
 
 impl Packet<21, Elements<GradientElement>> {
@@ -18,11 +18,11 @@ impl Packet<21, Elements<GradientElement>> {
     ghost use Rattle.etcs_profile.specs.Built.{IsBuilt, IsTooLong};
     ghost use Rattle.etcs_profile.specs.Gradient.{gradient_element};
 
-    /// The gradient profile of these elements. Takes no memory; after a refusal the elements are
-    /// gone.
+    /// Makes a gradient profile of these elements. The call takes no memory. After an error the
+    /// elements are lost.
     ///
-    /// `TooMany`: more than 31 elements behind the first. `TooLong`: more than 8,191 bits, which no
-    /// list of 32 elements has.
+    /// `TooMany`: there are more than 31 elements after the first. `TooLong`: the packet has more
+    /// than 8,191 bits, which no list of 32 elements reaches.
     pub fn new(
         dir: Dir,
         scale: Scale,
@@ -37,15 +37,16 @@ impl Packet<21, Elements<GradientElement>> {
     }
 }
 
-/// From one place on, how steep the track is: 24 bits (SUBSET-026, 7.4.2).
+/// An element of packet 21: how steep the track is from its place onwards. 24 bits (SUBSET-026,
+/// 7.4.2).
 #[derive(Clone, Copy, Debug, PartialEq, Eq)]
 pub struct GradientElement {
     /// D_GRADIENT, 15 bits: the distance from the element before, in the packet's scale.
     pub distance: Distance,
     /// Q_GDIR, 1 bit: whether the track rises.
     pub uphill: bool,
-    /// G_A, 8 bits: metres of height per 1,000 metres; 255 is the end mark: from here on nothing is
-    /// told.
+    /// G_A, 8 bits: metres of height per 1,000 metres. 255 is the end mark: the profile carries no
+    /// information from that place.
     pub gradient: Plain<8>,
 }
 

@@ -1,12 +1,12 @@
-//! Movement authorities and profiles of the track, packets 12, 15, 21 and 27 (SUBSET-026, 7.4.2): how
-//! far a train may run, and what is known of the track there.
+//! Movement authorities and profiles of the track, packets 12, 15, 21 and 27 (SUBSET-026, 7.4.2):
+//! how far a train may run, and what is known of the track there.
 //!
-//! [`Authority`] is the movement authority, packets 12 and 15; [`Authority::end`] says how far the
-//! train may run. [`Gradient`], packet 21, and [`SpeedProfile`], packet 27, are each a [`Packet`] of
-//! [`Elements`]; [`Packet::reach`] says how far along the track they are given. Read `packet.rt`,
+//! [`Authority`] is the movement authority, packets 12 and 15. [`Authority::end`] gives how far the
+//! train may run. [`Gradient`], packet 21, and [`SpeedProfile`], packet 27, are each a [`Packet`]
+//! of [`Elements`]. [`Packet::reach`] gives how far along the track they reach. Read `packet.rt`,
 //! `elements.rt` and `gradient.rt` first, with the files of the same names in `specs/`, then
-//! `authority.rt`. The crate stands on [`etcs_bits::Layout`]. Left out: all other packets, and
-//! whether an authority and the profiles fit together.
+//! `authority.rt`. The crate builds on [`etcs_bits::Layout`]. It leaves out all other packets. It
+//! does not check whether an authority and the profiles fit together.
 #![tactic(auto)]
 
 mod authority;

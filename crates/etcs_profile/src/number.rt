@@ -1,15 +1,15 @@
-//! The number of a packet that is known.
+//! The number of a known packet.
 
 ghost use Rattle.std.specs.Prelude.{◌≡◌};
 
 use etcs_bits::{Bits, Cursor, DecodeError, Fault, FaultKind, Layout, Memory};
 use std::alloc::Global;
 
-/// NID_PACKET, 8 bits, where it has to be `N` (SUBSET-026, 7.5.1); another number is a Spare fault.
+/// NID_PACKET, 8 bits, where it must be `N`. Any other number is a Spare fault (SUBSET-026, 7.5.1).
 #[derive(Clone, Copy, Debug, PartialEq, Eq)]
 pub struct Number<const N: u32>;
 
-/// The fault of a number that is another packet's.
+/// The fault where the number is that of another packet.
 #[cold]
 pub(crate) fn other_packet(at: usize, end: usize) -> DecodeError
     ensures { result ≡ DecodeError.Fault (record { at = at; end = end; why = FaultKind.Spare }) }

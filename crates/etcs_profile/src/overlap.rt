@@ -3,18 +3,20 @@
 use etcs_bits::{Bits, Cursor, DecodeError, Distance, Layout, Memory, ReleaseSpeed, Same, Time};
 use std::alloc::Global;
 
-/// The track beyond the end of the authority that is kept free for a while (SUBSET-026, 3.8 and
-/// 7.4.2): 47 bits.
+/// The track beyond the end of the authority that is kept free for a while: 47 bits (SUBSET-026,
+/// 3.8 and 7.4.2).
 #[derive(Clone, Copy, Debug, PartialEq, Eq)]
 pub struct Overlap {
-    /// D_STARTOL, 15 bits: where the overlap's timer is started, from there to the end of the authority,
-    /// in the packet's scale.
+    /// D_STARTOL, 15 bits: the distance from the place where the overlap's timer starts to the end
+    /// of the authority, in the packet's scale.
     pub start: Distance,
-    /// T_OL, 10 bits: for how long the overlap is kept, in seconds; 1023 is no time-out.
+    /// T_OL, 10 bits: how long the overlap is kept, in seconds. 1023 means no time-out.
     pub time: Time,
-    /// D_OL, 15 bits: how long the overlap is beyond the end of the authority, in the packet's scale.
+    /// D_OL, 15 bits: the length of the overlap beyond the end of the authority, in the packet's
+    /// scale.
     pub length: Distance,
-    /// V_RELEASEOL, 7 bits: up to which speed a train may approach the end before it.
+    /// V_RELEASEOL, 7 bits: the highest speed at which a train may approach the end of the
+    /// authority.
     pub release_speed: ReleaseSpeed,
 }
 

@@ -8,7 +8,7 @@ use std::alloc::Global;
 use std::marker::Model;
 
 /// Packet number `N`: NID_PACKET, 8 bits, Q_DIR, 2 bits, L_PACKET, 13 bits, and a record
-/// (SUBSET-026, 7.4). Contracts see the direction and the record.
+/// (SUBSET-026, 7.4). Contracts see it as the direction and the record.
 #[derive(Debug, Drop)]
 pub struct Packet<const N: u32, T: Layout> {
     dir: Dir,
@@ -26,8 +26,11 @@ impl<const N: u32, T: Layout> Model for Packet<N, T> {
 impl<const N: u32, T: Layout> Packet<N, T> {
     ghost use Rattle.std.specs.Prelude.{◌↔◌, ◌≤◌, ◌+◌, IsSome, IfSome};
     ghost use Rattle.etcs_bits.specs.Rows.{width};
+    ghost use Rattle.etcs_bits.specs.Reading.{rows_at};
+    ghost use Rattle.etcs_bits.specs.Layout.{Gives, IfMemory};
+    ghost use Rattle.etcs_profile.specs.Packet.{rest};
 
-    /// The packet that is this record, for this direction; None where the record is not allowed, or
+    /// Makes the packet with this record, for this direction. None if the record is not allowed or
     /// the packet has more than 8,191 bits.
     #[inline]
     pub fn of(dir: Dir, body: T) -> Option<Self>
@@ -38,7 +41,7 @@ impl<const N: u32, T: Layout> Packet<N, T> {
         Some(Packet { dir, body })
     }
 
-    /// Q_DIR: for which running directions the packet is.
+    /// Q_DIR: the running directions that the packet is for.
     #[inline]
     pub fn dir(&self) -> Dir
         ensures { result ≡ self.now.0 }
@@ -46,12 +49,23 @@ impl<const N: u32, T: Layout> Packet<N, T> {
         self.dir
     }
 
-    /// What comes behind L_PACKET.
+    /// The record after L_PACKET.
     #[inline]
     pub fn body(&self) -> &T
         ensures { result.now ≡ self.now.1 }
     {
         self.body.content()
+    }
+
+    /// Reads what follows NID_PACKET: Q_DIR, L_PACKET and the record. After an error the cursor may
+    /// stand anywhere.
+    pub fn scan_rest(alloc: Global, cur: &mut Cursor<'_>) -> Result<Self, DecodeError>
+        ensures gives { Gives (rest T.format).rows result (rows_at (rest T.format).fields cur.old) cur.new }
+        ensures memory { IfMemory result T.grows }
+    {
+        let dir = Dir::scan(alloc, cur)?;
+        let body = Body::scan(alloc, cur)?;
+        Ok(Packet { dir, body })
     }
 }
 
@@ -85,9 +99,7 @@ impl<const N: u32, T: Layout> Layout for Packet<N, T> {
 
     fn scan(alloc: Global, cur: &mut Cursor<'_>) -> Result<Self, DecodeError> {
         let _number = Number::<N>::scan(alloc, cur)?;
-        let dir = Dir::scan(alloc, cur)?;
-        let body = Body::scan(alloc, cur)?;
-        Ok(Packet { dir, body })
+        Packet::scan_rest(alloc, cur)
     }
 }
 

@@ -1,4 +1,4 @@
-//! A packet that tells a profile of the track.
+//! A packet with a profile of the track.
 
 ghost use Rattle.std.specs.Prelude.{◌≡◌};
 
@@ -46,15 +46,16 @@ impl<const N: u32, T: Element> Packet<N, Elements<T>> {
         self.body().first()
     }
 
-    /// The elements behind the first, in order; at most 31.
+    /// The elements after the first, in order. There are at most 31.
     pub fn further(&self) -> &[T]
         ensures { result.now ≡ self.now.1.further }
     {
         self.body().further()
     }
 
-    /// How far along the track the profile is given: the sum of the distances up to and with the first
-    /// element that is marked as the end, in decimetres; open where none is marked.
+    /// How far along the track the profile reaches, in decimetres: the sum of the distances up to
+    /// and including the first element that is marked as the end. The reach is open if none is
+    /// marked.
     pub fn reach(&self) -> Reach
         ensures { result ≡ elements_reach T.distance_of T.marked self.now.1 }
     {

@@ -3,13 +3,13 @@
 use etcs_bits::{Bits, Cursor, DecodeError, Distance, Layout, Memory, Same, Time};
 use std::alloc::Global;
 
-/// A section of a movement authority: a stretch of track after the one before it (SUBSET-026, 3.8
-/// and 7.4.2). 16 bits, and 25 for a timer.
+/// A section of a movement authority: a stretch of track that follows the section before it. 16
+/// bits, and 25 more for a timer (SUBSET-026, 3.8 and 7.4.2).
 #[derive(Clone, Copy, Debug, PartialEq, Eq)]
 pub struct Section {
-    /// L_SECTION, 15 bits: how long it is, in the packet's scale.
+    /// L_SECTION, 15 bits: the length of the section, in the packet's scale.
     pub length: Distance,
-    /// Q_SECTIONTIMER, 1 bit, and for how long the section is valid, if that is limited.
+    /// Q_SECTIONTIMER, 1 bit, and how long the section is valid, if that is limited.
     pub timer: Option<SectionTimer>,
 }
 
@@ -47,14 +47,14 @@ impl Same for Section {
     }
 }
 
-/// For how long a section is valid (SUBSET-026, 3.8 and 7.4.2): 25 bits.
+/// How long a section is valid: 25 bits (SUBSET-026, 3.8 and 7.4.2).
 #[derive(Clone, Copy, Debug, PartialEq, Eq)]
 pub struct SectionTimer {
-    /// T_SECTIONTIMER, 10 bits: for how long the section is valid, unless the train passes the place
-    /// where the timer is stopped first, in seconds; 1023 is no time-out.
+    /// T_SECTIONTIMER, 10 bits: how long the section is valid, in seconds. 1023 means no time-out.
+    /// The limit does not apply if the train first passes the place where the timer stops.
     pub time: Time,
-    /// D_SECTIONTIMERSTOPLOC, 15 bits: where the timer is stopped, from the beginning of the section
-    /// on, in the packet's scale.
+    /// D_SECTIONTIMERSTOPLOC, 15 bits: the distance from the beginning of the section to the place
+    /// where the timer stops, in the packet's scale.
     pub stop: Distance,
 }
 

@@ -12,8 +12,7 @@ use etcs_bits::{
 };
 use std::alloc::Global;
 
-/// Packet 27, the static speed profile: how fast trains may go, from each place on (SUBSET-026,
-/// 7.4.2).
+/// Packet 27, the static speed profile: how fast trains may go, place by place (SUBSET-026, 7.4.2).
 pub type SpeedProfile = Packet<27, Elements<SpeedElement>>;
 
 impl Packet<27, Elements<SpeedElement>> {
@@ -23,11 +22,11 @@ impl Packet<27, Elements<SpeedElement>> {
     ghost use Rattle.etcs_profile.specs.Built.{HasMany};
     ghost use Rattle.etcs_profile.specs.declared.speed.SpeedElement.{SpeedElement};
 
-    /// The static speed profile of these elements. Takes no memory; after a refusal the elements
-    /// are gone.
+    /// Makes a static speed profile of these elements. The call takes no memory. After an error the
+    /// elements are lost.
     ///
-    /// `TooMany`: more than 31 elements behind the first, or more than 31 differences in one of them
-    /// all. `TooLong`: more than 8,191 bits.
+    /// `TooMany`: there are more than 31 elements after the first, or an element has more than 31
+    /// differences. `TooLong`: the packet has more than 8,191 bits.
     pub fn new(
         dir: Dir,
         scale: Scale,
@@ -45,11 +44,11 @@ impl Packet<27, Elements<SpeedElement>> {
 /// Another speed for some trains: 13 bits (SUBSET-026, 7.4.2).
 #[derive(Clone, Copy, Debug, PartialEq, Eq)]
 pub struct Difference {
-    /// Q_DIFF, 2 bits: 0 by cant deficiency, 1 and 2 by another category of train (SUBSET-026,
-    /// 7.5.1); 3 is spare.
+    /// Q_DIFF, 2 bits: the kind of category. 0 is cant deficiency, 1 and 2 are another category of
+    /// train, 3 is spare (SUBSET-026, 7.5.1).
     pub kind: Ranged<2, 2, 4>,
-    /// NC_CDDIFF where Q_DIFF is 0, NC_DIFF where it is 1 or 2, 4 bits: the category of train; no
-    /// number of it is refused.
+    /// NC_CDDIFF if Q_DIFF is 0, NC_DIFF if it is 1 or 2, 4 bits: the category of train. No number
+    /// is refused.
     pub category: Plain<4>,
     /// V_DIFF, 7 bits: the speed for trains of this category.
     pub speed: Speed,
@@ -97,16 +96,17 @@ impl Same for Difference {
     }
 }
 
-/// From one place on, how fast trains may go (SUBSET-026, 7.4.2): 28 bits, and 13 for each
-/// difference.
+/// An element of packet 27: how fast trains may go from its place onwards. 28 bits, and 13 more for
+/// each difference (SUBSET-026, 7.4.2).
 #[derive(Debug, Drop)]
 pub struct SpeedElement {
     /// D_STATIC, 15 bits: the distance from the element before, in the packet's scale.
     pub distance: Distance,
-    /// V_STATIC, 7 bits: the speed; 127 is the end mark: from here on nothing is told.
+    /// V_STATIC, 7 bits: the speed. 127 is the end mark: the profile carries no information from
+    /// that place.
     pub speed: StaticSpeed,
-    /// Q_FRONT, 1 bit: whether the speed is in force only until the front of the train passes its
-    /// end; else until the rear does.
+    /// Q_FRONT, 1 bit: if set, the speed holds only until the front of the train passes the end of
+    /// the element. If not, it holds until the rear passes that end.
     pub front: bool,
     /// N_ITER and the other speeds for some trains, at most 31.
     pub differences: Items<Difference>,
@@ -117,11 +117,10 @@ impl Layout for SpeedElement {
 
     ghost format = { speed_element };
 
+    // The types keep the numbers in range, except the count of differences.
     ghost fit = { λ e. length e.differences ≤ 31 };
 
     ghost grows = { Unit {0} };
-
-    // Its types keep its numbers in range, but for the count of differences.
 
     #[tactic(auto, using(etcs_bits::proofs::PutLemmas::allowed_both, etcs_bits::proofs::FitLemmas::all_fit))]
     fn is_allowed(&self) -> bool {

@@ -1,4 +1,4 @@
-//! What the two movement authorities have in common.
+//! What the two movement authority packets have in common.
 
 use crate::danger_point::DangerPoint;
 use crate::end_timer::EndTimer;
@@ -8,8 +8,8 @@ use etcs_bits::{Bits, Cursor, DecodeError, Distance, Items, Layout, Memory, Same
 use std::alloc::Global;
 use std::marker::Model;
 
-/// How far and under which conditions a train may run: packets 12 and 15 behind Q_SCALE and V_MAIN
-/// (SUBSET-026, 3.8 and 7.4.2).
+/// How far a train may run, and under which conditions: the fields of packets 12 and 15 after
+/// Q_SCALE and V_MAIN (SUBSET-026, 3.8 and 7.4.2).
 #[derive(Debug, Drop)]
 pub(crate) struct Terms {
     pub end_speed: Speed,

@@ -1,4 +1,4 @@
--- Ones behind bits.
+-- Ones appended to bits.
 use Rattle.std.proofs.Common.{◌≡◌, ℕ, zero, suc, ◌+◌, ◌-◌, ◌*◌, ◌^◌, ◌≤◌, Bool, true, List, ◌∷◌, ◌++◌, length, replicate, refl, sym, ap, ◌∙◌, append_assoc, length-append, arith, mod-eq_of_lt}
 use Rattle.std.proofs.lemmas.Nat.{pow-add, pow_pos}
 use Rattle.etcs_bits.specs.Number.{num, num_of_bits}
@@ -32,7 +32,7 @@ replicate-add : (a b : ℕ) → replicate (a + b) true ≡ replicate a true ++ r
 replicate-add zero b = ap (λ n. replicate n true) (omega arith)
 replicate-add (suc a) b = let e : suc a + b ≡ suc (a + b) = omega arith in ap (λ n. replicate n true) e ∙ ap (λ xs. true ∷ xs) (replicate-add a b)
 
--- so many more ones
+-- `w` more ones
 pub more_ones : (old mid new : List Bool) (w : ℕ) → length old ≤ length mid → mid ≡ old ++ replicate (length mid - length old) true → new ≡ mid ++ replicate w true
     → new ≡ old ++ replicate (length new - length old) true
 more_ones old mid new w le so_far more =
@@ -42,6 +42,6 @@ more_ones old mid new w le so_far more =
     more ∙ ap (λ xs. xs ++ replicate w true) so_far ∙ append_assoc old (replicate k true) (replicate w true)
     ∙ ap (λ xs. old ++ xs) (sym (ap (λ n. replicate n true) e ∙ replicate-add k w))
 
--- how many bits there are then
+-- the number of bits after that
 pub grown : (mid new : List Bool) (w : ℕ) → new ≡ mid ++ replicate w true → length new ≡ length mid + w
 grown mid new w more = ap length more ∙ length-append mid (replicate w true) ∙ ap (λ n. length mid + n) (length-ones w)

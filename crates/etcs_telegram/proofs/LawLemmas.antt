@@ -1,4 +1,4 @@
--- Telegrams, their bits and their texts belong to one another.
+-- Telegrams, their bits and their texts match each other.
 use Rattle.std.proofs.Common.{◌≡◌, ℕ, suc, ◌+◌, ◌*◌, ◌-◌, Bool, true, false, List, [], ◌∷◌, ◌++◌, length, take, drop, if◌then◌else◌, Option, Some, None, Ok, refl, sym, ap, ap₂, subst, ◌∙◌, arith, length-append, Result, Err}
 use Rattle.std.proofs.lemmas.Bool.{eq-eqb}
 use Rattle.std.proofs.lemmas.List.{take_at, drop_at, length-take-le, length-replicate}
@@ -27,7 +27,7 @@ use Rattle.etcs_telegram.specs.Text.{IsTelegramText, IsCanonicalText, ArePadded,
 use Rattle.etcs_telegram.proofs.TelegramLemmas.{headed, made, count_by, size_of_back, telegram_meaning, encoding_telegram, canonical_length}
 use Rattle.etcs_telegram.proofs.TextLemmas.{size_in_back, size_counts, whole_bytes, pads_divide, padded_when, of_its_size}
 
--- what is decoded is one telegram
+-- bits are decoded to one telegram only
 pub one_meaning : (t u : Telegram) (bits : List Bool) → telegram_of bits ≡ Ok t → telegram_of bits ≡ Ok u → t ≡ u
 one_meaning t u bits a b = let same = sym a ∙ b in cc
 
@@ -45,7 +45,7 @@ meant : (bits : List Bool) → telegram_of bits ≡ told (length bits) (read_at 
 unfolding telegram_of whole_of
 meant bits = refl
 
--- what reading gives, where that is a telegram
+-- what reading gives, if that is a telegram
 record IsToldOf (n : ℕ) (t : Telegram) (r : Result ((Header × List TrackPacket) × Place) Fault) : Type 0 where
   pub size : size_by n ≡ t.size
   pub end : Place
@@ -58,7 +58,7 @@ told_of n t (Ok read) is =
     subst (λ u. IsToldOf n u (Ok read)) same (record { size = refl; end = read.1; read = refl })
 told_of n t (Err f) is = absurd cc
 
--- bits that mean a telegram are it, where they are as many as some telegram has
+-- bits that mean a telegram are that telegram, if some telegram has that many bits
 pub means_telegram : (t : Telegram) (bits : List Bool) → AreUserBits bits → telegram_of bits ≡ Ok t → IsTelegram t bits
 means_telegram t bits count is =
     let x = told_of (length bits) t (read_at bits) (sym (meant bits) ∙ is) in
@@ -104,13 +104,13 @@ text_meaning t text x =
     let zeros : pads_with_zeros t.size x.bytes ≡ true = eq-eqb _ _ (pads_divide t.size x.bytes x.padded.count (in_range (byte_count t.size - 1)) x.padded.padding) in
     rw (x.decoded, size, zeros, telegram_meaning t (user_bits_in t.size x.bytes) x.telegram) refl
 
--- the user bits of as many bytes as a telegram of this size has
+-- the number of user bits, in as many bytes as a telegram of this size has
 user_bits_count : (size : Size) (bytes : List ℕ) → length bytes ≡ byte_count size → length (user_bits_in size bytes) ≡ user_bits size
 user_bits_count size bytes count =
     let whole = whole_bytes size in
     length-take-le (user_bits size) (bits_of_bytes bytes) (omega (arith, length-bits_of_bytes bytes))
 
--- the pad bits were looked at, and then the user bits were read
+-- the pad bits were checked, and then the user bits were read
 read_in : (t : Telegram) (size : Size) (bytes : List ℕ) (zeros : Bool) → pads_with_zeros size bytes ≡ zeros
     → (if zeros then of_bits (telegram_of (user_bits_in size bytes)) else Err errors.PadBits) ≡ Ok t
     → (pads_with_zeros size bytes ≡ true) × (telegram_of (user_bits_in size bytes) ≡ Ok t)

@@ -1,4 +1,4 @@
--- What a text is refused for, and what it means.
+-- The reason to refuse a text, and what the text means.
 use Rattle.std.proofs.Common.{◌≡◌, ◌≢◌, ◌↔◌, ℕ, ◌-◌, ◌*◌, Bool, arith, sym, IsErrOf, true, false, List, length, if◌then◌else◌, Option, Some, None, Result, Ok, Err, refl, ap, subst, ◌∙◌}
 use Rattle.std.proofs.lemmas.Bool.{eq-eqb}
 use Rattle.hex.specs.Hex.{decode_of, IsBytes}
@@ -30,7 +30,7 @@ no_size : (bytes : List ℕ) (o : Option Size) → size_in (length bytes) ≡ o
 no_size bytes None sized none = refl
 no_size bytes (Some size) sized none = absurd (none size (size_counts (length bytes) size sized))
 
--- where a pad bit is set, they are not all zeros
+-- if a pad bit is set, the pad bits are not all zeros
 not_zeros : (size : Size) (bytes : List ℕ) (zeros : Bool) → pads_with_zeros size bytes ≡ zeros
     → IsBytes bytes → length bytes ≡ byte_count size → (x : HavePadSet bytes) → x.size ≡ size → zeros ≡ false
 not_zeros size bytes false is in_range count x same = refl
@@ -115,9 +115,9 @@ pub read_reason : (e : TextError) (text : List ℕ) → telegram_of_text text �
 unfolding telegram_of_text
 read_reason e text is = read_decoded e text (decode_of text) refl is
 
--- ---- what is told without memory
+-- ---- what is reported without memory
 
--- what is looked for before the user bits
+-- the reasons that are checked before the user bits
 abbrev pub IsEarly : TextError → Type 0
 IsEarly errors.Memory = ⊥
 IsEarly errors.NotHex = Unit {0}
@@ -132,7 +132,7 @@ no_memory errors.WrongSize early is = absurd cc
 no_memory errors.PadBits early is = absurd cc
 no_memory (errors.Fault f) early is = absurd cc
 
--- the user bits mean none of them
+-- the user bits mean none of these reasons
 not_early : (meaning : Result Telegram TextError) (e : TextError) → IsEarly e → meaning ≡ Err e
     → IsOfUserBits meaning → ⊥
 not_early meaning errors.Memory early is of = early
@@ -141,7 +141,7 @@ not_early meaning errors.WrongSize early is of = rw is at of
 not_early meaning errors.PadBits early is of = rw is at of
 not_early meaning (errors.Fault f) early is of = early
 
--- what an answer says that the text means
+-- an error that is returned, other than lack of memory, is what the text means
 fails_so : (e : TextError) (meaning : Result Telegram TextError) → e ≢ errors.Memory
     → TextFails e meaning → meaning ≡ Err e
 fails_so errors.Memory meaning other fails = absurd (other refl)
@@ -160,7 +160,7 @@ is_told (Err errors.WrongSize) meaning e early exact memory is = sym exact ∙ i
 is_told (Err errors.PadBits) meaning e early exact memory is = sym exact ∙ is
 is_told (Err (errors.Fault f)) meaning e early exact memory is = sym exact ∙ is
 
--- Each of them is answered exactly where it is so.
+-- Each of these reasons is returned exactly if it holds.
 told_early : (r : Result Telegram TextError) (text : List ℕ) (e : TextError) → IsEarly e
     → IsTextMeaning r (telegram_of_text text)
     → (r ≡ Err errors.Memory → IsOfUserBits (telegram_of_text text))
@@ -175,7 +175,7 @@ pub decoded_means : (text bytes : List ℕ) → decode_of text ≡ Ok bytes → 
 unfolding telegram_of_text
 decoded_means text bytes decoded = rw decoded refl
 
--- what its bytes are answered
+-- the same, where the text is decoded and its bytes give the result
 pub told_in : (r : Result Telegram TextError) (e : TextError) (text bytes : List ℕ) → IsEarly e
     → decode_of text ≡ Ok bytes → IsTextMeaning r (of_bytes bytes)
     → (r ≡ Err errors.Memory → IsOfUserBits (of_bytes bytes)) → IsErrOf r e ↔ IsReason e text
@@ -183,7 +183,7 @@ told_in r e text bytes early decoded exact memory =
     let means = decoded_means text bytes decoded in
     told_early r text e early (rw means exact) (rw means memory)
 
--- one of them that was found is not another
+-- one of these reasons, once found, is no other
 abbrev failing : TextError → Result Telegram TextError
 failing e = Err e
 
@@ -201,12 +201,12 @@ pub other_size_means : (text : List ℕ) → IsReasonDecoded errors.WrongSize te
     → telegram_of_text text ≡ Err errors.WrongSize
 other_size_means text x = reason_read errors.WrongSize text (no_memory errors.WrongSize tt) x
 
--- what the user bits mean
+-- what the user bits mean is no reason checked before them
 pub of_user_bits : (r : Result Telegram Fault) → IsOfUserBits (of_bits r)
 of_user_bits (Ok t) = tt
 of_user_bits (Err f) = tt
 
--- a text of other digits
+-- a text with another number of digits
 pub other_size : (text : List ℕ) → IsHexadecimal text → length text ≢ 54 → length text ≢ 208
     → IsReasonDecoded errors.WrongSize text
 other_size text h short long =

@@ -60,7 +60,7 @@ pub size_of_back : (size : Size) → size_of (user_bits size) ≡ Some size
 size_of_back Short = refl
 size_of_back Long = refl
 
--- bits as many as some telegram has are as many as a telegram of their size has
+-- if some telegram has `n` bits, `n` is the number of user bits of its size
 counts_some : (n : ℕ) (o : Option Size) → size_of n ≡ o → IsSome o → n ≡ user_bits (size_by n)
 counts_some n None is none = absurd cc
 counts_some n (Some size) is some = size_counts n size is ∙ ap user_bits (sym (size_found n size is))
@@ -88,11 +88,11 @@ begins_meaning h packets bits b =
     means_whole stops.Telegram header.fields header.of track_packet.fields track_packet.of bits (h, packets) b.end
     (whole_is_read header.laid track_packet.laid stops.Telegram h packets (start bits) b.end headed (omega arith) b.whole)
 
--- a telegram of these parts
+-- a telegram made of these parts
 abbrev pub made : Size → Header → List TrackPacket → Telegram
 made size h packets = record { size = size; header = h; packets = packets }
 
--- the bits that are a telegram are as many as some telegram has
+-- bits that are a telegram are as many as some telegram has
 pub telegram_bits : (t : Telegram) (bits : List Bool) → IsTelegram t bits → AreUserBits bits
 telegram_bits t bits x = rw (x.count, size_of_back t.size) refl
 
@@ -102,7 +102,7 @@ telegram_meaning t bits x =
     let size : size_by (length bits) ≡ t.size = ap size_by x.count ∙ size_back t.size in
     rw (begins_meaning t.header t.packets bits x.begins) (ap (λ (s : Size). Ok (made s t.header t.packets)) size)
 
--- what was read, with its size
+-- a header and packets that were read, with their size, are what the bits mean
 pub read_meaning : (h : Header) (packets : List TrackPacket) (size : Size) (bits : List Bool)
     → size_of (length bits) ≡ Some size
     → whole_of stops.Telegram header.fields header.of track_packet.fields track_packet.of bits ≡ Ok (h, packets)
@@ -111,7 +111,7 @@ unfolding telegram_of
 read_meaning h packets size bits found read =
     rw read (ap (λ (s : Size). Ok (made s h packets)) (size_found (length bits) size found))
 
--- and what was not
+-- if reading fails, the bits mean that failure
 pub failed_meaning : (e : DecodeError) (bits : List Bool)
     → Fails e (whole_of stops.Telegram header.fields header.of track_packet.fields track_packet.of bits)
     → Fails e (telegram_of bits)
@@ -125,7 +125,7 @@ pub header_width : (h : Header) → length (join (header.rows h)) ≡ 50
 unfolding alone
 header_width h = length-join (header.rows h)
 
--- the header, the packets and the end mark have the bits that are counted
+-- the header, the packets and the end mark have `used_bits` bits
 pub front_width : (t : Telegram) → length (front_bits t) ≡ used_bits t
 front_width t =
     let packets = flat_map track_packet.rows t.packets in
@@ -143,7 +143,7 @@ canonical_length t fits =
     let n = user_bits t.size - used_bits t in
     omega (arith, length-append (front_bits t) (replicate n true), length-ones n, front_width t)
 
--- what was written one after the other
+-- the header, the packets and the end mark, written one after another
 pub written_front : (t : Telegram) (none first second third : List Bool) → none ≡ []
     → first ≡ none ++ join (header.rows t.header) → second ≡ first ++ join (flat_map track_packet.rows t.packets)
     → third ≡ second ++ num 8 255 → third ≡ front_bits t
@@ -153,7 +153,7 @@ written_front t none first second third e f g h =
     h ∙ ap (λ (xs : List Bool). xs ++ num 8 255) (g ∙ ap (λ (xs : List Bool). xs ++ packets) (f ∙ ap (λ (xs : List Bool). xs ++ head_bits) e))
     ∙ append_assoc head_bits packets (num 8 255)
 
--- and filled up
+-- these bits, filled up with ones, are an encoding
 pub is_encoding : (t : Telegram) (front bits : List Bool) → used_bits t ≤ user_bits t.size
     → AreAllowed (header.rows t.header) → AreAllowed (flat_map track_packet.rows t.packets) → front ≡ front_bits t
     → bits ≡ front ++ replicate (user_bits t.size - length front) true → IsEncoding t bits
@@ -178,7 +178,7 @@ spelled_telegram t bits x =
       begins = record { end = place_in bits (length head_bits + length packets); whole = whole };
     }
 
--- behind the packets of a telegram stands the end mark
+-- the end mark comes after the packets of a telegram
 mark_of : (rest : List Bool) → ((stops.Telegram ≡ stops.Message) × (length rest < 8)) ⊎ ((fill : List Bool) × (rest ≡ num 8 255 ++ fill))
     → (fill : List Bool) × (rest ≡ num 8 255 ++ fill)
 mark_of rest (inl few) = absurd (let other = few.0 in cc)
@@ -187,7 +187,7 @@ mark_of rest (inr mark) = mark
 marked : (rest : List Bool) → ends stops.Telegram (start rest) ≡ true → (fill : List Bool) × (rest ≡ num 8 255 ++ fill)
 marked rest over = mark_of rest (ends_only stops.Telegram rest over)
 
--- and the other way round
+-- and the converse
 pub telegram_spelled : (t : Telegram) (bits : List Bool) → IsTelegram t bits → AreSpelledOut t bits
 telegram_spelled t bits x =
     let head_bits = join (header.rows t.header) in
@@ -225,7 +225,7 @@ encoding_telegram t bits x =
       are = x.canonical;
     })
 
--- where a telegram fits, only memory can be wanting
+-- if a telegram fits, the only possible error is lack of memory
 pub only_memory : {X : Type 0} (r : Result X EncodeError) (t : Telegram) → used_bits t ≤ user_bits t.size
     → r ≡ Err encode_errors.Memory → IsErrOf r encode_errors.TooBig ↔ IsTooBig t
 only_memory r t fits is = (

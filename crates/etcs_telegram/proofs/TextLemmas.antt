@@ -1,4 +1,4 @@
--- Pad bits, digits, and what a text is refused for.
+-- Pad bits, digits, and the reasons to refuse a text.
 use Rattle.std.proofs.Common.{◌≡◌, ◌≢◌, ℕ, ◌+◌, ◌-◌, ◌*◌, ◌%◌, ◌^◌, ◌==◌, ◌<◌, ◌≤◌, if◌then◌else◌, Bool, true, false, List, [], ◌∷◌, ◌++◌, length, get_or, drop, replicate, Option, Some, None, Result, Ok, Err, refl, sym, ap, ap₂, subst, ◌∙◌, arith, length-append, length-drop}
 use Rattle.std.proofs.Common.{String, Global, string_bytes}
 use Rattle.std.specs.Prelude.{IfOk, OnOk}
@@ -20,7 +20,7 @@ use Rattle.etcs_telegram.proofs.TelegramLemmas.{canonical_length}
 
 -- ---- sizes
 
--- the user bits end in the last byte, with the pad bits behind them
+-- the user bits end in the last byte, with the pad bits after them
 pub whole_bytes : (size : Size) → user_bits size + pad_count size ≡ 8 * byte_count size
 whole_bytes Short = refl
 whole_bytes Long = refl
@@ -62,7 +62,7 @@ none_counts n is = let c = counts n in rw is at c
 
 -- ---- pad bits
 
--- what stands behind all but the last bits of the last byte
+-- the bits after the first `keep` bits of the last byte
 last_bits : (bytes : List ℕ) (front keep : ℕ) → length bytes ≡ front + 1
     → drop (8 * front + keep) (bits_of_bytes bytes) ≡ drop keep (num 8 (get_or bytes front 0))
 last_bits bytes front keep count =
@@ -73,7 +73,7 @@ last_bits bytes front keep count =
 abbrev last : Size → List ℕ → ℕ
 last size bytes = get_or bytes (byte_count size - 1) 0
 
--- the pad bits are the last of the last byte
+-- the pad bits are the last bits of the last byte
 pad_bits : (size : Size) (bytes : List ℕ) → length bytes ≡ byte_count size
     → pad_bits_in size bytes ≡ drop (8 - pad_count size) (num 8 (last size bytes))
 pad_bits size bytes count =
@@ -104,13 +104,13 @@ pads_are_zeros size bytes count small zero =
     pad_bits size bytes count
     ∙ same_from_num (drop (8 - pad_count size) (num 8 b)) (no_pads size) (pad_length size b ∙ sym (length-replicate (pad_count size) false)) (pad_number size b small ∙ zero ∙ sym (no_number size))
 
--- and the other way round
+-- and the converse
 pub pads_divide : (size : Size) (bytes : List ℕ) → length bytes ≡ byte_count size → last size bytes < 256
     → pad_bits_in size bytes ≡ no_pads size → last size bytes % 2 ^ pad_count size ≡ 0
 pads_divide size bytes count small zeros =
     sym (pad_number size (last size bytes) small) ∙ ap num_of_bits (sym (pad_bits size bytes count) ∙ zeros) ∙ no_number size
 
--- where they are, the bytes are padded; where not, one is set
+-- if the pad bits are zeros, the bytes are padded; if not, a pad bit is set
 pub padded_when : (size : Size) (bytes : List ℕ) → length bytes ≡ byte_count size → last size bytes < 256
     → pads_with_zeros size bytes ≡ true → ArePadded size bytes
 padded_when size bytes count small zero = record {
@@ -134,7 +134,7 @@ same_size Short Long e = absurd (omega (arith, e))
 same_size Long Short e = absurd (omega (arith, e))
 same_size Long Long e = refl
 
--- bytes of this size hold a telegram of no other
+-- bytes of this size hold no telegram of another size
 pub of_its_size : (t : Telegram) (size : Size) (bits : List Bool) (bytes : List ℕ) → ArePadded size bytes
     → bits ≡ user_bits_in size bytes → length bits ≡ user_bits size → IsTelegram t bits
     → ArePadded t.size bytes × IsTelegram t (user_bits_in t.size bytes)
@@ -145,7 +145,7 @@ of_its_size t size bits bytes padded is count x =
 
 -- ---- digits
 
--- what is not decoded is not hexadecimal
+-- a text that is not decoded is not hexadecimal
 pub not_decoded : (text : List ℕ) (e : FromHexError) → decode_of text ≡ Err e → IsHexadecimal text → ⊥
 not_decoded text e fails h =
     let d = decode_of-digits text h.even h.digits in
@@ -153,7 +153,7 @@ not_decoded text e fails h =
 
 -- ---- the canonical text
 
--- bits of a telegram in bytes leave zeros as pad bits
+-- where bytes hold the bits of a telegram, the remaining bits are zeros, the pad bits
 pub zeros_left : (t : Telegram) (bits : List Bool) (bytes : List ℕ) → IsEncoding t bits
     → bits_of_bytes bytes ≡ bits ++ replicate (8 * length bytes - length bits) false
     → 8 * length bytes < length bits + 8 → bits_of_bytes bytes ≡ bits ++ no_pads t.size
@@ -166,7 +166,7 @@ zeros_left t bits bytes encoding holds few =
     let left : k ≡ pad_count t.size = omega arith in
     holds ∙ ap (λ n. bits ++ replicate n false) left
 
--- what the canonical text is made of
+-- the text of an encoding's bytes is the canonical text
 pub canonical_text : (t : Telegram) (bits : List Bool) (bytes text : List ℕ) → IsEncoding t bits
     → bits_of_bytes bytes ≡ bits ++ replicate (8 * length bytes - length bits) false
     → 8 * length bytes < length bits + 8 → IsBytes bytes → text ≡ encode_lower bytes → IsCanonicalText t text
@@ -179,7 +179,7 @@ canonical_text t bits bytes text encoding holds few in_range written = record {
   written = written;
 }
 
--- what `to_hex` answers
+-- what `to_hex` returns
 pub written_text : (r : Result (String Global) EncodeError) (t : Telegram) (bits : List Bool) (bytes : List ℕ) → IsEncoding t bits
     → bits_of_bytes bytes ≡ bits ++ replicate (8 * length bytes - length bits) false → 8 * length bytes < length bits + 8
     → IfOk r (λ s. string_bytes s ≡ encode_lower bytes) → OnOk r (IsBytes bytes) → IfOk r (λ s. IsCanonicalText t (string_bytes s))

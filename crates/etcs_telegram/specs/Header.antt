@@ -6,11 +6,11 @@ use Rattle.etcs_bits.specs.VariableFormats.{m_version, m_dup}
 use Rattle.etcs_bits.specs.Identity.{identity}
 use Rattle.etcs_telegram.specs.declared.header.Header.{Header}
 
--- Q_UPDOWN, 1 bit: 1, track to train, is the only one that is read
+-- Q_UPDOWN, 1 bit: only 1, track to train, is read
 abbrev pub q_updown : Format (Unit {0})
 q_updown = fixed 1 1 Downlink
 
--- Q_MEDIA, 1 bit: 0, a balise, is the only one that is read
+-- Q_MEDIA, 1 bit: only 0, a balise, is read
 abbrev pub q_media : Format (Unit {0})
 q_media = fixed 1 0 Loop
 
@@ -26,7 +26,7 @@ n_total = number 3
 abbrev pub m_mcount : Format ℕ
 m_mcount = number 8
 
--- Q_LINK, 1 bit: 1 is linked
+-- Q_LINK, 1 bit: 1 means linked
 abbrev pub q_link : Format Bool
 q_link = flag
 

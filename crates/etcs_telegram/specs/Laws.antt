@@ -1,4 +1,4 @@
--- What holds of telegrams, their bits and their texts, whatever reads or writes them.
+-- Laws of telegrams, their bits and their texts. They hold for any reader and any writer.
 use Rattle.std.specs.Prelude.{◌≡◌, ◌≢◌, ◌↔◌, ◌++◌, ℕ, List, Bool, length, Ok, Err}
 use Rattle.std.specs.List.{flat_map}
 use Rattle.etcs_bits.specs.Rows.{AreAllowed}
@@ -12,21 +12,21 @@ use Rattle.etcs_telegram.specs.Sizes.{user_bits}
 use Rattle.etcs_telegram.specs.Telegram.{AreUserBits, IsTelegram, IsTelegramFault, IsNoTelegram, IsEncoding, canonical_bits, front_bits, telegram_of}
 use Rattle.etcs_telegram.specs.Text.{IsTelegramText, IsCanonicalText, IsReason, telegram_of_text}
 
--- Bits are a telegram exactly where they are as many as some telegram has and that telegram is what
--- they mean: so they are one at most.
+-- Bits are a telegram exactly if they mean that telegram and there are as many of them as some
+-- telegram has. So they are one telegram at most.
 abbrev pub TelegramsAreDecoded : Type 0
 TelegramsAreDecoded =
     (t : Telegram) (bits : List Bool)
     → IsTelegram t bits ↔ (AreUserBits bits × (telegram_of bits ≡ Ok t))
 
--- A fault is told of bits exactly where they mean it: so they have one at most. And then they are no
--- telegram, nor are any bits of the same number with the same first `end` bits.
+-- Bits have a fault exactly if they mean that fault. So they have one at most. Then they are no
+-- telegram, and no bits of the same number with the same first `end` bits are one.
 pub record FaultsAreMeant : Type 0 where
   pub fault : (bits : List Bool) (f : Fault) → IsTelegramFault bits f ↔ (telegram_of bits ≡ Err f)
   pub none : (bits : List Bool) (f : Fault) → IsTelegramFault bits f → IsNoTelegram bits f
 
--- The bits are the telegram's header, its packets, the end mark and a fill, as many as its size has,
--- and none of its numbers is spare.
+-- The bits are the telegram's header, its packets, the end mark and a fill. There are as many of
+-- them as the telegram's size has. None of its numbers is spare.
 pub record AreSpelledOut (t : Telegram) (bits : List Bool) : Type 0 where
   pub fill : List Bool
   pub count : length bits ≡ user_bits t.size
@@ -34,11 +34,11 @@ pub record AreSpelledOut (t : Telegram) (bits : List Bool) : Type 0 where
   pub packets : AreAllowed (flat_map track_packet.rows t.packets)
   pub are : bits ≡ front_bits t ++ fill
 
--- Bits are a telegram exactly where they are it spelled out.
+-- Bits are a telegram exactly if they are that telegram, spelled out.
 abbrev pub TelegramsAreSpelledOut : Type 0
 TelegramsAreSpelledOut = (t : Telegram) (bits : List Bool) → IsTelegram t bits ↔ AreSpelledOut t bits
 
--- A telegram that bits are is not too big: it has an encoding, its canonical bits.
+-- If bits are a telegram, that telegram is not too big. It has an encoding, its canonical bits.
 abbrev pub DecodedIsEncoded : Type 0
 DecodedIsEncoded = (t : Telegram) (bits : List Bool) → IsTelegram t bits → IsEncoding t (canonical_bits t)
 
@@ -46,33 +46,33 @@ DecodedIsEncoded = (t : Telegram) (bits : List Bool) → IsTelegram t bits → I
 abbrev pub EncodingsAreTelegrams : Type 0
 EncodingsAreTelegrams = (t : Telegram) (bits : List Bool) → IsEncoding t bits → IsTelegram t bits
 
--- What is encoded is decoded again.
+-- An encoding is decoded to the telegram that was encoded.
 abbrev pub EncodedIsDecoded : Type 0
 EncodedIsDecoded = (t : Telegram) (bits : List Bool) → IsEncoding t bits → telegram_of bits ≡ Ok t
 
--- Two telegrams have equal encodings exactly where they are equal.
+-- Two telegrams have equal encodings exactly if they are equal.
 pub record EncodingsAreOneToOne : Type 0 where
   pub telegrams : (t u : Telegram) (bits : List Bool)
       → IsEncoding t bits → IsEncoding u bits → t ≡ u
   pub encodings : (t : Telegram) (a b : List Bool) → IsEncoding t a → IsEncoding t b → a ≡ b
 
--- A text is a telegram exactly where that telegram is what it means: so it is one at most.
+-- A text is a telegram exactly if it means that telegram. So it is one telegram at most.
 abbrev pub TextsAreRead : Type 0
 TextsAreRead = (t : Telegram) (text : List ℕ) → IsTelegramText t text ↔ (telegram_of_text text ≡ Ok t)
 
--- A text is refused for a reason, other than want of memory, exactly where that is what it means: so
--- it has one reason at most.
+-- A text is refused for a reason, other than lack of memory, exactly if it means that reason. So it
+-- has one reason at most.
 abbrev pub ReasonsAreRead : Type 0
 ReasonsAreRead =
     (e : TextError) (text : List ℕ) → e ≢ errors.Memory
     → IsReason e text ↔ (telegram_of_text text ≡ Err e)
 
--- The canonical text of a telegram is read again.
+-- The canonical text of a telegram is read as that telegram.
 abbrev pub WrittenIsRead : Type 0
 WrittenIsRead =
     (t : Telegram) (text : List ℕ) → IsCanonicalText t text → telegram_of_text text ≡ Ok t
 
--- Two telegrams have equal canonical texts exactly where they are equal.
+-- Two telegrams have equal canonical texts exactly if they are equal.
 pub record TextsAreOneToOne : Type 0 where
   pub telegrams : (t u : Telegram) (text : List ℕ)
       → IsCanonicalText t text → IsCanonicalText u text → t ≡ u

@@ -1,5 +1,5 @@
--- What a telegram says (SUBSET-026, 8.4.2): how long it is, its header and its packets. What fills
--- it up behind the end mark says nothing.
+-- What a telegram holds (SUBSET-026, 8.4.2): its size, its header and its packets. The fill after
+-- the end mark carries no information.
 use Rattle.std.specs.Prelude.{List}
 use Rattle.etcs_packet.specs.declared.track.TrackPacket.{TrackPacket}
 use Rattle.etcs_telegram.specs.declared.header.Header.{Header}

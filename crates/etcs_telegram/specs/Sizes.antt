@@ -1,5 +1,5 @@
--- How long telegrams are (SUBSET-036, 4.3): a short one has 210 user bits, a long one 830. As text
--- they stand in 27 or 104 whole bytes, whose last six or two bits are pad bits.
+-- How long telegrams are (SUBSET-036, 4.3): a short one has 210 user bits, a long one 830. As text,
+-- the user bits take 27 or 104 whole bytes. The last six or two bits are pad bits.
 use Rattle.std.specs.Prelude.{ℕ, ◌==◌, if◌then◌else◌, Option, Some, None}
 use Rattle.etcs_telegram.specs.declared.size.Size.{Size}
 use Rattle.etcs_telegram.specs.declared.size.Size.TheVariants.{Short, Long}
@@ -9,20 +9,20 @@ abbrev pub user_bits : Size → ℕ
 user_bits Short = 210
 user_bits Long = 830
 
--- the size of a telegram with so many user bits
+-- the size of a telegram with `n` user bits
 abbrev pub size_of : ℕ → Option Size
 size_of n = if n == 210 then Some Short else (if n == 830 then Some Long else None)
 
--- in how many bytes they stand
+-- the number of bytes that hold the user bits
 abbrev pub byte_count : Size → ℕ
 byte_count Short = 27
 byte_count Long = 104
 
--- how many bits of the last byte are none of them
+-- the number of bits in the last byte that are not user bits
 abbrev pub pad_count : Size → ℕ
 pad_count Short = 6
 pad_count Long = 2
 
--- the size of a telegram in so many bytes
+-- the size of a telegram in `n` bytes
 abbrev pub size_in : ℕ → Option Size
 size_in n = if n == 27 then Some Short else (if n == 104 then Some Long else None)

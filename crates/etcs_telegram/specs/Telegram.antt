@@ -1,5 +1,6 @@
--- A telegram of a balise (SUBSET-026, 8.4.2; SUBSET-036, 4.3): its header, its packets, the end mark
--- (packet 255, eight ones), and then bits that say nothing, up to the size of a telegram.
+-- A telegram of a balise (SUBSET-026, 8.4.2; SUBSET-036, 4.3): its header, its packets, the end
+-- mark (packet 255, eight ones), and a fill up to the size of a telegram. The fill carries no
+-- information.
 use Rattle.std.specs.Prelude.{◌≡◌, ℕ, ◌+◌, ◌-◌, ◌<◌, ◌≤◌, ◌==◌, if◌then◌else◌, true, List, Bool, ◌++◌, length, replicate, IsSome, Result, Ok, Err}
 use Rattle.std.specs.List.{flat_map}
 use Rattle.etcs_bits.specs.declared.fault.Fault.{Fault}
@@ -16,17 +17,17 @@ use Rattle.etcs_telegram.specs.Header.{header}
 use Rattle.etcs_telegram.specs.Record.{Telegram}
 use Rattle.etcs_telegram.specs.Sizes.{user_bits, size_of}
 
--- there are as many bits as some telegram has
+-- some telegram has this many bits
 abbrev pub AreUserBits : List Bool → Type 0
 AreUserBits bits = IsSome (size_of (length bits))
 
--- The bits are this telegram: as many as its size has, and they begin with its header and its
--- packets, up to the first end mark. What comes behind that says nothing.
+-- The bits are this telegram. There are as many as its size has. They begin with its header and its
+-- packets, up to the first end mark. The bits after that mark carry no information.
 pub record IsTelegram (t : Telegram) (bits : List Bool) : Type 0 where
   pub count : length bits ≡ user_bits t.size
   pub begins : BeginsWith stops.Telegram header.rows track_packet.rows t.header t.packets bits
 
--- The first fault of the bits: that of the header, or of the packets behind a header that is whole.
+-- The first fault of the bits: that of the header, or that of the packets after a whole header.
 abbrev pub IsTelegramFault : List Bool → Fault → Type 0
 IsTelegramFault bits f = IsWholeFault stops.Telegram header.fields track_packet.fields (start bits) f
 
@@ -36,11 +37,11 @@ IsNoTelegram bits f = NoneWhole stops.Telegram header.rows track_packet.rows (st
 
 -- ---- from a telegram to bits
 
--- how many bits its header, its packets and the end mark have
+-- the number of bits of the header, the packets and the end mark
 abbrev pub used_bits : Telegram → ℕ
 used_bits t = 50 + width (flat_map track_packet.rows t.packets) + 8
 
--- they are more than the telegram's size has
+-- those bits are more than the telegram's size has
 abbrev pub IsTooBig : Telegram → Type 0
 IsTooBig t = user_bits t.size < used_bits t
 
@@ -65,7 +66,7 @@ pub record IsEncoding (t : Telegram) (bits : List Bool) : Type 0 where
 abbrev pub size_by : ℕ → Size
 size_by n = if n == 210 then Short else Long
 
--- a telegram in so many bits, of this header and these packets
+-- a telegram in `n` bits, with this header and these packets
 abbrev pub telegram_by : ℕ → Result (Header × List TrackPacket) Fault → Result Telegram Fault
 telegram_by n (Ok read) = Ok (record { size = size_by n; header = read.0; packets = read.1 })
 telegram_by n (Err f) = Err f

@@ -1,5 +1,6 @@
--- Telegrams as text: the hexadecimal digits of their bytes, the user bits and then zeros, the pad
--- bits, up to a whole byte. Digits of either case are read, lower-case ones are written.
+-- Telegrams as text: the hexadecimal digits of their bytes. The bytes hold the user bits, and then
+-- zeros, the pad bits, up to a whole byte. Digits of either case are read. Lower-case digits are
+-- written.
 use Rattle.std.specs.Prelude.{◌≡◌, ◌≢◌, ℕ, ◌-◌, ◌%◌, ◌^◌, ◌==◌, Bool, false, if◌then◌else◌, List, ◌++◌, length, take, drop, replicate, slice_index, Option, Some, None, Result, Ok, Err}
 use Rattle.std.specs.List.{AllPass}
 use Rattle.hex.specs.Hex.{decode_of, encode_lower, is_hex_digit, IsBytes}
@@ -18,7 +19,7 @@ pub record IsHexadecimal (text : List ℕ) : Type 0 where
   pub even : length text % 2 ≡ 0
   pub digits : AllPass is_hex_digit text
 
--- the user bits of bytes, in a telegram of this size, and the pad bits behind them
+-- the user bits of bytes, in a telegram of this size, and the pad bits after them
 abbrev pub user_bits_in : Size → List ℕ → List Bool
 user_bits_in size bytes = take (user_bits size) (bits_of_bytes bytes)
 
@@ -29,7 +30,7 @@ pad_bits_in size bytes = drop (user_bits size) (bits_of_bytes bytes)
 abbrev pub no_pads : Size → List Bool
 no_pads size = replicate (pad_count size) false
 
--- There are as many bytes as a telegram of this size has, and all pad bits are zeros.
+-- There are as many bytes as a telegram of this size has. All pad bits are zeros.
 pub record ArePadded (size : Size) (bytes : List ℕ) : Type 0 where
   pub count : length bytes ≡ byte_count size
   pub padding : pad_bits_in size bytes ≡ no_pads size
@@ -41,7 +42,7 @@ pub record IsTelegramText (t : Telegram) (text : List ℕ) : Type 0 where
   pub padded : ArePadded t.size bytes
   pub telegram : IsTelegram t (user_bits_in t.size bytes)
 
--- The text is the canonical one of this telegram: its bits filled up with ones, zeros as pad bits,
+-- The text is the canonical text of this telegram: its bits filled up with ones, zeros as pad bits,
 -- in lower-case digits.
 pub record IsCanonicalText (t : Telegram) (text : List ℕ) : Type 0 where
   pub bits : List Bool
@@ -51,20 +52,20 @@ pub record IsCanonicalText (t : Telegram) (text : List ℕ) : Type 0 where
   pub padded : bits_of_bytes bytes ≡ bits ++ no_pads t.size
   pub written : text ≡ encode_lower bytes
 
--- the bytes are those of a telegram, but for a pad bit that is set
+-- the bytes are those of a telegram, except that a pad bit is set
 pub record HavePadSet (bytes : List ℕ) : Type 0 where
   pub size : Size
   pub count : length bytes ≡ byte_count size
   pub set : pad_bits_in size bytes ≢ no_pads size
 
--- the bytes are those of a telegram, but for a fault of the user bits
+-- the bytes are those of a telegram, except that the user bits have a fault
 pub record HaveFault (bytes : List ℕ) (f : Fault) : Type 0 where
   pub size : Size
   pub padded : ArePadded size bytes
   pub first : IsTelegramFault (user_bits_in size bytes) f
   pub none : IsNoTelegram (user_bits_in size bytes) f
 
--- why bytes are refused is so, and what is looked for before is not
+-- the reason to refuse these bytes holds, and no reason checked earlier does
 abbrev pub IsReasonIn : TextError → List ℕ → Type 0
 IsReasonIn errors.Memory bytes = Unit {0}
 IsReasonIn errors.NotHex bytes = ⊥
@@ -72,13 +73,13 @@ IsReasonIn errors.WrongSize bytes = (size : Size) → length bytes ≢ byte_coun
 IsReasonIn errors.PadBits bytes = HavePadSet bytes
 IsReasonIn (errors.Fault f) bytes = HaveFault bytes f
 
--- why hexadecimal text is refused is so of its bytes
+-- the reason to refuse a hexadecimal text holds of its bytes
 pub record IsReasonDecoded (e : TextError) (text : List ℕ) : Type 0 where
   pub bytes : List ℕ
   pub decoded : decode_of text ≡ Ok bytes
   pub reason : IsReasonIn e bytes
 
--- Why a text is refused is so, and what is looked for before is not.
+-- The reason to refuse a text holds, and no reason checked earlier does.
 abbrev pub IsReason : TextError → List ℕ → Type 0
 IsReason errors.Memory text = Unit {0}
 IsReason errors.NotHex text = IsHexadecimal text → ⊥
@@ -88,7 +89,7 @@ IsReason (errors.Fault f) text = IsReasonDecoded (errors.Fault f) text
 
 -- ---- as a function
 
--- the pad bits, the last ones of the last byte, are zeros
+-- the pad bits, the last bits of the last byte, are zeros
 abbrev pub pads_with_zeros : Size → List ℕ → Bool
 pads_with_zeros size bytes = slice_index bytes (byte_count size - 1) % 2 ^ pad_count size == 0
 
@@ -97,18 +98,18 @@ abbrev pub of_bits : Result Telegram Fault → Result Telegram TextError
 of_bits (Ok t) = Ok t
 of_bits (Err f) = Err (errors.Fault f)
 
--- what bytes of a telegram of this size mean: pad bits are looked at first
+-- what bytes of a telegram of this size mean; the pad bits are checked first
 abbrev pub of_size : Option Size → List ℕ → Result Telegram TextError
 of_size None bytes = Err errors.WrongSize
 of_size (Some size) bytes =
     if pads_with_zeros size bytes then of_bits (telegram_of (user_bits_in size bytes))
     else Err errors.PadBits
 
--- what bytes mean: their number is looked at first
+-- what bytes mean; their number is checked first
 abbrev pub of_bytes : List ℕ → Result Telegram TextError
 of_bytes bytes = of_size (size_in (length bytes)) bytes
 
--- what digits mean, seen as the bytes that they spell
+-- what digits mean, given the bytes that they spell
 abbrev pub of_decoded : Result (List ℕ) FromHexError → Result Telegram TextError
 of_decoded (Ok bytes) = of_bytes bytes
 of_decoded (Err e) = Err errors.NotHex
@@ -130,7 +131,7 @@ abbrev pub IsTextMeaning : Result Telegram TextError → Result Telegram TextErr
 IsTextMeaning (Ok t) meaning = meaning ≡ Ok t
 IsTextMeaning (Err e) meaning = TextFails e meaning
 
--- What the text means is what its user bits mean: nothing that is looked for before them is wrong.
+-- The text means what its user bits mean: every check before them has passed.
 abbrev pub IsOfUserBits : Result Telegram TextError → Type 0
 IsOfUserBits (Ok t) = Unit {0}
 IsOfUserBits (Err errors.Memory) = ⊥

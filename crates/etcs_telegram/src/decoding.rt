@@ -14,11 +14,11 @@ use etcs_bits::{Bits, DecodeError};
 use etcs_packet::{Stop, read_whole};
 use std::alloc::Global;
 
-/// The telegram that 210 or 830 user bits spell (SUBSET-026, 8.4.2). What comes behind the end mark
-/// is ignored.
+/// Reads the telegram that 210 or 830 user bits spell (SUBSET-026, 8.4.2). Bits after the end mark
+/// are ignored.
 ///
-/// A fault is the first one of the bits, and then no telegram is spelled, in any input of the same
-/// length with the same first `end` bits. If memory runs out, a fault may go unseen.
+/// A fault that is returned is the first one in the bits. Then no input of the same length with the
+/// same first `end` bits spells a telegram. If memory runs out, a fault may go unseen.
 pub fn decode(alloc: Global, bits: &Bits) -> Result<Telegram, DecodeError>
     requires { AreUserBits bits.now }
     ensures ok { IfOk result (λ t. IsTelegram t bits.now) }
@@ -29,7 +29,7 @@ pub fn decode(alloc: Global, bits: &Bits) -> Result<Telegram, DecodeError>
     // The same as a function of the bits.
     ensures exact { IsMeaning result (telegram_of bits.now) }
 
-    // The header's fault is always told: reading it asks for no memory.
+    // The header's fault is always reported: reading the header needs no memory.
     ensures header { (f : Fault) → IsFault header.fields (start bits.now) f
         → result ≡ Err (DecodeError.Fault f) }
 {

@@ -10,7 +10,7 @@ use etcs_bits::{Bits, Layout, Memory, width_of};
 use etcs_packet::write_packets;
 use std::alloc::Global;
 
-// Fills the bits up with ones to the length.
+// Fills the bits up with ones, to `len` bits.
 fn fill(bits: &mut Bits, len: usize) -> Result<(), Memory>
     requires { length bits.old ≤ len }
     ensures { OnOk result (bits.new ≡ bits.old ++ replicate (len - length bits.old) true) }
@@ -22,7 +22,7 @@ fn fill(bits: &mut Bits, len: usize) -> Result<(), Memory>
     Ok(())
 }
 
-// How many bits the header, the packets and the end mark have; `u64::MAX` where they have more.
+// The number of bits of the header, the packets and the end mark; `u64::MAX` if they have more.
 fn used_width(telegram: &Telegram) -> u64
     ensures { result ≡ min (used_bits telegram.now) u64.MAX }
 {
@@ -44,11 +44,11 @@ fn write(alloc: Global, telegram: &Telegram) -> Result<Bits, Memory>
     Ok(bits)
 }
 
-/// The telegram's user bits, filled up with ones (this project's rule) behind the end mark: 210 or
-/// 830, by its size.
+/// Writes the telegram's user bits: 210 or 830, by its size. Ones fill them up after the end mark
+/// (this project's rule).
 ///
-/// `TooBig`: its header, packets and end mark have more bits; this is found before memory is asked
-/// for.
+/// `TooBig`: the header, the packets and the end mark have more bits than the telegram's size. This
+/// is checked before the call asks for memory.
 pub fn encode(alloc: Global, telegram: &Telegram) -> Result<Bits, EncodeError>
     ensures ok { IfOk result (λ b. IsEncoding telegram.now b) }
     ensures too_big { IsErrOf result EncodeError.TooBig ↔ IsTooBig telegram.now }

@@ -12,27 +12,27 @@ pub enum EncodeError {
     /// Memory ran out.
     #[error("out of memory")]
     Memory,
-    /// Its header, its packets and the end mark have more bits than its size.
+    /// The header, the packets and the end mark have more bits than the telegram's size.
     #[error("too big")]
     TooBig,
 }
 
-/// Why a text is no telegram, in the order in which the reasons are looked for.
+/// Why a text is not read as a telegram, in the order of the checks.
 #[derive(Clone, Copy, Debug, PartialEq, Eq, Error)]
 pub enum TextError {
     /// Memory ran out. A later reason may then go unseen.
     #[error("out of memory")]
     Memory,
-    /// It is not an even number of hexadecimal digits, of either case.
+    /// The text is not an even number of hexadecimal digits, of either case.
     #[error("not hexadecimal")]
     NotHex,
-    /// It has another number of digits than 54 and 208.
+    /// The number of digits is neither 54 nor 208.
     #[error("wrong size")]
     WrongSize,
-    /// One of the bits behind the user bits is set: of six behind 210, of two behind 830.
+    /// A pad bit is set: one of the six after 210 user bits, or of the two after 830.
     #[error("pad bits set")]
     PadBits,
-    /// The user bits are no telegram; this is their first fault.
+    /// The user bits are no telegram. This is their first fault.
     #[error("{0}")]
     Fault(Fault),
 }

@@ -6,28 +6,28 @@ use etcs_bits::{
 };
 use std::alloc::Global;
 
-/// What a telegram begins with: 50 bits (SUBSET-026, 8.4.2). Q_UPDOWN (1, track to train) and
-/// Q_MEDIA (0, a balise) stand in it too, but have one number each and are not kept.
+/// The header of a telegram, its first 50 bits (SUBSET-026, 8.4.2). Q_UPDOWN (1, track to train)
+/// and Q_MEDIA (0, a balise) are part of it too. Each has only one number, so they are not kept.
 #[derive(Clone, Copy, Debug, PartialEq, Eq)]
 pub struct Header {
     /// M_VERSION, 7 bits at place 1: the system version.
     pub version: Version,
-    /// N_PIG, 3 bits at place 9: the position of the balise in its group, from 0 on.
+    /// N_PIG, 3 bits at place 9: the position of the balise in its group, counted from 0.
     pub position: Position,
-    /// N_TOTAL, 3 bits at place 12: how many balises the group has, less one.
+    /// N_TOTAL, 3 bits at place 12: the number of balises in the group, less one.
     pub total: Total,
     /// M_DUP, 2 bits at place 15: whether the balise is a duplicate of a neighbour.
     pub dup: Dup,
     /// M_MCOUNT, 8 bits at place 17: the message counter.
     pub counter: Counter,
-    /// NID_C, 10 bits at place 25, and NID_BG, 14 bits at place 35: which balise group it is.
+    /// NID_C, 10 bits at place 25, and NID_BG, 14 bits at place 35: the identity of the balise
+    /// group.
     pub identity: Identity,
     /// Q_LINK, 1 bit at place 49: whether the group is linked.
     pub linked: bool,
 }
 
 impl Layout for Header {
-    ghost use Rattle.etcs_telegram.specs.Header.{header};
     ghost use Rattle.etcs_telegram.specs.Header.{header};
 
     ghost format = { header };

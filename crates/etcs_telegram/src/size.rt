@@ -14,7 +14,7 @@ pub enum Size {
 impl Size {
     ghost use Rattle.etcs_telegram.specs.Sizes.{byte_count, pad_count, size_in, size_of, user_bits};
 
-    /// The size of a telegram with so many user bits: 210 or 830, and none with any other number.
+    /// The size of a telegram with `n` user bits: 210 or 830. None for any other number.
     pub fn of_len(n: usize) -> Option<Size>
         ensures { result ≡ size_of n }
     {
@@ -25,7 +25,7 @@ impl Size {
         }
     }
 
-    // The size of a telegram in so many bytes.
+    // The size of a telegram in `n` bytes.
     pub(crate) fn in_bytes(n: usize) -> Option<Size>
         ensures { result ≡ size_in n }
     {
@@ -46,7 +46,7 @@ impl Size {
         }
     }
 
-    // In how many bytes they stand.
+    // The number of bytes that hold the user bits.
     pub(crate) fn byte_count(self) -> usize
         ensures { result ≡ byte_count self }
     {
@@ -56,7 +56,7 @@ impl Size {
         }
     }
 
-    // How many bits of the last byte are none of them.
+    // The number of bits in the last byte that are not user bits.
     pub(crate) fn pad_count(self) -> u32
         ensures { result ≡ pad_count self }
     {

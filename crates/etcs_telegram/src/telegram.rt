@@ -5,17 +5,17 @@ use crate::size::Size;
 use etcs_packet::TrackPacket;
 use std::marker::Model;
 
-/// What a balise sends (SUBSET-026, 8.4.2): a header, packets, and the end mark, packet 255. What
-/// fills a telegram up behind the end mark says nothing and is not kept.
+/// What a balise sends: a header, packets, and the end mark, packet 255 (SUBSET-026, 8.4.2). The
+/// fill after the end mark carries no information and is not kept.
 ///
-/// Contracts see it with its packets as a list.
+/// Contracts see its packets as a list.
 #[derive(Debug, Drop)]
 pub struct Telegram {
     /// How many user bits it has.
     pub size: Size,
-    /// What it begins with.
+    /// The header, which comes first.
     pub header: Header,
-    /// The packets behind the header, in order, without the end mark.
+    /// The packets after the header, in order, without the end mark.
     pub packets: Vec<TrackPacket>,
 }
 

@@ -22,14 +22,14 @@ fn is_digit(byte: u8) -> bool
     matches!(byte, b'0'..=b'9' | b'A'..=b'F' | b'a'..=b'f')
 }
 
-// Whether the text is an even number of them.
+// Whether the text is an even number of hexadecimal digits.
 fn is_hexadecimal(text: &[u8]) -> bool
     ensures { IsTrue result ↔ IsHexadecimal text.now }
 {
     text.len() % 2 == 0 && text.iter().all(|&byte| is_digit(byte))
 }
 
-// The bytes of a text, which is hexadecimal and has so many. Takes no memory.
+// The `N` bytes of a hexadecimal text. The call takes no memory.
 fn bytes_of<const N: usize>(text: &[u8]) -> [u8; N]
     requires digits { IsHexadecimal text.now }
     requires len { length text.now ≡ 2 * N }
@@ -46,14 +46,14 @@ fn is_padded(size: Size, bytes: &[u8]) -> bool
     bytes[size.byte_count() - 1] % (1 << size.pad_count()) == 0
 }
 
-// The telegram of bytes.
+// The telegram in these bytes.
 fn telegram_in(alloc: Global, bytes: &[u8]) -> Result<Telegram, TextError>
     ensures ok { IfOk result (λ t. ArePadded t.size bytes.now
         × IsTelegram t (user_bits_in t.size bytes.now)) }
     ensures reason { IfErr result (λ e. IsReasonIn e bytes.now) }
     ensures exact { IsTextMeaning result (of_bytes bytes.now) }
 
-    // Memory is asked for by the user bits alone.
+    // Only the user bits need memory.
     ensures memory { result ≡ Err TextError.Memory → IsOfUserBits (of_bytes bytes.now) }
 {
     let Some(size) = Size::in_bytes(bytes.len()) else {
@@ -72,12 +72,12 @@ fn telegram_in(alloc: Global, bytes: &[u8]) -> Result<Telegram, TextError>
     }
 }
 
-/// The telegram that a text is: 54 or 208 hexadecimal digits of either case, the last six or two
-/// bits of which are zeros (pad bits).
+/// Reads a telegram from its text: 54 or 208 hexadecimal digits of either case. The last six or two
+/// bits are zeros (pad bits).
 ///
-/// NotHex, WrongSize, PadBits and the first fault of the user bits are looked for in this order, and
-/// each is answered exactly where it stands. If memory runs out, a fault may go unseen: the user bits
-/// take memory, and what is looked for before them takes none.
+/// `NotHex`, `WrongSize`, `PadBits` and the first fault of the user bits are checked in this order.
+/// The call returns the first of them that holds. If memory runs out, a fault may go unseen: the
+/// user bits take memory, and the checks before them take none.
 pub fn from_hex(alloc: Global, text: &[u8]) -> Result<Telegram, TextError>
     ensures ok { IfOk result (λ t. IsTelegramText t text.now) }
     ensures reason { IfErr result (λ e. IsReason e text.now) }
@@ -85,7 +85,7 @@ pub fn from_hex(alloc: Global, text: &[u8]) -> Result<Telegram, TextError>
     // The same as a function of the text.
     ensures exact { IsTextMeaning result (telegram_of_text text.now) }
 
-    // Each of these is always told: no memory is asked for.
+    // Each of these is always reported: it needs no memory.
     ensures not_hex { IsErrOf result TextError.NotHex ↔ (IsHexadecimal text.now → ⊥) }
     ensures wrong_size { IsErrOf result TextError.WrongSize
         ↔ IsReasonDecoded TextError.WrongSize text.now }
@@ -114,11 +114,11 @@ fn digits_of(alloc: Global, bytes: &[u8]) -> Result<String, EncodeError>
     }
 }
 
-/// The telegram's canonical text: its user bits, filled up with ones, and zeros as pad bits, in 54
-/// or 208 lower-case hexadecimal digits.
+/// Writes the telegram's canonical text: its user bits, filled up with ones, and zeros as pad bits,
+/// in 54 or 208 lower-case hexadecimal digits.
 ///
-/// `TooBig`: its header, packets and end mark have more bits than its size; this is found before
-/// memory is asked for.
+/// `TooBig`: the header, the packets and the end mark have more bits than the telegram's size. This
+/// is checked before the call asks for memory.
 pub fn to_hex(alloc: Global, telegram: &Telegram) -> Result<String, EncodeError>
     ensures ok { IfOk result (λ s. IsCanonicalText telegram.now (string_bytes s)) }
     ensures too_big { IsErrOf result EncodeError.TooBig ↔ IsTooBig telegram.now }

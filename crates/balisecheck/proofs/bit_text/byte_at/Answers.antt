@@ -7,16 +7,16 @@ use Rattle.balisecheck.specs.BitText.{filled_up}
 use Rattle.balisecheck.proofs.BitTextLemmas.{byte_more, filled_length}
 use Rattle.balisecheck.proofs.bit_text.byte_at.Goals as goal
 
--- no bits spell 0
+-- the number of no bits is 0
 pub bits-init : goal.bits-init
 bits-init c = sym num_of_none
 
--- the next bit doubles what was spelled, and adds itself
+-- the next bit doubles the number so far, and adds itself
 pub bits-preserved : goal.bits-preserved
 bits-preserved c =
     rw c.bit_at.ensures (byte_more c.args.bits.now c.args.at c.bits.byte c.bits.i c.requires.inside (omega arith) c.bits.invariant)
 
--- eight bits spell a number below 256
+-- the number of eight bits is below 256
 pub overflow_cast-result : goal.overflow_cast-result
 overflow_cast-result c =
     let rest = drop c.args.at (filled_up c.args.bits.now) in

@@ -3,19 +3,19 @@ use Rattle.balisecheck.specs.BitText.{bytes_for, bytes_in, filled_up}
 use Rattle.balisecheck.proofs.BitTextLemmas.{bytes_more}
 use Rattle.balisecheck.proofs.bit_text.bytes_of.Goals as goal
 
--- one byte more stands
+-- one more byte is made
 pub bytes-preserved : goal.bytes-preserved
 bytes-preserved c = record {
   whole = length-set c.bytes.bytes c.bytes.i _ ∙ c.bytes.invariant.whole;
   so_far = bytes_more c.bytes.bytes c.bytes.i (filled_up c.args.bits.now) _ (omega arith) c.byte_at.ensures c.bytes.invariant.so_far;
 }
 
--- none stands at first
+-- at first no byte is made
 pub bytes-init : goal.bytes-init
 unfolding bytes_in
 bytes-init c = record { whole = refl; so_far = refl }
 
--- and in the end all do
+-- in the end all bytes are made
 pub returns : goal.returns
 returns c =
     let all : c.bytes.i ≡ bytes_for (length c.args.bits.now) = omega (arith, c.bytes.auto.i-end) in

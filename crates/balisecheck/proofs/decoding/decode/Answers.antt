@@ -2,7 +2,7 @@ use Rattle.std.proofs.lemmas.Result.{err_from_is_err_and}
 use Rattle.balisecheck.proofs.RunLemmas.{Ran-failed, Ran-kept}
 use Rattle.balisecheck.proofs.decoding.decode.Goals as goal
 
--- all was written, and then the flush failed
+-- everything was written, and then the flush failed
 pub returns-in_err-finish-clause-ran : goal.returns-in_err-finish-clause-ran
 returns-in_err-finish-clause-ran g c =
     let residual = c.from_residual-in_err-finish in

@@ -4,7 +4,7 @@ use Rattle.balisecheck.specs.TelegramLines.{refusal_of}
 use Rattle.balisecheck.proofs.TellingLemmas.{begins_refused, put_failed}
 use Rattle.balisecheck.proofs.decoding.refuse_line.Goals as goal
 
--- a refusal that was cut off begins the refusal
+-- the part of a refusal that was written is a beginning of it
 pub returns-in_err-put-in-Ok-clause-turns : goal.returns-in_err-put-in-Ok-clause-turns
 returns-in_err-put-in-Ok-clause-turns g c =
     let passed_on = err_from_is_err_and c.from_residual.result c.from_residual.ensures.1 in

@@ -6,7 +6,7 @@ use Rattle.balisecheck.specs.TextLines.{trimmed}
 use Rattle.balisecheck.proofs.StreamLemmas.{Appends-none}
 use Rattle.balisecheck.proofs.decoding.take_turn.Goals as goal
 
--- an empty line tells nothing
+-- nothing is written for an empty line
 pub returns-then-is_empty-clause-turns : goal.returns-then-is_empty-clause-turns
 returns-then-is_empty-clause-turns g c =
     let trim_is : c.trim-line.result.now ≡ trimmed (line_of c.args.lines.now) =

@@ -4,7 +4,7 @@ use Rattle.balisecheck.specs.TelegramLines.{meaning_of}
 use Rattle.balisecheck.proofs.TellingLemmas.{begins_told, put_failed}
 use Rattle.balisecheck.proofs.decoding.tell_line.Goals as goal
 
--- a JSON line that was cut off begins what is told
+-- the part of a JSON line that was written is a beginning of the answer
 pub returns-in_err-put-in-Ok-clause-turns : goal.returns-in_err-put-in-Ok-clause-turns
 returns-in_err-put-in-Ok-clause-turns g c =
     let passed_on = err_from_is_err_and c.from_residual.result c.from_residual.ensures.1 in

@@ -12,7 +12,7 @@ lines-init g c = record {
   room = rw c.requires.fresh.0 (omega arith);
 }
 
--- a line was found and told, and each line has cost a byte at least
+-- a line was found and answered, and each line has cost at least one byte
 pub lines-preserved : goal.lines-preserved
 lines-preserved g c =
     let read = rw c.if-branch.true at c.in_ok-next.ensures.reads in
@@ -34,7 +34,7 @@ returns-in_err-next-clause-ran g c =
     rw passed_on.1 (Running-failed passed_on.0 c.lines.invariant.running next.reads next.ended
     (next.met c.lines.invariant.met))
 
--- the line could not be told whole
+-- the line was not answered whole
 pub returns-in_err-status-clause-ran : goal.returns-in_err-status-clause-ran
 returns-in_err-status-clause-ran g c =
     let read = rw c.if-branch.true at c.in_ok-next.ensures.reads in

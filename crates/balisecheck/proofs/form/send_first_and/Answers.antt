@@ -3,7 +3,7 @@ use Rattle.std.proofs.lemmas.Result.{on_ok_weaker}
 use Rattle.balisecheck.proofs.FormLemmas.{array_sent}
 use Rattle.balisecheck.proofs.form.send_first_and.Goals as goal
 
--- the key, and between the two marks of an array the first item and all further ones
+-- the key, the beginning of an array, the first item, all further ones, and the end of the array
 pub returns : goal.returns
 returns g c =
     let sent = g.S.Serializer.written c.send.new.out in

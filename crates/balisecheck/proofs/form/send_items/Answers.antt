@@ -3,7 +3,7 @@ use Rattle.serde.proofs.Events.{WritesEach-more}
 use Rattle.serde_json.specs.Events.{SendsValue}
 use Rattle.balisecheck.proofs.form.send_items.Goals as goal
 
--- one item more was sent
+-- one more item was sent
 pub items-preserved : goal.items-preserved
 items-preserved g c =
     WritesEach-more (λ x. SendsValue (g.T.Form.form x)) _ _ _ _ _ _ (search rules) c.item-item.is c.items.invariant c.in_ok-send.ensures

@@ -3,7 +3,7 @@ use Rattle.balisecheck.specs.Output.{of_command}
 use Rattle.balisecheck.proofs.RunLemmas.{Ran-as, Ran-unread, counts_at_writer}
 use Rattle.balisecheck.proofs.program.obey.Goals as goal
 
--- no command writes the usage line
+-- without a command the usage line is written
 pub returns-in-None-clause-ran : goal.returns-in-None-clause-ran
 returns-in-None-clause-ran g c =
     Ran-as (λ s. ap (λ o. of_command o s) c.in-None.is) (Ran-unread c.refuse_words.ensures.writes)

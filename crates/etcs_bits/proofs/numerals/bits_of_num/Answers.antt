@@ -5,14 +5,14 @@ use Rattle.etcs_bits.proofs.NumberLemmas.{length-num}
 use Rattle.etcs_bits.proofs.NumeralLemmas.{bits_more}
 use Rattle.etcs_bits.proofs.numerals.bits_of_num.Goals as goal
 
--- one bit more of the number stands
+-- one more bit of the number is there
 pub bits-preserved : goal.bits-preserved
 bits-preserved c = record {
   whole = length-set c.bits.block c.bits.k _ ∙ c.bits.invariant.whole;
   so_far = bits_more c.args.width c.args.n c.bits.k c.bits.block c.bits-test.true (omega arith) c.bits.invariant.so_far;
 }
 
--- the loop ends with all of them
+-- the loop ends with all bits
 pub returns : goal.returns
 returns c =
     let e : c.bits.k ≡ c.args.width = omega arith in

@@ -8,7 +8,7 @@ use Rattle.etcs_bits.proofs.numerals.bytes_of.Goals.{then-whole-bits+in_ok-push-
 pub bytes-init : goal.bytes-init
 bytes-init c = record { count = c.in_ok-bytes.ensures.len; so_far = ap bits_of_bytes c.in_ok-bytes.ensures.items ∙ bits_of_none }
 
--- each byte holds the next eight
+-- each byte holds the next eight bits
 pub bytes-preserved : goal.bytes-preserved
 bytes-preserved c = record {
   count = c.in_ok-push.ensures.len ∙ ap (λ n. n + 1) c.bytes.invariant.count;
@@ -18,7 +18,7 @@ bytes-preserved c = record {
 abbrev Holds : List Bool → List ℕ → Type 0
 Holds bits bytes = bits_of_bytes bytes ≡ bits ++ replicate (8 * length bytes - length bits) false
 
--- and the last one, where there is one, what is left
+-- and the last byte, if there is one, holds the bits that are left
 pub returns-clause-bits : goal.returns-clause-bits
 returns-clause-bits c =
     let items = λ (v : Vec ℕ Global). v.items in

@@ -8,7 +8,7 @@ use Rattle.etcs_bits.proofs.numerals.num_of.Goals as goal
 pub bits-init : goal.bits-init
 bits-init c = sym num_of_none
 
--- the next bit doubles what was spelled, and adds itself
+-- the next bit doubles the number so far, and adds itself
 pub bits-preserved : goal.bits-preserved
 bits-preserved c = number_more c.args.bits.now c.bits.n c.bits.bit-index c.bits-test.true (omega arith) c.bits.invariant
 

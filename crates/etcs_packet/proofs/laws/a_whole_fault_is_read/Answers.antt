@@ -1,7 +1,7 @@
 use Rattle.etcs_packet.proofs.WholeLemmas.{whole_fault_is_read, whole_fault_is_told}
 use Rattle.etcs_packet.proofs.laws.a_whole_fault_is_read.Goals as goal
 
--- both speak of the head, or of the list behind a whole one
+-- both are the fault of the head, or of the list after a whole head
 pub returns : goal.returns
 returns g c = λ stop p f within. (
   λ told. whole_fault_is_read g.H.Layout.format.of g.T.Layout.format.of stop g.H.Layout.format.fields g.T.Layout.format.fields p f c.requires within told,

@@ -1,6 +1,6 @@
 use Rattle.etcs_packet.proofs.WrittenLemmas.{mark_ends, few_end, few_go_on, ends_behind, ends_only}
 use Rattle.etcs_packet.proofs.laws.lists_end.Goals as goal
 
--- the length of the bits that are left, and the first eight of them, say it
+-- the number of bits that are left, and the first eight of them, decide it
 pub returns : goal.returns
 returns c = record { mark = mark_ends; message = few_end; telegram = few_go_on; behind = ends_behind; only = ends_only }

@@ -7,14 +7,14 @@ use Rattle.etcs_packet.proofs.EndLemmas.{no_end_here}
 use Rattle.etcs_packet.proofs.ListLemmas.{lacks_step, no_step}
 use Rattle.etcs_packet.proofs.list.next_item.Goals as goal
 
--- the fault of the packet that is due lies past the eight bits that say that the list goes on
+-- the fault of the packet that is due lies past the eight bits that show that the list goes on
 pub returns-in_err-item-clause-none : goal.returns-in_err-item-clause-none
 returns-in_err-item-clause-none g c =
     let failed = err_from_is_err_and c.from_residual.result c.from_residual.ensures.1 in
     let goes : ends c.args.stop c.args.cur.now ≡ false = cc (c.is_end.ensures.value, c.if-is_end.false) in
     rw (failed.1, failed.2) (no_step g.T.Layout.format.rows c.in_err-item.field-0.0 c.args.stop g.T.Layout.format.fields c.args.cur.now c.requires c.is_end.ensures.inside goes c.in_err-item.ensures.fault c.in_err-item.ensures.none)
 
--- fewer than eight bits are a fault of their own
+-- fewer than eight bits are a NoEnd fault
 pub returns-then-left-lt8-clause-fault : goal.returns-then-left-lt8-clause-fault
 returns-then-left-lt8-clause-fault g c =
     let p = c.args.cur.now in
@@ -23,7 +23,7 @@ returns-then-left-lt8-clause-fault g c =
     let is = c.refused.ensures ∙ ap (λ (at : ℕ). errors.Fault (record { at = at; end = p.at; why = NoEnd })) c.at.ensures.place in
     rw is (goes, no_end_here g.T.Layout.format.fields p c.requires few)
 
--- and then no packet and no end stands here
+-- and then neither a packet nor the end of the list stands here
 pub returns-then-left-lt8-clause-none : goal.returns-then-left-lt8-clause-none
 returns-then-left-lt8-clause-none g c =
     let p = c.args.cur.now in

@@ -16,7 +16,7 @@ returns-in_err-item-clause-none g c =
     list_fault g.T.Layout.format.rows e c.loop-found.found.items c.args.stop g.T.Layout.format.fields c.args.cur.now c.loop-found.ahead c.loop-found.invariant.follow c.in_err-item.ensures.fault in
     rw (failed.1, failed.2) (none_of g.T.Layout.format.rows e c.args.stop g.T.Layout.format.fields c.args.cur.now c.requires g.T.Layout.format.laid.are_rows c.loop-found.invariant.inside told)
 
--- and reading gives it
+-- and reading reports that fault
 pub returns-in_err-item-clause-exact : goal.returns-in_err-item-clause-exact
 returns-in_err-item-clause-exact g c =
     let failed = err_from_is_err_and c.from_residual.result c.from_residual.ensures.1 in
@@ -25,7 +25,7 @@ returns-in_err-item-clause-exact g c =
     list_fault g.T.Layout.format.rows e c.loop-found.found.items c.args.stop g.T.Layout.format.fields c.args.cur.now c.loop-found.ahead c.loop-found.invariant.follow c.in_err-item.ensures.fault in
     rw (failed.1, failed.2) (list_fails g.T.Layout.format.of e c.args.stop g.T.Layout.format.fields c.args.cur.now c.requires c.loop-found.invariant.inside told)
 
--- a packet has eight bits
+-- a packet has at least eight bits
 pub loop-found-smaller : goal.loop-found-smaller
 loop-found-smaller g c =
     let item = c.in-Some.item in
@@ -57,14 +57,14 @@ returns-clause-exact g c =
     over g.T.Layout.format.rows c.loop-found.found.items c.args.stop g.T.Layout.format.fields c.args.cur.now c.loop-found.ahead c.next_item.new.cur c.loop-found.invariant.follow step in
     stand_is_read g.T.Layout.format.laid c.loop-found.found.items c.args.stop c.args.cur.now c.next_item.new.cur c.requires c.loop-found.invariant.inside stand
 
--- where no end can come, the first step says so
+-- where no end can come, the first step reports it
 pub returns-in_err-item-clause-no_end : goal.returns-in_err-item-clause-no_end
 returns-in_err-item-clause-no_end g c = λ telegram few.
     let failed = err_from_is_err_and c.from_residual.result c.from_residual.ensures.1 in
     let here = none_before c.args.stop g.T.Layout.format.fields (map g.T.Layout.format.rows c.loop-found.found.items) c.args.cur.now c.loop-found.ahead c.requires c.loop-found.invariant.inside few c.loop-found.invariant.follow in
     rw (failed.1, failed.2) (ap Err (same_error _ _ (rw here at c.in_err-item.ensures.no_end telegram few)))
 
--- and it gives no packet
+-- and that step gives no packet
 pub returns-in_err-push-clause-no_end : goal.returns-in_err-push-clause-no_end
 returns-in_err-push-clause-no_end g c = λ telegram few.
     let here = none_before c.args.stop g.T.Layout.format.fields (map g.T.Layout.format.rows c.loop-found.found.items) c.args.cur.now c.loop-found.ahead c.requires c.loop-found.invariant.inside few c.loop-found.invariant.follow in

@@ -10,7 +10,7 @@ write-done-requires g c =
     item_allowed g.T.Layout.format.rows c.args.items.now c.items.item-index c.item-item.result
     (record { inside = c.items-test.true; is = c.item-item.is }) c.requires
 
--- its spelling stands behind those before it
+-- the spelling of the packet stands after those before it
 pub items-preserved : goal.items-preserved
 items-preserved g c =
     let done : is_err c.write-done.result ≡ false = sym c.is_err.ensures.value ∙ c.if-is_err.false in

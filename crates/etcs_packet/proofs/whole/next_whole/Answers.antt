@@ -27,7 +27,7 @@ returns-in_err-items-clause-none g c =
     let told = later_fault e c.args.stop g.H.Layout.format.fields g.T.Layout.format.fields (g.H.Layout.format.rows head) c.args.cur.now c.read.new.cur (g.H.Layout.format.laid.are_rows head) spelled c.in_err-items.ensures.fault in
     rw (failed.1, failed.2) (none_of_whole g.H.Layout.format.laid g.T.Layout.format.laid e c.args.stop c.args.cur.now c.requires inside told)
 
--- and reading gives it
+-- and reading reports that fault
 pub returns-in_err-items-clause-exact : goal.returns-in_err-items-clause-exact
 returns-in_err-items-clause-exact g c =
     let failed = err_from_is_err_and c.from_residual-in_err-items.result c.from_residual-in_err-items.ensures.1 in
@@ -47,7 +47,7 @@ returns-clause-exact g c =
     let whole : IsWhole c.args.stop g.H.Layout.format.rows g.T.Layout.format.rows head c.in_ok-items.items.items c.args.cur.now c.read_items.new.cur = record { middle = c.read.new.cur; first = spelled; items = c.in_ok-items.ensures.ok } in
     whole_is_read g.H.Layout.format.laid g.T.Layout.format.laid c.args.stop head c.in_ok-items.items.items c.args.cur.now c.read_items.new.cur c.requires inside whole
 
--- where reading the head asks for no memory, its fault is what is answered
+-- where reading the head takes no memory, the head's fault is the result
 pub returns-in_err-head-clause-head : goal.returns-in_err-head-clause-head
 returns-in_err-head-clause-head g c = λ none f fault.
     let failed = err_from_is_err_and c.from_residual.result c.from_residual.ensures.1 in

@@ -6,7 +6,7 @@ use Rattle.etcs_telegram.specs.Telegram.{used_bits}
 use Rattle.etcs_telegram.proofs.TelegramLemmas.{few_bits, only_memory}
 use Rattle.etcs_telegram.proofs.encoding.encode.Goals as goal
 
--- where the telegram fits, only memory can be wanting
+-- if the telegram fits, the only possible error is lack of memory
 pub returns-in_err-write-clause-too_big : goal.returns-in_err-write-clause-too_big
 returns-in_err-write-clause-too_big c =
     let failed = err_from_is_err_and c.from_residual.result c.from_residual.ensures.1 in

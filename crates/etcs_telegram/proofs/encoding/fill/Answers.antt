@@ -4,14 +4,14 @@ use Rattle.etcs_bits.specs.Number.{num}
 use Rattle.etcs_telegram.proofs.FillLemmas.{ones_are, more_ones, grown}
 use Rattle.etcs_telegram.proofs.encoding.fill.Goals as goal
 
--- what was appended is ones
+-- the appended bits are ones
 more : (c : goal.In_ok-push_num) → c.push_num.new.self ≡ c.filling.bits ++ replicate c.min-width.result true
 more c =
     let w = c.min-width.result in
     let one : 1 * 2 ^ w % 2 ^ 64 ≡ 2 ^ w = one_shl w 64 (omega (arith, c.min-width.ensures)) in
     c.in_ok-push_num.ensures.ok ∙ ap (λ n. c.filling.bits ++ num w (n - 1)) one ∙ ap (λ xs. c.filling.bits ++ xs) (ones_are w)
 
--- at least one of them
+-- at least one bit is appended
 pub filling-smaller : goal.filling-smaller
 filling-smaller c = omega (arith, grown c.filling.bits c.push_num.new.self c.min-width.result (more c), c.min-width.ensures, c.filling-test.true, c.len.ensures, c.len-in-filling.ensures)
 

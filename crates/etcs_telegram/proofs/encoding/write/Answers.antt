@@ -5,7 +5,7 @@ use Rattle.etcs_telegram.specs.Telegram.{IsEncoding, front_bits, used_bits}
 use Rattle.etcs_telegram.proofs.TelegramLemmas.{made, front_width, is_encoding, written_front}
 use Rattle.etcs_telegram.proofs.encoding.write.Goals as goal
 
--- what was written is the header, the packets and the end mark, which leave room
+-- the header, the packets and the end mark are written, and they leave room
 pub fill-requires : goal.fill-requires
 fill-requires c =
     let t = made c.telegram.inside.size c.telegram.inside.header c.telegram.inside.packets.items in
@@ -14,7 +14,7 @@ fill-requires c =
     let front : c.push_num.new.self ≡ front_bits t = written_front t _ _ _ _ c.new-bits.ensures c.in_ok-write.ensures.ok packets c.in_ok-push_num.ensures.ok in
     omega (arith, ap length front, front_width t, fits, c.user_bits.ensures)
 
--- and ones up to the size
+-- ones fill the bits up to the size
 pub returns : goal.returns
 returns c =
     let t = made c.telegram.inside.size c.telegram.inside.header c.telegram.inside.packets.items in

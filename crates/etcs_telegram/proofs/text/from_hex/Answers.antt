@@ -3,7 +3,7 @@ use Rattle.etcs_telegram.specs.declared.error.TextError.TheVariants as errors
 use Rattle.etcs_telegram.proofs.ReasonLemmas.{decoded_means, not_hex_means, other_size, other_size_means, told_apart, told_in}
 use Rattle.etcs_telegram.proofs.text.from_hex.Goals as goal
 
--- what is no digit is told at once
+-- a text that is not hexadecimal is reported at once
 pub returns-then-not-is_hexadecimal-clause-exact : goal.returns-then-not-is_hexadecimal-clause-exact
 returns-then-not-is_hexadecimal-clause-exact c =
     not_hex_means c.args.text.now (λ h. let is = c.is_hexadecimal.ensures.1 h in cc (is, c.if-not-is_hexadecimal.true))
@@ -41,7 +41,7 @@ pub returns-in-208-clause-pad_bits : goal.returns-in-208-clause-pad_bits
 returns-in-208-clause-pad_bits c =
     told_in c.telegram_in-in-208.result errors.PadBits c.args.text.now c.bytes_of-in-208.result tt c.bytes_of-in-208.ensures c.telegram_in-in-208.ensures.exact c.telegram_in-in-208.ensures.memory
 
--- and no other number of digits is a telegram's
+-- no telegram has another number of digits
 pub returns-in_default-clause-reason : goal.returns-in_default-clause-reason
 returns-in_default-clause-reason c =
     other_size c.args.text.now (c.is_hexadecimal.ensures.0 c.if-not-is_hexadecimal.false) (λ e. omega (arith, e)) (λ e. omega (arith, e))

@@ -4,7 +4,7 @@ use Rattle.etcs_telegram.specs.Telegram.{IsTelegramFault, IsNoTelegram}
 use Rattle.etcs_telegram.proofs.TextLemmas.{size_counts, padded_when, set_when, of_its_size}
 use Rattle.etcs_telegram.proofs.text.telegram_in.Goals as goal
 
--- what is not divided has a pad bit set
+-- if the last byte is not divisible, a pad bit is set
 pub returns-then-not-is_padded-clause-reason : goal.returns-then-not-is_padded-clause-reason
 returns-then-not-is_padded-clause-reason c =
     let size = c.in-Some.size in
@@ -12,7 +12,7 @@ returns-then-not-is_padded-clause-reason c =
     let count = size_counts (length bytes) size (sym c.in_bytes.ensures ∙ c.in-Some.is) in
     set_when size bytes count (omega (arith, c.type_inv.bytes (byte_count size - 1))) (sym c.is_padded.ensures ∙ c.if-not-is_padded.true)
 
--- what is divided is padded, and has the size of its telegram
+-- if it is divisible, the bytes are padded and have the size of their telegram
 pub returns-in-Ok-decode-clause-ok : goal.returns-in-Ok-decode-clause-ok
 returns-in-Ok-decode-clause-ok c =
     let size = c.in-Some.size in
@@ -21,7 +21,7 @@ returns-in-Ok-decode-clause-ok c =
     let padded = padded_when size bytes count (omega (arith, c.type_inv.bytes (byte_count size - 1))) (sym c.is_padded.ensures ∙ c.if-not-is_padded.false) in
     of_its_size c.in-Ok-decode.telegram size c.in-Ok.bits bytes padded (rw c.user_bits.ensures at c.in-Ok.ensures.bits) (c.in-Ok.ensures.len ∙ c.user_bits.ensures) c.in-Ok-decode.ensures.ok
 
--- and the fault is that of the user bits
+-- the fault is that of the user bits
 pub returns-clause-reason : goal.returns-clause-reason
 returns-clause-reason c =
     let size = c.in-Some.size in

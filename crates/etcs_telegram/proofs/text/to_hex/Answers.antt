@@ -4,7 +4,7 @@ use Rattle.etcs_telegram.proofs.TelegramLemmas.{only_memory}
 use Rattle.etcs_telegram.proofs.TextLemmas.{written_text}
 use Rattle.etcs_telegram.proofs.text.to_hex.Goals as goal
 
--- where the encoding was made, only memory can be wanting
+-- if the encoding was made, the only possible error is lack of memory
 pub returns-in_err-bytes-clause-too_big : goal.returns-in_err-bytes-clause-too_big
 returns-in_err-bytes-clause-too_big c =
     let failed = err_from_is_err_and c.from_residual-in_err-bytes.result c.from_residual-in_err-bytes.ensures.1 in

@@ -4,7 +4,7 @@ use Rattle.balisecheck.specs.AuthorityForms.{section_timer_form}
 use Rattle.balisecheck.proofs.FormLemmas.{finished, members_len-maybe, object_sent, then}
 use Rattle.balisecheck.proofs.authority_form.SectionForm.send.Goals as goal
 
--- one member, and another where there is a timer
+-- one member, and a second one if there is a timer
 pub returns : goal.returns
 returns g c =
     let many = members_len-maybe section_timer_form (codes "section_timer") c.args.self.now.timer [] in

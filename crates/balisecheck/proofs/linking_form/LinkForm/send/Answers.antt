@@ -5,7 +5,7 @@ use Rattle.balisecheck.specs.Forms.{always, whole}
 use Rattle.balisecheck.proofs.FormLemmas.{finished, members_len-maybe, object_sent, then}
 use Rattle.balisecheck.proofs.linking_form.LinkForm.send.Goals as goal
 
--- five members, and another where there is a country
+-- five members, and a sixth one if there is a country
 pub returns : goal.returns
 returns g c =
     let link = c.args.self.now in

@@ -3,7 +3,7 @@ use Rattle.std.proofs.lemmas.Result.{on_ok_weaker}
 use Rattle.balisecheck.proofs.FormLemmas.{finished, object_sent, then}
 use Rattle.balisecheck.proofs.linking_form.LinkingForm.send.Goals as goal
 
--- each member is sent in turn, between the two marks of the object
+-- each member is sent in turn, between the beginning and the end of the object
 pub returns : goal.returns
 returns g c =
     let links = rw (c.first.ensures, c.further.ensures.links) at c.in_ok-send_first_and.ensures in

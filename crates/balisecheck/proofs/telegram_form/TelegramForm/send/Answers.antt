@@ -3,7 +3,7 @@ use Rattle.std.proofs.lemmas.Result.{on_ok_weaker}
 use Rattle.balisecheck.proofs.FormLemmas.{finished, object_sent, then}
 use Rattle.balisecheck.proofs.telegram_form.TelegramForm.send.Goals as goal
 
--- each member is sent in turn, between the two marks of the object
+-- each member is sent in turn, between the beginning and the end of the object
 pub returns : goal.returns
 returns g c =
     let m_dup = rw c.number.ensures at c.in_ok-send_member.ensures in

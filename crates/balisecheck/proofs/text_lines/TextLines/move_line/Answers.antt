@@ -3,7 +3,7 @@ use Rattle.std.proofs.lemmas.Grind.{common_steps}
 use Rattle.balisecheck.proofs.LineLemmas.{found, not_found}
 use Rattle.balisecheck.proofs.text_lines.TextLines.move_line.Goals as goal
 
--- the line grew up to the first `\n`
+-- the line grew by the bytes before the first `\n`
 pub returns-else-is_err-clause-moves : goal.returns-else-is_err-clause-moves
 returns-else-is_err-clause-moves c =
     let lines = c.args.self.now in
@@ -12,7 +12,7 @@ returns-else-is_err-clause-moves c =
     first.0 first.1 in
     (_, record { line = grind (arith, common_steps); plain = cut.0 }, cut.1)
 
--- it grew by all that was held, which has no `\n`
+-- it grew by all held bytes, which have no `\n`
 pub returns-else-is_err-2-clause-moves : goal.returns-else-is_err-2-clause-moves
 returns-else-is_err-2-clause-moves c =
     let lines = c.args.self.now in

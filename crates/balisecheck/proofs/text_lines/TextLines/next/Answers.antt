@@ -3,7 +3,7 @@ use Rattle.balisecheck.specs.LineReading.{has_ended, held_of, line_of}
 use Rattle.balisecheck.proofs.FillLemmas.{Filling-cut, Filling-end, Filling-filled, Filling-moved, moved_cut, moved_on, nil_from_none}
 use Rattle.balisecheck.proofs.text_lines.TextLines.next.Goals as goal
 
--- all that was held went to the line, and what was read is held now
+-- all held bytes went to the line, and the bytes just read are held now
 pub filling-preserved : goal.filling-preserved
 filling-preserved g c =
     let moved = moved_on c.if-not-branch.true c.in_ok-move_line.ensures.moves in

@@ -5,7 +5,7 @@ use Rattle.balisecheck.specs.PacketForms.{national_system}
 use Rattle.balisecheck.proofs.FormLemmas.{finished, members_len-maybe, object_sent, then}
 use Rattle.balisecheck.proofs.transition_form.LevelOrderForm.send.Goals as goal
 
--- two members, and another at level NTC
+-- two members, and a third one at level NTC
 pub returns : goal.returns
 returns g c =
     let many = members_len-maybe whole (codes "nid_ntc") (national_system c.args.self.now.level) [] in

@@ -9,13 +9,13 @@ use Rattle.etcs_bits.proofs.bits.Bits.from_bytes.Goals.{then-used-gt0+in_ok-exte
 pub bytes-init : goal.bytes-init
 bytes-init c = c.in_ok-items.ensures.items ∙ sym bits_of_none
 
--- each byte brings its eight
+-- each byte adds its eight bits
 pub bytes-preserved : goal.bytes-preserved
 bytes-preserved c =
     c.in_ok-extend_from_slice.ensures.items ∙ ap₂ ◌++◌ c.bytes.invariant c.bits_of_byte.ensures
     ∙ sym (bits_of_next (take (c.args.len / 8) c.args.bytes.now) c.bytes.byte-index c.bytes-test.true)
 
--- whole bytes stand, and the front of one more where the length ends within it
+-- the whole bytes are there, and the front of one more if the length ends within it
 pub returns-clause-bits : goal.returns-clause-bits
 returns-clause-bits c =
     let items = λ (v : Vec Bool Global). v.items in
@@ -29,6 +29,6 @@ returns-clause-bits c =
       | else-used-gt0 w ↦ ap items w.items-is ∙ whole ∙ sym (whole_bytes c.args.bytes.now c.args.len (omega (arith, w.if-used-gt0.false)))
     ]
 
--- so they are as many as were asked for
+-- so there are `len` bits
 pub returns-clause-len : goal.returns-clause-len
 returns-clause-len c = ap length (returns-clause-bits c) ∙ front_length c.args.bytes.now c.args.len c.requires

@@ -1,8 +1,10 @@
 use Rattle.std.proofs.Common.{◌≤◌, ◌<◌, length, arith}
+use Rattle.etcs_bits.specs.Rows.{alone}
 use Rattle.etcs_packet.proofs.RawLemmas.{rest_allowed}
 use Rattle.etcs_packet.proofs.raw.RawPacketLayout.is_allowed.Goals as goal
 
 pub returns-clause-allowed : goal.returns-clause-allowed
+unfolding alone
 returns-clause-allowed c =
     let r = c.args.self.now in
     let small : r.number < 256 = omega (arith, c.number-number.ensures.number, c.number-number.type_inv) in

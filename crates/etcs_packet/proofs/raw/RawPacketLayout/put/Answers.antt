@@ -8,6 +8,7 @@ use Rattle.etcs_packet.specs.Raw.{tail_rows, raw_rest}
 use Rattle.etcs_packet.proofs.raw.RawPacketLayout.put.Goals as goal
 
 pub returns : goal.returns
+unfolding alone
 returns c =
     let r = c.args.self.now in
     let old = c.args.out.now in
@@ -18,4 +19,4 @@ returns c =
     let counted : c.push_num-2.new.self ≡ c.put.new.out ++ num 13 (23 + length r.body) = c.in_ok-push_num-2.ensures.ok ∙ ap (λ n. c.put.new.out ++ num 13 n) sum in
     let tail = puts_bits (num 13 (23 + length r.body)) (join (free_rows r.body)) c.put_body.result c.put.new.out c.push_num-2.new.self end counted c.put_body.ensures in
     let rest = puts_then (q_dir.rows r.dir) (tail_rows r.body) c.put_body.result c.push_num.new.self c.put.new.out end c.in_ok-put.ensures tail in
-    puts_bits (num 8 r.number) (join (raw_rest r.dir r.body)) c.put_body.result old c.push_num.new.self end number rest
+    puts_bits (num 8 r.number) (join (raw_rest.rows (r.dir, r.body))) c.put_body.result old c.push_num.new.self end number rest

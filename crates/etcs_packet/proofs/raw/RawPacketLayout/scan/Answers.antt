@@ -1,8 +1,13 @@
-use Rattle.std.proofs.Common.{◌≤◌, length, sym, ◌∙◌, arith}
-use Rattle.etcs_packet.proofs.RawLemmas.{kept_of}
+use Rattle.std.proofs.Common.{refl, sym, ◌∙◌}
+use Rattle.etcs_bits.proofs.SumLemmas.{number_read, chosen_gives}
+use Rattle.etcs_packet.specs.Numbers.{nid_raw}
+use Rattle.etcs_packet.specs.Raw.{others}
 use Rattle.etcs_packet.proofs.raw.RawPacketLayout.scan.Goals as goal
 
-pub invariant_of-result : goal.invariant_of-result
-invariant_of-result c =
-    let few : length c.in_ok-body.body ≤ 8168 = omega (arith, c.in_ok-body.ensures.len, c.in_ok-length.ensures.most) in
-    record { kept = kept_of c.in_ok-number.number (length c.in_ok-body.body) (sym c.is_raw.ensures ∙ c.if-not-is_raw.false) few }
+-- the number is one that is kept as bits, and what follows it is read
+pub returns-clause-gives : goal.returns-clause-gives
+returns-clause-gives c =
+    let n = c.in_ok-number.number in
+    let other = sym c.is_raw.ensures ∙ c.if-not-is_raw.false in
+    let number = number_read nid_raw n c.args.cur.now c.take.new.self refl other c.in_ok-number.ensures.exact in
+    chosen_gives (λ r. r) nid_raw others n c.args.cur.now c.take.new.self c.scan_rest.new.cur c.scan_rest.result number c.scan_rest.ensures

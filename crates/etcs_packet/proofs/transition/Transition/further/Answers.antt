@@ -5,7 +5,7 @@ use Rattle.etcs_packet.specs.Transition.{Orders, orders_of, transition}
 use Rattle.etcs_packet.proofs.ShortLemmas.{orders_few}
 use Rattle.etcs_packet.proofs.transition.Transition.further.Goals as goal
 
--- what is allowed has a count of five bits
+-- an allowed packet has a count of five bits
 pub returns-clause-few : goal.returns-clause-few
 returns-clause-few c =
     let p : Dir × Orders = (c.self.inside.packet.0, orders_of c.self.inside.packet.1) in

@@ -2,7 +2,7 @@ use Rattle.std.proofs.Common.{refl, lit<}
 use Rattle.etcs_bits.specs.Rows.{alone}
 use Rattle.etcs_telegram.proofs.header.HeaderLayout.is_allowed.Goals as goal
 
--- each part says that its numbers are in range
+-- each part ensures that its numbers are in range
 pub returns-clause-allowed : goal.returns-clause-allowed
 unfolding alone
 returns-clause-allowed c =
