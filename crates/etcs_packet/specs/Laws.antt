@@ -5,8 +5,9 @@ use Rattle.std.specs.List.{flat_map}
 use Rattle.etcs_bits.specs.declared.fault.Fault.{Fault}
 use Rattle.etcs_bits.specs.declared.fault.FaultKind.TheVariants.{NoEnd}
 use Rattle.etcs_bits.specs.Number.{num}
-use Rattle.etcs_bits.specs.Rows.{Row, Place, AreAllowed, join, IsSpelled}
+use Rattle.etcs_bits.specs.Rows.{Place, AreAllowed, join, IsSpelled}
 use Rattle.etcs_bits.specs.Fields.{Fields, nothing, field, ◌▹◌, sized}
+use Rattle.etcs_bits.specs.Format.{Format}
 use Rattle.etcs_packet.specs.declared.stop.Stop.{Stop}
 use Rattle.etcs_packet.specs.declared.stop.Stop.TheVariants as stops
 use Rattle.etcs_packet.specs.Lists.{IsListFault, NoneStand, Stand, ends, items_at}
@@ -32,102 +33,97 @@ pub record ListsEnd : Type 0 where
       ⊎ ((fill : List Bool) × (rest ≡ num 8 255 ++ fill))
 
 -- A list stands exactly where reading gives it. Both end at the same place.
-abbrev pub ListIsRead : {X : Type 0} → (X → List Row) → (List Row → X) → Fields → Type 0
-ListIsRead {X} rows record_of fields =
+abbrev pub ListIsRead : {X : Type 0} → Format X → Type 0
+ListIsRead {X} x =
     (stop : Stop) (xs : List X) (p q : Place) → p.at ≤ length p.bits
-    → Stand stop rows xs p q ↔ (items_at stop fields record_of p ≡ Ok (xs, q))
+    → Stand stop x.rows xs p q ↔ (items_at stop x.fields x.of p ≡ Ok (xs, q))
 
 -- A list that stands consists of the spellings of its records, one after the other, up to its end.
-abbrev pub StandIsSpelled : {X : Type 0} → (X → List Row) → Type 0
-StandIsSpelled {X} rows =
-    (stop : Stop) (xs : List X) (p q : Place) → Stand stop rows xs p q
-    → IsSpelled (flat_map rows xs) p q × (ends stop q ≡ true)
+abbrev pub StandIsSpelled : {X : Type 0} → Format X → Type 0
+StandIsSpelled {X} x =
+    (stop : Stop) (xs : List X) (p q : Place) → Stand stop x.rows xs p q
+    → IsSpelled (flat_map x.rows xs) p q × (ends stop q ≡ true)
 
 -- A place has at most one list, and that list has one end.
-abbrev pub OneListStands : {X : Type 0} → (X → List Row) → Type 0
-OneListStands {X} rows =
+abbrev pub OneListStands : {X : Type 0} → Format X → Type 0
+OneListStands {X} x =
     (stop : Stop) (xs ys : List X) (p q r : Place) → p.at ≤ length p.bits
-    → Stand stop rows xs p q → Stand stop rows ys p r → (xs ≡ ys) × (q ≡ r)
+    → Stand stop x.rows xs p q → Stand stop x.rows ys p r → (xs ≡ ys) × (q ≡ r)
 
 -- Reading a list reports a fault exactly where the list has that fault. So a place has at most one
 -- fault.
-abbrev pub ListFaultIsRead : {X : Type 0} → (List Row → X) → Fields → Type 0
-ListFaultIsRead {X} record_of fields =
+abbrev pub ListFaultIsRead : {X : Type 0} → Format X → Type 0
+ListFaultIsRead {X} x =
     (stop : Stop) (p : Place) (f : Fault) → p.at ≤ length p.bits
-    → IsListFault stop fields p f ↔ (items_at stop fields record_of p ≡ Err f)
+    → IsListFault stop x.fields p f ↔ (items_at stop x.fields x.of p ≡ Err f)
 
 -- A telegram with fewer than eight bits left has the fault NoEnd there. Any input of the same
 -- length has as few bits there.
-abbrev pub NoEndIsTold : Fields → Type 0
-NoEndIsTold fields =
+abbrev pub NoEndIsTold : {X : Type 0} → Format X → Type 0
+NoEndIsTold x =
     (p : Place) → p.at ≤ length p.bits → length p.bits < p.at + 8
-    → IsListFault stops.Telegram fields p (record { at = p.at; end = p.at; why = NoEnd })
+    → IsListFault stops.Telegram x.fields p (record { at = p.at; end = p.at; why = NoEnd })
 
 -- A place with a list's fault has no list. This holds in every input with the same length and
 -- front.
-abbrev pub ListFaultMeansNone : {X : Type 0} → (X → List Row) → Fields → Type 0
-ListFaultMeansNone rows fields =
+abbrev pub ListFaultMeansNone : {X : Type 0} → Format X → Type 0
+ListFaultMeansNone x =
     (stop : Stop) (p : Place) (f : Fault) → p.at ≤ length p.bits
-    → IsListFault stop fields p f → NoneStand stop rows p f
+    → IsListFault stop x.fields p f → NoneStand stop x.rows p f
 
 -- Spellings one after the other are a list if a list ends at the bits after them. The list stands
 -- after any bits, and ends where the spellings end.
-abbrev pub WrittenStands : {X : Type 0} → (X → List Row) → Fields → Type 0
-WrittenStands {X} rows fields =
-    HasNoMark fields → (stop : Stop) (xs : List X) (front rest : List Bool)
-    → AreAllowed (flat_map rows xs) → ends stop (start rest) ≡ true
-    → (bits : List Bool) → bits ≡ front ++ (join (flat_map rows xs) ++ rest)
-    → Stand stop rows xs (record { bits = bits; at = length front })
-    (record { bits = bits; at = length front + length (join (flat_map rows xs)) })
+abbrev pub WrittenStands : {X : Type 0} → Format X → Type 0
+WrittenStands {X} x =
+    HasNoMark x.fields → (stop : Stop) (xs : List X) (front rest : List Bool)
+    → AreAllowed (flat_map x.rows xs) → ends stop (start rest) ≡ true
+    → (bits : List Bool) → bits ≡ front ++ (join (flat_map x.rows xs) ++ rest)
+    → Stand stop x.rows xs (record { bits = bits; at = length front })
+    (record { bits = bits; at = length front + length (join (flat_map x.rows xs)) })
 
 -- A whole stands exactly where reading gives it. Both end at the same place.
-abbrev pub WholeIsRead : {H X : Type 0}
-    → (H → List Row) → (List Row → H) → Fields → (X → List Row) → (List Row → X) → Fields → Type 0
-WholeIsRead {H} {X} head head_of header rows record_of item =
+abbrev pub WholeIsRead : {H X : Type 0} → Format H → Format X → Type 0
+WholeIsRead {H} {X} head x =
     (stop : Stop) (h : H) (xs : List X) (p q : Place) → p.at ≤ length p.bits
-    → IsWhole stop head rows h xs p q
-    ↔ (whole_at stop header head_of item record_of p ≡ Ok ((h, xs), q))
+    → IsWhole stop head.rows x.rows h xs p q
+    ↔ (whole_at stop head.fields head.of x.fields x.of p ≡ Ok ((h, xs), q))
 
 -- Bits begin with at most one head and list.
-abbrev pub OneWholeBegins : {H X : Type 0} → (H → List Row) → (X → List Row) → Type 0
-OneWholeBegins {H} {X} head rows =
+abbrev pub OneWholeBegins : {H X : Type 0} → Format H → Format X → Type 0
+OneWholeBegins {H} {X} head x =
     (stop : Stop) (h k : H) (xs ys : List X) (bits : List Bool)
-    → BeginsWith stop head rows h xs bits → BeginsWith stop head rows k ys bits
+    → BeginsWith stop head.rows x.rows h xs bits → BeginsWith stop head.rows x.rows k ys bits
     → (h ≡ k) × (xs ≡ ys)
 
 -- Reading a whole reports a fault exactly where the whole has that fault.
-abbrev pub WholeFaultIsRead : {H X : Type 0}
-    → (List Row → H) → Fields → (List Row → X) → Fields → Type 0
-WholeFaultIsRead head_of header record_of item =
+abbrev pub WholeFaultIsRead : {H X : Type 0} → Format H → Format X → Type 0
+WholeFaultIsRead head x =
     (stop : Stop) (p : Place) (f : Fault) → p.at ≤ length p.bits
-    → IsWholeFault stop header item p f ↔ (whole_at stop header head_of item record_of p ≡ Err f)
+    → IsWholeFault stop head.fields x.fields p f
+    ↔ (whole_at stop head.fields head.of x.fields x.of p ≡ Err f)
 
 -- A place with a whole's fault has no whole. This holds in every input with the same length and
 -- front.
-abbrev pub WholeFaultMeansNone : {H X : Type 0}
-    → (H → List Row) → Fields → (X → List Row) → Fields → Type 0
-WholeFaultMeansNone head header rows item =
+abbrev pub WholeFaultMeansNone : {H X : Type 0} → Format H → Format X → Type 0
+WholeFaultMeansNone head x =
     (stop : Stop) (p : Place) (f : Fault) → p.at ≤ length p.bits
-    → IsWholeFault stop header item p f → NoneWhole stop head rows p f
+    → IsWholeFault stop head.fields x.fields p f → NoneWhole stop head.rows x.rows p f
 
 -- Bits that begin with a head and a list consist of their spellings and a rest. A list ends where
 -- that rest begins.
-abbrev pub WholeIsSpelled : {H X : Type 0} → (H → List Row) → (X → List Row) → Type 0
-WholeIsSpelled {H} {X} head rows =
+abbrev pub WholeIsSpelled : {H X : Type 0} → Format H → Format X → Type 0
+WholeIsSpelled {H} {X} head x =
     (stop : Stop) (h : H) (xs : List X) (bits : List Bool)
-    → BeginsWith stop head rows h xs bits → AreSpelled stop head rows h xs bits
+    → BeginsWith stop head.rows x.rows h xs bits → AreSpelled stop head.rows x.rows h xs bits
 
 -- The bits begin with this head and this list, and mean them.
-pub record IsReadBack {H X : Type 0} (head : H → List Row) (head_of : List Row → H)
-    (header : Fields) (rows : X → List Row) (record_of : List Row → X) (item : Fields) (stop : Stop)
+pub record IsReadBack {H X : Type 0} (head : Format H) (x : Format X) (stop : Stop)
     (h : H) (xs : List X) (bits : List Bool) : Type 0 where
-  pub begins : BeginsWith stop head rows h xs bits
-  pub means : whole_of stop header head_of item record_of bits ≡ Ok (h, xs)
+  pub begins : BeginsWith stop head.rows x.rows h xs bits
+  pub means : whole_of stop head.fields head.of x.fields x.of bits ≡ Ok (h, xs)
 
 -- What was written is read back, whatever follows the end of the list.
-abbrev pub WrittenIsReadBack : {H X : Type 0}
-    → (H → List Row) → (List Row → H) → Fields → (X → List Row) → (List Row → X) → Fields → Type 0
-WrittenIsReadBack {H} {X} head head_of header rows record_of item =
-    HasNoMark item → (stop : Stop) (h : H) (xs : List X) (bits : List Bool)
-    → AreSpelled stop head rows h xs bits
-    → IsReadBack head head_of header rows record_of item stop h xs bits
+abbrev pub WrittenIsReadBack : {H X : Type 0} → Format H → Format X → Type 0
+WrittenIsReadBack {H} {X} head x =
+    HasNoMark x.fields → (stop : Stop) (h : H) (xs : List X) (bits : List Bool)
+    → AreSpelled stop head.rows x.rows h xs bits → IsReadBack head x stop h xs bits
