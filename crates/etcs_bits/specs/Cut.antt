@@ -1,5 +1,6 @@
 -- The record at the front of a list of rows, found by its table of fields alone. Other rows may
 -- follow a whole list of the fields.
+-- Pinned by the law a_record_is_read_as_it_is_spelled.
 use Rattle.std.specs.Prelude.{List, [], ◌∷◌, ◌++◌}
 use Rattle.etcs_bits.specs.Rows.{Row}
 use Rattle.etcs_bits.specs.Fields.{Fields, nothing, field, ◌▹◌, sized}
