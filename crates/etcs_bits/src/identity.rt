@@ -42,9 +42,10 @@ impl Layout for Identity {
 
     #[inline]
     fn scan(alloc: Global, cur: &mut Cursor<'_>) -> Result<Self, DecodeError> {
-        let country = Country::scan(alloc, cur)?;
-        let group = GroupNumber::scan(alloc, cur)?;
-        Ok(Identity { country, group })
+        Ok(Identity {
+            country: Layout::scan(alloc, cur)?,
+            group: Layout::scan(alloc, cur)?,
+        })
     }
 }
 

@@ -49,8 +49,7 @@ impl<T: Layout> Layout for Option<T> {
     #[inline]
     fn scan(alloc: Global, cur: &mut Cursor<'_>) -> Result<Self, DecodeError> {
         if cur.take(1)? == 1 {
-            let record = T::scan(alloc, cur)?;
-            Ok(Some(record))
+            Ok(Some(Layout::scan(alloc, cur)?))
         } else {
             Ok(None)
         }

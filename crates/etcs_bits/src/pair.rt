@@ -37,9 +37,7 @@ impl<A: Layout, B: Layout> Layout for (A, B) {
 
     #[inline]
     fn scan(alloc: Global, cur: &mut Cursor<'_>) -> Result<Self, DecodeError> {
-        let first = A::scan(alloc, cur)?;
-        let second = B::scan(alloc, cur)?;
-        Ok((first, second))
+        Ok((Layout::scan(alloc, cur)?, Layout::scan(alloc, cur)?))
     }
 }
 

@@ -64,19 +64,13 @@ impl Layout for Link {
     }
 
     fn scan(alloc: Global, cur: &mut Cursor<'_>) -> Result<Self, DecodeError> {
-        let distance = Distance::scan(alloc, cur)?;
-        let country = Option::scan(alloc, cur)?;
-        let group = GroupNumber::scan(alloc, cur)?;
-        let nominal = bool::scan(alloc, cur)?;
-        let reaction = Reaction::scan(alloc, cur)?;
-        let accuracy = Plain::scan(alloc, cur)?;
         Ok(Link {
-            distance,
-            country,
-            group,
-            nominal,
-            reaction,
-            accuracy,
+            distance: Layout::scan(alloc, cur)?,
+            country: Layout::scan(alloc, cur)?,
+            group: Layout::scan(alloc, cur)?,
+            nominal: Layout::scan(alloc, cur)?,
+            reaction: Layout::scan(alloc, cur)?,
+            accuracy: Layout::scan(alloc, cur)?,
         })
     }
 }
@@ -142,8 +136,9 @@ impl Linking {
         ensures { Gives (rest (elements link)).rows result
             (rows_at (rest (elements link)).fields cur.old) cur.new }
     {
-        let packet = Packet::scan_rest(alloc, cur)?;
-        Ok(Linking { packet })
+        Ok(Linking {
+            packet: Packet::scan_rest(alloc, cur)?,
+        })
     }
 
     /// The running directions that the packet is for: Q_DIR.
@@ -196,8 +191,9 @@ impl Layout for Linking {
     }
 
     fn scan(alloc: Global, cur: &mut Cursor<'_>) -> Result<Self, DecodeError> {
-        let packet = Packet::scan(alloc, cur)?;
-        Ok(Linking { packet })
+        Ok(Linking {
+            packet: Layout::scan(alloc, cur)?,
+        })
     }
 }
 

@@ -43,9 +43,10 @@ impl Layout for LevelOrder {
     }
 
     fn scan(alloc: Global, cur: &mut Cursor<'_>) -> Result<Self, DecodeError> {
-        let level = Level::scan(alloc, cur)?;
-        let acknowledge = Distance::scan(alloc, cur)?;
-        Ok(LevelOrder { level, acknowledge })
+        Ok(LevelOrder {
+            level: Layout::scan(alloc, cur)?,
+            acknowledge: Layout::scan(alloc, cur)?,
+        })
     }
 }
 
@@ -109,8 +110,9 @@ impl Transition {
         ensures { Gives (rest level_orders).rows result
             (rows_at (rest level_orders).fields cur.old) cur.new }
     {
-        let packet = Packet::scan_rest(alloc, cur)?;
-        Ok(Transition { packet })
+        Ok(Transition {
+            packet: Packet::scan_rest(alloc, cur)?,
+        })
     }
 
     /// The running directions that the packet is for: Q_DIR.
@@ -172,8 +174,9 @@ impl Layout for Transition {
     }
 
     fn scan(alloc: Global, cur: &mut Cursor<'_>) -> Result<Self, DecodeError> {
-        let packet = Packet::scan(alloc, cur)?;
-        Ok(Transition { packet })
+        Ok(Transition {
+            packet: Layout::scan(alloc, cur)?,
+        })
     }
 }
 

@@ -37,11 +37,9 @@ impl Layout for DangerPoint {
     }
 
     fn scan(alloc: Global, cur: &mut Cursor<'_>) -> Result<Self, DecodeError> {
-        let distance = Distance::scan(alloc, cur)?;
-        let release_speed = ReleaseSpeed::scan(alloc, cur)?;
         Ok(DangerPoint {
-            distance,
-            release_speed,
+            distance: Layout::scan(alloc, cur)?,
+            release_speed: Layout::scan(alloc, cur)?,
         })
     }
 }

@@ -142,13 +142,10 @@ impl<T: Layout> Layout for Elements<T> {
     }
 
     fn scan(alloc: Global, cur: &mut Cursor<'_>) -> Result<Self, DecodeError> {
-        let scale = Scale::scan(alloc, cur)?;
-        let first = T::scan(alloc, cur)?;
-        let further = Items::scan(alloc, cur)?;
         Ok(Elements {
-            scale,
-            first,
-            further,
+            scale: Layout::scan(alloc, cur)?,
+            first: Layout::scan(alloc, cur)?,
+            further: Layout::scan(alloc, cur)?,
         })
     }
 }

@@ -36,9 +36,10 @@ impl Layout for EndTimer {
     }
 
     fn scan(alloc: Global, cur: &mut Cursor<'_>) -> Result<Self, DecodeError> {
-        let time = Time::scan(alloc, cur)?;
-        let start = Distance::scan(alloc, cur)?;
-        Ok(EndTimer { time, start })
+        Ok(EndTimer {
+            time: Layout::scan(alloc, cur)?,
+            start: Layout::scan(alloc, cur)?,
+        })
     }
 }
 

@@ -73,13 +73,10 @@ impl Layout for GradientElement {
     }
 
     fn scan(alloc: Global, cur: &mut Cursor<'_>) -> Result<Self, DecodeError> {
-        let distance = Distance::scan(alloc, cur)?;
-        let uphill = bool::scan(alloc, cur)?;
-        let gradient = Plain::scan(alloc, cur)?;
         Ok(GradientElement {
-            distance,
-            uphill,
-            gradient,
+            distance: Layout::scan(alloc, cur)?,
+            uphill: Layout::scan(alloc, cur)?,
+            gradient: Layout::scan(alloc, cur)?,
         })
     }
 }

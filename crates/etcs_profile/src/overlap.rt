@@ -47,15 +47,11 @@ impl Layout for Overlap {
     }
 
     fn scan(alloc: Global, cur: &mut Cursor<'_>) -> Result<Self, DecodeError> {
-        let start = Distance::scan(alloc, cur)?;
-        let time = Time::scan(alloc, cur)?;
-        let length = Distance::scan(alloc, cur)?;
-        let release_speed = ReleaseSpeed::scan(alloc, cur)?;
         Ok(Overlap {
-            start,
-            time,
-            length,
-            release_speed,
+            start: Layout::scan(alloc, cur)?,
+            time: Layout::scan(alloc, cur)?,
+            length: Layout::scan(alloc, cur)?,
+            release_speed: Layout::scan(alloc, cur)?,
         })
     }
 }

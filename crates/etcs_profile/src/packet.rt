@@ -63,9 +63,10 @@ impl<const N: u32, T: Layout> Packet<N, T> {
         ensures gives { Gives (rest T.format).rows result (rows_at (rest T.format).fields cur.old) cur.new }
         ensures memory { IfMemory result T.grows }
     {
-        let dir = Dir::scan(alloc, cur)?;
-        let body = Body::scan(alloc, cur)?;
-        Ok(Packet { dir, body })
+        Ok(Packet {
+            dir: Layout::scan(alloc, cur)?,
+            body: Layout::scan(alloc, cur)?,
+        })
     }
 }
 

@@ -35,9 +35,10 @@ impl Layout for Section {
     }
 
     fn scan(alloc: Global, cur: &mut Cursor<'_>) -> Result<Self, DecodeError> {
-        let length = Distance::scan(alloc, cur)?;
-        let timer = Option::scan(alloc, cur)?;
-        Ok(Section { length, timer })
+        Ok(Section {
+            length: Layout::scan(alloc, cur)?,
+            timer: Layout::scan(alloc, cur)?,
+        })
     }
 }
 
@@ -80,9 +81,10 @@ impl Layout for SectionTimer {
     }
 
     fn scan(alloc: Global, cur: &mut Cursor<'_>) -> Result<Self, DecodeError> {
-        let time = Time::scan(alloc, cur)?;
-        let stop = Distance::scan(alloc, cur)?;
-        Ok(SectionTimer { time, stop })
+        Ok(SectionTimer {
+            time: Layout::scan(alloc, cur)?,
+            stop: Layout::scan(alloc, cur)?,
+        })
     }
 }
 

@@ -77,13 +77,10 @@ impl Layout for Difference {
     }
 
     fn scan(alloc: Global, cur: &mut Cursor<'_>) -> Result<Self, DecodeError> {
-        let kind = Ranged::scan(alloc, cur)?;
-        let category = Plain::scan(alloc, cur)?;
-        let speed = Speed::scan(alloc, cur)?;
         Ok(Difference {
-            kind,
-            category,
-            speed,
+            kind: Layout::scan(alloc, cur)?,
+            category: Layout::scan(alloc, cur)?,
+            speed: Layout::scan(alloc, cur)?,
         })
     }
 }
@@ -144,15 +141,11 @@ impl Layout for SpeedElement {
     }
 
     fn scan(alloc: Global, cur: &mut Cursor<'_>) -> Result<Self, DecodeError> {
-        let distance = Distance::scan(alloc, cur)?;
-        let speed = StaticSpeed::scan(alloc, cur)?;
-        let front = bool::scan(alloc, cur)?;
-        let differences = Items::scan(alloc, cur)?;
         Ok(SpeedElement {
-            distance,
-            speed,
-            front,
-            differences,
+            distance: Layout::scan(alloc, cur)?,
+            speed: Layout::scan(alloc, cur)?,
+            front: Layout::scan(alloc, cur)?,
+            differences: Layout::scan(alloc, cur)?,
         })
     }
 }

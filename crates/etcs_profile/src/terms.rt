@@ -77,23 +77,15 @@ impl Layout for Terms {
     }
 
     fn scan(alloc: Global, cur: &mut Cursor<'_>) -> Result<Self, DecodeError> {
-        let end_speed = Speed::scan(alloc, cur)?;
-        let end_timeout = Time::scan(alloc, cur)?;
-        let sections = Items::scan(alloc, cur)?;
-        let l_endsection = Distance::scan(alloc, cur)?;
-        let section_timer = Option::scan(alloc, cur)?;
-        let end_timer = Option::scan(alloc, cur)?;
-        let danger_point = Option::scan(alloc, cur)?;
-        let overlap = Option::scan(alloc, cur)?;
         Ok(Terms {
-            end_speed,
-            end_timeout,
-            sections,
-            l_endsection,
-            section_timer,
-            end_timer,
-            danger_point,
-            overlap,
+            end_speed: Layout::scan(alloc, cur)?,
+            end_timeout: Layout::scan(alloc, cur)?,
+            sections: Layout::scan(alloc, cur)?,
+            l_endsection: Layout::scan(alloc, cur)?,
+            section_timer: Layout::scan(alloc, cur)?,
+            end_timer: Layout::scan(alloc, cur)?,
+            danger_point: Layout::scan(alloc, cur)?,
+            overlap: Layout::scan(alloc, cur)?,
         })
     }
 }

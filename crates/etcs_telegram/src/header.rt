@@ -65,20 +65,14 @@ impl Layout for Header {
         let Transmission::TrackToTrain = Transmission::scan(alloc, cur)?;
         let version = Version::scan(alloc, cur)?;
         let Medium::Balise = Medium::scan(alloc, cur)?;
-        let position = Position::scan(alloc, cur)?;
-        let total = Total::scan(alloc, cur)?;
-        let dup = Dup::scan(alloc, cur)?;
-        let counter = Counter::scan(alloc, cur)?;
-        let identity = Identity::scan(alloc, cur)?;
-        let linked = bool::scan(alloc, cur)?;
         Ok(Header {
             version,
-            position,
-            total,
-            dup,
-            counter,
-            identity,
-            linked,
+            position: Layout::scan(alloc, cur)?,
+            total: Layout::scan(alloc, cur)?,
+            dup: Layout::scan(alloc, cur)?,
+            counter: Layout::scan(alloc, cur)?,
+            identity: Layout::scan(alloc, cur)?,
+            linked: Layout::scan(alloc, cur)?,
         })
     }
 }
