@@ -10,7 +10,7 @@ import random
 import sys
 
 USER_BITS, HEAD_BITS, END_BITS, ITER_BITS = 830, 23, 8, 5
-AFTER_SECTIONS = 15 + 26 + 26 + 23 + 48  # the most bits behind the sections of a movement authority
+AFTER_SECTIONS = 15 + 26 + 26 + 23 + 48  # the most bits after the sections of a movement authority
 SPEEDS = range(121)  # in steps of 5 km/h
 RELEASE_SPEEDS = (*SPEEDS, 126, 127)  # calculated on board, national value
 STATIC_SPEEDS = (*SPEEDS, 127)  # end mark
@@ -23,7 +23,7 @@ numbers = random.Random(USER_BITS)
 
 
 class Spelling:
-    """Fields, one behind the other: what number their bits are, and how many there are."""
+    """Fields, one after the other: what number their bits are, and how many there are."""
 
     def __init__(self):
         self.value, self.bits = 0, 0
@@ -40,13 +40,13 @@ class Spelling:
 
 
 def items(out, end, largest, item):
-    """Up to 31 records behind N_ITER, none of more than `largest` bits, so that `out` has at most `end` bits."""
+    """Up to 31 records after N_ITER, none of more than `largest` bits, so that `out` has at most `end` bits."""
     most = min((end - out.bits - ITER_BITS) // largest, 31)
     return [item(out) for _ in range(out.one_of(range(most + 1), ITER_BITS))]
 
 
 def option(out, record, key, fields):
-    """A qualifier, and the fields behind it if it is 1."""
+    """A qualifier, and the fields after it if it is 1."""
     if out.any(1):
         record[key] = fields(out)
 
@@ -163,7 +163,7 @@ def packet(out, number, room):
         record["nid_vbcmk"] = out.any(6)
         return record
     record["q_dir"] = out.one_of(range(3), 2)
-    body = Spelling()  # by itself, since L_PACKET tells its size before it
+    body = Spelling()  # by itself, since L_PACKET, before it, is its size
     if number in LAYOUTS:
         record["q_scale"] = body.one_of(range(3), 2)
         record.update(LAYOUTS[number](body, room - HEAD_BITS))
@@ -186,7 +186,7 @@ def header(out):
 
 
 def packets(out):
-    """The packets of a telegram behind its header: some with a layout, then others as long as one has room."""
+    """The packets of a telegram after its header: some with a layout, then others as long as one has room."""
     records = []
     for number in numbers.sample(list(ROOM), numbers.randrange(3, len(ROOM) + 1)):
         room = USER_BITS - END_BITS - out.bits

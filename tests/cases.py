@@ -8,7 +8,7 @@ import re
 
 HERE = pathlib.Path(__file__).parent / "cases"
 SHORT, LONG, END_MARK = 210, 830, "11111111"
-# the header's variables behind Q_UPDOWN: key, width, number of the telegram of group 1 in country 1
+# the header's variables after Q_UPDOWN: key, width, number of the telegram of group 1 in country 1
 HEADER = (("m_version", 7, 33), ("q_media", 1, 0), ("n_pig", 3, 0), ("n_total", 3, 0), ("m_dup", 2, 0),
           ("m_mcount", 8, 255), ("nid_c", 10, 1), ("nid_bg", 14, 1), ("q_link", 1, 1))
 FORM = json.JSONEncoder(separators=(",", ":"), sort_keys=True)
@@ -60,7 +60,7 @@ def filler(width):
 
 
 def cut(name, fields):
-    """The packet behind a packet 44, up to the end of a telegram, which cuts it at each of its bits."""
+    """The packet after a packet 44, up to the end of a telegram, which cuts it at each of its bits."""
     bits = "".join(fields)
     for width in range(len(bits)):
         size = SHORT if width <= SHORT - len(HEAD) - 23 else LONG
@@ -70,7 +70,7 @@ def cut(name, fields):
         at = start + len("".join(fields[:field]))
         why = f"short at {at} end {size}" if width >= 8 else f"no end at {at} end {at}"
         telegram = HEAD + filler(start - len(HEAD)) + bits[:width]
-        yield f"{name}, cut behind {width} bits", text(telegram), refusal(why)
+        yield f"{name}, cut after {width} bits", text(telegram), refusal(why)
 
 
 def faults(name, ahead, fields, others):
@@ -144,7 +144,7 @@ def turned_header(place):
 
 
 def turned_bits():
-    """Each bit up to the end mark counts, and none behind it."""
+    """Each bit up to the end mark counts, and none after it."""
     alone = (HEAD + END_MARK).ljust(SHORT, "1")
     yield from turned("a header", alone, range(58), turned_header)
     yield from turned("the fill", alone, range(58, SHORT), lambda _: answer(SHORT, []))
@@ -153,7 +153,7 @@ def turned_bits():
 
 
 def packet(number, rest, **form):
-    """A packet for the nominal direction in metres, of the fields behind Q_SCALE, with its form."""
+    """A packet for the nominal direction in metres, of the fields after Q_SCALE, with its form."""
     form = {"nid_packet": number, "q_dir": 1, "q_scale": 1, **form}
     return spelled((8, number), (2, 1), (13, 25 + len(rest)), (2, 1)) + rest, [FORM.encode(form)]
 

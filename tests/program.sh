@@ -148,7 +148,7 @@ reads_lines() {
     refuses 'not hexadecimal' $'\xef\xbb\xbf'"$telegram"
     answers 'the lines before a refused one' 2 "${json}refused: line 3: pad bits set"$'\n' '' \
         decode <<<"$telegram"$'\n\n'"${telegram%0}1"
-    answers 'no line behind a refused one' 2 "${json}refused: line 2: not hexadecimal"$'\n' '' \
+    answers 'no line after a refused one' 2 "${json}refused: line 2: not hexadecimal"$'\n' '' \
         decode <<<"$telegram"$'\nzz\n'"$telegram"$'\nzz'
 }
 
@@ -164,7 +164,7 @@ reads_long_lines() {
         why=$([ $((length % 2)) -eq 0 ] && echo 'wrong size' || echo 'not hexadecimal')
         answers "a line of $length digits" 2 "refused: line 1: $why"$'\n' '' \
             decode < <(digits "$length"; printf '\n%s\n' "$telegram")
-        answers "a line of $length digits behind a telegram" 2 "${json}refused: line 2: $why"$'\n' '' \
+        answers "a line of $length digits after a telegram" 2 "${json}refused: line 2: $why"$'\n' '' \
             decode < <(printf '%s\n' "$telegram"; digits "$length")
         answers "a line of $length bytes, the last of which is no digit" 2 \
             'refused: line 1: not hexadecimal'$'\n' '' \
@@ -176,7 +176,7 @@ reads_long_lines() {
 reads_over_blocks() {
     local before
     for before in 65424 65480 65481 65482 65483 65509 65534 65535 65536; do
-        answers "telegrams behind $before bytes" 0 "$json$json" '' \
+        answers "telegrams after $before bytes" 0 "$json$json" '' \
             decode < <(yes '' | head -n "$before"; printf '%s\r\n%s\n' "$telegram" "$telegram")
     done
 }

@@ -171,7 +171,7 @@ refuses() {
     writes "{ $1; } 2>&1; echo \"status \$?\"" "$2"$'\nstatus 1\n'
 }
 
-# What the functions do with numbers that are too great, places behind the end, lines that are not
+# What the functions do with numbers that are too great, places after the end, lines that are not
 # there, upper-case digits, and lines that end in blanks and `\r\n`.
 tries_functions() {
     local said='line 1 has no hexadecimal digit for bit' blanks="printf '%s \t\r\n'"
@@ -195,7 +195,7 @@ tries_functions() {
     refuses "number_lines missing.txt <<<'{}'" 'missing.txt has no line for answer 1'
 }
 
-# The zeros before a telegram are put behind it, in a telegram of each size, and only zeros.
+# The zeros before a telegram are put after it, in a telegram of each size, and only zeros.
 moves_zeros() {
     local size zeros good
     for size in header-only movement-authority-radio movement-authority-level-1; do

@@ -92,7 +92,7 @@ builds_again() {
     changed 'a definition is saved' touch crates/etcs_bits/specs/Lib.antt
     changed 'a proof is removed' rm crates/etcs_bits/proofs/Lib.antt
     changed 'the list of crates is saved' touch crates.txt
-    changed 'a source is put back with its old time' cp -p crates/etcs_bits/src/lib.rt crates/etcs_bits/src/flag.rt
+    changed 'a source is put back with its old time' cp -p crates/etcs_bits/src/lib.rt crates/etcs_bits/src/variables/flag.rt
 }
 
 copy

@@ -3,8 +3,8 @@ use Rattle.std.proofs.Common.{◌≡◌, ℕ, zero, suc, ◌+◌, ◌-◌, ◌*�
 use Rattle.std.proofs.lemmas.Bool.{cases_lt}
 use Rattle.std.proofs.lemmas.List.{get_or_past, get_or_append_left, get_or-append_right, get_or-replicate, get_or-drop, drop-drop, take_more_set, length-append, length-replicate, length-drop}
 use mir.Val.{bool_byte}
-use Rattle.etcs_bits.specs.Number.{num_of_bits}
-use Rattle.etcs_bits.proofs.NumeralLemmas.{number_more}
+use Rattle.etcs_bits.specs.bits.Number.{num_of_bits}
+use Rattle.etcs_bits.proofs.ConversionLemmas.{number_more}
 use Rattle.balisecheck.specs.BitText.{bytes_for, bytes_in, filled_up}
 
 -- the bits and the zeros are whole bytes

@@ -1,15 +1,13 @@
 -- No form of a telegram has a number with a point or an exponent, so its JSON text is known.
-use Rattle.std.proofs.Common.{◌≡◌, ℕ, List, [], ◌∷◌, Option, Some, None, false, refl}
+use Rattle.std.proofs.Common.{◌≡◌, ℕ, List, [], ◌∷◌, Option, Some, None, codes, false, refl}
 use Rattle.std.proofs.lemmas.Bool.{or_from}
-use Rattle.etcs_bits.specs.declared.direction.Dir.{Dir}
 use Rattle.etcs_packet.specs.declared.track.TrackPacket.TheVariants as packets
-use Rattle.etcs_profile.specs.Profile.{Profile}
 use Rattle.etcs_telegram.specs.Record.{Telegram}
 use Rattle.serde_json.specs.Data.{Data}
 use Rattle.serde_json.specs.Written.{has_float, items_have_float, members_have_float}
 use Rattle.balisecheck.specs.AuthorityForms.{section_timer_form, section_form, end_timer_form, danger_point_form, overlap_form, authority_form}
 use Rattle.balisecheck.specs.Forms.{Entry, items_of, maybe, members_of, whole}
-use Rattle.balisecheck.specs.PacketForms.{link_form, linking_form, national_system, order_form, transition_form, packet_form}
+use Rattle.balisecheck.specs.PacketForms.{link_form, national_system, order_form, transition_form, packet_form}
 use Rattle.balisecheck.specs.ProfileForms.{difference_form, gradient_element_form, profile_form, speed_element_form}
 use Rattle.balisecheck.specs.TelegramLines.{telegram_form}
 
@@ -32,11 +30,8 @@ whole_maybe key form each (Some x) entries rest = or_from _ _ (each x) rest
 link_whole : IsWhole link_form
 link_whole l = whole_maybe _ whole (λ n. refl) l.country _ refl
 
-linking_whole : IsWhole linking_form
-linking_whole p = or_from _ _ (whole_items link_form link_whole (p.1.first ∷ p.1.further)) refl
-
-profile_whole : {X : Type 0} (k : ℕ) (form : X → Data) → IsWhole form → (p : Dir × Profile X) → has_float (profile_form k form p) ≡ false
-profile_whole k form each p = or_from _ _ (whole_items form each (p.1.first ∷ p.1.further)) refl
+profile_whole : {X : Type 0} (key : List ℕ) (k : ℕ) (form : X → Data) → IsWhole form → IsWhole (profile_form key k form)
+profile_whole key k form each p = or_from _ _ (whole_items form each (p.1.first ∷ p.1.further)) refl
 
 speed_whole : IsWhole speed_element_form
 speed_whole e = or_from _ _ (whole_items difference_form (λ d. refl) e.differences) refl
@@ -61,10 +56,10 @@ authority_whole a =
 
 packet_whole : IsWhole packet_form
 packet_whole (packets.Cover p) = refl
-packet_whole (packets.Linking p) = linking_whole p
+packet_whole (packets.Linking p) = profile_whole (codes "links") 5 link_form link_whole p
 packet_whole (packets.Authority p) = authority_whole p
-packet_whole (packets.Gradient p) = profile_whole 21 gradient_element_form (λ e. refl) p
-packet_whole (packets.Speed p) = profile_whole 27 speed_element_form speed_whole p
+packet_whole (packets.Gradient p) = profile_whole (codes "elements") 21 gradient_element_form (λ e. refl) p
+packet_whole (packets.Speed p) = profile_whole (codes "elements") 27 speed_element_form speed_whole p
 packet_whole (packets.Transition p) = transition_whole p
 packet_whole (packets.Raw p) = refl
 

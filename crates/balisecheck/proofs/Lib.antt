@@ -1,7 +1,7 @@
 pub mod StreamLemmas
 pub mod LineLemmas
 pub mod FillLemmas
-pub mod TellingLemmas
+pub mod AnswerLemmas
 pub mod RunLemmas
 pub mod CommandLemmas
 pub mod FormLemmas

@@ -3,10 +3,11 @@
 use Rattle.std.proofs.Common.{◌≡◌, ◌+◌, ◌++◌, ℕ, Bool, true, false, List, [], Option, Some, None, IfSome, Result, Ok, Err, inr, refl, sym, ap, ◌∙◌, append_assoc, take, drop, subst, arith}
 use Rattle.std.proofs.lemmas.List.{append-nil, take_all, take-append-drop}
 use Rattle.std.specs.Io.KnownBytes.{Appends, Consumes, IsAtEnd, Keeps}
-use Rattle.balisecheck.specs.LineReading.{CountsDevice, MayFollow, Reads}
+use Rattle.balisecheck.specs.LineReading.{CountsDevice, Reads}
+use Rattle.balisecheck.specs.Ran.{MayFollow}
 use Rattle.balisecheck.specs.TextLines.{lines_of, trimmed}
 use Rattle.balisecheck.specs.Output.{Output, after_line, answers, decode_output, prepend}
-use Rattle.balisecheck.specs.Ran.{CountsOneDevice, Puts, Ran, Tells, Turns, Writes}
+use Rattle.balisecheck.specs.Ran.{CountsOneDevice, WritesBytes, Ran, IsOutputSoFar, Turns, Writes}
 use Rattle.balisecheck.specs.declared.counted.Counted.{Counted}
 use Rattle.balisecheck.specs.declared.error.RunError.{RunError}
 use Rattle.balisecheck.specs.declared.error.RunError.TheVariants.{Memory, Device}
@@ -114,8 +115,8 @@ module _ {r0 r c0 c c1 : Option (List ℕ)} {ended : Bool} {output : List ℕ �
     {after : Output → Output} (left : List ℕ → Output)
     (run : Running r0 r c0 c ended output (λ rest. after (left rest))) where
   -- a line was answered
-  pub Running-told : Turns c c1 after (Ok Next) → Running r0 r c0 c1 ended output left
-  Running-told turn = record {
+  pub Running-answered : Turns c c1 after (Ok Next) → Running r0 r c0 c1 ended output left
+  Running-answered turn = record {
     bytes = run.bytes;
     consumed = run.consumed;
     text = run.text ++ turn.text;
@@ -221,7 +222,7 @@ Ran-as {result} same ran = record {
   text = ran.text;
   appended = ran.appended;
   says = λ rest may.
-      let P : Output → Type 0 = Tells result ran.text in
+      let P : Output → Type 0 = IsOutputSoFar result ran.text in
       subst P (sym (same (ran.bytes ++ rest))) (ran.says rest may);
 }
 
@@ -235,30 +236,30 @@ Ran-known (Some input) {r = Some rest} {output} {result} ran = record {
   text = ran.text;
   appended = ran.appended;
   says =
-      let P : List ℕ → Type 0 = λ s. Tells result ran.text (output s) in
+      let P : List ℕ → Type 0 = λ s. IsOutputSoFar result ran.text (output s) in
       subst P (sym ran.consumed) (ran.says rest ran.met);
 }
 
 -- one line was written whole
 pub Writes-whole : {c c1 c2 : Option (List ℕ)} {bytes line : List ℕ} {status : Status} {u : Unit {0}}
-    → Puts c c1 bytes (Ok u) → bytes ≡ line → Keeps c1 c2 → Writes c c2 (line, status) (Ok status)
-Writes-whole {c} {c1} {c2} {bytes} {line} {status} puts is keeps = record {
-  text = take puts.count bytes ++ [];
-  appended = Appends-then c c1 c2 _ _ puts.appended (Appends-kept c1 c2 keeps);
+    → WritesBytes c c1 bytes (Ok u) → bytes ≡ line → Keeps c1 c2 → Writes c c2 (line, status) (Ok status)
+Writes-whole {c} {c1} {c2} {bytes} {line} {status} written is keeps = record {
+  text = take written.count bytes ++ [];
+  appended = Appends-then c c1 c2 _ _ written.appended (Appends-kept c1 c2 keeps);
   says =
-      let whole : take puts.count bytes ≡ line =
-      take_all puts.count bytes (omega (arith, puts.whole)) ∙ is in
+      let whole : take written.count bytes ≡ line =
+      take_all written.count bytes (omega (arith, written.whole)) ∙ is in
       ap (λ s. (s, status)) (sym (append-nil _ ∙ whole));
 }
 
 -- a beginning of that line was written
 pub Writes-begun : {c c1 : Option (List ℕ)} {bytes line : List ℕ} {status : Status}
-    {result : Result (Unit {0}) RunError} (e : RunError) → Puts c c1 bytes result → bytes ≡ line
+    {result : Result (Unit {0}) RunError} (e : RunError) → WritesBytes c c1 bytes result → bytes ≡ line
     → Writes c c1 (line, status) (Err e)
-Writes-begun {bytes} e puts is = record {
-  text = take puts.count bytes;
-  appended = puts.appended;
-  says = (drop puts.count bytes, sym (take-append-drop puts.count bytes ∙ is));
+Writes-begun {bytes} e written is = record {
+  text = take written.count bytes;
+  appended = written.appended;
+  says = (drop written.count bytes, sym (take-append-drop written.count bytes ∙ is));
 }
 
 -- what is a whole output is a beginning of it too

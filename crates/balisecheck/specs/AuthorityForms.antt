@@ -3,9 +3,8 @@
 -- parts are this project's, and so are `end_speed` for V_LOA and `end_timeout` for T_LOA. A bit
 -- that only says whether something follows is not written: the key of what follows is there or not.
 use Rattle.std.specs.Prelude.{List, [], ◌∷◌, codes}
-use Rattle.etcs_bits.specs.Variables.{dir_number, scale_number}
-use Rattle.etcs_packet.specs.Track.{authority_number}
-use Rattle.etcs_profile.specs.Authority.{Permission}
+use Rattle.etcs_bits.specs.variables.Variables.{dir_number, scale_number}
+use Rattle.etcs_profile.specs.Authority.{Permission, authority_number}
 use Rattle.etcs_profile.specs.declared.section.Section.{Section}
 use Rattle.etcs_profile.specs.declared.section.SectionTimer.{SectionTimer}
 use Rattle.etcs_profile.specs.declared.end_timer.EndTimer.{EndTimer}
@@ -59,7 +58,7 @@ authority_members a =
     ∷ always (codes "end_timeout") (whole a.terms.end_timeout)
     ∷ maybe (codes "end_timer") end_timer_form a.terms.end_timer
     ∷ always (codes "l_endsection") (whole a.terms.l_endsection)
-    ∷ always (codes "nid_packet") (whole (authority_number a.main))
+    ∷ always (codes "nid_packet") (whole (authority_number a))
     ∷ maybe (codes "overlap") overlap_form a.terms.overlap
     ∷ always (codes "q_dir") (whole (dir_number a.dir))
     ∷ always (codes "q_scale") (whole (scale_number a.scale))

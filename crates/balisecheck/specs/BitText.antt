@@ -2,7 +2,7 @@
 -- lower-case hexadecimal digits.
 use Rattle.std.specs.Prelude.{ℕ, zero, suc, ◌+◌, ◌-◌, ◌*◌, ◌/◌, Bool, false, List, [], ◌∷◌, ◌++◌, length, take, drop, replicate}
 use Rattle.hex.specs.Hex.{encode_lower}
-use Rattle.etcs_bits.specs.Number.{num_of_bits}
+use Rattle.etcs_bits.specs.bits.Number.{num_of_bits}
 
 -- how many bytes hold this number of bits
 abbrev pub bytes_for : ℕ → ℕ

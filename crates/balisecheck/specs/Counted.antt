@@ -1,7 +1,7 @@
 -- A reader or writer whose failed calls are counted: what it shows, and what each call does to its
 -- count and to its budget. A read counts as failed if the budget does not suffice for it. A write
 -- counts as failed if it takes none of what it was handed.
-use Rattle.std.specs.Prelude.{◌≡◌, ◌<◌, ◌+◌, ◌-◌, ◌^◌, ℕ, Bool, max, min, Result, MatchResult}
+use Rattle.std.specs.Prelude.{◌≡◌, ◌<◌, ◌+◌, ◌-◌, ◌^◌, ℕ, Bool, min, Result, MatchResult}
 use Rattle.balisecheck.specs.declared.counted.Counted.{Counted}
 
 -- how many calls have failed
@@ -36,7 +36,3 @@ CountsOne old new = failures_of new ≡ failures_of old + 1
 abbrev pub CountsFailure : {X E : Type 0} → ℕ → ℕ → Result X E → Type 0
 CountsFailure old new result =
     MatchResult result (λ _. new ≡ old) (λ _. new ≡ min (old + 1) (2 ^ 64 - 1))
-
--- what a read with this much room takes off the budget
-abbrev pub cost_of : ℕ → ℕ
-cost_of room = max room 1

@@ -1,7 +1,6 @@
 pub mod Counted
 pub mod Command
 pub mod TextLines
-pub mod LineReading
 pub mod Forms
 pub mod ProfileForms
 pub mod AuthorityForms
@@ -10,3 +9,4 @@ pub mod PacketForms
 pub mod TelegramLines
 pub mod Output
 pub mod Ran
+pub mod LineReading

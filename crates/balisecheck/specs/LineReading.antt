@@ -1,9 +1,10 @@
 -- Reading line by line. Bytes come from the reader in blocks that are cut anywhere. Some are held
 -- until their line is whole. Once the end of the input was met nothing more is read, since a reader
 -- such as a terminal may give more after an end.
-use Rattle.std.specs.Prelude.{◌≡◌, ◌++◌, ◌<◌, ◌≤◌, ◌+◌, ◌-◌, ℕ, Bool, true, false, List, [], ◌∷◌, length, take, drop, Option, Result, Ok, Err, IfOk}
+use Rattle.std.specs.Prelude.{◌≡◌, ◌++◌, ◌-◌, ℕ, Bool, true, false, List, [], ◌∷◌, take, drop, Option, Result, Ok, Err}
 use Rattle.std.specs.Io.KnownBytes.{Consumes, IsAtEnd}
-use Rattle.balisecheck.specs.Counted.{CountsNone, CountsOne, budget_of, inner_of}
+use Rattle.balisecheck.specs.Counted.{CountsNone, CountsOne, inner_of}
+use Rattle.balisecheck.specs.Ran.{MayFollow}
 use Rattle.balisecheck.specs.TextLines.{IsLine, lines_of}
 use Rattle.balisecheck.specs.declared.counted.Counted.{Counted}
 use Rattle.balisecheck.specs.declared.error.RunError.{RunError}
@@ -22,18 +23,6 @@ line_of lines = lines.line.items
 abbrev pub has_ended : TextLines → Bool
 has_ended lines = lines.has_ended
 
--- nothing was read yet
-abbrev pub IsFresh : TextLines → Type 0
-IsFresh lines = (held_of lines ≡ []) × (has_ended lines ≡ false)
-
--- `rest` may follow what was read: anything may before the end was met, and nothing after it
-abbrev pub MayFollow : Bool → List ℕ → Type 0
-MayFollow ended rest = ended ≡ true → rest ≡ []
-
--- an end that was met stays met
-abbrev pub StaysEnded : TextLines → TextLines → Type 0
-StaysEnded old new = has_ended old ≡ true → has_ended new ≡ true
-
 -- if the end was met and the reader's bytes are known, none of them is left
 abbrev pub IsEndMet : {R : Type 0} → (R → Option (List ℕ)) → Bool → Counted R → Type 0
 IsEndMet remaining ended reader = ended ≡ true → IsAtEnd (remaining (inner_of reader))
@@ -43,11 +32,6 @@ abbrev pub CountsDevice : {X T : Type 0} → Result X RunError → Counted T →
 CountsDevice (Ok _) old new = CountsNone old new
 CountsDevice (Err Memory) old new = CountsNone old new
 CountsDevice (Err Device) old new = CountsOne old new
-
--- at least `count` bytes of the budget are spent, and some if `count` is not 0
-abbrev pub SpendsAtLeast : {R : Type 0} → ℕ → Counted R → Counted R → Type 0
-SpendsAtLeast count old new =
-    (count + budget_of new ≤ budget_of old) × (0 < count → budget_of new < budget_of old)
 
 -- the line has grown by these bytes, of which none is a `\n`
 pub record Grows (old new : TextLines) (front : List ℕ) : Type 0 where
@@ -78,17 +62,3 @@ pub record Reads (remaining_old remaining_new : Option (List ℕ)) (had_ended : 
   pub quiet : had_ended ≡ true → bytes ≡ []
   pub consumed : Consumes remaining_old remaining_new bytes
   pub gives : GivesLine result (held ++ bytes) line now ended
-
--- a search for a line
-abbrev pub ReadsLine : {R : Type 0} → (R → Option (List ℕ)) → Counted R → Counted R → TextLines → TextLines
-    → Result Bool RunError → Type 0
-ReadsLine remaining reader_old reader_new old new result =
-    Reads (remaining (inner_of reader_old)) (remaining (inner_of reader_new)) (has_ended old)
-    (held_of old) (line_of new) (held_of new) (has_ended new) result
-
--- a line that is found is paid for, by held bytes or by the budget
-abbrev pub SpendsLine : {R : Type 0} → Result Bool RunError → Counted R → Counted R → TextLines → TextLines
-    → Type 0
-SpendsLine result reader_old reader_new old new = IfOk result (λ found. found ≡ true
-    → 1 + (length (held_of new) + budget_of reader_new)
-    ≤ length (held_of old) + budget_of reader_old)

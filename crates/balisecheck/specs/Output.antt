@@ -9,14 +9,7 @@ use Rattle.balisecheck.specs.TelegramLines.{meaning_of, refusal_of}
 use Rattle.balisecheck.specs.declared.command.Command.{Command}
 use Rattle.balisecheck.specs.declared.command.Command.TheVariants.{Decode}
 use Rattle.balisecheck.specs.declared.status.Status.{Status}
-use Rattle.balisecheck.specs.declared.status.Status.TheVariants.{Done, Findings, Refused}
-
--- the exit status of a program whose run ended with this status; 3 is kept for a run that stopped
--- without one
-abbrev pub exit_code : Status → ℕ
-exit_code Done = 0
-exit_code Findings = 1
-exit_code Refused = 2
+use Rattle.balisecheck.specs.declared.status.Status.TheVariants.{Done, Refused}
 
 -- a text and a status
 abbrev pub Output : Type 0
@@ -27,14 +20,14 @@ abbrev pub prepend : List ℕ → Output → Output
 prepend text rest = (text ++ rest.0, rest.1)
 
 -- the text that a line means, and then the rest; or the line's refusal, and nothing after it
-abbrev pub told : ℕ → Result (List ℕ) TextError → Output → Output
-told number (Ok text) rest = prepend text rest
-told number (Err why) rest = (refusal_of number why, Refused)
+abbrev pub answered : ℕ → Result (List ℕ) TextError → Output → Output
+answered number (Ok text) rest = prepend text rest
+answered number (Err why) rest = (refusal_of number why, Refused)
 
 -- a line, and then the rest; an empty line is skipped
 abbrev pub after_line : ℕ → List ℕ → Output → Output
 after_line number [] rest = rest
-after_line number (byte ∷ line) rest = told number (meaning_of (byte ∷ line)) rest
+after_line number (byte ∷ line) rest = answered number (meaning_of (byte ∷ line)) rest
 
 -- the answers to the lines, the first of which has this number
 unfoldable pub answers : ℕ → List (List ℕ) → Output

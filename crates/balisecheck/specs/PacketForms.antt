@@ -3,25 +3,25 @@
 -- and `body` are this project's. Lists hold the first item and the N_ITER further ones. A bit that
 -- only says whether something follows is not written.
 use Rattle.std.specs.Prelude.{ℕ, ◌+◌, List, [], ◌∷◌, length, Option, Some, None, codes}
-use Rattle.etcs_bits.specs.Level.{level_number}
-use Rattle.etcs_bits.specs.Number.{worth}
-use Rattle.etcs_bits.specs.Variables.{dir_number, scale_number}
-use Rattle.etcs_bits.specs.declared.direction.Dir.{Dir}
-use Rattle.etcs_bits.specs.declared.level.Level.{Level}
-use Rattle.etcs_bits.specs.declared.level.Level.TheVariants as levels
-use Rattle.etcs_packet.specs.Transition.{Orders}
+use Rattle.etcs_bits.specs.variables.Level.{level_number}
+use Rattle.etcs_bits.specs.bits.Number.{worth}
+use Rattle.etcs_bits.specs.variables.Variables.{dir_number, scale_number}
+use Rattle.etcs_bits.specs.declared.variables.direction.Dir.{Dir}
+use Rattle.etcs_bits.specs.declared.variables.level.Level.{Level}
+use Rattle.etcs_bits.specs.declared.variables.level.Level.TheVariants as levels
 use Rattle.etcs_packet.specs.declared.cover.CoverMarker.{CoverMarker}
-use Rattle.etcs_packet.specs.declared.linking.Link.{Link}
 use Rattle.etcs_packet.specs.declared.raw.RawPacket.{RawPacket}
 use Rattle.etcs_packet.specs.declared.track.TrackPacket.{TrackPacket}
 use Rattle.etcs_packet.specs.declared.track.TrackPacket.TheVariants as packets
-use Rattle.etcs_packet.specs.declared.transition.LevelOrder.{LevelOrder}
 use Rattle.etcs_profile.specs.Profile.{Profile}
+use Rattle.etcs_profile.specs.Transition.{Orders}
+use Rattle.etcs_profile.specs.declared.linking.Link.{Link}
+use Rattle.etcs_profile.specs.declared.transition.LevelOrder.{LevelOrder}
 use Rattle.serde_json.specs.Data.{Data, string}
 use Rattle.balisecheck.specs.AuthorityForms.{authority_form}
 use Rattle.balisecheck.specs.BitText.{bit_text}
 use Rattle.balisecheck.specs.Forms.{always, array_of, maybe, object_of, whole}
-use Rattle.balisecheck.specs.ProfileForms.{gradient_element_form, profile_form, speed_element_form}
+use Rattle.balisecheck.specs.ProfileForms.{gradient_form, profile_form, speed_form}
 
 -- packet 0
 abbrev pub cover_form : CoverMarker → Data
@@ -43,12 +43,7 @@ link_form l = object_of (
 
 -- packet 5
 abbrev pub linking_form : Dir × Profile Link → Data
-linking_form p = object_of (
-    always (codes "links") (array_of link_form (p.1.first ∷ p.1.further))
-    ∷ always (codes "nid_packet") (whole 5)
-    ∷ always (codes "q_dir") (whole (dir_number p.0))
-    ∷ always (codes "q_scale") (whole (scale_number p.1.scale))
-    ∷ [])
+linking_form = profile_form (codes "links") 5 link_form
 
 -- the national system of level NTC
 abbrev pub national_system : Level → Option ℕ
@@ -91,8 +86,8 @@ abbrev pub packet_form : TrackPacket → Data
 packet_form (packets.Cover p) = cover_form p
 packet_form (packets.Linking p) = linking_form p
 packet_form (packets.Authority p) = authority_form p
-packet_form (packets.Gradient p) = profile_form 21 gradient_element_form p
-packet_form (packets.Speed p) = profile_form 27 speed_element_form p
+packet_form (packets.Gradient p) = gradient_form p
+packet_form (packets.Speed p) = speed_form p
 packet_form (packets.Transition p) = transition_form p
 packet_form (packets.Raw p) = raw_form p
 

@@ -4,22 +4,25 @@
 -- whose bytes are not known. For a writer whose contents are not known, only the status is
 -- promised. If the whole input is known, the promise is simpler: the text written and the status
 -- are the output of that input.
-use Rattle.std.specs.Prelude.{◌≡◌, ◌≤◌, ◌++◌, ◌⊎◌, ℕ, Bool, true, List, take, length, Option, Result, Ok, Err, IfSome, OnOk}
+use Rattle.std.specs.Prelude.{◌≡◌, ◌≤◌, ◌++◌, ◌⊎◌, ℕ, Bool, true, List, [], take, length, Option, Result, Ok, Err, IfSome, OnOk}
 use Rattle.std.specs.Io.KnownBytes.{Appends, Consumes, IsAtEnd}
 use Rattle.balisecheck.specs.Counted.{CountsNone, CountsOne, inner_of, is_flushed}
-use Rattle.balisecheck.specs.LineReading.{MayFollow}
 use Rattle.balisecheck.specs.Output.{Output, prepend}
 use Rattle.balisecheck.specs.declared.counted.Counted.{Counted}
 use Rattle.balisecheck.specs.declared.error.RunError.{RunError}
-use Rattle.balisecheck.specs.declared.error.RunError.TheVariants.{Memory, Device}
+use Rattle.balisecheck.specs.declared.error.RunError.TheVariants.{Device}
 use Rattle.balisecheck.specs.declared.status.Status.{Status}
 use Rattle.balisecheck.specs.declared.turn.Turn.{Turn}
 use Rattle.balisecheck.specs.declared.turn.Turn.TheVariants.{Next, Stop}
 
+-- `rest` may follow what was read: anything may before the end was met, and nothing after it
+abbrev pub MayFollow : Bool → List ℕ → Type 0
+MayFollow ended rest = ended ≡ true → rest ≡ []
+
 -- with a status, the text is the whole output; without one, it is a beginning of the output
-abbrev pub Tells : Result Status RunError → List ℕ → Output → Type 0
-Tells (Ok status) text output = output ≡ (text, status)
-Tells (Err _) text output = (more : List ℕ) × (output.0 ≡ text ++ more)
+abbrev pub IsOutputSoFar : Result Status RunError → List ℕ → Output → Type 0
+IsOutputSoFar (Ok status) text output = output ≡ (text, status)
+IsOutputSoFar (Err _) text output = (more : List ℕ) × (output.0 ≡ text ++ more)
 
 -- These bytes were read, perhaps up to the end of the input, and this text was written. The text is
 -- the output, or a beginning of it, for each input that begins with these bytes. If the end was
@@ -32,7 +35,7 @@ pub record Ran (remaining_old remaining_new contents_old contents_new : Option (
   pub met : ended ≡ true → IsAtEnd remaining_new
   pub text : List ℕ
   pub appended : Appends contents_old contents_new text
-  pub says : (rest : List ℕ) → MayFollow ended rest → Tells result text (output (bytes ++ rest))
+  pub says : (rest : List ℕ) → MayFollow ended rest → IsOutputSoFar result text (output (bytes ++ rest))
 
 -- the run, from its reader to its writer
 abbrev pub Runs : {R W : Type 0} → (R → Option (List ℕ)) → (W → Option (List ℕ)) → Counted R
@@ -46,7 +49,7 @@ pub record Writes (old new : Option (List ℕ)) (output : Output) (result : Resu
     : Type 0 where
   pub text : List ℕ
   pub appended : Appends old new text
-  pub says : Tells result text output
+  pub says : IsOutputSoFar result text output
 
 -- the run on a known input: the text written is the output of that input, or a beginning of it
 abbrev pub Answers : {R W : Type 0} → (R → Option (List ℕ)) → (W → Option (List ℕ)) → Counted R
@@ -62,16 +65,14 @@ EndsFlushed result writer = OnOk result (is_flushed writer ≡ true)
 -- a device that failed is counted once, at the reader or at the writer, and nothing else is counted
 abbrev pub CountsOneDevice : {R W X : Type 0} → Result X RunError → Counted R → Counted R
     → Counted W → Counted W → Type 0
-CountsOneDevice (Ok _) reader_old reader_new writer_old writer_new =
-    CountsNone reader_old reader_new × CountsNone writer_old writer_new
-CountsOneDevice (Err Memory) reader_old reader_new writer_old writer_new =
-    CountsNone reader_old reader_new × CountsNone writer_old writer_new
 CountsOneDevice (Err Device) reader_old reader_new writer_old writer_new =
     (CountsOne reader_old reader_new × CountsNone writer_old writer_new)
     ⊎ (CountsNone reader_old reader_new × CountsOne writer_old writer_new)
+CountsOneDevice result reader_old reader_new writer_old writer_new =
+    CountsNone reader_old reader_new × CountsNone writer_old writer_new
 
 -- the first `count` of these bytes were written, and with Ok all of them
-pub record Puts (old new : Option (List ℕ)) (bytes : List ℕ)
+pub record WritesBytes (old new : Option (List ℕ)) (bytes : List ℕ)
     (result : Result (Unit {0}) RunError) : Type 0 where
   pub count : ℕ
   pub within : count ≤ length bytes
@@ -80,14 +81,14 @@ pub record Puts (old new : Option (List ℕ)) (bytes : List ℕ)
 
 -- The output from a line onwards: this text and then the rest, this text and the end, or more than
 -- this text.
-abbrev pub TellsTurn : Result Turn RunError → List ℕ → (Output → Output) → Type 0
-TellsTurn (Ok Next) text after = (rest : Output) → after rest ≡ prepend text rest
-TellsTurn (Ok (Stop status)) text after = (rest : Output) → after rest ≡ (text, status)
-TellsTurn (Err _) text after = (rest : Output) → (more : List ℕ) × ((after rest).0 ≡ text ++ more)
+abbrev pub IsAnswerSoFar : Result Turn RunError → List ℕ → (Output → Output) → Type 0
+IsAnswerSoFar (Ok Next) text after = (rest : Output) → after rest ≡ prepend text rest
+IsAnswerSoFar (Ok (Stop status)) text after = (rest : Output) → after rest ≡ (text, status)
+IsAnswerSoFar (Err _) text after = (rest : Output) → (more : List ℕ) × ((after rest).0 ≡ text ++ more)
 
 -- this text was written, and it is the answer to the line, or a beginning of it
 pub record Turns (old new : Option (List ℕ)) (after : Output → Output)
     (result : Result Turn RunError) : Type 0 where
   pub text : List ℕ
   pub appended : Appends old new text
-  pub says : TellsTurn result text after
+  pub says : IsAnswerSoFar result text after

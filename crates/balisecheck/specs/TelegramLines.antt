@@ -3,13 +3,11 @@
 -- the standard's names of variables in small letters. Only `packets` and `user_bits` are this
 -- project's, and so are the words.
 use Rattle.std.specs.Prelude.{◌≡◌, ◌++◌, ℕ, List, [], ◌∷◌, codes, decimal, Result, Ok, Err}
-use Rattle.etcs_bits.specs.Number.{worth}
-use Rattle.etcs_bits.specs.Variables.{dup_number, version_number}
-use Rattle.etcs_bits.specs.declared.fault.Fault.{Fault}
-use Rattle.etcs_bits.specs.declared.fault.FaultKind.{FaultKind}
-use Rattle.etcs_bits.specs.declared.fault.FaultKind.TheVariants as kinds
+use Rattle.etcs_bits.specs.bits.Number.{worth}
+use Rattle.etcs_bits.specs.variables.Variables.{dup_number, version_number}
+use Rattle.etcs_bits.specs.layout.FaultWords.{fault_words}
 use Rattle.etcs_telegram.specs.Sizes.{user_bits}
-use Rattle.etcs_telegram.specs.Text.{telegram_of_text}
+use Rattle.etcs_telegram.specs.TextMeaning.{telegram_of_text}
 use Rattle.etcs_telegram.specs.Record.{Telegram}
 use Rattle.etcs_telegram.specs.declared.error.TextError.{TextError}
 use Rattle.etcs_telegram.specs.declared.error.TextError.TheVariants as errors
@@ -36,24 +34,6 @@ telegram_form telegram = object_of (
 -- the telegram's JSON line
 unfoldable pub json_line_of : Telegram → List ℕ
 json_line_of telegram = compact_text (telegram_form telegram) ++ codes "\n"
-
--- the kind of a fault, in words
-abbrev pub kind_words : FaultKind → List ℕ
-kind_words kinds.Short = codes "short"
-kind_words kinds.Spare = codes "spare"
-kind_words kinds.Length = codes "length"
-kind_words kinds.NoEnd = codes "no end"
-kind_words kinds.Version = codes "version"
-kind_words kinds.Loop = codes "loop"
-kind_words kinds.Downlink = codes "down-link"
-kind_words kinds.MessageKind = codes "message kind"
-kind_words kinds.NoAuthority = codes "no authority"
-kind_words kinds.NoReport = codes "no report"
-
--- the kind of a fault, the place where its field begins, and how many bits decide it
-abbrev pub fault_words : Fault → List ℕ
-fault_words fault = kind_words fault.why
-    ++ (codes " at " ++ (decimal fault.at ++ (codes " end " ++ decimal fault.end)))
 
 -- why a text is no telegram; want of memory is no such reason
 unfoldable pub reason_of : TextError → List ℕ

@@ -2,7 +2,7 @@
 
 ghost use Rattle.std.specs.Prelude.{◌≡◌};
 ghost use Rattle.serde_json.specs.Events.{members_len};
-ghost use Rattle.etcs_packet.specs.Track.{authority_number};
+ghost use Rattle.etcs_profile.specs.Authority.{authority_number};
 ghost use Rattle.balisecheck.specs.Forms.{members_of};
 ghost use Rattle.balisecheck.specs.AuthorityForms.{authority_members};
 
@@ -79,7 +79,7 @@ impl Form for Overlap {
 
 // NID_PACKET: 12 if the authority has V_MAIN, else 15.
 fn packet_number(authority: &Authority) -> u32
-    ensures { result ≡ authority_number authority.now.main }
+    ensures { result ≡ authority_number authority.now }
 {
     match authority.main() {
         Some(_) => 12,

@@ -1,7 +1,7 @@
 //! Bits as hexadecimal text, made on the stack without a request for memory.
 
 ghost use Rattle.std.specs.Prelude.{◌≡◌, ◌+◌, ◌*◌, ◌≤◌, false, length, take, drop, slice_index_or, OnOk};
-ghost use Rattle.etcs_bits.specs.Number.{num_of_bits};
+ghost use Rattle.etcs_bits.specs.bits.Number.{num_of_bits};
 ghost use Rattle.serde_json.specs.Data.{string};
 ghost use Rattle.balisecheck.specs.BitText.{bit_text, bytes_for, bytes_of_bits, filled_up};
 ghost use Rattle.balisecheck.specs.Forms.{always, SendsEntry};

@@ -1,9 +1,9 @@
 //! `Counted`: a reader or writer whose failed calls are counted.
 
-ghost use Rattle.std.specs.Prelude.{◌≡◌, ◌<◌, ◌≤◌, ◌+◌, ◌-◌, ◌^◌, false, length, IfOk, IsErr, is_ok};
+ghost use Rattle.std.specs.Prelude.{◌≡◌, ◌<◌, ◌≤◌, ◌+◌, ◌-◌, ◌^◌, false, length, max, IfOk, IsErr, is_ok};
 ghost use Rattle.std.specs.Io.{ReadsAtMost, WritesAtMost};
 ghost use Rattle.std.specs.Io.KnownBytes.{Keeps, ReadConsumes, WriteAppends};
-ghost use Rattle.balisecheck.specs.Counted.{CountsFailure, budget_of, cost_of};
+ghost use Rattle.balisecheck.specs.Counted.{CountsFailure, budget_of};
 ghost use Rattle.balisecheck.specs.Counted.{failures_of, inner_of, is_flushed};
 
 use std::io::{Error, ErrorKind, Read, Result, Write};
@@ -87,9 +87,9 @@ impl<R: Read> Read for Counted<R> {
 
         // What the call costs, and what it adds to the count.
         ensures counts { CountsFailure (failures_of self.old) (failures_of self.new) result }
-        ensures spends { cost_of (length buf.old) ≤ budget_of self.old
-            → budget_of self.new + cost_of (length buf.old) ≡ budget_of self.old }
-        ensures spent { budget_of self.old < cost_of (length buf.old)
+        ensures spends { max (length buf.old) 1 ≤ budget_of self.old
+            → budget_of self.new + max (length buf.old) 1 ≡ budget_of self.old }
+        ensures spent { budget_of self.old < max (length buf.old) 1
             → IsErr result × (inner_of self.new ≡ inner_of self.old)
             × (budget_of self.new ≡ budget_of self.old) }
     {

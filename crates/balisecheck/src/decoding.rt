@@ -1,10 +1,10 @@
 //! `decode`: lines of hexadecimal text, each a telegram, to JSON lines.
 
-ghost use Rattle.std.specs.Prelude.{◌≡◌, ◌≢◌};
+ghost use Rattle.std.specs.Prelude.{◌≡◌, ◌≢◌, [], false};
 ghost use Rattle.balisecheck.specs.Counted.{CanCount, inner_of};
-ghost use Rattle.balisecheck.specs.LineReading.{CountsDevice, IsFresh, line_of};
+ghost use Rattle.balisecheck.specs.LineReading.{CountsDevice, has_ended, held_of, line_of};
 ghost use Rattle.balisecheck.specs.TextLines.{trimmed};
-ghost use Rattle.balisecheck.specs.Output.{after_line, decode_output, told};
+ghost use Rattle.balisecheck.specs.Output.{after_line, decode_output, answered};
 ghost use Rattle.balisecheck.specs.Ran.{CountsOneDevice, EndsFlushed, Runs, Turns};
 ghost use Rattle.balisecheck.specs.TelegramLines.{meaning_of};
 
@@ -40,7 +40,7 @@ fn refuse_line<W: Write>(
     requires own { why.now ≢ TextError.Memory }
     requires writes { CanCount writer.old }
     ensures turns { Turns (W.contents (inner_of writer.old)) (W.contents (inner_of writer.new))
-        (told number (Err why.now)) result }
+        (answered number (Err why.now)) result }
     ensures counts { CountsDevice result writer.old writer.new }
 {
     match refusal(alloc, number, why) {
@@ -53,7 +53,7 @@ fn refuse_line<W: Write>(
 }
 
 // Writes the JSON line of a line of hexadecimal text, or its refusal.
-fn tell_line<W: Write>(
+fn answer_line<W: Write>(
     alloc: Global,
     number: u64,
     line: &[u8],
@@ -61,7 +61,7 @@ fn tell_line<W: Write>(
 ) -> Result<Turn, RunError>
     requires { CanCount writer.old }
     ensures turns { Turns (W.contents (inner_of writer.old)) (W.contents (inner_of writer.new))
-        (told number (meaning_of line.now)) result }
+        (answered number (meaning_of line.now)) result }
     ensures counts { CountsDevice result writer.old writer.new }
 {
     match answer(alloc, line) {
@@ -92,25 +92,25 @@ fn take_turn<W: Write>(
     if line.is_empty() {
         Ok(Turn::Next)
     } else {
-        tell_line(alloc, number, line, writer)
+        answer_line(alloc, number, line, writer)
     }
 }
 
 // Writes the answer to each line, up to the first that is refused.
-fn tell_lines<R: Read, W: Write>(
+fn answer_lines<R: Read, W: Write>(
     alloc: Global,
     lines: &mut TextLines,
     reader: &mut Counted<R>,
     writer: &mut Counted<W>,
 ) -> Result<Status, RunError>
-    requires fresh { IsFresh lines.old }
+    requires fresh { (held_of lines.old ≡ []) × (has_ended lines.old ≡ false) }
     requires reads { CanCount reader.old }
     requires writes { CanCount writer.old }
     ensures ran { Runs R.remaining W.contents reader.old reader.new writer.old writer.new
         decode_output result }
     ensures counts { CountsOneDevice result reader.old reader.new writer.old writer.new }
 {
-    // The budget bounds the number of lines. This call gives the proof the range of the budget.
+    // For the proof alone: the budget has a range, which bounds the number of lines.
     let _ = reader.budget();
     let mut number = 0;
     'lines: while lines.next(reader)? {
@@ -140,7 +140,7 @@ pub fn decode<R: Read, W: Write>(
         Ok(lines) => lines,
         Err(_) => return Err(RunError::Memory),
     };
-    let status = tell_lines(alloc, &mut lines, reader, writer)?;
+    let status = answer_lines(alloc, &mut lines, reader, writer)?;
     finish(writer)?;
     Ok(status)
 }

@@ -1,6 +1,7 @@
 //! The JSON form of linking, packet 5.
 
-use crate::form::{Form, count, send_first_and, send_member, send_optional};
+use crate::form::{Form, count, send_member, send_optional};
+use crate::profile_form::send_profile;
 use etcs_packet::{Link, Linking};
 use serde::Serializer;
 
@@ -27,11 +28,6 @@ impl Form for Linking {
     ghost form = { linking_form };
 
     fn send<S: Serializer>(&self, out: &mut S) -> Result<(), S::Error> {
-        out.begin_map(Some(4))?;
-        send_first_and(out, "links", self.first(), self.further())?;
-        send_member(out, "nid_packet", &5)?;
-        send_member(out, "q_dir", &self.dir())?;
-        send_member(out, "q_scale", &self.scale())?;
-        out.end_map()
+        send_profile(out, "links", self)
     }
 }

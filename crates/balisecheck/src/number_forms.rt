@@ -18,7 +18,7 @@ impl Form for u32 {
 
 /// A flag is sent as the number of its bit, 1 or 0.
 impl Form for bool {
-    ghost use Rattle.etcs_bits.specs.Number.{worth};
+    ghost use Rattle.etcs_bits.specs.bits.Number.{worth};
 
     ghost form = { λ flag. whole (worth flag) };
 
@@ -44,7 +44,7 @@ impl<const W: u32, const LAST: u32, const FROM: u32> Form for Ranged<W, LAST, FR
 }
 
 impl Form for Dir {
-    ghost use Rattle.etcs_bits.specs.Variables.{dir_number};
+    ghost use Rattle.etcs_bits.specs.variables.Variables.{dir_number};
 
     ghost form = { λ dir. whole (dir_number dir) };
 
@@ -54,7 +54,7 @@ impl Form for Dir {
 }
 
 impl Form for Scale {
-    ghost use Rattle.etcs_bits.specs.Variables.{scale_number};
+    ghost use Rattle.etcs_bits.specs.variables.Variables.{scale_number};
 
     ghost form = { λ scale. whole (scale_number scale) };
 

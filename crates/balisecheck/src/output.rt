@@ -4,7 +4,7 @@ ghost use Rattle.std.specs.Prelude.{◌≡◌, IfErr};
 ghost use Rattle.std.specs.Io.KnownBytes.{Keeps};
 ghost use Rattle.balisecheck.specs.Counted.{CanCount, inner_of};
 ghost use Rattle.balisecheck.specs.LineReading.{CountsDevice};
-ghost use Rattle.balisecheck.specs.Ran.{EndsFlushed, Puts};
+ghost use Rattle.balisecheck.specs.Ran.{EndsFlushed, WritesBytes};
 
 use crate::counted::Counted;
 use crate::error::RunError;
@@ -16,7 +16,7 @@ use std::io::Write;
 // This is not `write_all`: its contract does not say what was written before a failure.
 pub fn put<W: Write>(writer: &mut Counted<W>, text: &[u8]) -> Result<(), RunError>
     requires { CanCount writer.old }
-    ensures puts { Puts (W.contents (inner_of writer.old)) (W.contents (inner_of writer.new))
+    ensures written { WritesBytes (W.contents (inner_of writer.old)) (W.contents (inner_of writer.new))
         text.now result }
     ensures counts { CountsDevice result writer.old writer.new }
     ensures device { IfErr result (λ e. e ≡ RunError.Device) }

@@ -14,11 +14,12 @@ pub enum Status {
 }
 
 impl Status {
-    ghost use Rattle.balisecheck.specs.Output.{exit_code};
-
-    /// The exit status of a program whose run ended with this status.
+    /// The exit status of a program whose run ended with this status. 3 is kept for a run that
+    /// stopped without one.
     pub fn code(self) -> u8
-        ensures { result ≡ exit_code self }
+        ensures done { self ≡ Status.Done → result ≡ 0 }
+        ensures findings { self ≡ Status.Findings → result ≡ 1 }
+        ensures refused { self ≡ Status.Refused → result ≡ 2 }
     {
         match self {
             Status::Done => 0,

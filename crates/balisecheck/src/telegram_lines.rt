@@ -2,10 +2,9 @@
 
 ghost use Rattle.std.specs.Prelude.{◌≡◌, ◌≢◌, Ok, IfOk, MatchResult, string_bytes};
 ghost use Rattle.balisecheck.specs.TelegramLines.{Refuses, json_line_of};
-ghost use Rattle.balisecheck.specs.TelegramLines.{kind_words, meaning_of, reason_of, refusal_of};
+ghost use Rattle.balisecheck.specs.TelegramLines.{meaning_of, reason_of, refusal_of};
 
 use crate::form::Sent;
-use etcs_bits::{Fault, FaultKind};
 use etcs_telegram::{Telegram, TextError, from_hex};
 use std::alloc::{AllocError, Global};
 
@@ -37,24 +36,6 @@ pub fn answer(alloc: Global, text: &[u8]) -> Result<String, TextError>
     }
 }
 
-// The kind of a fault, in words.
-fn kind_text(kind: FaultKind) -> &'static str
-    ensures { result.now ≡ kind_words kind }
-{
-    match kind {
-        FaultKind::Short => "short",
-        FaultKind::Spare => "spare",
-        FaultKind::Length => "length",
-        FaultKind::NoEnd => "no end",
-        FaultKind::Version => "version",
-        FaultKind::Loop => "loop",
-        FaultKind::Downlink => "down-link",
-        FaultKind::MessageKind => "message kind",
-        FaultKind::NoAuthority => "no authority",
-        FaultKind::NoReport => "no report",
-    }
-}
-
 // Why a text is no telegram, in words.
 #[tactic(auto, unfolding(crate::specs::TelegramLines::reason_of))]
 fn reason(alloc: Global, why: &TextError) -> Result<String, AllocError>
@@ -66,11 +47,7 @@ fn reason(alloc: Global, why: &TextError) -> Result<String, AllocError>
         TextError::NotHex => format!(in alloc; "not hexadecimal"),
         TextError::WrongSize => format!(in alloc; "wrong size"),
         TextError::PadBits => format!(in alloc; "pad bits set"),
-        TextError::Fault(fault) => {
-            let Fault { at, end, why } = *fault;
-            let kind = kind_text(why);
-            format!(in alloc; "{kind} at {at} end {end}")
-        }
+        TextError::Fault(fault) => format!(in alloc; "{fault}"),
     }
 }
 

@@ -29,16 +29,15 @@ pub struct TextLines {
 }
 
 impl TextLines {
-    ghost use Rattle.std.specs.Prelude.{◌≡◌, true, [], length, IfOk, OnErr, IfErr};
+    ghost use Rattle.std.specs.Prelude.{◌≡◌, ◌+◌, ◌≤◌, ◌<◌, true, false, [], length, IfOk, OnErr, IfErr};
     ghost use Rattle.std.specs.Io.KnownBytes.{Consumes, Keeps};
-    ghost use Rattle.balisecheck.specs.Counted.{CanCount, inner_of};
-    ghost use Rattle.balisecheck.specs.LineReading.{CountsDevice, IsEndMet, IsFresh, MovesTo, ReadsLine};
-    ghost use Rattle.balisecheck.specs.LineReading.{SpendsAtLeast, SpendsLine, StaysEnded};
+    ghost use Rattle.balisecheck.specs.Counted.{CanCount, budget_of, inner_of};
+    ghost use Rattle.balisecheck.specs.LineReading.{CountsDevice, IsEndMet, MovesTo, Reads};
     ghost use Rattle.balisecheck.specs.LineReading.{has_ended, held_of, line_of};
 
     /// Nothing is read yet.
     pub fn new(alloc: Global) -> Result<TextLines, AllocError>
-        ensures { IfOk result (λ l. IsFresh l) }
+        ensures { IfOk result (λ l. (held_of l ≡ []) × (has_ended l ≡ false)) }
     {
         Ok(TextLines {
             block: vec![in alloc; 0; ROOM]?,
@@ -90,7 +89,10 @@ impl TextLines {
         ensures read { IfOk result (λ n. Consumes (R.remaining (inner_of reader.old))
             (R.remaining (inner_of reader.new)) (held_of self.new)
             × (length (held_of self.new) ≡ n) × (n ≡ 0 → has_ended self.new ≡ true)) }
-        ensures spends { IfOk result (λ n. SpendsAtLeast n reader.old reader.new) }
+
+        // At least `n` bytes of the budget are spent.
+        ensures spends { IfOk result (λ n. (n + budget_of reader.new ≤ budget_of reader.old)
+            × (0 < n → budget_of reader.new < budget_of reader.old)) }
 
         // A failed read loses no bytes.
         ensures kept { OnErr result (Keeps (R.remaining (inner_of reader.old))
@@ -100,7 +102,7 @@ impl TextLines {
 
         // Only a reader that has no byte left meets its end.
         ensures quiet { has_ended self.old ≡ true → IfOk result (λ n. n ≡ 0) }
-        ensures ended { StaysEnded self.old self.new }
+        ensures ended { has_ended self.old ≡ true → has_ended self.new ≡ true }
         ensures met { IsEndMet R.remaining (has_ended self.old) reader.old
             → IsEndMet R.remaining (has_ended self.new) reader.new }
     {
@@ -126,12 +128,18 @@ impl TextLines {
     /// `Memory`: the line is longer than memory. `Device`: a read failed.
     pub fn next<R: Read>(&mut self, reader: &mut Counted<R>) -> Result<bool, RunError>
         requires { CanCount reader.old }
-        ensures reads { ReadsLine R.remaining reader.old reader.new self.old self.new result }
+        ensures reads { Reads (R.remaining (inner_of reader.old)) (R.remaining (inner_of reader.new))
+            (has_ended self.old) (held_of self.old) (line_of self.new) (held_of self.new)
+            (has_ended self.new) result }
         ensures counts { CountsDevice result reader.old reader.new }
-        ensures ended { StaysEnded self.old self.new }
+        ensures ended { has_ended self.old ≡ true → has_ended self.new ≡ true }
         ensures met { IsEndMet R.remaining (has_ended self.old) reader.old
             → IsEndMet R.remaining (has_ended self.new) reader.new }
-        ensures spends { SpendsLine result reader.old reader.new self.old self.new }
+
+        // A line that is found is paid for, by held bytes or by the budget.
+        ensures spends { IfOk result (λ found. found ≡ true
+            → 1 + (length (held_of self.new) + budget_of reader.new)
+            ≤ length (held_of self.old) + budget_of reader.old) }
     {
         self.line.clear();
         'filling: while !self.move_line()? {

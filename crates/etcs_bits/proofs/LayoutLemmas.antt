@@ -1,28 +1,30 @@
 -- What holds at a place if a reader gives the rows there.
-use Rattle.std.proofs.Common.{◌≡◌, ◌≤◌, List, length, Ok, sym, ap, ◌∙◌}
-use Rattle.etcs_bits.specs.declared.fault.DecodeError.{DecodeError}
-use Rattle.etcs_bits.specs.declared.fault.DecodeError.TheVariants as errors
-use Rattle.etcs_bits.specs.Rows.{Row, Place, AreAllowed, IsSpelled}
-use Rattle.etcs_bits.specs.Fields.{Fields, AreRowsOf}
-use Rattle.etcs_bits.specs.Fault.{IsFault, NoneBegins}
-use Rattle.etcs_bits.specs.Reading.{rows_at}
-use Rattle.etcs_bits.specs.Layout.{Fails, OfFault}
-use Rattle.etcs_bits.proofs.ReadingLemmas.{read_is_spelled, spelled_is_read, fault_is_told}
-use Rattle.etcs_bits.specs.Laws.{AreLaidOut, IsReadAsSpelled, FaultIsRead}
-use Rattle.etcs_bits.specs.Format.{Format}
-use Rattle.etcs_bits.proofs.FaultLemmas.{told_is_given, none_stands, one_reading, no_front, one_told}
+use Rattle.std.specs.Prelude.{◌↔◌}
+use Rattle.std.proofs.Common.{◌≡◌, ◌≤◌, List, length, Ok, Err, sym, ap, ◌∙◌}
+use Rattle.etcs_bits.specs.declared.layout.fault.Fault.{Fault}
+use Rattle.etcs_bits.specs.declared.layout.fault.DecodeError.{DecodeError}
+use Rattle.etcs_bits.specs.declared.layout.fault.DecodeError.TheVariants as errors
+use Rattle.etcs_bits.specs.layout.Rows.{Row, Place, AreAllowed, IsSpelled}
+use Rattle.etcs_bits.specs.layout.Fields.{Fields, AreRowsOf}
+use Rattle.etcs_bits.specs.layout.Fault.{IsFault, NoneBegins}
+use Rattle.etcs_bits.specs.layout.Reading.{rows_at}
+use Rattle.etcs_bits.specs.layout.Results.{Fails, OfFault}
+use Rattle.etcs_bits.proofs.ReadingLemmas.{read_is_spelled, spelled_is_read, read_is_fault}
+use Rattle.etcs_bits.specs.Laws.{AreLaidOut}
+use Rattle.etcs_bits.specs.layout.Format.{Format}
+use Rattle.etcs_bits.proofs.FaultLemmas.{fault_is_given, none_stands, one_reading, no_front, same_fault}
 
 pub is_spelled : (fields : Fields) (rows : List Row) (p q : Place) → p.at ≤ length p.bits → rows_at fields p ≡ Ok (rows, q) → IsSpelled rows p q
 is_spelled fields rows p q within e = (read_is_spelled fields p (rows, q) within e).spelled
 
 pub is_fault : (e : DecodeError) (fields : Fields) (p : Place) → p.at ≤ length p.bits → Fails e (rows_at fields p) → OfFault e (λ f. IsFault fields p f)
 is_fault errors.Memory fields p within fails = tt
-is_fault (errors.Fault f) fields p within fails = fault_is_told fields p f within fails
+is_fault (errors.Fault f) fields p within fails = read_is_fault fields p f within fails
 
 pub none_begins : {X : Type 0} (rows : X → List Row) (e : DecodeError) (fields : Fields) (p : Place) → p.at ≤ length p.bits → ((x : X) → AreRowsOf fields (rows x)) → Fails e (rows_at fields p) → OfFault e (λ f. NoneBegins rows p f)
 none_begins rows errors.Memory fields p within are_rows fails = tt
 none_begins rows (errors.Fault f) fields p within are_rows fails =
-    λ bits len front x to spelled. none_stands fields p f bits (rows x) to within len front (fault_is_told fields p f within fails) (are_rows x) spelled
+    λ bits len front x to spelled. none_stands fields p f bits (rows x) to within len front (read_is_fault fields p f within fails) (are_rows x) spelled
 
 -- records with the same rows are equal
 pub same_record : {X : Type 0} (x : Format X) (v w : X) → x.rows v ≡ x.rows w → v ≡ w
@@ -43,7 +45,7 @@ laid_out x = record {
   fault_or_record = λ p f within t bits len front v to spelled.
       none_stands x.fields p f bits (x.rows v) to within len front t (x.laid.are_rows v) spelled;
   -- each fault is what reading gives
-  one_fault = λ p f h within t u. one_told x.fields p f h within t u;
+  one_fault = λ p f h within t u. same_fault x.fields p f h within t u;
 }
 
 -- a whole list of allowed rows is that of the record that it makes
@@ -53,7 +55,8 @@ rows_again x r whole allowed =
     ap x.rows (ap x.of (sym v.1) ∙ x.laid.is_record v.0) ∙ v.1
 
 -- a record is spelled at a place exactly if reading gives it there
-pub read_as_spelled : {X : Type 0} (x : Format X) → IsReadAsSpelled x
+pub read_as_spelled : {X : Type 0} (x : Format X) (p q : Place) (v : X) → p.at ≤ length p.bits
+    → IsSpelled (x.rows v) p q ↔ ((r : List Row) × (rows_at x.fields p ≡ Ok (r, q)) × (x.of r ≡ v))
 read_as_spelled x p q v within = (
   λ spelled. (x.rows v, spelled_is_read x.fields (x.rows v) p q within (x.laid.are_rows v) spelled, x.laid.is_record v),
   λ (r, read, is).
@@ -61,6 +64,14 @@ read_as_spelled x p q v within = (
       rw (sym (rows_again x r here.whole here.spelled.allowed) ∙ ap x.rows is) at here.spelled,
 )
 
+-- the rows that are read are those of the record that they make
+pub read_rows_again : {X : Type 0} (x : Format X) (p q : Place) (r : List Row) → p.at ≤ length p.bits
+    → rows_at x.fields p ≡ Ok (r, q) → x.rows (x.of r) ≡ r
+read_rows_again x p q r within read =
+    let here = read_is_spelled x.fields p (r, q) within read in
+    rows_again x r here.whole here.spelled.allowed
+
 -- a place has a fault exactly if reading gives that fault there
-pub fault_is_read : {X : Type 0} (x : Format X) → FaultIsRead x
-fault_is_read x p f within = (told_is_given x.fields p f within, fault_is_told x.fields p f within)
+pub fault_is_read : {X : Type 0} (x : Format X) (p : Place) (f : Fault) → p.at ≤ length p.bits
+    → IsFault x.fields p f ↔ (rows_at x.fields p ≡ Err f)
+fault_is_read x p f within = (fault_is_given x.fields p f within, read_is_fault x.fields p f within)

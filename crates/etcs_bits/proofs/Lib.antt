@@ -3,10 +3,11 @@ pub mod BindLemmas
 pub mod StandLemmas
 pub mod ReadingLemmas
 pub mod FaultLemmas
+pub mod FieldLemmas
 pub mod LayoutLemmas
 pub mod PutLemmas
 pub mod WidthLemmas
-pub mod NumeralLemmas
+pub mod ConversionLemmas
 pub mod ListLemmas
 pub mod SizedLemmas
 pub mod ValueLemmas

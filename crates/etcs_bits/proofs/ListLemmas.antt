@@ -3,15 +3,15 @@ use Rattle.std.proofs.Common.{◌≡◌, ℕ, suc, ◌+◌, ◌-◌, ◌<◌, Bo
 use Rattle.std.specs.List.{flat_map}
 use Rattle.std.proofs.lemmas.List.{append-nil, take_more, drop_more, take-append-drop}
 use Rattle.std.proofs.lemmas.Grind.{flat_map-append}
-use Rattle.etcs_bits.specs.declared.fault.Fault.{Fault}
-use Rattle.etcs_bits.specs.declared.fault.DecodeError.{DecodeError}
-use Rattle.etcs_bits.specs.declared.fault.DecodeError.TheVariants as errors
-use Rattle.etcs_bits.specs.Rows.{Row, Place, AreAllowed, join, width}
-use Rattle.etcs_bits.specs.Fields.{Fields, times}
-use Rattle.etcs_bits.specs.Reading.{◌>>=◌, rows_at}
-use Rattle.etcs_bits.specs.Layout.{Fails}
+use Rattle.etcs_bits.specs.declared.layout.fault.Fault.{Fault}
+use Rattle.etcs_bits.specs.declared.layout.fault.DecodeError.{DecodeError}
+use Rattle.etcs_bits.specs.declared.layout.fault.DecodeError.TheVariants as errors
+use Rattle.etcs_bits.specs.layout.Rows.{Row, Place, AreAllowed, join, width}
+use Rattle.etcs_bits.specs.layout.Fields.{Fields, times}
+use Rattle.etcs_bits.specs.layout.Reading.{◌>>=◌, rows_at}
+use Rattle.etcs_bits.specs.layout.Results.{Fails}
 use Rattle.etcs_bits.proofs.StandLemmas.{join-append}
-use Rattle.etcs_bits.specs.RowLemmas.{allowed_first, allowed_second}
+use Rattle.etcs_bits.specs.layout.RowLemmas.{allowed_first, allowed_second}
 use Rattle.etcs_bits.proofs.WidthLemmas.{width_both}
 
 -- ---- the items up to one, that one, and those after it

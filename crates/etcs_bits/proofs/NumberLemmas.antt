@@ -4,7 +4,7 @@ use Rattle.std.proofs.Common.{mod-eq_of_lt}
 use Rattle.std.proofs.lemmas.Nat.{pow-add, mod-pow-add, field_of, shr_high, mod_low}
 use Rattle.std.proofs.lemmas.List.{take-append-drop, drop-drop, drop_at, append-nil}
 use Rattle.std.proofs.Math.Seq.{drop-nil, take-nil, take-append-add}
-use Rattle.etcs_bits.specs.Number.{worth, num_of_bits, num, bits_of_bytes}
+use Rattle.etcs_bits.specs.bits.Number.{worth, num_of_bits, num, bits_of_bytes}
 
 worth_times : (b : Bool) (n : ℕ) → worth b * n ≤ n
 worth_times true n = omega arith

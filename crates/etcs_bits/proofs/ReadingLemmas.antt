@@ -2,17 +2,17 @@
 use Rattle.std.proofs.Common.{◌≡◌, ℕ, ◌+◌, ◌-◌, ◌^◌, ◌<◌, ◌≤◌, Bool, true, false, cond, ltb, eqb, List, [], ◌∷◌, ◌++◌, length, take, drop, Result, Ok, Err, refl, sym, ap, subst, ◌∙◌, arith, inl, inr}
 use Rattle.std.proofs.lemmas.Bool.{ltb-false, ltb-true, le-ltb, lt-ltb, eqb-true, eqb-false, eq-eqb}
 use Rattle.std.proofs.lemmas.List.{length-take, length-drop}
-use Rattle.etcs_bits.specs.declared.fault.Fault.{Fault}
-use Rattle.etcs_bits.specs.declared.fault.FaultKind.TheVariants.{Length}
-use Rattle.etcs_bits.specs.Number.{num, num_of_bits}
-use Rattle.etcs_bits.specs.Rows.{Variable, Row, Place, Stands, IsSpelled, join, width}
-use Rattle.etcs_bits.specs.Fields.{Fields, nothing, field, ◌▹◌, sized, l_packet, AreRowsOf, due, differs}
-use Rattle.etcs_bits.specs.Fault.{short, lack, refused, Tells, IsFault}
-use Rattle.etcs_bits.specs.Reading.{◌>>=◌, forward, taken, taken_or_closed, field_at, rows_at}
+use Rattle.etcs_bits.specs.declared.layout.fault.Fault.{Fault}
+use Rattle.etcs_bits.specs.declared.layout.fault.FaultKind.TheVariants.{Length}
+use Rattle.etcs_bits.specs.bits.Number.{num, num_of_bits}
+use Rattle.etcs_bits.specs.layout.Rows.{Variable, Row, Place, Stands, IsSpelled, join, width}
+use Rattle.etcs_bits.specs.layout.Fields.{Fields, nothing, field, ◌▹◌, sized, l_packet, AreRowsOf, due, differs}
+use Rattle.etcs_bits.specs.layout.Fault.{short, lack, refused, IsDueFault, IsFault}
+use Rattle.etcs_bits.specs.layout.Reading.{◌>>=◌, forward, taken, taken_or_closed, field_at, rows_at}
 use Rattle.etcs_bits.proofs.NumberLemmas.{length-num, num_of_bits-lt}
 use Rattle.etcs_bits.proofs.BindLemmas.{bind_ok, bind_err, pass_ok, pass_err, stop_ok, stop_err, ok_is, err_is, after_stop}
 use Rattle.etcs_bits.proofs.StandLemmas.{join-append, length-join, allowed-append, same_position, stands_nothing, stands_then, stands_parts, stands_within, number_stands, standing_number}
-use Rattle.etcs_bits.specs.RowLemmas.{allowed_first, allowed_second}
+use Rattle.etcs_bits.specs.layout.RowLemmas.{allowed_first, allowed_second}
 
 -- ---- one field
 
@@ -59,9 +59,9 @@ closed_err false w p f e =
     let g = stop_err (ltb (length p.bits) (p.at + w)) (short p) f (num_of_bits (take w (drop p.at p.bits)), forward p w) e in
     (ltb-true _ _ g.0, sym g.1)
 
-pub closed_told : (b : Bool) (w : ℕ) (p : Place) → length p.bits < p.at + w → taken_or_closed b w p ≡ Err (lack b p)
-closed_told true w p lt = rw (lt-ltb (length p.bits) (p.at + w) lt) refl
-closed_told false w p lt = rw (lt-ltb (length p.bits) (p.at + w) lt) refl
+pub closed_lacks : (b : Bool) (w : ℕ) (p : Place) → length p.bits < p.at + w → taken_or_closed b w p ≡ Err (lack b p)
+closed_lacks true w p lt = rw (lt-ltb (length p.bits) (p.at + w) lt) refl
+closed_lacks false w p lt = rw (lt-ltb (length p.bits) (p.at + w) lt) refl
 
 pub record TookField (x : Variable) (p : Place) (n : ℕ) (q : Place) : Type 0 where
   pub took : Took x.width p n q
@@ -188,7 +188,7 @@ spelled_is_read (sized before body) rows p q within (more, e, w) spelled =
 
 -- ---- faults
 
-field_err : (x : Variable) (p : Place) (f : Fault) → p.at ≤ length p.bits → field_at x p ≡ Err f → Tells (due x) p f
+pub field_err : (x : Variable) (p : Place) (f : Fault) → p.at ≤ length p.bits → field_at x p ≡ Err f → IsDueFault (due x) p f
 field_err x p f within e =
     elim (bind_err (taken_or_closed x.closes x.width p) (λ n. cond (x.allows n.0) (Ok n) (Err (refused x p))) f e) [
       | inl t ↦ inl (closed_err x.closes x.width p f t)
@@ -199,61 +199,61 @@ field_err x p f within e =
     ]
 
 -- A fault of reading is the fault of an open list.
-pub fault_is_told : (fields : Fields) (p : Place) (f : Fault) → p.at ≤ length p.bits → rows_at fields p ≡ Err f → IsFault fields p f
-fault_is_told nothing p f within e = absurd cc
-fault_is_told (field v next) p f within e =
+pub read_is_fault : (fields : Fields) (p : Place) (f : Fault) → p.at ≤ length p.bits → rows_at fields p ≡ Err f → IsFault fields p f
+read_is_fault nothing p f within e = absurd cc
+read_is_fault (field v next) p f within e =
     elim (bind_err (field_at v p) (λ n. rows_at (next n.0) n.1 >>= λ more. Ok (record { variable = v; number = n.0 } ∷ more.0, more.1)) f e) [
-      | inl t ↦ record { rows = []; next = due v; reached = p; is_open = inl (refl, refl); spelled = record { allowed = tt; stands = stands_nothing p }; tells = field_err v p f within t }
+      | inl t ↦ record { rows = []; next = due v; reached = p; is_open = inl (refl, refl); spelled = record { allowed = tt; stands = stands_nothing p }; due_fault = field_err v p f within t }
       | inr a ↦
           let first = field_ok v p a.0 a.1 in
           let inside : a.0.1.at ≤ length a.0.1.bits = rw first.took.stands.same first.took.within in
-          let told = fault_is_told (next a.0.0) a.0.1 f inside (not_after (rows_at (next a.0.0) a.0.1) (λ more. (record { variable = v; number = a.0.0 } ∷ more.0, more.1)) f a.2) in
+          let found = read_is_fault (next a.0.0) a.0.1 f inside (not_after (rows_at (next a.0.0) a.0.1) (λ more. (record { variable = v; number = a.0.0 } ∷ more.0, more.1)) f a.2) in
           record {
-            rows = record { variable = v; number = a.0.0 } ∷ told.rows;
-            next = told.next;
-            reached = told.reached;
-            is_open = inr (a.0.0, told.rows, refl, told.is_open);
-            spelled = record { allowed = ((first.took.small, first.allowed), told.spelled.allowed); stands = stands_then (num v.width a.0.0) (join told.rows) p a.0.1 told.reached first.took.stands told.spelled.stands };
-            tells = told.tells;
+            rows = record { variable = v; number = a.0.0 } ∷ found.rows;
+            next = found.next;
+            reached = found.reached;
+            is_open = inr (a.0.0, found.rows, refl, found.is_open);
+            spelled = record { allowed = ((first.took.small, first.allowed), found.spelled.allowed); stands = stands_then (num v.width a.0.0) (join found.rows) p a.0.1 found.reached first.took.stands found.spelled.stands };
+            due_fault = found.due_fault;
           }
     ]
-fault_is_told (l ▹ r) p f within e =
+read_is_fault (l ▹ r) p f within e =
     elim (bind_err (rows_at l p) (λ first. rows_at r first.1 >>= λ second. Ok (first.0 ++ second.0, second.1)) f e) [
       | inl t ↦
-          let told = fault_is_told l p f within t in
-          record { rows = told.rows; next = told.next; reached = told.reached; is_open = inl told.is_open; spelled = told.spelled; tells = told.tells }
+          let found = read_is_fault l p f within t in
+          record { rows = found.rows; next = found.next; reached = found.reached; is_open = inl found.is_open; spelled = found.spelled; due_fault = found.due_fault }
       | inr a ↦
           let first = read_is_spelled l p a.0 within a.1 in
           let inside : a.0.1.at ≤ length a.0.1.bits = rw first.spelled.stands.same first.within in
-          let told = fault_is_told r a.0.1 f inside (not_after (rows_at r a.0.1) (λ second. (a.0.0 ++ second.0, second.1)) f a.2) in
+          let found = read_is_fault r a.0.1 f inside (not_after (rows_at r a.0.1) (λ second. (a.0.0 ++ second.0, second.1)) f a.2) in
           record {
-            rows = a.0.0 ++ told.rows;
-            next = told.next;
-            reached = told.reached;
-            is_open = inr (a.0.0, told.rows, refl, first.whole, told.is_open);
+            rows = a.0.0 ++ found.rows;
+            next = found.next;
+            reached = found.reached;
+            is_open = inr (a.0.0, found.rows, refl, first.whole, found.is_open);
             spelled = record {
-              allowed = allowed-append a.0.0 told.rows first.spelled.allowed told.spelled.allowed;
-              stands = rw join-append (stands_then (join a.0.0) (join told.rows) p a.0.1 told.reached first.spelled.stands told.spelled.stands);
+              allowed = allowed-append a.0.0 found.rows first.spelled.allowed found.spelled.allowed;
+              stands = rw join-append (stands_then (join a.0.0) (join found.rows) p a.0.1 found.reached first.spelled.stands found.spelled.stands);
             };
-            tells = told.tells;
+            due_fault = found.due_fault;
           }
     ]
-fault_is_told (sized before body) p f within e =
+read_is_fault (sized before body) p f within e =
     elim (bind_err (field_at l_packet p) (λ l. rows_at body l.1 >>= λ more. cond (eqb l.0 (before + (more.1.at - p.at))) (Ok (length_row l.0 ∷ more.0, more.1)) (Err (wrong p more.1))) f e) [
-      | inl t ↦ record { rows = []; next = due l_packet; reached = p; is_open = inl (refl, refl); spelled = record { allowed = tt; stands = stands_nothing p }; tells = field_err l_packet p f within t }
+      | inl t ↦ record { rows = []; next = due l_packet; reached = p; is_open = inl (refl, refl); spelled = record { allowed = tt; stands = stands_nothing p }; due_fault = field_err l_packet p f within t }
       | inr a ↦
           let first = field_ok l_packet p a.0 a.1 in
           let inside : a.0.1.at ≤ length a.0.1.bits = rw first.took.stands.same first.took.within in
           elim (bind_err (rows_at body a.0.1) (λ more. cond (eqb a.0.0 (before + (more.1.at - p.at))) (Ok (length_row a.0.0 ∷ more.0, more.1)) (Err (wrong p more.1))) f a.2) [
             | inl t ↦
-                let told = fault_is_told body a.0.1 f inside t in
+                let found = read_is_fault body a.0.1 f inside t in
                 record {
-                  rows = length_row a.0.0 ∷ told.rows;
-                  next = told.next;
-                  reached = told.reached;
-                  is_open = inr (a.0.0, told.rows, refl, inl told.is_open);
-                  spelled = record { allowed = ((first.took.small, first.allowed), told.spelled.allowed); stands = stands_then (num 13 a.0.0) (join told.rows) p a.0.1 told.reached first.took.stands told.spelled.stands };
-                  tells = told.tells;
+                  rows = length_row a.0.0 ∷ found.rows;
+                  next = found.next;
+                  reached = found.reached;
+                  is_open = inr (a.0.0, found.rows, refl, inl found.is_open);
+                  spelled = record { allowed = ((first.took.small, first.allowed), found.spelled.allowed); stands = stands_then (num 13 a.0.0) (join found.rows) p a.0.1 found.reached first.took.stands found.spelled.stands };
+                  due_fault = found.due_fault;
                 }
             | inr b ↦
                 let g = pass_err (eqb a.0.0 (before + (b.0.1.at - p.at))) (wrong p b.0.1) f (length_row a.0.0 ∷ b.0.0, b.0.1) b.2 in
@@ -266,7 +266,7 @@ fault_is_told (sized before body) p f within e =
                   reached = b.0.1;
                   is_open = inr (a.0.0, b.0.0, refl, inr (second.whole, λ same. eqb-false _ _ g.0 (same ∙ sym sums), refl));
                   spelled = record { allowed = ((first.took.small, first.allowed), second.spelled.allowed); stands = stands_then (num 13 a.0.0) (join b.0.0) p a.0.1 b.0.1 first.took.stands second.spelled.stands };
-                  tells = sym g.1 ∙ ap (λ (k : ℕ). length_fault k b.0.1.at) (omega (arith, places));
+                  due_fault = sym g.1 ∙ ap (λ (k : ℕ). length_fault k b.0.1.at) (omega (arith, places));
                 }
           ]
     ]

@@ -1,9 +1,9 @@
 -- L_PACKET and the record after it.
 use Rattle.std.proofs.Common.{◌≡◌, ℕ, ◌+◌, ◌-◌, ◌≤◌, List, ◌∷◌, length, Ok, ap, arith}
 use Rattle.std.proofs.lemmas.Bool.{eq-eqb}
-use Rattle.etcs_bits.specs.Rows.{Row, row, Place, width}
-use Rattle.etcs_bits.specs.Fields.{Fields, sized, l_packet}
-use Rattle.etcs_bits.specs.Reading.{taken, rows_at}
+use Rattle.etcs_bits.specs.layout.Rows.{Row, row, Place, width}
+use Rattle.etcs_bits.specs.layout.Fields.{Fields, sized, l_packet}
+use Rattle.etcs_bits.specs.layout.Reading.{taken, rows_at}
 use Rattle.etcs_bits.proofs.NumberLemmas.{length-num}
 use Rattle.etcs_bits.proofs.StandLemmas.{length-join}
 use Rattle.etcs_bits.proofs.ReadingLemmas.{taken_ok, read_is_spelled}

@@ -1,9 +1,9 @@
 -- Bits that stand at a place, and rows that are spelled there.
 use Rattle.std.proofs.Common.{◌≡◌, ℕ, ◌+◌, ◌^◌, ◌<◌, ◌≤◌, Bool, List, [], ◌∷◌, ◌++◌, length, take, drop, refl, sym, ap, subst, ◌∙◌, append_assoc, arith}
 use Rattle.std.proofs.lemmas.List.{length-append, length-take, length-drop, take_at, drop_at, drop-drop, take-append-drop, drop-take, take-take}
-use Rattle.etcs_bits.specs.Number.{num, num_of_bits}
-use Rattle.etcs_bits.specs.Rows.{Row, Place, Stands, AreAllowed, join, width}
-use Rattle.etcs_bits.specs.Reading.{forward}
+use Rattle.etcs_bits.specs.bits.Number.{num, num_of_bits}
+use Rattle.etcs_bits.specs.layout.Rows.{Row, Place, Stands, AreAllowed, join, width}
+use Rattle.etcs_bits.specs.layout.Reading.{forward}
 use Rattle.etcs_bits.proofs.NumberLemmas.{length-num, num_of_bits-small, num-num_of_bits}
 
 pub join-append : (xs ys : List Row) → join (xs ++ ys) ≡ join xs ++ join ys

@@ -1,13 +1,13 @@
 -- Reading a number, and then the record that follows it.
 use Rattle.std.proofs.Common.{◌≡◌, ℕ, true, false, List, ◌∷◌, ◌++◌, Result, Ok, Err, refl, ap}
-use Rattle.etcs_bits.specs.declared.fault.Fault.{Fault}
-use Rattle.etcs_bits.specs.declared.fault.DecodeError.{DecodeError}
-use Rattle.etcs_bits.specs.declared.fault.DecodeError.TheVariants as errors
-use Rattle.etcs_bits.specs.Rows.{Variable, Row, row, alone, Place}
-use Rattle.etcs_bits.specs.Fields.{Fields, field}
-use Rattle.etcs_bits.specs.Reading.{◌>>=◌, taken, field_at, rows_at}
-use Rattle.etcs_bits.specs.Layout.{Gives, Fails}
-use Rattle.etcs_bits.specs.Choice.{Choice, numbered_rows, chosen_at}
+use Rattle.etcs_bits.specs.declared.layout.fault.Fault.{Fault}
+use Rattle.etcs_bits.specs.declared.layout.fault.DecodeError.{DecodeError}
+use Rattle.etcs_bits.specs.declared.layout.fault.DecodeError.TheVariants as errors
+use Rattle.etcs_bits.specs.layout.Rows.{Variable, Row, row, alone, Place}
+use Rattle.etcs_bits.specs.layout.Fields.{Fields, field}
+use Rattle.etcs_bits.specs.layout.Reading.{◌>>=◌, taken, field_at, rows_at}
+use Rattle.etcs_bits.specs.layout.Results.{Gives, Fails}
+use Rattle.etcs_bits.specs.layout.Choice.{Choice, numbered_rows, chosen_at}
 use Rattle.etcs_bits.proofs.BindLemmas.{bind_ok, ok_is}
 
 -- a number that was taken, in whose place no packets end

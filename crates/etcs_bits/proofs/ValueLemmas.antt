@@ -2,14 +2,14 @@
 use Rattle.std.proofs.Common.{◌≡◌, ℕ, zero, suc, ◌<◌, ◌≤◌, ◌^◌, ◌⊎◌, true, refl, arith, rules, inl, inr, leb}
 use Rattle.std.specs.Prelude.{◌==◌, ◌||◌, ◌&&◌, false}
 use Rattle.std.proofs.lemmas.Bool.{ne_eqb, leb-true, le-leb, and_parts, or_cases, or_right}
-use Rattle.etcs_bits.specs.declared.level.Level.TheVariants as levels
-use Rattle.etcs_bits.specs.Rows.{row, IsAllowed}
+use Rattle.etcs_bits.specs.declared.variables.level.Level.TheVariants as levels
+use Rattle.etcs_bits.specs.layout.Rows.{row, IsAllowed}
 use Rattle.etcs_bits.proofs.LayoutLemmas.{laid_out}
-use Rattle.etcs_bits.specs.Variables.{plain, free, ranged}
-use Rattle.etcs_bits.specs.Level.{level_variable, level_number}
+use Rattle.etcs_bits.specs.variables.Variables.{plain, free, ranged}
+use Rattle.etcs_bits.specs.variables.Level.{level_variable, level_number}
 use Rattle.etcs_bits.specs.Laws.{AreLaidOut}
-use Rattle.etcs_bits.specs.Values.{HasNumbers, IsNumberOf}
-use Rattle.etcs_bits.specs.Format.{variable}
+use Rattle.etcs_bits.specs.layout.Values.{HasNumbers, IsNumberOf}
+use Rattle.etcs_bits.specs.layout.Format.{variable}
 
 past : (n k : ℕ) → k < n → (n == k) ≡ false
 past n k less = ne_eqb n k (λ same. absurd (omega (arith, same, less)))

@@ -1,11 +1,15 @@
 //! Lists of bits.
 
-ghost use Rattle.std.specs.Prelude.{◌≡◌, ◌+◌, ◌-◌, ◌*◌, ◌<◌, ◌≤◌, ◌^◌, ◌++◌, false, List, Bool, [], length, take, replicate, slice_get, Some, IfOk, OnOk, OnErr};
-ghost use Rattle.etcs_bits.specs.Number.{num, bits_of_bytes};
+pub(crate) mod conversions;
+pub(crate) mod cursor;
+pub(crate) mod memory;
 
-use crate::memory::Memory;
-use crate::numerals::{bits_of_byte, bits_of_num, bytes_of};
-use crate::same::{Same, are_same};
+ghost use Rattle.std.specs.Prelude.{◌≡◌, ◌+◌, ◌-◌, ◌*◌, ◌<◌, ◌≤◌, ◌^◌, ◌++◌, false, List, Bool, [], length, take, replicate, slice_get, Some, IfOk, OnOk, OnErr};
+ghost use Rattle.etcs_bits.specs.bits.Number.{num, bits_of_bytes};
+
+use crate::bits::conversions::{bits_of_byte, bits_of_num, bytes_of};
+use crate::bits::memory::Memory;
+use crate::layout::same::{Same, are_same};
 use std::alloc::Global;
 use std::marker::Model;
 

@@ -2,41 +2,63 @@
 //! does nothing, over the definitions alone (`specs/Laws.antt`). The laws of every record also hold
 //! for the records of other crates, by [`Layout`].
 
-ghost use Rattle.std.specs.Prelude.{ℕ, ◌≤◌, ◌<◌, ◌^◌, ◌⊎◌};
-ghost use Rattle.etcs_bits.specs.Laws.{IsReadAsSpelled, FaultIsRead, SpellsOneRecord, NoSpellingBegins, FaultMeansNone, HasOneFault, NumbersAreBits, AreLaidOut};
-ghost use Rattle.etcs_bits.specs.Values.{HasNumbers, IsNumberOf, HasValues};
-ghost use Rattle.etcs_bits.specs.Number.{worth};
-ghost use Rattle.etcs_bits.specs.Format.{variable, number, ranges, flag, ◌then◌, if_there, several, behind_length};
-ghost use Rattle.etcs_bits.specs.Variables.{plain, free, ranged, transmission_variable, transmission_number, transmission_of, medium_variable, medium_number, medium_of, version_variable, version_number, version_of, duplicate_variable, dup_number, dup_of, scale_variable, scale_number, scale_of, dir_variable, dir_number, dir_of, flag_of};
-ghost use Rattle.etcs_bits.specs.VariableFormats.{q_updown, q_media, m_version, m_dup, q_scale, q_dir};
-ghost use Rattle.etcs_bits.specs.Identity.{identity};
-ghost use Rattle.etcs_bits.specs.Level.{m_level, level_variable, level_number};
+ghost use Rattle.std.specs.Prelude.{◌≡◌, ◌↔◌, ℕ, ◌≤◌, ◌<◌, ◌^◌, ◌⊎◌, Bool, List, length, Ok, Err};
+ghost use Rattle.etcs_bits.specs.declared.layout.fault.Fault.{Fault};
+ghost use Rattle.etcs_bits.specs.Laws.{SpellsOneRecord, NoSpellingBegins, FaultMeansNone, HasOneFault, AreLaidOut};
+ghost use Rattle.etcs_bits.specs.layout.Rows.{Variable, Row, Place, IsSpelled, alone};
+ghost use Rattle.etcs_bits.specs.layout.Fields.{due};
+ghost use Rattle.etcs_bits.specs.layout.Fault.{IsFault, IsDueFault};
+ghost use Rattle.etcs_bits.specs.layout.Reading.{taken, field_at, rows_at};
+ghost use Rattle.etcs_bits.specs.layout.Values.{HasNumbers, IsNumberOf, HasValues};
+ghost use Rattle.etcs_bits.specs.bits.Number.{num, num_of_bits, worth};
+ghost use Rattle.etcs_bits.specs.layout.Format.{variable, number, ranges, flag, ◌then◌, if_there, several, behind_length};
+ghost use Rattle.etcs_bits.specs.variables.Variables.{plain, free, ranged, transmission_variable, transmission_number, medium_variable, medium_number, version_variable, version_number, duplicate_variable, dup_number, scale_variable, scale_number, dir_variable, dir_number};
+ghost use Rattle.etcs_bits.specs.variables.VariableValues.{transmission_of, medium_of, version_of, dup_of, scale_of, dir_of, flag_of};
+ghost use Rattle.etcs_bits.specs.variables.VariableFormats.{q_updown, q_media, m_version, m_dup, q_scale, q_dir};
+ghost use Rattle.etcs_bits.specs.variables.Identity.{identity};
+ghost use Rattle.etcs_bits.specs.variables.Level.{m_level, level_variable, level_number};
 
-use crate::body::Body;
-use crate::direction::Dir;
-use crate::duplicate::Dup;
-use crate::identity::Identity;
-use crate::items::Items;
 use crate::layout::Layout;
-use crate::level::Level;
-use crate::medium::Medium;
-use crate::plain::Plain;
-use crate::ranged::Ranged;
-use crate::scale::Scale;
-use crate::transmission::Transmission;
-use crate::version::Version;
+use crate::layout::body::Body;
+use crate::layout::items::Items;
+use crate::variables::direction::Dir;
+use crate::variables::duplicate::Dup;
+use crate::variables::identity::Identity;
+use crate::variables::level::Level;
+use crate::variables::medium::Medium;
+use crate::variables::plain::Plain;
+use crate::variables::ranged::Ranged;
+use crate::variables::scale::Scale;
+use crate::variables::transmission::Transmission;
+use crate::variables::version::Version;
 
 // ---- every record
 
 /// A record is spelled at a place exactly if reading, as a function of the bits, gives it there.
-/// The spelling ends where reading ends.
+/// The spelling ends where reading ends. The rows that are read are those of the record.
 pub fn a_record_is_read_as_it_is_spelled<T: Layout>()
-    ensures { IsReadAsSpelled T.format }
+    ensures spelled { (p q : Place) (v : T) → p.at ≤ length p.bits
+        → IsSpelled (T.format.rows v) p q
+        ↔ ((r : List Row) × (rows_at T.format.fields p ≡ Ok (r, q)) × (T.format.of r ≡ v)) }
+    ensures rows { (p q : Place) (r : List Row) → p.at ≤ length p.bits
+        → rows_at T.format.fields p ≡ Ok (r, q) → T.format.rows (T.format.of r) ≡ r }
 {}
 
 /// A place has a fault exactly if reading gives that fault there.
-pub fn a_fault_is_read_as_it_is_told<T: Layout>()
-    ensures { FaultIsRead T.format }
+pub fn a_fault_is_read_as_it_is_defined<T: Layout>()
+    ensures { (p : Place) (f : Fault) → p.at ≤ length p.bits
+        → IsFault T.format.fields p f ↔ (rows_at T.format.fields p ≡ Err f) }
+{}
+
+/// Reading a single field, as a function of the bits, gives a number exactly if the number is
+/// spelled there, and a fault exactly if the field has it. Bits are taken as the number of a
+/// variable that allows every number.
+pub fn a_field_is_read_as_it_is_spelled()
+    ensures number { (x : Variable) (p q : Place) (n : ℕ) → p.at ≤ length p.bits
+        → IsSpelled (alone x n) p q ↔ (field_at x p ≡ Ok (n, q)) }
+    ensures fault { (x : Variable) (p : Place) (f : Fault) → p.at ≤ length p.bits
+        → IsDueFault (due x) p f ↔ (field_at x p ≡ Err f) }
+    ensures taken { (w : ℕ) (p : Place) → taken w p ≡ field_at (free w) p }
 {}
 
 /// At most one record is spelled at a place, and it has one end.
@@ -56,7 +78,7 @@ pub fn a_fault_means_no_record<T: Layout>()
 {}
 
 /// A place has at most one fault.
-pub fn a_place_tells_one_fault<T: Layout>()
+pub fn a_place_has_one_fault<T: Layout>()
     ensures { HasOneFault T.format }
 {}
 
@@ -67,7 +89,7 @@ pub fn records_are_laid_out<T: Layout>()
     a_place_spells_one_record::<T>();
     no_spelling_begins_another::<T>();
     a_fault_means_no_record::<T>();
-    a_place_tells_one_fault::<T>();
+    a_place_has_one_fault::<T>();
 }
 
 // ---- records that are made of others
@@ -107,9 +129,12 @@ pub fn identities_are_laid_out()
 
 // ---- variables
 
-/// Numbers and their bits agree in both directions.
+/// A number that fits in `w` bits is the number that its `w` bits spell. Bits are the bits of the
+/// number that they spell.
 pub fn numbers_are_their_bits()
-    ensures { NumbersAreBits }
+    ensures count { (w n : ℕ) → length (num w n) ≡ w }
+    ensures number { (w n : ℕ) → n < 2 ^ w → num_of_bits (num w n) ≡ n }
+    ensures bits { (xs : List Bool) → num (length xs) (num_of_bits xs) ≡ xs }
 {}
 
 /// A variable without a spare number has all numbers that fit in its `W` bits, if `W` is 1 to 32.
@@ -139,7 +164,7 @@ pub fn free_bits_have_all_numbers()
 {}
 
 /// A flag has one bit. Its two numbers are its two values.
-#[tactic(auto, using(crate::specs::VariableLemmas::flags_have_values))]
+#[tactic(auto, using(crate::specs::variables::VariableLemmas::flags_have_values))]
 pub fn flags_have_their_numbers()
     ensures numbers { HasValues (plain 1) 1 worth flag_of }
     ensures laid_out { AreLaidOut flag }
@@ -148,7 +173,7 @@ pub fn flags_have_their_numbers()
 }
 
 /// Q_UPDOWN has one bit. The direction that is read has its number.
-#[tactic(auto, using(crate::specs::VariableLemmas::transmissions_have_values))]
+#[tactic(auto, using(crate::specs::variables::VariableLemmas::names_have_values, crate::specs::variables::VariableLemmas::transmission_names))]
 pub fn transmissions_have_their_numbers()
     ensures numbers { HasValues transmission_variable 1 transmission_number transmission_of }
     ensures laid_out { AreLaidOut q_updown }
@@ -157,7 +182,7 @@ pub fn transmissions_have_their_numbers()
 }
 
 /// Q_MEDIA has one bit. The medium that is read has its number.
-#[tactic(auto, using(crate::specs::VariableLemmas::media_have_values))]
+#[tactic(auto, using(crate::specs::variables::VariableLemmas::names_have_values, crate::specs::variables::VariableLemmas::medium_names))]
 pub fn media_have_their_numbers()
     ensures numbers { HasValues medium_variable 1 medium_number medium_of }
     ensures laid_out { AreLaidOut q_media }
@@ -166,7 +191,7 @@ pub fn media_have_their_numbers()
 }
 
 /// M_VERSION has seven bits. The versions that are read have their numbers.
-#[tactic(auto, using(crate::specs::VariableLemmas::versions_have_values))]
+#[tactic(auto, using(crate::specs::variables::VariableLemmas::names_have_values, crate::specs::variables::VariableLemmas::version_names))]
 pub fn versions_have_their_numbers()
     ensures numbers { HasValues version_variable 7 version_number version_of }
     ensures laid_out { AreLaidOut m_version }
@@ -175,7 +200,7 @@ pub fn versions_have_their_numbers()
 }
 
 /// M_DUP has two bits. Each mark has its number, and no other number is allowed.
-#[tactic(auto, using(crate::specs::VariableLemmas::marks_have_values))]
+#[tactic(auto, using(crate::specs::variables::VariableLemmas::names_have_values, crate::specs::variables::VariableLemmas::dup_names))]
 pub fn marks_have_their_numbers()
     ensures numbers { HasValues duplicate_variable 2 dup_number dup_of }
     ensures laid_out { AreLaidOut m_dup }
@@ -184,7 +209,7 @@ pub fn marks_have_their_numbers()
 }
 
 /// Q_SCALE has two bits. Each unit has its number, and no other number is allowed.
-#[tactic(auto, using(crate::specs::VariableLemmas::scales_have_values))]
+#[tactic(auto, using(crate::specs::variables::VariableLemmas::names_have_values, crate::specs::variables::VariableLemmas::scale_names))]
 pub fn scales_have_their_numbers()
     ensures numbers { HasValues scale_variable 2 scale_number scale_of }
     ensures laid_out { AreLaidOut q_scale }
@@ -193,7 +218,7 @@ pub fn scales_have_their_numbers()
 }
 
 /// Q_DIR has two bits. Each direction has its number, and no other number is allowed.
-#[tactic(auto, using(crate::specs::VariableLemmas::directions_have_values))]
+#[tactic(auto, using(crate::specs::variables::VariableLemmas::names_have_values, crate::specs::variables::VariableLemmas::dir_names))]
 pub fn directions_have_their_numbers()
     ensures numbers { HasValues dir_variable 2 dir_number dir_of }
     ensures laid_out { AreLaidOut q_dir }

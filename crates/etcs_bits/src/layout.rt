@@ -1,16 +1,23 @@
 //! What a record of fields is, and how it is written and read.
 
+pub(crate) mod body;
+pub(crate) mod fault;
+pub(crate) mod items;
+pub(crate) mod option;
+pub(crate) mod pair;
+pub(crate) mod same;
+
 ghost use Rattle.std.specs.Prelude.{◌≡◌, ◌↔◌, ◌++◌, min, IsTrue, IfOk, OnOk, OnErr};
-ghost use Rattle.etcs_bits.specs.Rows.{AreAllowed, join, width, IsSpelled};
-ghost use Rattle.etcs_bits.specs.Fault.{IsFault, NoneBegins};
-ghost use Rattle.etcs_bits.specs.Reading.{rows_at};
-ghost use Rattle.etcs_bits.specs.Format.{Format};
-ghost use Rattle.etcs_bits.specs.Layout.{Gives, IfFault, IfMemory, Puts};
+ghost use Rattle.etcs_bits.specs.layout.Rows.{AreAllowed, join, width, IsSpelled};
+ghost use Rattle.etcs_bits.specs.layout.Fault.{IsFault, NoneBegins};
+ghost use Rattle.etcs_bits.specs.layout.Reading.{rows_at};
+ghost use Rattle.etcs_bits.specs.layout.Format.{Format};
+ghost use Rattle.etcs_bits.specs.layout.Results.{Gives, IfFault, IfMemory, Puts};
 
 use crate::bits::Bits;
-use crate::cursor::Cursor;
-use crate::fault::DecodeError;
-use crate::memory::Memory;
+use crate::bits::cursor::Cursor;
+use crate::bits::memory::Memory;
+use crate::layout::fault::DecodeError;
 use std::alloc::Global;
 
 /// A record of variables that is spelled field after field, without a gap (SUBSET-026, 7.4).

@@ -16,14 +16,14 @@ use std::test::Fail;
 // no duplicate, counter 255, linked.
 const HEADER: [u8; 7] = [0xa1, 0x00, 0x7f, 0x80, 0x20, 0x00, 0xff];
 
-// The record at the start of the bits, and the place behind it.
+// The record at the start of the bits, and the place after it.
 fn read_one<T: Layout>(alloc: Global, bits: &Bits) -> Result<(T, usize), DecodeError> {
     let mut cur = Cursor::new(bits);
     let record = T::read(alloc, &mut cur)?;
     Ok((record, cur.at()))
 }
 
-// Three ones and the record behind them, if it is allowed; else nothing.
+// Three ones and the record after them, if it is allowed; else nothing.
 fn write_one<T: Layout>(alloc: Global, record: &T) -> Result<Vec<u8>, Memory> {
     let mut bits = Bits::new(alloc);
     if record.is_allowed() {

@@ -2,10 +2,10 @@
 use Rattle.std.proofs.Common.{◌≡◌, ℕ, ◌+◌, ◌-◌, ◌<◌, ◌≤◌, Bool, true, false, List, [], length, take, drop, refl, sym, ap, subst, ◌∙◌, arith, inl, inr, ◌⊎◌}
 use Rattle.std.proofs.lemmas.Bool.{lt-ltb}
 use Rattle.std.proofs.lemmas.List.{take-take, drop-take}
-use Rattle.etcs_bits.specs.declared.fault.Fault.{Fault}
-use Rattle.etcs_bits.specs.Rows.{Variable, Row, Place, IsSpelled, join, width}
-use Rattle.etcs_bits.specs.Fields.{Fields, nothing, field, ◌▹◌, sized, AreRowsOf, Due, due, differs, IsOpen}
-use Rattle.etcs_bits.specs.Fault.{lack, Tells, IsFault}
+use Rattle.etcs_bits.specs.declared.layout.fault.Fault.{Fault}
+use Rattle.etcs_bits.specs.layout.Rows.{Variable, Row, Place, IsSpelled, join, width}
+use Rattle.etcs_bits.specs.layout.Fields.{Fields, nothing, field, ◌▹◌, sized, AreRowsOf, Due, due, differs, IsOpen}
+use Rattle.etcs_bits.specs.layout.Fault.{lack, IsDueFault, IsFault}
 use Rattle.etcs_bits.proofs.StandLemmas.{place_in, length-join, stands_nothing, stands_within}
 use Rattle.etcs_packet.specs.declared.stop.Stop.{Stop}
 use Rattle.etcs_packet.specs.Lists.{IsHeaded, ends}
@@ -30,21 +30,21 @@ lack_past : (closes : Bool) (p : Place) → p.at ≤ length p.bits → p.at ≤ 
 lack_past true p within = omega arith
 lack_past false p within = within
 
-tells_past : (d : Due) (e : Place) (f : Fault) → e.at ≤ length e.bits → Tells d e f → e.at ≤ f.end
-tells_past (due x) e f within (inl (lt, is)) =
+due_fault_past : (d : Due) (e : Place) (f : Fault) → e.at ≤ length e.bits → IsDueFault d e f → e.at ≤ f.end
+due_fault_past (due x) e f within (inl (lt, is)) =
     subst (λ (g : Fault). e.at ≤ g.end) (sym is) (lack_past x.closes e within)
-tells_past (due x) e f within (inr (n, after, stands, small, spare, is)) =
+due_fault_past (due x) e f within (inr (n, after, stands, small, spare, is)) =
     omega (arith, ap (λ (g : Fault). g.end) is)
-tells_past (differs back) e f within is = omega (arith, ap (λ (g : Fault). g.end) is)
+due_fault_past (differs back) e f within is = omega (arith, ap (λ (g : Fault). g.end) is)
 
 -- The eight bits here are among those that decide the fault, or fewer than eight are left.
 abbrev pub IsPast : Place → Fault → Type 0
 IsPast p f = (p.at ≤ f.end) × ((p.at + 8 ≤ f.end) ⊎ (length p.bits < p.at + 8))
 
 first_past : (x : Variable) (p e : Place) (f : Fault) → x.width ≡ 8 → e.at ≡ p.at
-    → length e.bits ≡ length p.bits → e.at ≤ length e.bits → Tells (due x) e f → IsPast p f
+    → length e.bits ≡ length p.bits → e.at ≤ length e.bits → IsDueFault (due x) e f → IsPast p f
 first_past x p e f eight at len within (inl (lt, is)) =
-    let past = tells_past (due x) e f within (inl (lt, is)) in
+    let past = due_fault_past (due x) e f within (inl (lt, is)) in
     (omega (arith, past, at), inr (omega (arith, lt, at, len, eight)))
 first_past x p e f eight at len within (inr (n, after, stands, small, spare, is)) =
     let end = ap (λ (g : Fault). g.end) is in
@@ -52,28 +52,28 @@ first_past x p e f eight at len within (inr (n, after, stands, small, spare, is)
 
 open_past : (x : Variable) (next : ℕ → Fields) (rows : List Row) (d : Due) (p e : Place) (f : Fault)
     → x.width ≡ 8 → p.at ≤ length p.bits → IsOpen (field x next) rows d
-    → IsSpelled rows p e → Tells d e f → IsPast p f
-open_past x next rows d p e f eight within (inl (empty, is)) spelled tells =
+    → IsSpelled rows p e → IsDueFault d e f → IsPast p f
+open_past x next rows d p e f eight within (inl (empty, is)) spelled due_fault =
     let len = ap length spelled.stands.same in
     let inside = stands_within (join rows) p e within spelled.stands in
     let at : e.at ≡ p.at = omega (arith, spelled.stands.past, length-join rows, ap width empty) in
     first_past x p e f eight at len (omega (arith, inside, len))
-    (subst (λ (g : Due). Tells g e f) is tells)
-open_past x next rows d p e f eight within (inr (n, more, is, o)) spelled tells =
+    (subst (λ (g : Due). IsDueFault g e f) is due_fault)
+open_past x next rows d p e f eight within (inr (n, more, is, o)) spelled due_fault =
     let len = ap length spelled.stands.same in
     let inside = stands_within (join rows) p e within spelled.stands in
-    let past = tells_past d e f (omega (arith, inside, len)) tells in
+    let past = due_fault_past d e f (omega (arith, inside, len)) due_fault in
     let far : p.at + 8 ≤ f.end =
     omega (arith, spelled.stands.past, length-join rows, ap width is, past, eight) in
     (omega (arith, far), inl far)
 
-pub told_past : (fields : Fields) (p : Place) (f : Fault) → IsHeaded fields
+pub fault_past : (fields : Fields) (p : Place) (f : Fault) → IsHeaded fields
     → p.at ≤ length p.bits → IsFault fields p f → IsPast p f
-told_past (field x next) p f head within t =
-    open_past x next t.rows t.next p t.reached f head.0 within t.is_open t.spelled t.tells
-told_past nothing p f head within t = absurd head
-told_past (a ▹ b) p f head within t = absurd head
-told_past (sized before body) p f head within t = absurd head
+fault_past (field x next) p f head within t =
+    open_past x next t.rows t.next p t.reached f head.0 within t.is_open t.spelled t.due_fault
+fault_past nothing p f head within t = absurd head
+fault_past (a ▹ b) p f head within t = absurd head
+fault_past (sized before body) p f head within t = absurd head
 
 -- too few bits for NID_PACKET are a NoEnd fault
 pub no_end_here : (fields : Fields) (p : Place) → IsHeaded fields → length p.bits < p.at + 8
@@ -84,7 +84,7 @@ no_end_here (field x next) p head few = record {
   reached = p;
   is_open = inl (refl, refl);
   spelled = record { allowed = tt; stands = stands_nothing p };
-  tells = inl (omega (arith, few, head.0), ap (λ closes. lack closes p) (sym head.1));
+  due_fault = inl (omega (arith, few, head.0), ap (λ closes. lack closes p) (sym head.1));
 }
 no_end_here nothing p head few = absurd head
 no_end_here (a ▹ b) p head few = absurd head

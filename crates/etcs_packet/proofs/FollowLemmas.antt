@@ -1,13 +1,13 @@
 -- Lists of rows that follow one another: how far they reach, and in which inputs they stand.
 use Rattle.std.proofs.Common.{◌≡◌, ℕ, ◌+◌, ◌≤◌, Bool, false, List, [], ◌∷◌, ◌++◌, length, take, refl, sym, ap, subst, ◌∙◌, arith, inl}
-use Rattle.etcs_bits.specs.declared.fault.Fault.{Fault}
-use Rattle.etcs_bits.specs.Rows.{Row, Place, IsSpelled, join}
-use Rattle.etcs_bits.specs.Fields.{Fields, AreRowsOf}
+use Rattle.etcs_bits.specs.declared.layout.fault.Fault.{Fault}
+use Rattle.etcs_bits.specs.layout.Rows.{Row, Place, IsSpelled, join}
+use Rattle.etcs_bits.specs.layout.Fields.{Fields, AreRowsOf}
 use Rattle.etcs_bits.proofs.StandLemmas.{place_in, length-join, stands_moved}
 use Rattle.etcs_bits.proofs.FaultLemmas.{fault_stays}
 use Rattle.etcs_packet.specs.declared.stop.Stop.{Stop}
 use Rattle.etcs_packet.specs.Lists.{IsHeaded, ends, Follow, IsListFault}
-use Rattle.etcs_packet.proofs.EndLemmas.{settled, told_past, headed_wide, next_within}
+use Rattle.etcs_packet.proofs.EndLemmas.{settled, fault_past, headed_wide, next_within}
 
 pub follow_forward : (stop : Stop) (fields : Fields) (xs : List (List Row)) (p q : Place)
     → Follow stop fields xs p q → p.at ≤ q.at
@@ -71,7 +71,7 @@ pub list_fault_stays : (stop : Stop) (fields : Fields) (p : Place) (f : Fault) (
 list_fault_stays stop fields p f bits head within len same t =
     let back = sym (follow_bits stop fields t.whole p t.reached t.follow) in
     let inside = follow_within stop fields t.whole p t.reached within t.follow in
-    let past = told_past fields t.reached f head inside t.told in
+    let past = fault_past fields t.reached f head inside t.is_fault in
     let lengths : length bits ≡ length t.reached.bits = len ∙ ap length back in
     let front : take f.end bits ≡ take f.end t.reached.bits = same ∙ ap (take f.end) back in
     record {
@@ -79,5 +79,5 @@ list_fault_stays stop fields p f bits head within len same t =
       reached = place_in bits t.reached.at;
       follow = follow_moved stop fields t.whole p t.reached bits f.end head len same past.0 t.follow;
       goes_on = settled stop t.reached bits f.end lengths front past.1 ∙ t.goes_on;
-      told = fault_stays fields t.reached f bits inside lengths front t.told;
+      is_fault = fault_stays fields t.reached f bits inside lengths front t.is_fault;
     }

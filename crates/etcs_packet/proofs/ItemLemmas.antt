@@ -1,17 +1,18 @@
 -- What reading a list gives: the records that follow one another up to its end, or the fault after
 -- them.
 use Rattle.std.proofs.Common.{◌≡◌, ℕ, zero, suc, ◌+◌, ◌<◌, ◌≤◌, Bool, true, false, cond, List, [], ◌∷◌, map, length, Result, Ok, Err, refl, sym, ap, subst, ◌∙◌, arith, inl, inr, ◌⊎◌}
-use Rattle.etcs_bits.specs.declared.fault.Fault.{Fault}
-use Rattle.etcs_bits.specs.Rows.{Row, Place, IsSpelled}
-use Rattle.etcs_bits.specs.Fields.{Fields, AreRowsOf}
-use Rattle.etcs_bits.specs.Fault.{IsFault}
-use Rattle.etcs_bits.specs.Reading.{◌>>=◌, rows_at}
+use Rattle.etcs_bits.specs.declared.layout.fault.Fault.{Fault}
+use Rattle.etcs_bits.specs.layout.Rows.{Row, Place, IsSpelled}
+use Rattle.etcs_bits.specs.layout.Fields.{Fields, AreRowsOf}
+use Rattle.etcs_bits.specs.layout.Fault.{IsFault}
+use Rattle.etcs_bits.specs.layout.Reading.{◌>>=◌, rows_at}
 use Rattle.etcs_bits.proofs.BindLemmas.{bind_ok, bind_err, ok_is}
 use Rattle.etcs_bits.proofs.StandLemmas.{length-join}
-use Rattle.etcs_bits.proofs.ReadingLemmas.{read_is_spelled, spelled_is_read, fault_is_told}
-use Rattle.etcs_bits.proofs.FaultLemmas.{told_is_given}
+use Rattle.etcs_bits.proofs.ReadingLemmas.{read_is_spelled, spelled_is_read, read_is_fault}
+use Rattle.etcs_bits.proofs.FaultLemmas.{fault_is_given}
 use Rattle.etcs_packet.specs.declared.stop.Stop.{Stop}
-use Rattle.etcs_packet.specs.Lists.{IsHeaded, ends, Follow, IsListFault, at_most, items_at}
+use Rattle.etcs_packet.specs.Lists.{IsHeaded, ends, Follow, IsListFault}
+use Rattle.etcs_packet.specs.Reading.{at_most, items_at}
 use Rattle.etcs_packet.proofs.EndLemmas.{headed_wide, next_within}
 
 -- a list with one record more at its front
@@ -75,19 +76,19 @@ follow_is_read of xs stop fields p q head within follow over =
 
 -- ---- a fault of the list is read
 
-told_read : {X : Type 0} (of : List Row → X) (xs : List (List Row)) (n : ℕ) (stop : Stop)
+items_fault_is_read : {X : Type 0} (of : List Row → X) (xs : List (List Row)) (n : ℕ) (stop : Stop)
     (fields : Fields) (p q : Place) (f : Fault) → IsHeaded fields → p.at ≤ length p.bits
     → IsEnough n p → Follow stop fields xs p q → ends stop q ≡ false → IsFault fields q f
     → at_most n stop fields of p ≡ Err f
-told_read of xs zero stop fields p q f head within enough follow goes_on t =
+items_fault_is_read of xs zero stop fields p q f head within enough follow goes_on t =
     absurd (omega (arith, within, enough))
-told_read of [] (suc n) stop fields p q f head within enough there goes_on t =
+items_fault_is_read of [] (suc n) stop fields p q f head within enough there goes_on t =
     let here : ends stop p ≡ false = ap (ends stop) (sym there) ∙ goes_on in
-    let fails = told_is_given fields p f within (subst (λ (z : Place). IsFault fields z f) there t) in
+    let fails = fault_is_given fields p f within (subst (λ (z : Place). IsFault fields z f) there t) in
     at_most_more n stop fields of p ∙ rw (here, fails) refl
-told_read of (rows ∷ xs) (suc n) stop fields p q f head within enough (goes, (m, w, spelled, rest)) goes_on t =
+items_fault_is_read of (rows ∷ xs) (suc n) stop fields p q f head within enough (goes, (m, w, spelled, rest)) goes_on t =
     let first = spelled_is_read fields rows p m within w spelled in
-    let others = told_read of xs n stop fields m q f head (next_within rows p m within spelled)
+    let others = items_fault_is_read of xs n stop fields m q f head (next_within rows p m within spelled)
     (next_enough fields rows n p m head w spelled enough) rest goes_on t in
     at_most_more n stop fields of p ∙ rw (goes, first, others) refl
 
@@ -96,7 +97,7 @@ pub list_fault_is_read : {X : Type 0} (of : List Row → X) (stop : Stop) (field
     → items_at stop fields of p ≡ Err f
 list_fault_is_read of stop fields p f head within t =
     all_items stop fields of p
-    ∙ told_read of t.whole (suc (length p.bits)) stop fields p t.reached f head within (omega arith) t.follow t.goes_on t.told
+    ∙ items_fault_is_read of t.whole (suc (length p.bits)) stop fields p t.reached f head within (omega arith) t.follow t.goes_on t.is_fault
 
 -- ---- what is read stands, and a fault that is read is a fault of the list
 
@@ -146,31 +147,31 @@ pub read_follows : {X : Type 0} (of : List Row → X) (stop : Stop) (fields : Fi
 read_follows of stop fields p x head within e =
     read_stands of (suc (length p.bits)) stop fields p x head within (omega arith) (sym (all_items stop fields of p) ∙ e)
 
-fault_told : {X : Type 0} (of : List Row → X) (n : ℕ) (stop : Stop) (fields : Fields) (p : Place)
+read_is_items_fault : {X : Type 0} (of : List Row → X) (n : ℕ) (stop : Stop) (fields : Fields) (p : Place)
     (f : Fault) → p.at ≤ length p.bits → at_most n stop fields of p ≡ Err f
     → IsListFault stop fields p f
-fault_told of zero stop fields p f within e = absurd (let none = sym (at_most_none stop fields of p) ∙ e in cc)
-fault_told of (suc n) stop fields p f within e =
+read_is_items_fault of zero stop fields p f within e = absurd (let none = sym (at_most_none stop fields of p) ∙ e in cc)
+read_is_items_fault of (suc n) stop fields p f within e =
     elim (chosen (ends stop p) (Ok ([], p)) (then_most n stop fields of p) (Err f) (sym (at_most_more n stop fields of p) ∙ e)) [
       | inl t ↦ absurd (let h = t.1 in cc)
       | inr t ↦
           elim (bind_err (rows_at fields p) (λ first. with_first (of first.0) (at_most n stop fields of first.1)) f t.1) [
-            | inl h ↦ record { whole = []; reached = p; follow = refl; goes_on = t.0; told = fault_is_told fields p f within h }
+            | inl h ↦ record { whole = []; reached = p; follow = refl; goes_on = t.0; is_fault = read_is_fault fields p f within h }
             | inr a ↦
                 let first = read_is_spelled fields p a.0 within a.1 in
-                let rest = fault_told of n stop fields a.0.1 f (next_within a.0.0 p a.0.1 within first.spelled) (not_after (at_most n stop fields of a.0.1) (of a.0.0) f a.2) in
+                let rest = read_is_items_fault of n stop fields a.0.1 f (next_within a.0.0 p a.0.1 within first.spelled) (not_after (at_most n stop fields of a.0.1) (of a.0.0) f a.2) in
                 record {
                   whole = a.0.0 ∷ rest.whole;
                   reached = rest.reached;
                   follow = (t.0, (a.0.1, first.whole, first.spelled, rest.follow));
                   goes_on = rest.goes_on;
-                  told = rest.told;
+                  is_fault = rest.is_fault;
                 }
           ]
     ]
 
-pub list_fault_is_told : {X : Type 0} (of : List Row → X) (stop : Stop) (fields : Fields) (p : Place)
+pub read_is_list_fault : {X : Type 0} (of : List Row → X) (stop : Stop) (fields : Fields) (p : Place)
     (f : Fault) → p.at ≤ length p.bits → items_at stop fields of p ≡ Err f
     → IsListFault stop fields p f
-list_fault_is_told of stop fields p f within e =
-    fault_told of (suc (length p.bits)) stop fields p f within (sym (all_items stop fields of p) ∙ e)
+read_is_list_fault of stop fields p f within e =
+    read_is_items_fault of (suc (length p.bits)) stop fields p f within (sym (all_items stop fields of p) ∙ e)

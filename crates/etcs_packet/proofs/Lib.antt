@@ -4,6 +4,5 @@ pub mod ItemLemmas
 pub mod ListLemmas
 pub mod WholeLemmas
 pub mod WrittenLemmas
-pub mod ShortLemmas
 pub mod RawLemmas
 pub mod TrackLemmas

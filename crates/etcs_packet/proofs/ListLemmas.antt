@@ -2,19 +2,20 @@
 use Rattle.std.proofs.Common.{◌≡◌, ◌+◌, ◌<◌, ◌≤◌, Bool, true, false, List, [], ◌∷◌, ◌++◌, map, length, take, Option, Some, None, Result, Ok, Err, refl, sym, ap, subst, ◌∙◌, arith}
 use Rattle.std.specs.Result.{is_err, OnOk}
 use Rattle.std.proofs.lemmas.List.{map-append}
-use Rattle.etcs_bits.specs.declared.fault.Fault.{Fault}
-use Rattle.etcs_bits.specs.declared.fault.DecodeError.{DecodeError}
-use Rattle.etcs_bits.specs.declared.fault.DecodeError.TheVariants as errors
-use Rattle.etcs_bits.specs.Rows.{Row, Place, join}
-use Rattle.etcs_bits.specs.Fields.{Fields, AreRowsOf}
-use Rattle.etcs_bits.specs.Fault.{IsFault, NoneBegins, lack}
-use Rattle.etcs_bits.specs.Layout.{Fails, OfFault}
-use Rattle.etcs_bits.specs.Laid.{IsLayout}
+use Rattle.etcs_bits.specs.declared.layout.fault.Fault.{Fault}
+use Rattle.etcs_bits.specs.declared.layout.fault.DecodeError.{DecodeError}
+use Rattle.etcs_bits.specs.declared.layout.fault.DecodeError.TheVariants as errors
+use Rattle.etcs_bits.specs.layout.Rows.{Row, Place, join}
+use Rattle.etcs_bits.specs.layout.Fields.{Fields, AreRowsOf}
+use Rattle.etcs_bits.specs.layout.Fault.{IsFault, NoneBegins, lack}
+use Rattle.etcs_bits.specs.layout.Results.{Fails, OfFault}
+use Rattle.etcs_bits.specs.layout.Laid.{IsLayout}
 use Rattle.etcs_bits.proofs.LayoutLemmas.{laid_out, rows_again}
 use Rattle.etcs_bits.proofs.StandLemmas.{length-join, place_in, stands_within}
 use Rattle.etcs_packet.specs.declared.stop.Stop.{Stop}
-use Rattle.etcs_packet.specs.Lists.{IsHeaded, ends, Stand, IsStep, NoStep, NoneStand, Follow, IsListFault, items_at}
-use Rattle.etcs_packet.proofs.EndLemmas.{headed_wide, no_end_here, settled, told_past}
+use Rattle.etcs_packet.specs.Lists.{IsHeaded, ends, Stand, IsStep, NoStep, NoneStand, Follow, IsListFault}
+use Rattle.etcs_packet.specs.Reading.{items_at}
+use Rattle.etcs_packet.proofs.EndLemmas.{headed_wide, no_end_here, settled, fault_past}
 use Rattle.etcs_packet.proofs.FollowLemmas.{follow_more, list_fault_stays}
 use Rattle.etcs_packet.proofs.ItemLemmas.{follow_is_read, read_follows, list_fault_is_read}
 
@@ -26,7 +27,7 @@ no_step_here : {X : Type 0} (rows : X → List Row) (stop : Stop) (fields : Fiel
     → length bits ≡ length p.bits → take f.end bits ≡ take f.end p.bits
     → IsStep stop rows o (place_in bits p.at) to → ⊥
 no_step_here rows stop fields p f bits None to head within goes t none len same s =
-    let h = settled stop p bits f.end len same (told_past fields p f head within t).1 in
+    let h = settled stop p bits f.end len same (fault_past fields p f head within t).1 in
     let e = s.0 in cc
 no_step_here rows stop fields p f bits (Some x) to head within goes t none len same s =
     none bits len same x to s.1
@@ -44,8 +45,8 @@ pub lacks_step : {X : Type 0} {rows : X → List Row} {of : List Row → X} {fie
     → IsLayout fields rows of → (stop : Stop) (p : Place) → IsHeaded fields → p.at ≤ length p.bits
     → ends stop p ≡ false → length p.bits < p.at + 8 → NoStep stop rows p (lack true p)
 lacks_step {rows = rows} {of = of} {fields = fields} laid stop p head within goes few = λ bits len same o to s.
-    let told = no_end_here fields p head few in
-    no_step_here rows stop fields p (lack true p) bits o to head within goes told ((laid_out (record { fields = fields; rows = rows; of = of; laid = laid })).fault_or_record p (lack true p) within told) len same s
+    let is_fault = no_end_here fields p head few in
+    no_step_here rows stop fields p (lack true p) bits o to head within goes is_fault ((laid_out (record { fields = fields; rows = rows; of = of; laid = laid })).fault_or_record p (lack true p) within is_fault) len same s
 
 -- ---- the loop
 
@@ -90,7 +91,7 @@ pub list_fault : {X : Type 0} (rows : X → List Row) (e : DecodeError) (xs : Li
     → OfFault e (λ f. IsListFault stop fields p f)
 list_fault rows errors.Memory xs stop fields p q follow t = tt
 list_fault rows (errors.Fault f) xs stop fields p q follow t =
-    record { whole = map rows xs; reached = q; follow = follow; goes_on = t.0; told = t.1 }
+    record { whole = map rows xs; reached = q; follow = follow; goes_on = t.0; is_fault = t.1 }
 
 -- ---- a list that stands
 

@@ -2,13 +2,13 @@
 use Rattle.std.proofs.Common.{◌≡◌, ◌⊎◌, ℕ, Bool, true, false, List, ◌∷◌, ◌++◌, Option, Some, None, Result, Ok, length, refl, sym, ap, ◌∙◌, inl, inr}
 use Rattle.std.proofs.lemmas.Bool.{ne_eqb}
 use Rattle.std.specs.Prelude.{◌==◌, ◌||◌, not}
-use Rattle.etcs_bits.specs.declared.fault.Fault.{Fault}
-use Rattle.etcs_bits.specs.Rows.{Row, row, alone, Place, AreAllowed, join, width}
-use Rattle.etcs_bits.specs.Choice.{numbered_rows}
+use Rattle.etcs_bits.specs.declared.layout.fault.Fault.{Fault}
+use Rattle.etcs_bits.specs.layout.Rows.{Row, row, alone, Place, AreAllowed, join, width}
+use Rattle.etcs_bits.specs.layout.Choice.{numbered_rows}
 use Rattle.etcs_profile.specs.Authority.{Permission, permission, WithMain, WithoutMain, numbered, numbered_by, numbered_of, authority}
 use Rattle.etcs_packet.specs.declared.track.TrackPacket.{TrackPacket}
 use Rattle.etcs_packet.specs.declared.track.TrackPacket.TheVariants as packets
-use Rattle.etcs_packet.specs.Numbers.{is_known, nid_track}
+use Rattle.etcs_packet.specs.PacketNumbers.{is_known, nid_track}
 use Rattle.etcs_packet.specs.Raw.{raw_rest, other_of}
 use Rattle.etcs_packet.specs.Track.{track_numbered, authority_in, track_packet, own_rows}
 

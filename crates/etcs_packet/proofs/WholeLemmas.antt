@@ -1,25 +1,26 @@
 -- A head and its list: what stands is read, a fault is read, and there is only one of them.
 use Rattle.std.proofs.Common.{◌≡◌, ◌≤◌, Bool, List, length, take, Result, Ok, Err, refl, sym, ap, subst, ◌∙◌, arith, inl, inr}
-use Rattle.etcs_bits.specs.declared.fault.Fault.{Fault}
-use Rattle.etcs_bits.specs.declared.fault.DecodeError.{DecodeError}
-use Rattle.etcs_bits.specs.declared.fault.DecodeError.TheVariants as errors
-use Rattle.etcs_bits.specs.Rows.{Row, Place, IsSpelled, join}
-use Rattle.etcs_bits.specs.Fields.{Fields, AreRowsOf}
-use Rattle.etcs_bits.specs.Fault.{IsFault}
-use Rattle.etcs_bits.specs.Reading.{◌>>=◌, rows_at}
-use Rattle.etcs_bits.specs.Layout.{Fails, Gives, OfFault, OfMemory}
+use Rattle.etcs_bits.specs.declared.layout.fault.Fault.{Fault}
+use Rattle.etcs_bits.specs.declared.layout.fault.DecodeError.{DecodeError}
+use Rattle.etcs_bits.specs.declared.layout.fault.DecodeError.TheVariants as errors
+use Rattle.etcs_bits.specs.layout.Rows.{Row, Place, IsSpelled, join}
+use Rattle.etcs_bits.specs.layout.Fields.{Fields, AreRowsOf}
+use Rattle.etcs_bits.specs.layout.Fault.{IsFault}
+use Rattle.etcs_bits.specs.layout.Reading.{◌>>=◌, rows_at}
+use Rattle.etcs_bits.specs.layout.Results.{Fails, Gives, OfFault, OfMemory, Means}
 use Rattle.etcs_bits.proofs.BindLemmas.{bind_ok, bind_err, ok_is}
-use Rattle.etcs_bits.specs.Laid.{IsLayout}
+use Rattle.etcs_bits.specs.layout.Laid.{IsLayout}
 use Rattle.etcs_bits.proofs.LayoutLemmas.{rows_again}
 use Rattle.etcs_bits.proofs.StandLemmas.{place_in, stands_moved}
-use Rattle.etcs_bits.proofs.ReadingLemmas.{read_is_spelled, spelled_is_read, fault_is_told}
-use Rattle.etcs_bits.proofs.FaultLemmas.{told_is_given, fault_stays, none_stands, one_told}
+use Rattle.etcs_bits.proofs.ReadingLemmas.{read_is_spelled, spelled_is_read, read_is_fault}
+use Rattle.etcs_bits.proofs.FaultLemmas.{fault_is_given, fault_stays, none_stands, same_fault}
 use Rattle.etcs_packet.specs.declared.stop.Stop.{Stop}
-use Rattle.etcs_packet.specs.Lists.{IsHeaded, IsListFault, items_at}
-use Rattle.etcs_packet.specs.Whole.{start, IsWhole, IsWholeFault, NoneWhole, Means, whole_at, whole_of}
-use Rattle.etcs_packet.proofs.EndLemmas.{told_past, next_within}
+use Rattle.etcs_packet.specs.Lists.{IsHeaded, IsListFault}
+use Rattle.etcs_packet.specs.Reading.{items_at, whole_at, whole_of}
+use Rattle.etcs_packet.specs.Whole.{start, BeginsWith, IsWhole, IsWholeFault, NoneWhole}
+use Rattle.etcs_packet.proofs.EndLemmas.{fault_past, next_within}
 use Rattle.etcs_packet.proofs.FollowLemmas.{follow_forward, follow_within, list_fault_stays}
-use Rattle.etcs_packet.proofs.ItemLemmas.{list_fault_is_read, list_fault_is_told}
+use Rattle.etcs_packet.proofs.ItemLemmas.{list_fault_is_read, read_is_list_fault}
 use Rattle.etcs_packet.proofs.ListLemmas.{stand_is_read, read_stands}
 
 -- the list after a head, then both
@@ -74,10 +75,10 @@ pub whole_fault_is_read : {H X : Type 0} (head_of : List Row → H) (item_of : L
     (header item : Fields) (p : Place) (f : Fault) → IsHeaded item → p.at ≤ length p.bits
     → IsWholeFault stop header item p f → whole_at stop header head_of item item_of p ≡ Err f
 whole_fault_is_read head_of item_of stop header item p f headed within (inl t) =
-    both_at stop header head_of item item_of p ∙ rw (told_is_given header p f within t) refl
+    both_at stop header head_of item item_of p ∙ rw (fault_is_given header p f within t) refl
 whole_fault_is_read head_of item_of stop header item p f headed within (inr t) =
     let first = spelled_is_read header t.rows p t.middle within t.whole t.first in
-    let more = list_fault_is_read item_of stop item t.middle f headed (next_within t.rows p t.middle within t.first) t.told in
+    let more = list_fault_is_read item_of stop item t.middle f headed (next_within t.rows p t.middle within t.first) t.is_fault in
     both_at stop header head_of item item_of p ∙ rw (first, more) refl
 
 -- a step that only builds cannot fail
@@ -91,12 +92,12 @@ not_after (Ok y) h f e = absurd cc
 not_after (Err c) h f e = cc
 
 -- A fault that is read is a fault of the whole.
-pub whole_fault_is_told : {H X : Type 0} (head_of : List Row → H) (item_of : List Row → X) (stop : Stop)
+pub read_is_whole_fault : {H X : Type 0} (head_of : List Row → H) (item_of : List Row → X) (stop : Stop)
     (header item : Fields) (p : Place) (f : Fault) → p.at ≤ length p.bits
     → whole_at stop header head_of item item_of p ≡ Err f → IsWholeFault stop header item p f
-whole_fault_is_told head_of item_of stop header item p f within e =
+read_is_whole_fault head_of item_of stop header item p f within e =
     elim (bind_err (rows_at header p) (λ first. then_items stop head_of item item_of first) f (sym (both_at stop header head_of item item_of p) ∙ e)) [
-      | inl t ↦ inl (fault_is_told header p f within t)
+      | inl t ↦ inl (read_is_fault header p f within t)
       | inr a ↦
           let first = read_is_spelled header p a.0 within a.1 in
           let fails = not_after (items_at stop item item_of a.0.1) (head_of a.0.0) f a.2 in
@@ -105,7 +106,7 @@ whole_fault_is_told head_of item_of stop header item p f within e =
             middle = a.0.1;
             whole = first.whole;
             first = first.spelled;
-            told = list_fault_is_told item_of stop item a.0.1 f (next_within a.0.0 p a.0.1 within first.spelled) fails;
+            is_fault = read_is_list_fault item_of stop item a.0.1 f (next_within a.0.0 p a.0.1 within first.spelled) fails;
           })
     ]
 
@@ -116,7 +117,7 @@ list_past : (stop : Stop) (item : Fields) (p : Place) (f : Fault) → IsHeaded i
     → p.at ≤ length p.bits → IsListFault stop item p f → p.at ≤ f.end
 list_past stop item p f headed within t =
     let inside = follow_within stop item t.whole p t.reached within t.follow in
-    omega (arith, follow_forward stop item t.whole p t.reached t.follow, (told_past item t.reached f headed inside t.told).0)
+    omega (arith, follow_forward stop item t.whole p t.reached t.follow, (fault_past item t.reached f headed inside t.is_fault).0)
 
 whole_fault_stays : (stop : Stop) (header item : Fields) (p : Place) (f : Fault) (bits : List Bool)
     → IsHeaded item → p.at ≤ length p.bits → length bits ≡ length p.bits
@@ -127,13 +128,13 @@ whole_fault_stays stop header item p f bits headed within len same (inl t) =
 whole_fault_stays stop header item p f bits headed within len same (inr t) =
     let inside = next_within t.rows p t.middle within t.first in
     let back = sym t.first.stands.same in
-    let past = list_past stop item t.middle f headed inside t.told in
+    let past = list_past stop item t.middle f headed inside t.is_fault in
     inr (record {
       rows = t.rows;
       middle = place_in bits t.middle.at;
       whole = t.whole;
       first = record { allowed = t.first.allowed; stands = stands_moved (join t.rows) p t.middle bits f.end t.first.stands past same };
-      told = list_fault_stays stop item t.middle f bits headed inside (len ∙ ap length back) (same ∙ ap (take f.end) back) t.told;
+      is_fault = list_fault_stays stop item t.middle f bits headed inside (len ∙ ap length back) (same ∙ ap (take f.end) back) t.is_fault;
     })
 
 -- A place with a whole's fault has no whole.
@@ -161,7 +162,7 @@ pub later_fault : (e : DecodeError) (stop : Stop) (header item : Fields) (rows :
     → OfFault e (λ f. IsWholeFault stop header item p f)
 later_fault errors.Memory stop header item rows p m whole spelled t = tt
 later_fault (errors.Fault f) stop header item rows p m whole spelled t =
-    inr (record { rows = rows; middle = m; whole = whole; first = spelled; told = t })
+    inr (record { rows = rows; middle = m; whole = whole; first = spelled; is_fault = t })
 
 pub whole_fails : {H X : Type 0} (head_of : List Row → H) (item_of : List Row → X) (e : DecodeError)
     (stop : Stop) (header item : Fields) (p : Place) → IsHeaded item → p.at ≤ length p.bits
@@ -186,6 +187,58 @@ pub means_whole : {H X : Type 0} (stop : Stop) (head : Fields) (head_of : List R
 means_whole stop head head_of item item_of bits w q gives =
     of_bits stop head head_of item item_of bits ∙ rw gives refl
 
+-- what bits mean is read at their beginning
+means_read : {H X : Type 0} (stop : Stop) (head : Fields) (head_of : List Row → H) (item : Fields)
+    (item_of : List Row → X) (bits : List Bool) (w : H × List X)
+    → whole_of stop head head_of item item_of bits ≡ Ok w
+    → (q : Place) × (whole_at stop head head_of item item_of (start bits) ≡ Ok (w, q))
+means_read {H = H} {X = X} stop head head_of item item_of bits w means =
+    let b = bind_ok (whole_at stop head head_of item item_of (start bits)) (λ read. Ok read.0) w
+    (sym (of_bits stop head head_of item item_of bits) ∙ means) in
+    (b.0.1, b.1 ∙ ap (λ (v : H × List X). Ok (v, b.0.1)) (ok_is b.0.0 w b.2))
+
+-- bits mean the head and the list that they begin with
+pub begins_means : {H X : Type 0} {header item : Fields} {head : H → List Row} {head_of : List Row → H}
+    {rows : X → List Row} {item_of : List Row → X} → IsLayout header head head_of → IsLayout item rows item_of
+    → (stop : Stop) (h : H) (xs : List X) (bits : List Bool) → IsHeaded item
+    → BeginsWith stop head rows h xs bits → whole_of stop header head_of item item_of bits ≡ Ok (h, xs)
+begins_means {header = header} {item = item} {head_of = head_of} {item_of = item_of} head_laid laid stop h xs bits headed begins =
+    means_whole stop header head_of item item_of bits (h, xs) begins.end
+    (whole_is_read head_laid laid stop h xs (start bits) begins.end headed (omega arith) begins.whole)
+
+-- bits begin with the head and the list that they mean
+pub means_begins : {H X : Type 0} {header item : Fields} {head : H → List Row} {head_of : List Row → H}
+    {rows : X → List Row} {item_of : List Row → X} → IsLayout header head head_of → IsLayout item rows item_of
+    → (stop : Stop) (h : H) (xs : List X) (bits : List Bool) → IsHeaded item
+    → whole_of stop header head_of item item_of bits ≡ Ok (h, xs) → BeginsWith stop head rows h xs bits
+means_begins {header = header} {item = item} {head_of = head_of} {item_of = item_of} head_laid laid stop h xs bits headed means =
+    let read = means_read stop header head_of item item_of bits (h, xs) means in
+    record {
+      end = read.0;
+      whole = read_is_whole head_laid laid stop h xs (start bits) read.0 headed (omega arith) read.1;
+    }
+
+-- bits mean the fault that is read at their beginning
+pub fault_means : {H X : Type 0} (stop : Stop) (head : Fields) (head_of : List Row → H) (item : Fields)
+    (item_of : List Row → X) (bits : List Bool) (f : Fault)
+    → whole_at stop head head_of item item_of (start bits) ≡ Err f
+    → whole_of stop head head_of item item_of bits ≡ Err f
+fault_means stop head head_of item item_of bits f fails =
+    of_bits stop head head_of item item_of bits ∙ rw fails refl
+
+without_place : {W : Type 0} (read : Result (W × Place) Fault) (f : Fault)
+    → (read >>= λ r. Ok r.0) ≡ Err f → read ≡ Err f
+without_place (Ok y) f e = absurd cc
+without_place (Err c) f e = cc
+
+pub means_fault : {H X : Type 0} (stop : Stop) (head : Fields) (head_of : List Row → H) (item : Fields)
+    (item_of : List Row → X) (bits : List Bool) (f : Fault)
+    → whole_of stop head head_of item item_of bits ≡ Err f
+    → whole_at stop head head_of item item_of (start bits) ≡ Err f
+means_fault stop head head_of item item_of bits f means =
+    without_place (whole_at stop head head_of item item_of (start bits)) f
+    (sym (of_bits stop head head_of item item_of bits) ∙ means)
+
 pub gives_means : {H X Y : Type 0} (view : Y → H × List X) (result : Result Y DecodeError) (stop : Stop)
     (head : Fields) (head_of : List Row → H) (item : Fields) (item_of : List Row → X)
     (bits : List Bool) (q : Place)
@@ -200,12 +253,12 @@ gives_means view (Err (errors.Fault f)) stop head head_of item item_of bits q gi
 -- ---- the fault of a head is always reported
 
 -- Where a head without a list has a fault, reading the head reports that fault.
-pub head_told : (e : DecodeError) (grows : Type 0) (header : Fields) (p : Place) (f : Fault)
+pub head_fault_is_reported : (e : DecodeError) (grows : Type 0) (header : Fields) (p : Place) (f : Fault)
     → p.at ≤ length p.bits → OfFault e (λ g. IsFault header p g) → OfMemory e grows → (grows → ⊥)
     → IsFault header p f → e ≡ errors.Fault f
-head_told errors.Memory grows header p f within told memory none fault = absurd (none memory)
-head_told (errors.Fault g) grows header p f within told memory none fault =
-    ap errors.Fault (one_told header p g f within told fault)
+head_fault_is_reported errors.Memory grows header p f within is_fault memory none fault = absurd (none memory)
+head_fault_is_reported (errors.Fault g) grows header p f within is_fault memory none fault =
+    ap errors.Fault (same_fault header p g f within is_fault fault)
 
 -- A head that stands has no fault.
 pub head_stands : {H : Type 0} (header : Fields) (head : H → List Row) (h : H) (p q : Place)

@@ -3,12 +3,12 @@ use Rattle.std.proofs.Common.{◌≡◌, ℕ, ◌+◌, ◌^◌, ◌<◌, ◌≤�
 use Rattle.std.specs.List.{flat_map}
 use Rattle.std.proofs.lemmas.Bool.{lt-ltb, le-ltb, ne_eqb, ltb-true, ltb-false, eqb-true}
 use Rattle.std.proofs.lemmas.List.{length-append, length-drop, take_at, drop_at, drop-drop}
-use Rattle.etcs_bits.specs.Number.{num, num_of_bits}
-use Rattle.etcs_bits.specs.Rows.{Row, Place, Stands, IsSpelled, AreAllowed, join}
-use Rattle.etcs_bits.specs.Fields.{Fields, nothing, field, ◌▹◌, sized, AreRowsOf}
+use Rattle.etcs_bits.specs.bits.Number.{num, num_of_bits}
+use Rattle.etcs_bits.specs.layout.Rows.{Row, Place, Stands, IsSpelled, AreAllowed, join}
+use Rattle.etcs_bits.specs.layout.Fields.{Fields, nothing, field, ◌▹◌, sized, AreRowsOf}
 use Rattle.etcs_bits.proofs.NumberLemmas.{length-num, num_of_bits-small}
 use Rattle.etcs_bits.proofs.StandLemmas.{place_in, same_position, join-append, allowed-append, stands_nothing, stands_then, stands_within, number_stands, standing_number, stands_parts}
-use Rattle.etcs_bits.specs.RowLemmas.{allowed_first, allowed_second}
+use Rattle.etcs_bits.specs.layout.RowLemmas.{allowed_first, allowed_second}
 use Rattle.etcs_packet.specs.declared.stop.Stop.{Stop}
 use Rattle.etcs_packet.specs.declared.stop.Stop.TheVariants as stops
 use Rattle.etcs_packet.specs.Lists.{IsHeaded, ends_short, ends, Stand}
@@ -204,3 +204,13 @@ whole_written head rows h xs stop item rest bits headed mark are_rows first allo
       first = record { allowed = first; stands = subst (λ (q : Place). Stands one (start bits) q) behind next.stands };
       items = written_stands rows xs stop item one rest bits headed mark are_rows allowed over is;
     }
+
+-- bits that are spelled begin with the head and the list
+pub whole_written_begins : {H X : Type 0} (head : H → List Row) (rows : X → List Row) (h : H) (xs : List X)
+    (stop : Stop) (item : Fields) (bits : List Bool) → IsHeaded item → HasNoMark item
+    → ((x : X) → AreRowsOf item (rows x)) → AreSpelled stop head rows h xs bits
+    → BeginsWith stop head rows h xs bits
+whole_written_begins head rows h xs stop item bits headed mark are_rows s = record {
+  end = place_in bits (length (join (head h)) + length (join (flat_map rows xs)));
+  whole = whole_written head rows h xs stop item s.rest bits headed mark are_rows s.first s.items s.over s.are;
+}

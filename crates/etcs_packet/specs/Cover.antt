@@ -1,7 +1,7 @@
 -- Packet 0, the virtual balise cover marker (SUBSET-026, 3.15.9 and 7.4.2): eight bits of
 -- NID_PACKET and six of NID_VBCMK.
 use Rattle.std.specs.Prelude.{ℕ, refl}
-use Rattle.etcs_bits.specs.Format.{Format, number, ◌then◌, named}
+use Rattle.etcs_bits.specs.layout.Format.{Format, number, ◌then◌, named}
 use Rattle.etcs_profile.specs.Packet.{nid_packet}
 use Rattle.etcs_packet.specs.declared.cover.CoverMarker.{CoverMarker}
 

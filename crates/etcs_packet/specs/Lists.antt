@@ -1,22 +1,19 @@
 -- A list of packets (SUBSET-026, 7.4 and 8.4). The packets stand one after the other, up to the
 -- first place where the list ends. They may be any records whose table of fields begins with
 -- NID_PACKET.
-use Rattle.std.specs.Prelude.{◌≡◌, ℕ, zero, suc, ◌+◌, ◌==◌, nat_lt, Bool, true, false, if◌then◌else◌, List, [], ◌∷◌, length, take, drop, Option, Some, None, Result, Ok}
-use Rattle.etcs_bits.specs.declared.fault.Fault.{Fault}
-use Rattle.etcs_bits.specs.Number.{num_of_bits}
-use Rattle.etcs_bits.specs.Rows.{Row, Place, IsSpelled}
-use Rattle.etcs_bits.specs.Fields.{Fields, nothing, field, ◌▹◌, sized, AreRowsOf}
-use Rattle.etcs_bits.specs.Fault.{IsFault}
-use Rattle.etcs_bits.specs.Reading.{◌>>=◌, rows_at}
+use Rattle.std.specs.Prelude.{◌≡◌, ◌+◌, ◌==◌, nat_lt, Bool, true, false, if◌then◌else◌, List, [], ◌∷◌, length, take, drop, Option, Some, None}
+use Rattle.etcs_bits.specs.declared.layout.fault.Fault.{Fault}
+use Rattle.etcs_bits.specs.bits.Number.{num_of_bits}
+use Rattle.etcs_bits.specs.layout.Rows.{Row, Place, IsSpelled}
+use Rattle.etcs_bits.specs.layout.Fields.{Fields, field, AreRowsOf}
+use Rattle.etcs_bits.specs.layout.Fault.{IsFault, InAnyInput}
 use Rattle.etcs_packet.specs.declared.stop.Stop.{Stop}
 use Rattle.etcs_packet.specs.declared.stop.Stop.TheVariants as stops
 
 -- The fields begin with NID_PACKET, eight bits. A list may end in its place.
 abbrev pub IsHeaded : Fields → Type 0
 IsHeaded (field x next) = (x.width ≡ 8) × (x.closes ≡ true)
-IsHeaded nothing = ⊥
-IsHeaded (a ▹ b) = ⊥
-IsHeaded (sized before body) = ⊥
+IsHeaded fields = ⊥
 
 -- whether too few bits for NID_PACKET end the list: in a message they do
 abbrev pub ends_short : Stop → Bool
@@ -56,33 +53,12 @@ pub record IsListFault (stop : Stop) (fields : Fields) (from : Place) (fault : F
   pub reached : Place
   pub follow : Follow stop fields whole from reached
   pub goes_on : ends stop reached ≡ false
-  pub told : IsFault fields reached fault
+  pub is_fault : IsFault fields reached fault
 
--- No input of the same length that begins with the same first `end` bits has such a step here.
+-- No input of the same length with the same first `end` bits has such a step here.
 abbrev pub NoStep : {X : Type 0} → Stop → (X → List Row) → Place → Fault → Type 0
-NoStep {X} stop rows from fault =
-    (bits : List Bool) → length bits ≡ length from.bits
-    → take fault.end bits ≡ take fault.end from.bits → (o : Option X) (to : Place)
-    → IsStep stop rows o (record { bits = bits; at = from.at }) to → ⊥
+NoStep {X} stop rows = InAnyInput (λ p. (o : Option X) (to : Place) → IsStep stop rows o p to → ⊥)
 
--- No input of the same length that begins with the same first `end` bits has such a list here.
+-- No input of the same length with the same first `end` bits has such a list here.
 abbrev pub NoneStand : {X : Type 0} → Stop → (X → List Row) → Place → Fault → Type 0
-NoneStand {X} stop rows from fault =
-    (bits : List Bool) → length bits ≡ length from.bits
-    → take fault.end bits ≡ take fault.end from.bits → (xs : List X) (to : Place)
-    → Stand stop rows xs (record { bits = bits; at = from.at }) to → ⊥
-
--- at most `n` records of a list
-unfoldable pub at_most : {X : Type 0}
-    → ℕ → Stop → Fields → (List Row → X) → Place → Result (List X × Place) Fault
-at_most zero stop fields record_of p = Ok ([], p)
-at_most (suc n) stop fields record_of p =
-    if ends stop p then Ok ([], p)
-    else (rows_at fields p >>= λ first. at_most n stop fields record_of first.1
-    >>= λ more. Ok (record_of first.0 ∷ more.0, more.1))
-
--- What reading a list gives: its records and the place where it ends, or the first fault. A record
--- has eight bits or more, so the count never runs out.
-unfoldable pub items_at : {X : Type 0}
-    → Stop → Fields → (List Row → X) → Place → Result (List X × Place) Fault
-items_at stop fields record_of p = at_most (suc (length p.bits)) stop fields record_of p
+NoneStand {X} stop rows = InAnyInput (λ p. (xs : List X) (to : Place) → Stand stop rows xs p to → ⊥)

@@ -1,22 +1,22 @@
 -- A packet of any other number (SUBSET-026, 7.4.1): its head, and its body as bits.
 use Rattle.std.specs.Prelude.{◌≡◌, ℕ, ◌+◌, ◌-◌, nat_le, Bool, true, false, List, [], ◌∷◌, length, refl}
-use Rattle.std.proofs.Common.{sym, ap, ap₂, subst, ◌∙◌, arith}
+use Rattle.std.proofs.Common.{sym, ap, subst, ◌∙◌, arith}
 use Rattle.std.proofs.Math.Bool.{Bool-set}
-use Rattle.std.proofs.lemmas.Bool.{leb-true, le-leb, and_parts}
-use Rattle.etcs_bits.specs.declared.direction.Dir.{Dir}
-use Rattle.etcs_bits.specs.Number.{num, num_of_bits}
-use Rattle.etcs_bits.specs.Rows.{Row, row, AreAllowed, alone, number_at}
-use Rattle.etcs_bits.specs.Fields.{Fields, field, one, AreRowsOf}
-use Rattle.etcs_bits.specs.Laid.{HaveFields, AreOf, HaveRecords}
-use Rattle.etcs_bits.specs.Laid.{IsLayout}
-use Rattle.etcs_bits.specs.Variables.{free}
-use Rattle.etcs_bits.specs.Choice.{Choice}
-use Rattle.etcs_bits.specs.Format.{Format, ◌then◌, chosen}
-use Rattle.etcs_bits.specs.VariableFormats.{q_dir}
+use Rattle.std.proofs.lemmas.Bool.{leb-true, le-leb, and_parts, true≢false}
+use Rattle.etcs_bits.specs.declared.variables.direction.Dir.{Dir}
+use Rattle.etcs_bits.specs.bits.Number.{num, num_of_bits}
+use Rattle.etcs_bits.specs.layout.Rows.{Row, row, AreAllowed, alone}
+use Rattle.etcs_bits.specs.layout.Fields.{Fields, field, one, AreRowsOf}
+use Rattle.etcs_bits.specs.layout.Laid.{IsLayout}
+use Rattle.etcs_bits.specs.variables.Variables.{free}
+use Rattle.etcs_bits.specs.layout.Choice.{Choice}
+use Rattle.etcs_bits.specs.layout.Format.{Format, ◌then◌, chosen}
+use Rattle.etcs_bits.specs.variables.VariableFormats.{q_dir}
 use Rattle.etcs_bits.proofs.NumberLemmas.{length-num, num_of_bits-small, num-num_of_bits}
 use Rattle.etcs_packet.specs.declared.raw.RawPacket.{RawPacket}
 use Rattle.etcs_packet.specs.Free.{free_rows}
-use Rattle.etcs_packet.specs.Numbers.{is_other, is_kept, nid_raw, l_raw}
+use Rattle.etcs_packet.specs.PacketNumbers.{is_other, is_kept, nid_raw, l_raw}
+use Rattle.etcs_packet.specs.FoundRaw.{tail_of, raw, raw_by, raw_with}
 
 -- L_PACKET and the body. L_PACKET counts the 23 bits up to its own end, and the body.
 abbrev pub tail_rows : List Bool → List Row
@@ -25,34 +25,19 @@ tail_rows bits = row l_raw (23 + length bits) ∷ free_rows bits
 abbrev pub tail_fields : Fields
 tail_fields = field l_raw (λ l. one (free (l - 23)))
 
--- the body that rows hold
-abbrev pub tail_of : List Row → List Bool
-tail_of rows = num (number_at 0 rows - 23) (number_at 1 rows)
-
--- the packet of these parts, where they make one, and of any parts
-abbrev pub raw : (n : ℕ) → Dir → (body : List Bool) → is_kept n (length body) ≡ true → RawPacket
-raw n dir body kept = record { number = n; dir = dir; body = body; kept = kept }
-
-abbrev pub raw_by : (n : ℕ) → Dir → (body : List Bool) → (b : Bool) → is_kept n (length body) ≡ b → RawPacket
-raw_by n dir body true kept = raw n dir body kept
-raw_by n dir body false other = raw 1 dir [] refl
-
-abbrev pub raw_with : ℕ → Dir × List Bool → RawPacket
-raw_with n p = raw_by n p.0 p.1 (is_kept n (length p.1)) refl
-
 -- ---- proofs of the laws of `Layout`
 
-tail_are_rows : HaveFields tail_fields tail_rows
+tail_are_rows : (bits : List Bool) → AreRowsOf tail_fields (tail_rows bits)
 tail_are_rows bits =
     let back : (23 + length bits) - 23 ≡ length bits = omega arith in
     (23 + length bits, free_rows bits, refl, subst (λ (k : ℕ). AreRowsOf (one (free k)) (free_rows bits)) (sym back) (num_of_bits bits, [], refl, refl))
 
-tail_record : AreOf tail_of tail_rows
+tail_record : (bits : List Bool) → tail_of (tail_rows bits) ≡ bits
 tail_record bits =
     let back : (23 + length bits) - 23 ≡ length bits = omega arith in
     ap (λ (k : ℕ). num k (num_of_bits bits)) back ∙ num-num_of_bits bits
 
-tail_records : HaveRecords tail_fields tail_rows
+tail_records : (r : List Row) → AreRowsOf tail_fields r → AreAllowed r → (bits : List Bool) × (tail_rows bits ≡ r)
 tail_records r (l, more, e, (m, end, is, none)) allowed =
     let here = rw (e, is) at allowed in
     let bits = length-num (l - 23) m in
@@ -76,7 +61,7 @@ pub raw_back : (n : ℕ) (dir : Dir) (body : List Bool) (h : is_kept n (length b
     (e : is_kept n (length body) ≡ b) → raw_by n dir body b e ≡ raw n dir body h
 raw_back n dir body h true e =
     ap (λ (k : is_kept n (length body) ≡ true). raw n dir body k) (Bool-set (is_kept n (length body)) true e h)
-raw_back n dir body h false e = absurd (let both = sym h ∙ e in cc)
+raw_back n dir body h false e = absurd (true≢false (sym h ∙ e))
 
 pub raw_is : (r : RawPacket) → raw_with r.number (raw_rest.of (raw_rest.rows (r.dir, r.body))) ≡ r
 raw_is r =
@@ -115,11 +100,3 @@ others = record {
 
 abbrev pub raw_packet : Format RawPacket
 raw_packet = chosen nid_raw others (λ _. refl)
-
--- raw packets with the same number, direction and body are the same
-pub raw_parts : (v w : RawPacket) → v.number ≡ w.number → v.dir ≡ w.dir → v.body ≡ w.body → v ≡ w
-raw_parts v w p q r =
-    sym (raw_is v)
-    ∙ ap (λ (n : ℕ). raw_with n (raw_rest.of (raw_rest.rows (v.dir, v.body)))) p
-    ∙ ap₂ (λ (d : Dir) (b : List Bool). raw_with w.number (raw_rest.of (raw_rest.rows (d, b)))) q r
-    ∙ raw_is w

@@ -1,30 +1,30 @@
 -- The packets from track to train (SUBSET-026, 7.4.2): those whose layout is known, and all others.
 use Rattle.std.specs.Prelude.{◌≡◌, ℕ, ◌==◌, ◌||◌, ◌⊎◌, not, if◌then◌else◌, Bool, true, false, List, Option, Some, None, refl}
-use Rattle.std.proofs.Common.{ap, inl, inr}
-use Rattle.std.proofs.lemmas.Bool.{ne_eqb}
-use Rattle.etcs_bits.specs.declared.direction.Dir.{Dir}
-use Rattle.etcs_bits.specs.Rows.{Row}
-use Rattle.etcs_bits.specs.Choice.{Choice}
-use Rattle.etcs_bits.specs.Format.{Format, either, chosen, named}
+use Rattle.std.proofs.Common.{ap, sym, ◌∙◌, inl, inr}
+use Rattle.std.proofs.lemmas.Bool.{ne_eqb, true≢false}
+use Rattle.etcs_bits.specs.declared.variables.direction.Dir.{Dir}
+use Rattle.etcs_bits.specs.layout.Rows.{Row}
+use Rattle.etcs_bits.specs.layout.Choice.{Choice}
+use Rattle.etcs_bits.specs.layout.Format.{Format, either, chosen, named}
 use Rattle.etcs_profile.specs.declared.gradient.GradientElement.{GradientElement}
+use Rattle.etcs_profile.specs.declared.linking.Link.{Link}
 use Rattle.etcs_profile.specs.declared.speed.SpeedElement.{SpeedElement}
 use Rattle.etcs_profile.specs.Profile.{Profile}
 use Rattle.etcs_profile.specs.Packet.{rest, packet}
 use Rattle.etcs_profile.specs.Elements.{elements}
 use Rattle.etcs_profile.specs.Authority.{Permission, permission, WithMain, WithoutMain, with_main, without_main, level_1, level_2, numbered_by, authority}
 use Rattle.etcs_profile.specs.Gradient.{gradient_element}
+use Rattle.etcs_profile.specs.Linking.{link}
 use Rattle.etcs_profile.specs.Speed.{speed_element}
-use Rattle.etcs_packet.specs.declared.linking.Link.{Link}
+use Rattle.etcs_profile.specs.Transition.{Orders, level_orders}
 use Rattle.etcs_packet.specs.declared.raw.RawPacket.{RawPacket}
 use Rattle.etcs_packet.specs.declared.run.Run.{Run}
 use Rattle.etcs_packet.specs.declared.track.TrackPacket.{TrackPacket}
 use Rattle.etcs_packet.specs.declared.track.TrackPacket.TheVariants as packets
-use Rattle.etcs_packet.specs.Linking.{link, linking}
-use Rattle.etcs_packet.specs.Transition.{Orders, level_orders, transition}
 use Rattle.etcs_packet.specs.Cover.{nid_vbcmk, cover_marker}
 use Rattle.etcs_packet.specs.Raw.{others, raw_packet}
-use Rattle.etcs_packet.specs.Numbers.{is_known, nid_track}
-use Rattle.etcs_packet.specs.Meant.{is_meant}
+use Rattle.etcs_packet.specs.PacketNumbers.{is_known, nid_track}
+use Rattle.etcs_packet.specs.RunningDirection.{is_for_run}
 
 -- NID_PACKET, and what follows it
 abbrev pub Numbered : Type 0
@@ -43,7 +43,8 @@ track_numbered =
     either 41 (rest level_orders)
     others refl) refl) refl) refl) refl) refl) refl
 
--- ---- the way between a packet and its number with what follows
+-- ---- the packet of a number with what follows
+-- Pinned by the law a_record_is_read_as_it_is_spelled.
 
 abbrev pub track_of : Numbered → TrackPacket
 track_of (inl marker) = packets.Cover (record { marker = marker })
@@ -54,6 +55,8 @@ track_of (inr (inr (inr (inr (inl p))))) = packets.Gradient p
 track_of (inr (inr (inr (inr (inr (inl p)))))) = packets.Speed p
 track_of (inr (inr (inr (inr (inr (inr (inl p))))))) = packets.Transition p
 track_of (inr (inr (inr (inr (inr (inr (inr p))))))) = packets.Raw p
+
+-- ---- the number of a packet with what follows
 
 -- an authority's packet as one of them all
 abbrev pub authority_in : WithMain ⊎ WithoutMain → Numbered
@@ -111,7 +114,7 @@ allowed_by false false false false false false false m no_end = refl
 
 known_is_no_end : (n : ℕ) → is_known n ≡ true → (n == 255) ≡ false
 known_is_no_end n known =
-    ne_eqb n 255 (λ end. absurd (let unknown : is_known n ≡ false = ap is_known end in cc))
+    ne_eqb n 255 (λ end. true≢false (sym known ∙ ap is_known end))
 
 pub all_but_the_end : (n : ℕ) → nid_track.allows n ≡ track_numbered.allows n
 all_but_the_end n =
@@ -124,36 +127,25 @@ track_packet = named (chosen nid_track track_numbered all_but_the_end) track_of 
 -- the rows of a packet by itself, which have the same bits
 abbrev pub own_rows : TrackPacket → List Row
 own_rows (packets.Cover p) = cover_marker.rows p
-own_rows (packets.Linking p) = linking.rows p
+own_rows (packets.Linking p) = (packet 5 (elements link)).rows p
 own_rows (packets.Authority p) = authority.rows p
 own_rows (packets.Gradient p) = (packet 21 (elements gradient_element)).rows p
 own_rows (packets.Speed p) = (packet 27 (elements speed_element)).rows p
-own_rows (packets.Transition p) = transition.rows p
+own_rows (packets.Transition p) = (packet 41 level_orders).rows p
 own_rows (packets.Raw p) = raw_packet.rows p
 
 -- ---- what users ask of a packet
 
--- NID_PACKET of an authority: 12 with V_MAIN, 15 without
-abbrev pub authority_number : Option ℕ → ℕ
-authority_number (Some v) = 12
-authority_number None = 15
-
 -- NID_PACKET
 abbrev pub track_number : TrackPacket → ℕ
-track_number (packets.Cover p) = 0
-track_number (packets.Linking p) = 5
-track_number (packets.Authority p) = authority_number p.main
-track_number (packets.Gradient p) = 21
-track_number (packets.Speed p) = 27
-track_number (packets.Transition p) = 41
-track_number (packets.Raw p) = p.number
+track_number p = track_numbered.number (parts_of p)
 
 -- whether a packet is for trains that run in this direction; packet 0 is for all and has no Q_DIR
 abbrev pub holds : Run → TrackPacket → Bool
 holds run (packets.Cover p) = true
-holds run (packets.Linking p) = is_meant run p.0
-holds run (packets.Authority p) = is_meant run p.dir
-holds run (packets.Gradient p) = is_meant run p.0
-holds run (packets.Speed p) = is_meant run p.0
-holds run (packets.Transition p) = is_meant run p.0
-holds run (packets.Raw p) = is_meant run p.dir
+holds run (packets.Linking p) = is_for_run run p.0
+holds run (packets.Authority p) = is_for_run run p.dir
+holds run (packets.Gradient p) = is_for_run run p.0
+holds run (packets.Speed p) = is_for_run run p.0
+holds run (packets.Transition p) = is_for_run run p.0
+holds run (packets.Raw p) = is_for_run run p.dir

@@ -1,17 +1,14 @@
 -- A whole: a head and the list of packets after it. In a telegram the head is the header
 -- (SUBSET-026, 8.4.2). In a radio message the head is the message's own fields (SUBSET-026, 8.6 and
 -- 8.7).
-use Rattle.std.specs.Prelude.{◌≡◌, ◌⊎◌, List, Bool, true, ◌++◌, length, take, Result, Ok, Err}
+use Rattle.std.specs.Prelude.{◌≡◌, ◌⊎◌, List, Bool, true, ◌++◌}
 use Rattle.std.specs.List.{flat_map}
-use Rattle.etcs_bits.specs.declared.fault.Fault.{Fault}
-use Rattle.etcs_bits.specs.declared.fault.DecodeError.{DecodeError}
-use Rattle.etcs_bits.specs.Rows.{Row, Place, AreAllowed, join, IsSpelled}
-use Rattle.etcs_bits.specs.Fields.{Fields, AreRowsOf}
-use Rattle.etcs_bits.specs.Fault.{IsFault}
-use Rattle.etcs_bits.specs.Reading.{◌>>=◌, rows_at}
-use Rattle.etcs_bits.specs.Layout.{Fails}
+use Rattle.etcs_bits.specs.declared.layout.fault.Fault.{Fault}
+use Rattle.etcs_bits.specs.layout.Rows.{Row, Place, AreAllowed, join, IsSpelled}
+use Rattle.etcs_bits.specs.layout.Fields.{Fields, AreRowsOf}
+use Rattle.etcs_bits.specs.layout.Fault.{IsFault, InAnyInput}
 use Rattle.etcs_packet.specs.declared.stop.Stop.{Stop}
-use Rattle.etcs_packet.specs.Lists.{ends, Stand, IsListFault, items_at}
+use Rattle.etcs_packet.specs.Lists.{ends, Stand, IsListFault}
 
 -- the place at which bits begin
 abbrev pub start : List Bool → Place
@@ -48,7 +45,7 @@ pub record IsLaterFault (stop : Stop) (head item : Fields) (from : Place)
   pub middle : Place
   pub whole : AreRowsOf head rows
   pub first : IsSpelled rows from middle
-  pub told : IsListFault stop item middle fault
+  pub is_fault : IsListFault stop item middle fault
 
 -- The fault of a head and its list: the fault of the head or, where a head stands, the fault of the
 -- list.
@@ -56,30 +53,7 @@ abbrev pub IsWholeFault : Stop → Fields → Fields → Place → Fault → Typ
 IsWholeFault stop head item from fault =
     IsFault head from fault ⊎ IsLaterFault stop head item from fault
 
--- No input of the same length that begins with the same first `end` bits has such a whole here.
-abbrev pub NoneWhole : {H X : Type 0}
-    → Stop → (H → List Row) → (X → List Row) → Place → Fault → Type 0
-NoneWhole {H} {X} stop head rows from fault =
-    (bits : List Bool) → length bits ≡ length from.bits
-    → take fault.end bits ≡ take fault.end from.bits → (h : H) (xs : List X) (to : Place)
-    → IsWhole stop head rows h xs (record { bits = bits; at = from.at }) to → ⊥
-
--- What reading a head and its list gives: the head, the list and the place where the list ends, or
--- the first fault.
-unfoldable pub whole_at : {H X : Type 0} → Stop → Fields → (List Row → H) → Fields → (List Row → X)
-    → Place → Result ((H × List X) × Place) Fault
-whole_at stop head head_of item item_of p = do
-  first ← rows_at head p
-  more ← items_at stop item item_of first.1
-  Ok ((head_of first.0, more.0), more.1)
-
--- what bits mean: the head and the list that they begin with, or their first fault
-unfoldable pub whole_of : {H X : Type 0} → Stop → Fields → (List Row → H) → Fields → (List Row → X)
-    → List Bool → Result (H × List X) Fault
-whole_of stop head head_of item item_of bits =
-    whole_at stop head head_of item item_of (start bits) >>= λ read. Ok read.0
-
--- The result of a function, seen through `view`, is what the bits mean, unless memory ran out.
-abbrev pub Means : {X Y : Type 0} → (X → Y) → Result X DecodeError → Result Y Fault → Type 0
-Means view (Ok x) meaning = meaning ≡ Ok (view x)
-Means view (Err e) meaning = Fails e meaning
+-- No input of the same length with the same first `end` bits has such a whole here.
+abbrev pub NoneWhole : {H X : Type 0} → Stop → (H → List Row) → (X → List Row) → Place → Fault → Type 0
+NoneWhole {H} {X} stop head rows =
+    InAnyInput (λ p. (h : H) (xs : List X) (to : Place) → IsWhole stop head rows h xs p to → ⊥)

@@ -1,9 +1,10 @@
 //! The packets from track to train, and the lists of packets in balise telegrams and radio messages
 //! (SUBSET-026, 7.4 and 8.4).
 //!
-//! [`TrackPacket`] is any packet from track to train. [`CoverMarker`], [`Linking`] and
-//! [`Transition`] are packets 0, 5 and 41. [`RawPacket`] is a packet whose layout is not known
-//! here. [`read_packets`] and [`write_packets`] read and write lists of track packets.
+//! [`TrackPacket`] is any packet from track to train. [`CoverMarker`] is packet 0. [`RawPacket`] is
+//! a packet whose layout is not known. All others stand in `etcs_profile`; [`Linking`] and
+//! [`Transition`], packets 5 and 41, are exported here too. [`read_packets`] and [`write_packets`]
+//! read and write lists of track packets.
 //!
 //! Below them are calls that take any record whose table of fields begins with NID_PACKET.
 //! [`next_item`] reads one packet, [`read_items`] reads all packets of a list, and [`write_items`]
@@ -17,7 +18,6 @@
 
 mod cover;
 pub mod laws;
-mod linking;
 mod list;
 mod packets;
 mod raw;
@@ -26,16 +26,14 @@ mod stop;
 #[cfg(test)]
 mod tests;
 mod track;
-mod transition;
 mod whole;
 
 pub use cover::CoverMarker;
-pub use linking::{Link, Linking, Reaction};
+pub use etcs_profile::{LevelOrder, Link, Linking, Reaction, Transition};
 pub use list::{is_end, next_item, read_items, write_items};
 pub use packets::{read_packets, write_packets};
 pub use raw::RawPacket;
 pub use run::Run;
 pub use stop::Stop;
 pub use track::TrackPacket;
-pub use transition::{LevelOrder, Transition};
 pub use whole::{next_whole, read_whole};

@@ -2,10 +2,11 @@
 
 ghost use Rattle.std.specs.Prelude.{◌≡◌, ◌+◌, ◌<◌, ◌≤◌, ◌++◌, length, true, false, Err, IfOk, OnOk, OnErr};
 ghost use Rattle.std.specs.List.{flat_map};
-ghost use Rattle.etcs_bits.specs.Rows.{AreAllowed, join};
-ghost use Rattle.etcs_bits.specs.Fault.{IsFault, lack};
-ghost use Rattle.etcs_bits.specs.Layout.{Gives, IfFault};
-ghost use Rattle.etcs_packet.specs.Lists.{IsHeaded, IsListFault, IsStep, NoStep, NoneStand, Stand, ends, items_at};
+ghost use Rattle.etcs_bits.specs.layout.Rows.{AreAllowed, join};
+ghost use Rattle.etcs_bits.specs.layout.Fault.{IsFault, lack};
+ghost use Rattle.etcs_bits.specs.layout.Results.{Gives, IfFault};
+ghost use Rattle.etcs_packet.specs.Lists.{IsHeaded, IsListFault, IsStep, NoStep, NoneStand, Stand, ends};
+ghost use Rattle.etcs_packet.specs.Reading.{items_at};
 
 use crate::stop::Stop;
 use etcs_bits::{Bits, Cursor, DecodeError, FaultKind, Layout, Memory, refused};

@@ -2,10 +2,11 @@
 
 ghost use Rattle.std.specs.Prelude.{◌≡◌, ◌+◌, ◌<◌, ◌++◌, length, true, Err, IfOk, OnOk, OnErr};
 ghost use Rattle.std.specs.List.{flat_map};
-ghost use Rattle.etcs_bits.specs.Rows.{AreAllowed, join};
-ghost use Rattle.etcs_bits.specs.Fault.{lack};
-ghost use Rattle.etcs_bits.specs.Layout.{Gives, IfFault};
-ghost use Rattle.etcs_packet.specs.Lists.{IsListFault, NoneStand, Stand, items_at};
+ghost use Rattle.etcs_bits.specs.layout.Rows.{AreAllowed, join};
+ghost use Rattle.etcs_bits.specs.layout.Fault.{lack};
+ghost use Rattle.etcs_bits.specs.layout.Results.{Gives, IfFault};
+ghost use Rattle.etcs_packet.specs.Lists.{IsListFault, NoneStand, Stand};
+ghost use Rattle.etcs_packet.specs.Reading.{items_at};
 ghost use Rattle.etcs_packet.specs.Track.{track_packet};
 
 use crate::list::{read_items, write_items};
@@ -49,6 +50,7 @@ pub fn write_packets(packets: &[TrackPacket], out: &mut Bits) -> Result<(), Memo
     ensures err { OnErr result (out.new ≡ out.old) }
     ensures allowed { AreAllowed (flat_map track_packet.rows packets.now) }
 {
+    // For the proof alone: the types keep the packets allowed.
     let _allowed = are_allowed(packets);
     write_items(packets, out)
 }

@@ -1,11 +1,11 @@
 //! Packets whose layout is not known here.
 
 ghost use Rattle.std.specs.Prelude.{◌≡◌, ◌≤◌, ◌<◌, ◌+◌, length, true, IfOk, IfErr, IsOk, ◌↔◌};
-ghost use Rattle.etcs_bits.specs.Reading.{field_at};
-ghost use Rattle.etcs_bits.specs.Layout.{Gives, IfMemory, Puts};
-ghost use Rattle.etcs_bits.specs.Rows.{join};
+ghost use Rattle.etcs_bits.specs.layout.Reading.{field_at};
+ghost use Rattle.etcs_bits.specs.layout.Results.{Gives, IfMemory, Puts};
+ghost use Rattle.etcs_bits.specs.layout.Rows.{join};
 ghost use Rattle.etcs_packet.specs.Free.{free_rows};
-ghost use Rattle.etcs_packet.specs.Numbers.{is_kept, is_other, l_raw};
+ghost use Rattle.etcs_packet.specs.PacketNumbers.{is_kept, is_other, l_raw};
 
 use etcs_bits::{Bits, Cursor, DecodeError, Dir, FaultKind, Layout, Memory, Same, refused};
 use std::alloc::Global;
@@ -96,7 +96,7 @@ impl RawPacket {
 }
 
 impl RawPacket {
-    ghost use Rattle.etcs_bits.specs.Choice.{chosen_at, numbered_rows};
+    ghost use Rattle.etcs_bits.specs.layout.Choice.{chosen_at, numbered_rows};
     ghost use Rattle.etcs_packet.specs.Raw.{others};
 
     /// Reads what follows a number that is kept as bits. After an error the cursor may stand anywhere.
@@ -128,17 +128,18 @@ impl Layout for RawPacket {
     ghost grows = { Unit {0} };
 
     fn is_allowed(&self) -> bool {
+        // For the proof alone: the type keeps the number and the length in range.
         let _number = self.number();
         let _body = self.body();
         self.dir.is_allowed()
     }
 
-    #[tactic(auto, unfolding(etcs_bits::specs::Rows::alone))]
+    #[tactic(auto, unfolding(etcs_bits::specs::layout::Rows::alone))]
     fn width(&self) -> u64 {
         (self.body.len() as u64).saturating_add(23)
     }
 
-    #[tactic(auto, using(etcs_bits::proofs::PutLemmas::puts_bits, etcs_bits::proofs::PutLemmas::puts_then, etcs_bits::proofs::PutLemmas::keeps_front, etcs_bits::proofs::PutLemmas::allowed_both), unfolding(etcs_bits::specs::Rows::alone))]
+    #[tactic(auto, using(etcs_bits::proofs::PutLemmas::puts_bits, etcs_bits::proofs::PutLemmas::puts_then, etcs_bits::proofs::PutLemmas::keeps_front, etcs_bits::proofs::PutLemmas::allowed_both), unfolding(etcs_bits::specs::layout::Rows::alone))]
     fn put(&self, out: &mut Bits) -> Result<(), Memory> {
         out.push_num(8, u64::from(self.number))?;
         self.dir.put(out)?;
@@ -156,7 +157,7 @@ impl Layout for RawPacket {
     }
 }
 
-#[tactic(auto, using(crate::specs::Raw::raw_parts))]
+#[tactic(auto, using(crate::proofs::RawLemmas::raw_parts))]
 impl Same for RawPacket {
     fn same(&self, other: &RawPacket) -> bool {
         self.number == other.number && self.dir.same(&other.dir) && self.body.same(&other.body)

@@ -1,21 +1,19 @@
 //! The packets from track to train.
 
 ghost use Rattle.std.specs.Prelude.{◌≡◌, ◌==◌, ◌<◌, true, min, not, IfOk};
-ghost use Rattle.etcs_bits.specs.Reading.{field_at};
-ghost use Rattle.etcs_bits.specs.Layout.{Gives, IfMemory, Puts};
-ghost use Rattle.etcs_bits.specs.Rows.{AreAllowed, join, width};
-ghost use Rattle.etcs_packet.specs.Meant.{is_meant};
-ghost use Rattle.etcs_packet.specs.Numbers.{nid_track};
+ghost use Rattle.etcs_bits.specs.layout.Reading.{field_at};
+ghost use Rattle.etcs_bits.specs.layout.Results.{Gives, IfMemory, Puts};
+ghost use Rattle.etcs_bits.specs.layout.Rows.{AreAllowed, join, width};
+ghost use Rattle.etcs_packet.specs.RunningDirection.{is_for_run};
+ghost use Rattle.etcs_packet.specs.PacketNumbers.{nid_track};
 
 use crate::cover::CoverMarker;
-use crate::linking::Linking;
 use crate::raw::RawPacket;
 use crate::run::Run;
-use crate::transition::Transition;
 use etcs_bits::{
     Bits, Cursor, DecodeError, Dir, Fault, FaultKind, Layout, Memory, Plain, Same, refused,
 };
-use etcs_profile::{Authority, Gradient, Packet, SpeedProfile};
+use etcs_profile::{Authority, Gradient, Linking, Packet, SpeedProfile, Transition};
 use std::alloc::Global;
 
 /// A packet from track to train (SUBSET-026, 7.4.2).
@@ -63,13 +61,14 @@ fn put_fit<T: Layout>(packet: &T, out: &mut Bits) -> Result<(), Memory>
     requires { T.fit packet.now }
     ensures { Puts (join (T.format.rows packet.now)) result out.old out.new }
 {
+    // For the proof alone: the type keeps the packet allowed.
     let _allowed = packet.is_allowed();
     packet.put(out)
 }
 
 // Whether a packet for direction `dir` is for trains that run in direction `run`.
 fn is_for(run: Run, dir: Dir) -> bool
-    ensures { result ≡ is_meant run dir }
+    ensures { result ≡ is_for_run run dir }
 {
     match (run, dir) {
         (_, Dir::Both) | (Run::Nominal, Dir::Nominal) | (Run::Reverse, Dir::Reverse) => true,
@@ -184,13 +183,13 @@ impl Layout for TrackPacket {
 
     fn scan(alloc: Global, cur: &mut Cursor<'_>) -> Result<Self, DecodeError> {
         let number = scan_number(cur)?;
-        // Each failed test shows the prover what the number is not. A match would not.
+        // For the proof alone, tests in place of a match: each failed one shows what the number is not.
         if number == 0 {
             let marker = Plain::scan(alloc, cur)?;
             return Ok(TrackPacket::Cover(CoverMarker { marker }));
         }
         if number == 5 {
-            return Ok(TrackPacket::Linking(Linking::scan_rest(alloc, cur)?));
+            return Ok(TrackPacket::Linking(Packet::scan_rest(alloc, cur)?));
         }
         if number == 12 || number == 15 {
             let packet = Authority::scan_rest(alloc, number, cur)?;
@@ -203,7 +202,7 @@ impl Layout for TrackPacket {
             return Ok(TrackPacket::Speed(Packet::scan_rest(alloc, cur)?));
         }
         if number == 41 {
-            return Ok(TrackPacket::Transition(Transition::scan_rest(alloc, cur)?));
+            return Ok(TrackPacket::Transition(Packet::scan_rest(alloc, cur)?));
         }
         Ok(TrackPacket::Raw(RawPacket::scan_rest(alloc, number, cur)?))
     }

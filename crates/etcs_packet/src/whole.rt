@@ -1,11 +1,12 @@
 //! A head and the packets after it, as telegrams and messages have them.
 
 ghost use Rattle.std.specs.Prelude.{◌≡◌, Err, IfOk, OnErr};
-ghost use Rattle.etcs_bits.specs.declared.fault.Fault.{Fault};
-ghost use Rattle.etcs_bits.specs.Fault.{IsFault};
-ghost use Rattle.etcs_bits.specs.Layout.{Gives, IfFault};
+ghost use Rattle.etcs_bits.specs.declared.layout.fault.Fault.{Fault};
+ghost use Rattle.etcs_bits.specs.layout.Fault.{IsFault};
+ghost use Rattle.etcs_bits.specs.layout.Results.{Gives, IfFault, Means};
 ghost use Rattle.etcs_packet.specs.Lists.{IsHeaded};
-ghost use Rattle.etcs_packet.specs.Whole.{BeginsWith, IsWhole, IsWholeFault, Means, NoneWhole, start, whole_at, whole_of};
+ghost use Rattle.etcs_packet.specs.Whole.{BeginsWith, IsWhole, IsWholeFault, NoneWhole, start};
+ghost use Rattle.etcs_packet.specs.Reading.{whole_at, whole_of};
 
 use crate::list::read_items;
 use crate::stop::Stop;

@@ -1,2 +1,3 @@
 pub mod WayLemmas
 pub mod BuiltLemmas
+pub mod ShortLemmas

@@ -2,16 +2,16 @@
 -- two packets differ by V_MAIN, which only packet 12 has.
 use Rattle.std.specs.Prelude.{◌≡◌, ℕ, ◌+◌, ◌*◌, ◌<◌, ◌⊎◌, false, Option, Some, None, refl, sum_by}
 use Rattle.std.proofs.Common.{inl, inr}
-use Rattle.etcs_bits.specs.declared.fault.FaultKind.TheVariants.{Spare}
-use Rattle.etcs_bits.specs.declared.direction.Dir.{Dir}
-use Rattle.etcs_bits.specs.declared.scale.Scale.{Scale}
-use Rattle.etcs_bits.specs.Rows.{Variable, width}
-use Rattle.etcs_bits.specs.Choice.{Choice}
-use Rattle.etcs_bits.specs.Format.{Format, ◌then◌, last, either, chosen, named}
-use Rattle.etcs_bits.specs.VariableFormats.{q_scale}
+use Rattle.etcs_bits.specs.declared.layout.fault.FaultKind.TheVariants.{Spare}
+use Rattle.etcs_bits.specs.declared.variables.direction.Dir.{Dir}
+use Rattle.etcs_bits.specs.declared.variables.scale.Scale.{Scale}
+use Rattle.etcs_bits.specs.layout.Rows.{Variable, width}
+use Rattle.etcs_bits.specs.layout.Choice.{Choice}
+use Rattle.etcs_bits.specs.layout.Format.{Format, ranges, ◌then◌, last, either, chosen, named}
+use Rattle.etcs_bits.specs.variables.VariableFormats.{q_scale}
 use Rattle.etcs_profile.specs.Packet.{rest}
 use Rattle.etcs_profile.specs.Reach.{scale_factor}
-use Rattle.etcs_profile.specs.Terms.{Conditions, speed, terms}
+use Rattle.etcs_profile.specs.Terms.{Conditions, terms}
 
 -- a movement authority, as contracts see it: Q_DIR, Q_SCALE, V_MAIN if the packet is 12, and the
 -- conditions
@@ -26,12 +26,16 @@ abbrev pub permission : Dir → Scale → Option ℕ → Conditions → Permissi
 permission dir scale main terms =
     record { dir = dir; scale = scale; main = main; terms = terms }
 
+-- V_MAIN, 7 bits: the speed of the train as a whole, in steps of 5 km/h, 0 to 120
+abbrev pub v_main : Format ℕ
+v_main = ranges 7 120 128
+
 -- what follows NID_PACKET in packet 12: Q_DIR, L_PACKET, Q_SCALE, V_MAIN, the conditions
 abbrev pub WithMain : Type 0
 WithMain = Dir × (Scale × (ℕ × Conditions))
 
 abbrev pub with_main : Format WithMain
-with_main = rest (q_scale then speed then terms)
+with_main = rest (q_scale then v_main then terms)
 
 -- what follows NID_PACKET in packet 15: Q_DIR, L_PACKET, Q_SCALE, the conditions
 abbrev pub WithoutMain : Type 0
@@ -55,16 +59,19 @@ level_1 p = permission p.0 p.1.0 (Some p.1.1.0) p.1.1.1
 abbrev pub level_2 : WithoutMain → Permission
 level_2 p = permission p.0 p.1.0 None p.1.1
 
-abbrev pub permission_of : WithMain ⊎ WithoutMain → Permission
-permission_of (inl p) = level_1 p
-permission_of (inr p) = level_2 p
-
 abbrev pub numbered_by : Option ℕ → Permission → WithMain ⊎ WithoutMain
 numbered_by (Some v) a = inl (a.dir, (a.scale, (v, a.terms)))
 numbered_by None a = inr (a.dir, (a.scale, a.terms))
 
 abbrev pub numbered_of : Permission → WithMain ⊎ WithoutMain
 numbered_of a = numbered_by a.main a
+
+-- ---- a permission of either packet
+-- Pinned by the law a_record_is_read_as_it_is_spelled.
+
+abbrev pub permission_of : WithMain ⊎ WithoutMain → Permission
+permission_of (inl p) = level_1 p
+permission_of (inr p) = level_2 p
 
 pub back : (p : WithMain ⊎ WithoutMain) → numbered_of (permission_of p) ≡ p
 back (inl p) = refl
@@ -77,10 +84,16 @@ again_by None a = refl
 pub again : (a : Permission) → permission_of (numbered_of a) ≡ a
 again a = again_by a.main a
 
+-- ---- the record
+
 -- a movement authority
 abbrev pub authority : Format Permission
 authority =
     named (chosen authority_variable numbered (λ _. refl)) permission_of numbered_of back again
+
+-- NID_PACKET: 12 if the packet has V_MAIN, else 15
+abbrev pub authority_number : Permission → ℕ
+authority_number a = numbered.number (numbered_of a)
 
 -- ---- how far the train may run
 

@@ -1,9 +1,9 @@
 -- What a constructor returns.
 use Rattle.std.specs.Prelude.{◌≡◌, ℕ, ◌<◌, ◌⊎◌, List, ◌∷◌, length, Result, Ok, Err}
 use Rattle.std.specs.List.{AllByRecursion}
-use Rattle.etcs_bits.specs.declared.direction.Dir.{Dir}
-use Rattle.etcs_bits.specs.Rows.{width}
-use Rattle.etcs_bits.specs.Format.{Format}
+use Rattle.etcs_bits.specs.declared.variables.direction.Dir.{Dir}
+use Rattle.etcs_bits.specs.layout.Rows.{width}
+use Rattle.etcs_bits.specs.layout.Format.{Format}
 use Rattle.etcs_profile.specs.declared.error.BuildError.{BuildError}
 use Rattle.etcs_profile.specs.declared.error.BuildError.TheVariants as errors
 use Rattle.etcs_profile.specs.Packet.{packet}

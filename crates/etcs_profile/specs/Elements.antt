@@ -1,9 +1,9 @@
 -- The body of a packet that describes the track: a scale, a first element and further elements.
 -- Each element holds from its place onwards (SUBSET-026, 7.4.2).
 use Rattle.std.specs.Prelude.{ℕ, Bool, List, ◌∷◌, refl}
-use Rattle.etcs_bits.specs.declared.scale.Scale.{Scale}
-use Rattle.etcs_bits.specs.Format.{Format, ◌then◌, several, named}
-use Rattle.etcs_bits.specs.VariableFormats.{q_scale}
+use Rattle.etcs_bits.specs.declared.variables.scale.Scale.{Scale}
+use Rattle.etcs_bits.specs.layout.Format.{Format, ◌then◌, several, named}
+use Rattle.etcs_bits.specs.variables.VariableFormats.{q_scale}
 use Rattle.etcs_profile.specs.Profile.{Profile}
 use Rattle.etcs_profile.specs.declared.reach.Reach.{Reach}
 use Rattle.etcs_profile.specs.Reach.{way_to_mark, reach_of}

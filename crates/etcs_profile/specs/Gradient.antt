@@ -1,6 +1,6 @@
 -- Packet 21, gradients (SUBSET-026, 7.4.2): how steep the track is, place by place.
 use Rattle.std.specs.Prelude.{ℕ, Bool, refl}
-use Rattle.etcs_bits.specs.Format.{Format, number, flag, ◌then◌, named}
+use Rattle.etcs_bits.specs.layout.Format.{Format, number, flag, ◌then◌, named}
 use Rattle.etcs_profile.specs.declared.gradient.GradientElement.{GradientElement}
 
 -- D_GRADIENT, 15 bits: the distance from the element before

@@ -5,7 +5,9 @@ pub mod Elements
 pub mod Gradient
 pub mod Built
 pub mod Speed
+pub mod Linking
+pub mod Transition
 pub mod Parts
 pub mod Terms
 pub mod Authority
-pub mod Numbered
+pub mod AuthorityView

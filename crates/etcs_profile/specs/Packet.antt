@@ -1,9 +1,9 @@
 -- A packet: its number, its direction, its length and its body (SUBSET-026, 7.4).
 use Rattle.std.specs.Prelude.{ℕ, refl}
-use Rattle.etcs_bits.specs.declared.fault.FaultKind.TheVariants.{Spare}
-use Rattle.etcs_bits.specs.declared.direction.Dir.{Dir}
-use Rattle.etcs_bits.specs.Format.{Format, fixed, ◌then◌, behind_length, named}
-use Rattle.etcs_bits.specs.VariableFormats.{q_dir}
+use Rattle.etcs_bits.specs.declared.layout.fault.FaultKind.TheVariants.{Spare}
+use Rattle.etcs_bits.specs.declared.variables.direction.Dir.{Dir}
+use Rattle.etcs_bits.specs.layout.Format.{Format, fixed, ◌then◌, behind_length, named}
+use Rattle.etcs_bits.specs.variables.VariableFormats.{q_dir}
 
 -- NID_PACKET of a known packet: the packet's own number
 abbrev pub nid_packet : ℕ → Format (Unit {0})

@@ -1,6 +1,6 @@
 -- A profile of the track.
 use Rattle.std.specs.Prelude.{List}
-use Rattle.etcs_bits.specs.declared.scale.Scale.{Scale}
+use Rattle.etcs_bits.specs.declared.variables.scale.Scale.{Scale}
 
 -- a scale, a first element and further elements
 pub record Profile (X : Type 0) : Type 0 where

@@ -1,7 +1,7 @@
 -- How far along the track a profile reaches.
 use Rattle.std.specs.Prelude.{ℕ, ◌+◌, ◌*◌, Bool, if◌then◌else◌, List, [], ◌∷◌, Option, Some, None}
-use Rattle.etcs_bits.specs.declared.scale.Scale.{Scale}
-use Rattle.etcs_bits.specs.declared.scale.Scale.TheVariants as scales
+use Rattle.etcs_bits.specs.declared.variables.scale.Scale.{Scale}
+use Rattle.etcs_bits.specs.declared.variables.scale.Scale.TheVariants as scales
 use Rattle.etcs_profile.specs.declared.reach.Reach.{Reach}
 use Rattle.etcs_profile.specs.declared.reach.Reach.TheVariants.{Ends, Open}
 

@@ -1,6 +1,6 @@
 -- Packet 27, static speed profile (SUBSET-026, 7.4.2): how fast trains may go, place by place.
 use Rattle.std.specs.Prelude.{ℕ, Bool, refl}
-use Rattle.etcs_bits.specs.Format.{Format, number, ranges, flag, ◌then◌, several, named}
+use Rattle.etcs_bits.specs.layout.Format.{Format, number, ranges, flag, ◌then◌, several, named}
 use Rattle.etcs_profile.specs.declared.speed.Difference.{Difference}
 use Rattle.etcs_profile.specs.declared.speed.SpeedElement.{SpeedElement}
 

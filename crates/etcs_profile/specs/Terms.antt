@@ -1,17 +1,25 @@
 -- What packets 12 and 15 have in common: how far a train may run, and under which conditions
 -- (SUBSET-026, 3.8 and 7.4.2).
 use Rattle.std.specs.Prelude.{ℕ, List, Option, refl}
-use Rattle.etcs_bits.specs.Format.{Format, ranges, ◌then◌, if_there, several, named}
+use Rattle.etcs_bits.specs.layout.Format.{Format, number, ranges, ◌then◌, if_there, several, named}
 use Rattle.etcs_profile.specs.declared.section.Section.{Section}
 use Rattle.etcs_profile.specs.declared.section.SectionTimer.{SectionTimer}
 use Rattle.etcs_profile.specs.declared.end_timer.EndTimer.{EndTimer}
 use Rattle.etcs_profile.specs.declared.danger_point.DangerPoint.{DangerPoint}
 use Rattle.etcs_profile.specs.declared.overlap.Overlap.{Overlap}
-use Rattle.etcs_profile.specs.Parts.{distance, time, section_timer, section, end_timer, danger_point, overlap}
+use Rattle.etcs_profile.specs.Parts.{section_timer, section, end_timer, danger_point, overlap}
 
--- V_LOA and V_MAIN, 7 bits: a speed in steps of 5 km/h, 0 to 120
-abbrev pub speed : Format ℕ
-speed = ranges 7 120 128
+-- V_LOA, 7 bits: the speed at the end, in steps of 5 km/h, 0 to 120
+abbrev pub v_loa : Format ℕ
+v_loa = ranges 7 120 128
+
+-- T_LOA, 10 bits: how long that speed is allowed, in seconds; 1023 means no time-out
+abbrev pub t_loa : Format ℕ
+t_loa = number 10
+
+-- L_ENDSECTION, 15 bits: the length of the end section
+abbrev pub l_endsection : Format ℕ
+l_endsection = number 15
 
 -- the speed at the end, how long it is allowed, the sections, the end section and its two timers,
 -- the danger point and the overlap
@@ -39,15 +47,15 @@ conditions end_speed end_timeout sections l_endsection section_timer end_timer d
   overlap = overlap;
 }
 
--- V_LOA, T_LOA, N_ITER and that many sections, L_ENDSECTION. Then come the section timer of the end
--- section, the end timer, the danger point and the overlap, each after a qualifier.
+-- The conditions. N_ITER counts the sections before the end section. Four qualifiers of one bit say
+-- what follows of the last four parts: Q_SECTIONTIMER, Q_ENDTIMER, Q_DANGERPOINT and Q_OVERLAP.
 abbrev pub terms : Format Conditions
 terms =
     named
-    (speed
-    then time
+    (v_loa
+    then t_loa
     then several section
-    then distance
+    then l_endsection
     then if_there section_timer
     then if_there end_timer
     then if_there danger_point

@@ -21,12 +21,12 @@ use std::marker::Model;
 /// signalling related speed restriction (SUBSET-026, 3.8 and 7.4.2).
 #[derive(Debug, Drop)]
 pub struct Authority {
-    packet: Numbered,
+    packet: ByLevel,
 }
 
 // The fields after NID_PACKET.
 #[derive(Debug, Drop)]
-enum Numbered {
+enum ByLevel {
     // Packet 12: V_MAIN comes after Q_SCALE.
     Level1((Dir, Body<10, (Scale, (Speed, Terms))>)),
     // Packet 15.
@@ -35,7 +35,7 @@ enum Numbered {
 
 impl Model for Authority {
     ghost use Rattle.etcs_profile.specs.Authority.{Permission};
-    ghost use Rattle.etcs_profile.specs.Numbered.{permission_in};
+    ghost use Rattle.etcs_profile.specs.AuthorityView.{permission_in};
 
     ghost Value = { Permission };
 
@@ -56,7 +56,7 @@ fn length_of(sections: &[Section]) -> u64
 }
 
 impl Authority {
-    ghost use Rattle.etcs_bits.specs.Rows.{width};
+    ghost use Rattle.etcs_bits.specs.layout.Rows.{width};
     ghost use Rattle.etcs_profile.specs.Terms.{conditions};
     ghost use Rattle.etcs_profile.specs.Authority.{permission, authority, authority_end, IsAuthorityTooLong};
     ghost use Rattle.etcs_profile.specs.Built.{IsBuilt};
@@ -103,7 +103,7 @@ impl Authority {
     }
 
     // The packet of these parts. None if it has more than 8,191 bits.
-    #[tactic(auto, unfolding(etcs_bits::specs::Rows::alone))]
+    #[tactic(auto, unfolding(etcs_bits::specs::layout::Rows::alone))]
     fn of(dir: Dir, scale: Scale, main: Option<Speed>, terms: Terms) -> Option<Authority>
         ensures some { IfSome result (λ a. a ≡ permission dir scale main terms) }
         ensures few { IsSome result ↔ (width (authority.rows (permission dir scale main terms)) ≤ 8191) }
@@ -111,12 +111,12 @@ impl Authority {
         match main {
             Some(main) => {
                 let body = Body::new((scale, (main, terms)))?;
-                let packet = Numbered::Level1((dir, body));
+                let packet = ByLevel::Level1((dir, body));
                 Some(Authority { packet })
             }
             None => {
                 let body = Body::new((scale, terms))?;
-                let packet = Numbered::Level2((dir, body));
+                let packet = ByLevel::Level2((dir, body));
                 Some(Authority { packet })
             }
         }
@@ -127,8 +127,8 @@ impl Authority {
         ensures { result.now ≡ self.now.terms }
     {
         match &self.packet {
-            Numbered::Level1(packet) => &packet.1.content().1.1,
-            Numbered::Level2(packet) => &packet.1.content().1,
+            ByLevel::Level1(packet) => &packet.1.content().1.1,
+            ByLevel::Level2(packet) => &packet.1.content().1,
         }
     }
 
@@ -137,8 +137,8 @@ impl Authority {
         ensures { result ≡ self.now.dir }
     {
         match &self.packet {
-            Numbered::Level1(packet) => packet.0,
-            Numbered::Level2(packet) => packet.0,
+            ByLevel::Level1(packet) => packet.0,
+            ByLevel::Level2(packet) => packet.0,
         }
     }
 
@@ -147,8 +147,8 @@ impl Authority {
         ensures { result ≡ self.now.scale }
     {
         match &self.packet {
-            Numbered::Level1(packet) => packet.1.content().0,
-            Numbered::Level2(packet) => packet.1.content().0,
+            ByLevel::Level1(packet) => packet.1.content().0,
+            ByLevel::Level2(packet) => packet.1.content().0,
         }
     }
 
@@ -157,8 +157,8 @@ impl Authority {
         ensures { result ≡ self.now.main }
     {
         match &self.packet {
-            Numbered::Level1(packet) => Some(packet.1.content().1.0),
-            Numbered::Level2(_) => None,
+            ByLevel::Level1(packet) => Some(packet.1.content().1.0),
+            ByLevel::Level2(_) => None,
         }
     }
 
@@ -232,8 +232,8 @@ impl Authority {
 
 impl Authority {
     ghost use Rattle.std.specs.Prelude.{IsTrue};
-    ghost use Rattle.etcs_bits.specs.Choice.{chosen_at, numbered_rows};
-    ghost use Rattle.etcs_bits.specs.Layout.{Gives};
+    ghost use Rattle.etcs_bits.specs.layout.Choice.{chosen_at, numbered_rows};
+    ghost use Rattle.etcs_bits.specs.layout.Results.{Gives};
     ghost use Rattle.etcs_profile.specs.Authority.{numbered, numbered_of};
 
     /// Reads what follows NID_PACKET, whose number is 12 or 15. After an error the cursor may stand
@@ -244,15 +244,15 @@ impl Authority {
             (chosen_at numbered number cur.old) cur.new }
     {
         let packet = if number == 12 {
-            Numbered::Level1(Layout::scan(alloc, cur)?)
+            ByLevel::Level1(Layout::scan(alloc, cur)?)
         } else {
-            Numbered::Level2(Layout::scan(alloc, cur)?)
+            ByLevel::Level2(Layout::scan(alloc, cur)?)
         };
         Ok(Authority { packet })
     }
 }
 
-#[tactic(auto, using(etcs_bits::proofs::PutLemmas::puts_bits), unfolding(etcs_bits::specs::Rows::alone))]
+#[tactic(auto, using(etcs_bits::proofs::PutLemmas::puts_bits), unfolding(etcs_bits::specs::layout::Rows::alone))]
 impl Layout for Authority {
     ghost use Rattle.etcs_profile.specs.Authority.{authority};
 
@@ -262,26 +262,26 @@ impl Layout for Authority {
 
     fn is_allowed(&self) -> bool {
         match &self.packet {
-            Numbered::Level1(packet) => packet.is_allowed(),
-            Numbered::Level2(packet) => packet.is_allowed(),
+            ByLevel::Level1(packet) => packet.is_allowed(),
+            ByLevel::Level2(packet) => packet.is_allowed(),
         }
     }
 
     fn width(&self) -> u64 {
         let rest = match &self.packet {
-            Numbered::Level1(packet) => packet.width(),
-            Numbered::Level2(packet) => packet.width(),
+            ByLevel::Level1(packet) => packet.width(),
+            ByLevel::Level2(packet) => packet.width(),
         };
         rest.saturating_add(8)
     }
 
     fn put(&self, out: &mut Bits) -> Result<(), Memory> {
         match &self.packet {
-            Numbered::Level1(packet) => {
+            ByLevel::Level1(packet) => {
                 out.push_num(8, 12)?;
                 packet.put(out)
             }
-            Numbered::Level2(packet) => {
+            ByLevel::Level2(packet) => {
                 out.push_num(8, 15)?;
                 packet.put(out)
             }
@@ -301,8 +301,8 @@ impl Layout for Authority {
 impl Same for Authority {
     fn same(&self, other: &Self) -> bool {
         match (&self.packet, &other.packet) {
-            (Numbered::Level1(this), Numbered::Level1(that)) => this.same(that),
-            (Numbered::Level2(this), Numbered::Level2(that)) => this.same(that),
+            (ByLevel::Level1(this), ByLevel::Level1(that)) => this.same(that),
+            (ByLevel::Level2(this), ByLevel::Level2(that)) => this.same(that),
             _ => false,
         }
     }

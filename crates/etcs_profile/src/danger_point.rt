@@ -25,7 +25,7 @@ impl Layout for DangerPoint {
         self.distance.is_allowed() && self.release_speed.is_allowed()
     }
 
-    #[tactic(auto, using(etcs_bits::proofs::WidthLemmas::width_both), unfolding(etcs_bits::specs::Rows::alone))]
+    #[tactic(auto, using(etcs_bits::proofs::WidthLemmas::width_both), unfolding(etcs_bits::specs::layout::Rows::alone))]
     fn width(&self) -> u64 {
         22
     }

@@ -127,7 +127,7 @@ impl<T: Layout> Layout for Elements<T> {
         self.scale.is_allowed() && self.first.is_allowed() && self.further.is_allowed()
     }
 
-    #[tactic(auto, using(etcs_bits::proofs::WidthLemmas::width_both), unfolding(etcs_bits::specs::Rows::alone))]
+    #[tactic(auto, using(etcs_bits::proofs::WidthLemmas::width_both), unfolding(etcs_bits::specs::layout::Rows::alone))]
     fn width(&self) -> u64 {
         self.first
             .width()

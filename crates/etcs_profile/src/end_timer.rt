@@ -24,7 +24,7 @@ impl Layout for EndTimer {
         self.time.is_allowed() && self.start.is_allowed()
     }
 
-    #[tactic(auto, using(etcs_bits::proofs::WidthLemmas::width_both), unfolding(etcs_bits::specs::Rows::alone))]
+    #[tactic(auto, using(etcs_bits::proofs::WidthLemmas::width_both), unfolding(etcs_bits::specs::layout::Rows::alone))]
     fn width(&self) -> u64 {
         25
     }

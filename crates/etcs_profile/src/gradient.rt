@@ -60,7 +60,7 @@ impl Layout for GradientElement {
         self.distance.is_allowed() && self.uphill.is_allowed() && self.gradient.is_allowed()
     }
 
-    #[tactic(auto, using(etcs_bits::proofs::WidthLemmas::width_both), unfolding(etcs_bits::specs::Rows::alone))]
+    #[tactic(auto, using(etcs_bits::proofs::WidthLemmas::width_both), unfolding(etcs_bits::specs::layout::Rows::alone))]
     fn width(&self) -> u64 {
         24
     }

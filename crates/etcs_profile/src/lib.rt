@@ -1,9 +1,11 @@
-//! Movement authorities and profiles of the track, packets 12, 15, 21 and 27 (SUBSET-026, 7.4.2):
-//! how far a train may run, and what is known of the track there.
+//! Movement authorities, linking, profiles of the track and level transition orders: packets 5, 12,
+//! 15, 21, 27 and 41 (SUBSET-026, 7.4.2). They say how far and in which level a train may run, and
+//! what is known of the track there.
 //!
 //! [`Authority`] is the movement authority, packets 12 and 15. [`Authority::end`] gives how far the
-//! train may run. [`Gradient`], packet 21, and [`SpeedProfile`], packet 27, are each a [`Packet`]
-//! of [`Elements`]. [`Packet::reach`] gives how far along the track they reach. Read `packet.rt`,
+//! train may run. [`Linking`], packet 5, [`Gradient`], packet 21, and [`SpeedProfile`], packet 27,
+//! are each a [`Packet`] of [`Elements`]. [`Packet::reach`] gives how far along the track the last
+//! two reach. [`Transition`] is packet 41, a [`Packet`] of [`LevelOrders`]. Read `packet.rt`,
 //! `elements.rt` and `gradient.rt` first, with the files of the same names in `specs/`, then
 //! `authority.rt`. The crate builds on [`etcs_bits::Layout`]. It leaves out all other packets. It
 //! does not check whether an authority and the profiles fit together.
@@ -17,6 +19,7 @@ mod end_timer;
 mod error;
 mod factor;
 mod gradient;
+mod linking;
 mod number;
 mod overlap;
 mod packet;
@@ -27,6 +30,7 @@ mod speed;
 mod terms;
 #[cfg(test)]
 mod tests;
+mod transition;
 
 pub use authority::Authority;
 pub use danger_point::DangerPoint;
@@ -35,9 +39,11 @@ pub use elements::Elements;
 pub use end_timer::EndTimer;
 pub use error::BuildError;
 pub use gradient::{Gradient, GradientElement};
+pub use linking::{Link, Linking, Reaction};
 pub use number::Number;
 pub use overlap::Overlap;
 pub use packet::Packet;
 pub use reach::Reach;
 pub use section::{Section, SectionTimer};
 pub use speed::{Difference, SpeedElement, SpeedProfile};
+pub use transition::{LevelOrder, LevelOrders, Transition};

@@ -21,10 +21,10 @@ pub(crate) fn other_packet(at: usize, end: usize) -> DecodeError
     })
 }
 
-#[tactic(auto, unfolding(etcs_bits::specs::Rows::alone))]
+#[tactic(auto, unfolding(etcs_bits::specs::layout::Rows::alone))]
 impl<const N: u32> Layout for Number<N> {
     ghost use Rattle.std.specs.Prelude.{◌<◌, refl};
-    ghost use Rattle.etcs_bits.specs.Format.{named};
+    ghost use Rattle.etcs_bits.specs.layout.Format.{named};
     ghost use Rattle.etcs_profile.specs.Packet.{nid_packet};
 
     ghost format = { named (nid_packet N) (λ _. record {}) (λ _. tt) (λ _. refl) (λ _. refl) };

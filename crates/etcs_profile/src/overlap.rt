@@ -33,7 +33,7 @@ impl Layout for Overlap {
             && self.release_speed.is_allowed()
     }
 
-    #[tactic(auto, using(etcs_bits::proofs::WidthLemmas::width_both), unfolding(etcs_bits::specs::Rows::alone))]
+    #[tactic(auto, using(etcs_bits::proofs::WidthLemmas::width_both), unfolding(etcs_bits::specs::layout::Rows::alone))]
     fn width(&self) -> u64 {
         47
     }

@@ -16,7 +16,7 @@ pub struct Packet<const N: u32, T: Layout> {
 }
 
 impl<const N: u32, T: Layout> Model for Packet<N, T> {
-    ghost use Rattle.etcs_bits.specs.declared.direction.Dir.{Dir};
+    ghost use Rattle.etcs_bits.specs.declared.variables.direction.Dir.{Dir};
 
     ghost Value = { Dir × T };
 
@@ -25,9 +25,9 @@ impl<const N: u32, T: Layout> Model for Packet<N, T> {
 
 impl<const N: u32, T: Layout> Packet<N, T> {
     ghost use Rattle.std.specs.Prelude.{◌↔◌, ◌≤◌, ◌+◌, IsSome, IfSome};
-    ghost use Rattle.etcs_bits.specs.Rows.{width};
-    ghost use Rattle.etcs_bits.specs.Reading.{rows_at};
-    ghost use Rattle.etcs_bits.specs.Layout.{Gives, IfMemory};
+    ghost use Rattle.etcs_bits.specs.layout.Rows.{width};
+    ghost use Rattle.etcs_bits.specs.layout.Reading.{rows_at};
+    ghost use Rattle.etcs_bits.specs.layout.Results.{Gives, IfMemory};
     ghost use Rattle.etcs_profile.specs.Packet.{rest};
 
     /// Makes the packet with this record, for this direction. None if the record is not allowed or
@@ -86,7 +86,7 @@ impl<const N: u32, T: Layout> Layout for Packet<N, T> {
         number.is_allowed() && self.dir.is_allowed() && self.body.is_allowed()
     }
 
-    #[tactic(auto, using(etcs_bits::proofs::WidthLemmas::width_both), unfolding(etcs_bits::specs::Rows::alone))]
+    #[tactic(auto, using(etcs_bits::proofs::WidthLemmas::width_both), unfolding(etcs_bits::specs::layout::Rows::alone))]
     fn width(&self) -> u64 {
         self.body.width().saturating_add(10)
     }

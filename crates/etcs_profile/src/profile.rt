@@ -1,6 +1,6 @@
-//! A packet with a profile of the track.
+//! A packet of elements: a profile of the track, or linking.
 
-ghost use Rattle.std.specs.Prelude.{◌≡◌};
+ghost use Rattle.std.specs.Prelude.{◌≡◌, ◌<◌, length};
 
 use crate::element::Element;
 use crate::elements::Elements;
@@ -9,8 +9,8 @@ use crate::packet::Packet;
 use crate::reach::Reach;
 use etcs_bits::{Dir, Layout, Scale};
 
-impl<const N: u32, T: Element> Packet<N, Elements<T>> {
-    ghost use Rattle.etcs_profile.specs.Elements.{elements_reach, profile};
+impl<const N: u32, T: Layout> Packet<N, Elements<T>> {
+    ghost use Rattle.etcs_profile.specs.Elements.{profile};
     ghost use Rattle.etcs_profile.specs.Built.{HasMany, IsBuilt, IsTooLong};
 
     // The packet of these elements.
@@ -48,10 +48,15 @@ impl<const N: u32, T: Element> Packet<N, Elements<T>> {
 
     /// The elements after the first, in order. There are at most 31.
     pub fn further(&self) -> &[T]
-        ensures { result.now ≡ self.now.1.further }
+        ensures elements { result.now ≡ self.now.1.further }
+        ensures few { length result.now < 32 }
     {
         self.body().further()
     }
+}
+
+impl<const N: u32, T: Element> Packet<N, Elements<T>> {
+    ghost use Rattle.etcs_profile.specs.Elements.{elements_reach};
 
     /// How far along the track the profile reaches, in decimetres: the sum of the distances up to
     /// and including the first element that is marked as the end. The reach is open if none is

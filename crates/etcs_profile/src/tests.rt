@@ -4,9 +4,11 @@
 mod authority;
 mod gradient;
 mod line;
+mod linking;
 mod speed;
+mod transition;
 
-use crate::{Authority, BuildError, Gradient, SpeedProfile};
+use crate::{Authority, BuildError, Gradient, Linking, SpeedProfile, Transition};
 use etcs_bits::{Bits, Cursor, DecodeError, Fault, FaultKind, Layout, Memory, Same};
 use std::alloc::Global;
 use std::test::Fail;
@@ -57,7 +59,7 @@ fn is_spelled<T: Layout + Same>(
 }
 
 // What is refused of the end mark, which is no packet's number.
-fn told<T: Layout>(alloc: Global) -> Option<DecodeError> {
+fn refused_mark<T: Layout>(alloc: Global) -> Option<DecodeError> {
     read_one::<T>(alloc, "11111111").err()
 }
 
@@ -69,9 +71,11 @@ fn a_packet_has_its_number(rt: HostRuntime) {
         end: 8,
         why: FaultKind::Spare,
     }));
-    assert!(rt; told::<Authority>(alloc) == spare);
-    assert!(rt; told::<Gradient>(alloc) == spare);
-    assert!(rt; told::<SpeedProfile>(alloc) == spare);
+    assert!(rt; refused_mark::<Authority>(alloc) == spare);
+    assert!(rt; refused_mark::<Gradient>(alloc) == spare);
+    assert!(rt; refused_mark::<SpeedProfile>(alloc) == spare);
+    assert!(rt; refused_mark::<Linking>(alloc) == spare);
+    assert!(rt; refused_mark::<Transition>(alloc) == spare);
 }
 
 #[test]

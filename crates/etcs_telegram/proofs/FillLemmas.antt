@@ -1,7 +1,7 @@
 -- Ones appended to bits.
 use Rattle.std.proofs.Common.{◌≡◌, ℕ, zero, suc, ◌+◌, ◌-◌, ◌*◌, ◌^◌, ◌≤◌, Bool, true, List, ◌∷◌, ◌++◌, length, replicate, refl, sym, ap, ◌∙◌, append_assoc, length-append, arith, mod-eq_of_lt}
 use Rattle.std.proofs.lemmas.Nat.{pow-add, pow_pos}
-use Rattle.etcs_bits.specs.Number.{num, num_of_bits}
+use Rattle.etcs_bits.specs.bits.Number.{num, num_of_bits}
 use Rattle.etcs_bits.proofs.NumberLemmas.{length-num, num_of_bits-num, num_of_bits-cons, same_from_num}
 
 pub length-ones : (w : ℕ) → length (replicate w true) ≡ w

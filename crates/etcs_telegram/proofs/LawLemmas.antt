@@ -5,25 +5,28 @@ use Rattle.std.proofs.lemmas.List.{take_at, drop_at, length-take-le, length-repl
 use Rattle.hex.specs.Hex.{decode_of, encode_lower, IsBytes}
 use Rattle.hex.specs.declared.error.FromHexError.{FromHexError}
 use Rattle.hex.proofs.HexLemmas.{decode_of-ok, decode_of-encode_lower}
-use Rattle.etcs_bits.specs.Number.{num, num_of_bits, bits_of_bytes}
+use Rattle.etcs_bits.specs.bits.Number.{num, num_of_bits, bits_of_bytes}
 use Rattle.etcs_bits.proofs.NumberLemmas.{length-num, num_of_bits-small, bits_of_bytes-cons, length-bits_of_bytes}
-use Rattle.etcs_bits.specs.declared.fault.Fault.{Fault}
-use Rattle.etcs_bits.specs.Reading.{◌>>=◌}
+use Rattle.etcs_bits.specs.declared.layout.fault.Fault.{Fault}
+use Rattle.etcs_bits.specs.layout.Reading.{◌>>=◌}
 use Rattle.etcs_bits.proofs.BindLemmas.{ok_is}
-use Rattle.etcs_bits.specs.Rows.{Place}
+use Rattle.etcs_bits.specs.layout.Rows.{Place}
 use Rattle.etcs_packet.specs.declared.stop.Stop.TheVariants as stops
 use Rattle.etcs_packet.specs.declared.track.TrackPacket.{TrackPacket}
 use Rattle.etcs_packet.specs.Track.{track_packet}
-use Rattle.etcs_packet.specs.Whole.{start, whole_at, whole_of}
-use Rattle.etcs_packet.proofs.WholeLemmas.{none_whole, read_is_whole, whole_fault_is_read, whole_fault_is_told}
+use Rattle.etcs_packet.specs.Whole.{start}
+use Rattle.etcs_packet.specs.Reading.{whole_at, whole_of}
+use Rattle.etcs_packet.proofs.WholeLemmas.{none_whole, read_is_whole, whole_fault_is_read, read_is_whole_fault}
 use Rattle.etcs_telegram.specs.declared.header.Header.{Header}
 use Rattle.etcs_telegram.specs.Header.{header}
 use Rattle.etcs_telegram.specs.declared.error.TextError.TheVariants as errors
 use Rattle.etcs_telegram.specs.declared.size.Size.{Size}
 use Rattle.etcs_telegram.specs.Record.{Telegram}
-use Rattle.etcs_telegram.specs.Sizes.{user_bits, byte_count, pad_count, size_in}
-use Rattle.etcs_telegram.specs.Telegram.{AreUserBits, IsTelegram, IsTelegramFault, IsNoTelegram, size_by, telegram_by, telegram_of}
-use Rattle.etcs_telegram.specs.Text.{IsTelegramText, IsCanonicalText, ArePadded, of_bits, of_size, of_decoded, telegram_of_text, pads_with_zeros, user_bits_in, no_pads}
+use Rattle.etcs_telegram.specs.Sizes.{user_bits, byte_count, pad_count}
+use Rattle.etcs_telegram.specs.TextMeaning.{size_in, of_bits, of_size, of_decoded, telegram_of_text, pads_with_zeros}
+use Rattle.etcs_telegram.specs.Telegram.{AreUserBits, IsTelegram, IsTelegramFault, IsNoTelegram}
+use Rattle.etcs_telegram.specs.Meaning.{size_by, telegram_by, telegram_of}
+use Rattle.etcs_telegram.specs.Text.{IsTelegramText, IsCanonicalText, ArePadded, user_bits_in, no_pads}
 use Rattle.etcs_telegram.proofs.TelegramLemmas.{headed, made, count_by, size_of_back, telegram_meaning, encoding_telegram, canonical_length}
 use Rattle.etcs_telegram.proofs.TextLemmas.{size_in_back, size_counts, whole_bytes, pads_divide, padded_when, of_its_size}
 
@@ -38,30 +41,30 @@ abbrev read_at : List Bool → Result ((Header × List TrackPacket) × Place) Fa
 read_at bits = whole_at stops.Telegram header.fields header.of track_packet.fields track_packet.of (start bits)
 
 -- what reading gives, without the place
-abbrev told : ℕ → Result ((Header × List TrackPacket) × Place) Fault → Result Telegram Fault
-told n read = telegram_by n (read >>= λ r. Ok r.0)
+abbrev given : ℕ → Result ((Header × List TrackPacket) × Place) Fault → Result Telegram Fault
+given n read = telegram_by n (read >>= λ r. Ok r.0)
 
-meant : (bits : List Bool) → telegram_of bits ≡ told (length bits) (read_at bits)
+meant : (bits : List Bool) → telegram_of bits ≡ given (length bits) (read_at bits)
 unfolding telegram_of whole_of
 meant bits = refl
 
 -- what reading gives, if that is a telegram
-record IsToldOf (n : ℕ) (t : Telegram) (r : Result ((Header × List TrackPacket) × Place) Fault) : Type 0 where
+record IsGivenOf (n : ℕ) (t : Telegram) (r : Result ((Header × List TrackPacket) × Place) Fault) : Type 0 where
   pub size : size_by n ≡ t.size
   pub end : Place
   pub read : r ≡ Ok ((t.header, t.packets), end)
 
-told_of : (n : ℕ) (t : Telegram) (r : Result ((Header × List TrackPacket) × Place) Fault)
-    → told n r ≡ Ok t → IsToldOf n t r
-told_of n t (Ok read) is =
+given_of : (n : ℕ) (t : Telegram) (r : Result ((Header × List TrackPacket) × Place) Fault)
+    → given n r ≡ Ok t → IsGivenOf n t r
+given_of n t (Ok read) is =
     let same = ok_is (made (size_by n) read.0.0 read.0.1) t is in
-    subst (λ u. IsToldOf n u (Ok read)) same (record { size = refl; end = read.1; read = refl })
-told_of n t (Err f) is = absurd cc
+    subst (λ u. IsGivenOf n u (Ok read)) same (record { size = refl; end = read.1; read = refl })
+given_of n t (Err f) is = absurd cc
 
 -- bits that mean a telegram are that telegram, if some telegram has that many bits
 pub means_telegram : (t : Telegram) (bits : List Bool) → AreUserBits bits → telegram_of bits ≡ Ok t → IsTelegram t bits
 means_telegram t bits count is =
-    let x = told_of (length bits) t (read_at bits) (sym (meant bits) ∙ is) in
+    let x = given_of (length bits) t (read_at bits) (sym (meant bits) ∙ is) in
     record {
       count = count_by (length bits) count ∙ ap user_bits x.size;
       begins = record {
@@ -72,18 +75,18 @@ means_telegram t bits count is =
 
 -- ---- faults
 
-only_fault : (n : ℕ) (r : Result ((Header × List TrackPacket) × Place) Fault) (f : Fault) → told n r ≡ Err f → r ≡ Err f
+only_fault : (n : ℕ) (r : Result ((Header × List TrackPacket) × Place) Fault) (f : Fault) → given n r ≡ Err f → r ≡ Err f
 only_fault n (Ok read) f is = absurd cc
 only_fault n (Err g) f is = let same : g ≡ f = cc in ap Err same
 
 pub fault_meant : (bits : List Bool) (f : Fault) → IsTelegramFault bits f → telegram_of bits ≡ Err f
 fault_meant bits f x =
     let read = whole_fault_is_read header.of track_packet.of stops.Telegram header.fields track_packet.fields (start bits) f headed (omega arith) x in
-    meant bits ∙ ap (told (length bits)) read
+    meant bits ∙ ap (given (length bits)) read
 
 pub meant_fault : (bits : List Bool) (f : Fault) → telegram_of bits ≡ Err f → IsTelegramFault bits f
 meant_fault bits f is =
-    whole_fault_is_told header.of track_packet.of stops.Telegram header.fields track_packet.fields (start bits) f (omega arith)
+    read_is_whole_fault header.of track_packet.of stops.Telegram header.fields track_packet.fields (start bits) f (omega arith)
     (only_fault (length bits) (read_at bits) f (sym (meant bits) ∙ is))
 
 pub fault_none : (bits : List Bool) (f : Fault) → IsTelegramFault bits f → IsNoTelegram bits f

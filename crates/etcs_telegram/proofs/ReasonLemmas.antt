@@ -4,15 +4,16 @@ use Rattle.std.proofs.lemmas.Bool.{eq-eqb}
 use Rattle.hex.specs.Hex.{decode_of, IsBytes}
 use Rattle.hex.specs.declared.error.FromHexError.{FromHexError}
 use Rattle.hex.proofs.HexLemmas.{decode_of-digits, decode_of-ok}
-use Rattle.etcs_bits.specs.declared.fault.Fault.{Fault}
+use Rattle.etcs_bits.specs.declared.layout.fault.Fault.{Fault}
 use Rattle.etcs_telegram.specs.declared.error.TextError.{TextError}
 use Rattle.etcs_telegram.specs.declared.error.TextError.TheVariants as errors
 use Rattle.etcs_telegram.specs.declared.size.Size.{Size}
 use Rattle.etcs_telegram.specs.declared.size.Size.TheVariants.{Short, Long}
 use Rattle.etcs_telegram.specs.Record.{Telegram}
-use Rattle.etcs_telegram.specs.Sizes.{byte_count, size_in}
-use Rattle.etcs_telegram.specs.Telegram.{telegram_of}
-use Rattle.etcs_telegram.specs.Text.{IsHexadecimal, IsReason, IsReasonIn, HavePadSet, HaveFault, of_bits, of_size, of_bytes, of_decoded, telegram_of_text, pads_with_zeros, user_bits_in, IsOfUserBits, IsReasonDecoded, IsTextMeaning, TextFails}
+use Rattle.etcs_telegram.specs.Sizes.{byte_count}
+use Rattle.etcs_telegram.specs.TextMeaning.{size_in, of_bits, of_size, of_bytes, of_decoded, telegram_of_text, pads_with_zeros}
+use Rattle.etcs_telegram.specs.Meaning.{telegram_of}
+use Rattle.etcs_telegram.specs.Text.{IsHexadecimal, IsReason, IsReasonIn, HavePadSet, HaveFault, user_bits_in, IsReasonDecoded, IsTextMeaning, TextFails}
 use Rattle.etcs_telegram.proofs.LawLemmas.{fault_meant, meant_fault, fault_none}
 use Rattle.etcs_telegram.proofs.TextLemmas.{size_in_back, size_counts, none_counts, pads_divide, padded_when, set_when, not_decoded}
 
@@ -134,12 +135,10 @@ no_memory (errors.Fault f) early is = absurd cc
 
 -- the user bits mean none of these reasons
 not_early : (meaning : Result Telegram TextError) (e : TextError) → IsEarly e → meaning ≡ Err e
-    → IsOfUserBits meaning → ⊥
-not_early meaning errors.Memory early is of = early
-not_early meaning errors.NotHex early is of = rw is at of
-not_early meaning errors.WrongSize early is of = rw is at of
-not_early meaning errors.PadBits early is of = rw is at of
-not_early meaning (errors.Fault f) early is of = early
+    → (read : Result Telegram Fault) × (meaning ≡ of_bits read) → ⊥
+not_early meaning e early is (read, of) =
+    let fault = read_fault e read (sym of ∙ is) in
+    subst IsEarly (sym fault.2) early
 
 -- an error that is returned, other than lack of memory, is what the text means
 fails_so : (e : TextError) (meaning : Result Telegram TextError) → e ≢ errors.Memory
@@ -150,24 +149,26 @@ fails_so errors.WrongSize meaning other fails = fails
 fails_so errors.PadBits meaning other fails = fails
 fails_so (errors.Fault f) meaning other fails = fails
 
-is_told : (r : Result Telegram TextError) (meaning : Result Telegram TextError) (e : TextError) → IsEarly e
-    → IsTextMeaning r meaning → (r ≡ Err errors.Memory → IsOfUserBits meaning) → meaning ≡ Err e → r ≡ Err e
-is_told (Ok t) meaning e early exact memory is = absurd cc
-is_told (Err errors.Memory) meaning e early exact memory is =
+is_reported : (r : Result Telegram TextError) (meaning : Result Telegram TextError) (e : TextError) → IsEarly e
+    → IsTextMeaning r meaning
+    → (r ≡ Err errors.Memory → (read : Result Telegram Fault) × (meaning ≡ of_bits read))
+    → meaning ≡ Err e → r ≡ Err e
+is_reported (Ok t) meaning e early exact memory is = absurd cc
+is_reported (Err errors.Memory) meaning e early exact memory is =
     absurd (not_early meaning e early is (memory refl))
-is_told (Err errors.NotHex) meaning e early exact memory is = sym exact ∙ is
-is_told (Err errors.WrongSize) meaning e early exact memory is = sym exact ∙ is
-is_told (Err errors.PadBits) meaning e early exact memory is = sym exact ∙ is
-is_told (Err (errors.Fault f)) meaning e early exact memory is = sym exact ∙ is
+is_reported (Err errors.NotHex) meaning e early exact memory is = sym exact ∙ is
+is_reported (Err errors.WrongSize) meaning e early exact memory is = sym exact ∙ is
+is_reported (Err errors.PadBits) meaning e early exact memory is = sym exact ∙ is
+is_reported (Err (errors.Fault f)) meaning e early exact memory is = sym exact ∙ is
 
 -- Each of these reasons is returned exactly if it holds.
-told_early : (r : Result Telegram TextError) (text : List ℕ) (e : TextError) → IsEarly e
+reported_early : (r : Result Telegram TextError) (text : List ℕ) (e : TextError) → IsEarly e
     → IsTextMeaning r (telegram_of_text text)
-    → (r ≡ Err errors.Memory → IsOfUserBits (telegram_of_text text))
+    → (r ≡ Err errors.Memory → (read : Result Telegram Fault) × (telegram_of_text text ≡ of_bits read))
     → IsErrOf r e ↔ IsReason e text
-told_early r text e early exact memory = (
+reported_early r text e early exact memory = (
   λ is. read_reason e text (fails_so e (telegram_of_text text) (no_memory e early) (rw is at exact)),
-  λ reason. is_told r (telegram_of_text text) e early exact memory (reason_read e text (no_memory e early) reason),
+  λ reason. is_reported r (telegram_of_text text) e early exact memory (reason_read e text (no_memory e early) reason),
 )
 
 -- a text means what its bytes mean
@@ -176,20 +177,21 @@ unfolding telegram_of_text
 decoded_means text bytes decoded = rw decoded refl
 
 -- the same, where the text is decoded and its bytes give the result
-pub told_in : (r : Result Telegram TextError) (e : TextError) (text bytes : List ℕ) → IsEarly e
+pub reported_in : (r : Result Telegram TextError) (e : TextError) (text bytes : List ℕ) → IsEarly e
     → decode_of text ≡ Ok bytes → IsTextMeaning r (of_bytes bytes)
-    → (r ≡ Err errors.Memory → IsOfUserBits (of_bytes bytes)) → IsErrOf r e ↔ IsReason e text
-told_in r e text bytes early decoded exact memory =
+    → (r ≡ Err errors.Memory → (bits : List Bool) × (of_bytes bytes ≡ of_bits (telegram_of bits)))
+    → IsErrOf r e ↔ IsReason e text
+reported_in r e text bytes early decoded exact memory =
     let means = decoded_means text bytes decoded in
-    told_early r text e early (rw means exact) (rw means memory)
+    reported_early r text e early (rw means exact) (λ none. let of = memory none in (telegram_of of.0, means ∙ of.1))
 
 -- one of these reasons, once found, is no other
 abbrev failing : TextError → Result Telegram TextError
 failing e = Err e
 
-pub told_apart : (found e : TextError) (text : List ℕ) → IsEarly e
+pub kept_apart : (found e : TextError) (text : List ℕ) → IsEarly e
     → telegram_of_text text ≡ failing found → IsErrOf (failing found) e ↔ IsReason e text
-told_apart found e text early means = (
+kept_apart found e text early means = (
   λ is. read_reason e text (means ∙ is),
   λ reason. sym means ∙ reason_read e text (no_memory e early) reason,
 )
@@ -201,10 +203,11 @@ pub other_size_means : (text : List ℕ) → IsReasonDecoded errors.WrongSize te
     → telegram_of_text text ≡ Err errors.WrongSize
 other_size_means text x = reason_read errors.WrongSize text (no_memory errors.WrongSize tt) x
 
--- what the user bits mean is no reason checked before them
-pub of_user_bits : (r : Result Telegram Fault) → IsOfUserBits (of_bits r)
-of_user_bits (Ok t) = tt
-of_user_bits (Err f) = tt
+-- the text means what its user bits mean: every check before them has passed
+pub of_user_bits : (size : Size) (bytes : List ℕ) → size_in (length bytes) ≡ Some size
+    → pads_with_zeros size bytes ≡ true
+    → (bits : List Bool) × (of_bytes bytes ≡ of_bits (telegram_of bits))
+of_user_bits size bytes sized zeros = (user_bits_in size bytes, rw (sized, zeros) refl)
 
 -- a text with another number of digits
 pub other_size : (text : List ℕ) → IsHexadecimal text → length text ≢ 54 → length text ≢ 208

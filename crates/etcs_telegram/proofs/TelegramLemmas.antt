@@ -6,17 +6,18 @@ use Rattle.std.proofs.lemmas.Bool.{eqb-true}
 use Rattle.std.proofs.lemmas.List.{length-append}
 use Rattle.etcs_bits.proofs.NumberLemmas.{length-num}
 use Rattle.etcs_bits.proofs.StandLemmas.{length-join, place_in}
-use Rattle.etcs_bits.specs.declared.fault.DecodeError.{DecodeError}
-use Rattle.etcs_bits.specs.declared.fault.DecodeError.TheVariants as errors
-use Rattle.etcs_bits.specs.Number.{num}
-use Rattle.etcs_bits.specs.Rows.{alone, AreAllowed, join}
-use Rattle.etcs_bits.specs.Layout.{Fails}
+use Rattle.etcs_bits.specs.declared.layout.fault.DecodeError.{DecodeError}
+use Rattle.etcs_bits.specs.declared.layout.fault.DecodeError.TheVariants as errors
+use Rattle.etcs_bits.specs.bits.Number.{num}
+use Rattle.etcs_bits.specs.layout.Rows.{alone, AreAllowed, join}
+use Rattle.etcs_bits.specs.layout.Results.{Fails}
 use Rattle.etcs_packet.specs.declared.stop.Stop.TheVariants as stops
 use Rattle.etcs_packet.specs.declared.track.TrackPacket.{TrackPacket}
 use Rattle.etcs_packet.specs.Laws.{HasNoMark}
 use Rattle.etcs_packet.specs.Lists.{IsHeaded, ends}
 use Rattle.etcs_packet.specs.Track.{track_packet}
-use Rattle.etcs_packet.specs.Whole.{BeginsWith, start, whole_of}
+use Rattle.etcs_packet.specs.Whole.{BeginsWith, start}
+use Rattle.etcs_packet.specs.Reading.{whole_of}
 use Rattle.etcs_packet.proofs.WholeLemmas.{whole_is_read, means_whole}
 use Rattle.etcs_packet.proofs.WrittenLemmas.{ends_only, mark_ends, whole_spelled, whole_written}
 use Rattle.etcs_telegram.specs.declared.error.EncodeError.{EncodeError}
@@ -28,7 +29,8 @@ use Rattle.etcs_telegram.specs.Header.{header}
 use Rattle.etcs_telegram.specs.Laws.{AreSpelledOut}
 use Rattle.etcs_telegram.specs.Record.{Telegram}
 use Rattle.etcs_telegram.specs.Sizes.{user_bits, size_of}
-use Rattle.etcs_telegram.specs.Telegram.{AreUserBits, IsTelegram, IsEncoding, IsTooBig, front_bits, canonical_bits, used_bits, size_by, telegram_of}
+use Rattle.etcs_telegram.specs.Telegram.{AreUserBits, IsTelegram, IsEncoding, IsTooBig, front_bits, canonical_bits, used_bits}
+use Rattle.etcs_telegram.specs.Meaning.{size_by, telegram_of}
 use Rattle.etcs_telegram.proofs.FillLemmas.{length-ones}
 
 -- ---- sizes
@@ -229,6 +231,6 @@ encoding_telegram t bits x =
 pub only_memory : {X : Type 0} (r : Result X EncodeError) (t : Telegram) → used_bits t ≤ user_bits t.size
     → r ≡ Err encode_errors.Memory → IsErrOf r encode_errors.TooBig ↔ IsTooBig t
 only_memory r t fits is = (
-  λ told. absurd (let both = sym is ∙ told in cc),
+  λ given. absurd (let both = sym is ∙ given in cc),
   λ big. absurd (omega (arith, fits, big)),
 )

@@ -7,15 +7,16 @@ use Rattle.std.proofs.lemmas.List.{drop-drop, drop_more, drop_all, length-replic
 use Rattle.hex.specs.declared.error.FromHexError.{FromHexError}
 use Rattle.hex.specs.Hex.{decode_of, encode_lower, IsBytes}
 use Rattle.hex.proofs.HexLemmas.{decode_of-digits}
-use Rattle.etcs_bits.specs.Number.{num, num_of_bits, bits_of_bytes}
+use Rattle.etcs_bits.specs.bits.Number.{num, num_of_bits, bits_of_bytes}
 use Rattle.etcs_bits.proofs.NumberLemmas.{length-num, num_of_bits-small, num_of_bits-drop, same_from_num, drop-bits_of_bytes, bits_of_one, length-bits_of_bytes}
 use Rattle.etcs_telegram.specs.declared.error.EncodeError.{EncodeError}
 use Rattle.etcs_telegram.specs.declared.size.Size.{Size}
 use Rattle.etcs_telegram.specs.declared.size.Size.TheVariants.{Short, Long}
 use Rattle.etcs_telegram.specs.Record.{Telegram}
-use Rattle.etcs_telegram.specs.Sizes.{user_bits, byte_count, pad_count, size_in}
+use Rattle.etcs_telegram.specs.Sizes.{user_bits, byte_count, pad_count}
+use Rattle.etcs_telegram.specs.TextMeaning.{size_in, pads_with_zeros}
 use Rattle.etcs_telegram.specs.Telegram.{IsEncoding, IsTelegram}
-use Rattle.etcs_telegram.specs.Text.{pad_bits_in, user_bits_in, no_pads, pads_with_zeros, ArePadded, HavePadSet, IsHexadecimal, IsCanonicalText}
+use Rattle.etcs_telegram.specs.Text.{pad_bits_in, user_bits_in, no_pads, ArePadded, HavePadSet, IsHexadecimal, IsCanonicalText}
 use Rattle.etcs_telegram.proofs.TelegramLemmas.{canonical_length}
 
 -- ---- sizes

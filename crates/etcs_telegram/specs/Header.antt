@@ -1,9 +1,9 @@
 -- The header of a telegram: 50 bits (SUBSET-026, 8.4.2).
 use Rattle.std.specs.Prelude.{ℕ, Bool, refl}
-use Rattle.etcs_bits.specs.declared.fault.FaultKind.TheVariants.{Downlink, Loop}
-use Rattle.etcs_bits.specs.Format.{Format, number, flag, fixed, ◌then◌, named}
-use Rattle.etcs_bits.specs.VariableFormats.{m_version, m_dup}
-use Rattle.etcs_bits.specs.Identity.{identity}
+use Rattle.etcs_bits.specs.declared.layout.fault.FaultKind.TheVariants.{Downlink, Loop}
+use Rattle.etcs_bits.specs.layout.Format.{Format, number, flag, fixed, ◌then◌, named}
+use Rattle.etcs_bits.specs.variables.VariableFormats.{m_version, m_dup}
+use Rattle.etcs_bits.specs.variables.Identity.{identity}
 use Rattle.etcs_telegram.specs.declared.header.Header.{Header}
 
 -- Q_UPDOWN, 1 bit: only 1, track to train, is read

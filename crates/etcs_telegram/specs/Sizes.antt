@@ -22,7 +22,3 @@ byte_count Long = 104
 abbrev pub pad_count : Size → ℕ
 pad_count Short = 6
 pad_count Long = 2
-
--- the size of a telegram in `n` bytes
-abbrev pub size_in : ℕ → Option Size
-size_in n = if n == 27 then Some Short else (if n == 104 then Some Long else None)

@@ -1,18 +1,14 @@
 -- A telegram of a balise (SUBSET-026, 8.4.2; SUBSET-036, 4.3): its header, its packets, the end
 -- mark (packet 255, eight ones), and a fill up to the size of a telegram. The fill carries no
 -- information.
-use Rattle.std.specs.Prelude.{◌≡◌, ℕ, ◌+◌, ◌-◌, ◌<◌, ◌≤◌, ◌==◌, if◌then◌else◌, true, List, Bool, ◌++◌, length, replicate, IsSome, Result, Ok, Err}
+use Rattle.std.specs.Prelude.{◌≡◌, ℕ, ◌+◌, ◌-◌, ◌<◌, ◌≤◌, true, List, Bool, ◌++◌, length, replicate, IsSome}
 use Rattle.std.specs.List.{flat_map}
-use Rattle.etcs_bits.specs.declared.fault.Fault.{Fault}
-use Rattle.etcs_bits.specs.Number.{num}
-use Rattle.etcs_bits.specs.Rows.{AreAllowed, join, width}
+use Rattle.etcs_bits.specs.declared.layout.fault.Fault.{Fault}
+use Rattle.etcs_bits.specs.bits.Number.{num}
+use Rattle.etcs_bits.specs.layout.Rows.{AreAllowed, join, width}
 use Rattle.etcs_packet.specs.declared.stop.Stop.TheVariants as stops
-use Rattle.etcs_packet.specs.declared.track.TrackPacket.{TrackPacket}
 use Rattle.etcs_packet.specs.Track.{track_packet}
-use Rattle.etcs_packet.specs.Whole.{BeginsWith, IsWholeFault, NoneWhole, start, whole_of}
-use Rattle.etcs_telegram.specs.declared.header.Header.{Header}
-use Rattle.etcs_telegram.specs.declared.size.Size.{Size}
-use Rattle.etcs_telegram.specs.declared.size.Size.TheVariants.{Short, Long}
+use Rattle.etcs_packet.specs.Whole.{BeginsWith, IsWholeFault, NoneWhole, start}
 use Rattle.etcs_telegram.specs.Header.{header}
 use Rattle.etcs_telegram.specs.Record.{Telegram}
 use Rattle.etcs_telegram.specs.Sizes.{user_bits, size_of}
@@ -59,19 +55,3 @@ pub record IsEncoding (t : Telegram) (bits : List Bool) : Type 0 where
   pub header : AreAllowed (header.rows t.header)
   pub packets : AreAllowed (flat_map track_packet.rows t.packets)
   pub canonical : bits ≡ canonical_bits t
-
--- ---- as a function
-
--- the size of 210 bits, or of 830
-abbrev pub size_by : ℕ → Size
-size_by n = if n == 210 then Short else Long
-
--- a telegram in `n` bits, with this header and these packets
-abbrev pub telegram_by : ℕ → Result (Header × List TrackPacket) Fault → Result Telegram Fault
-telegram_by n (Ok read) = Ok (record { size = size_by n; header = read.0; packets = read.1 })
-telegram_by n (Err f) = Err f
-
--- what 210 or 830 bits mean: their telegram, or their first fault
-unfoldable pub telegram_of : List Bool → Result Telegram Fault
-telegram_of bits =
-    telegram_by (length bits) (whole_of stops.Telegram header.fields header.of track_packet.fields track_packet.of bits)

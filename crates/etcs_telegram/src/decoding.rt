@@ -1,12 +1,13 @@
 //! From bits to a telegram.
 
 ghost use Rattle.std.specs.Prelude.{◌≡◌, Err, IfOk};
-ghost use Rattle.etcs_bits.specs.declared.fault.Fault.{Fault};
-ghost use Rattle.etcs_bits.specs.Fault.{IsFault};
-ghost use Rattle.etcs_bits.specs.Layout.{IfFault, IsMeaning};
+ghost use Rattle.etcs_bits.specs.declared.layout.fault.Fault.{Fault};
+ghost use Rattle.etcs_bits.specs.layout.Fault.{IsFault};
+ghost use Rattle.etcs_bits.specs.layout.Results.{IfFault, Means};
 ghost use Rattle.etcs_packet.specs.Whole.{start};
 ghost use Rattle.etcs_telegram.specs.Header.{header};
-ghost use Rattle.etcs_telegram.specs.Telegram.{AreUserBits, IsNoTelegram, IsTelegram, IsTelegramFault, telegram_of};
+ghost use Rattle.etcs_telegram.specs.Telegram.{AreUserBits, IsNoTelegram, IsTelegram, IsTelegramFault};
+ghost use Rattle.etcs_telegram.specs.Meaning.{telegram_of};
 
 use crate::size::Size;
 use crate::telegram::Telegram;
@@ -27,7 +28,7 @@ pub fn decode(alloc: Global, bits: &Bits) -> Result<Telegram, DecodeError>
     ensures none { IfFault result (λ f. IsNoTelegram bits.now f) }
 
     // The same as a function of the bits.
-    ensures exact { IsMeaning result (telegram_of bits.now) }
+    ensures exact { Means (λ t. t) result (telegram_of bits.now) }
 
     // The header's fault is always reported: reading the header needs no memory.
     ensures header { (f : Fault) → IsFault header.fields (start bits.now) f

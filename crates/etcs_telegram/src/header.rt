@@ -43,7 +43,7 @@ impl Layout for Header {
             & self.linked.is_allowed()
     }
 
-    #[tactic(auto, unfolding(etcs_bits::specs::Rows::alone))]
+    #[tactic(auto, unfolding(etcs_bits::specs::layout::Rows::alone))]
     fn width(&self) -> u64 {
         50
     }

@@ -12,7 +12,8 @@ pub enum Size {
 }
 
 impl Size {
-    ghost use Rattle.etcs_telegram.specs.Sizes.{byte_count, pad_count, size_in, size_of, user_bits};
+    ghost use Rattle.etcs_telegram.specs.Sizes.{byte_count, pad_count, size_of, user_bits};
+    ghost use Rattle.etcs_telegram.specs.TextMeaning.{size_in};
 
     /// The size of a telegram with `n` user bits: 210 or 830. None for any other number.
     pub fn of_len(n: usize) -> Option<Size>

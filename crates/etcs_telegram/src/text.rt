@@ -1,10 +1,12 @@
 //! Telegrams as hexadecimal text.
 
-ghost use Rattle.std.specs.Prelude.{◌≡◌, ◌↔◌, ◌*◌, length, Ok, Err, IfOk, IfErr, IsErrOf, IsTrue, OnOk, string_bytes};
+ghost use Rattle.std.specs.Prelude.{◌≡◌, ◌↔◌, ◌*◌, Bool, List, length, Ok, Err, IfOk, IfErr, IsErrOf, IsTrue, OnOk, string_bytes};
 ghost use Rattle.hex.specs.Hex.{decode_of, encode_lower, is_hex_digit, IsBytes};
 ghost use Rattle.etcs_telegram.specs.Sizes.{byte_count};
+ghost use Rattle.etcs_telegram.specs.Meaning.{telegram_of};
 ghost use Rattle.etcs_telegram.specs.Telegram.{IsTelegram, IsTooBig};
-ghost use Rattle.etcs_telegram.specs.Text.{ArePadded, IsCanonicalText, IsHexadecimal, IsOfUserBits, IsReason, IsReasonDecoded, IsReasonIn, IsTelegramText, IsTextMeaning, of_bytes, pads_with_zeros, telegram_of_text, user_bits_in};
+ghost use Rattle.etcs_telegram.specs.Text.{ArePadded, IsCanonicalText, IsHexadecimal, IsReason, IsReasonDecoded, IsReasonIn, IsTelegramText, IsTextMeaning, user_bits_in};
+ghost use Rattle.etcs_telegram.specs.TextMeaning.{of_bits, of_bytes, pads_with_zeros, telegram_of_text};
 
 use crate::decoding::decode;
 use crate::encoding::encode;
@@ -54,7 +56,8 @@ fn telegram_in(alloc: Global, bytes: &[u8]) -> Result<Telegram, TextError>
     ensures exact { IsTextMeaning result (of_bytes bytes.now) }
 
     // Only the user bits need memory.
-    ensures memory { result ≡ Err TextError.Memory → IsOfUserBits (of_bytes bytes.now) }
+    ensures memory { result ≡ Err TextError.Memory
+        → (bits : List Bool) × (of_bytes bytes.now ≡ of_bits (telegram_of bits)) }
 {
     let Some(size) = Size::in_bytes(bytes.len()) else {
         return Err(TextError::WrongSize);

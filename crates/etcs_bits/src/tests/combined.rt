@@ -8,7 +8,7 @@ use crate::{
 use std::alloc::Global;
 use std::test::Fail;
 
-// A scale and a distance behind L_PACKET, with 10 bits before it.
+// A scale and a distance after L_PACKET, with 10 bits before it.
 type Packet = (Plain<10>, Body<10, (Scale, Distance)>);
 
 // Lists of numbers, and a flag that may follow.
@@ -195,7 +195,7 @@ fn l_packet_is_the_length_of_the_packet(rt: HostRuntime) -> Result<(), Fail> {
 #[test]
 fn another_l_packet_is_a_fault(rt: HostRuntime) -> Result<(), Fail> {
     let alloc = rt.alloc();
-    // Packet 7, whose L_PACKET is 40; behind it follow bits of something else.
+    // Packet 7, whose L_PACKET is 40; after it come bits of something else.
     let mut packet = [0x01, 0xc0, 0x50, 0x83, 0xe8, 0xff];
     let bits = Bits::from_bytes(alloc, &packet, 48)?;
     let (read, end) = read_one::<Packet>(alloc, &bits)?;

@@ -40,8 +40,8 @@ fn fewer_than_eight_bits_end_a_message_alone(rt: HostRuntime) -> Result<(), Fail
         let mut bits = spelled(alloc, "00000000 100101 11111111")?;
         bits.truncate(end);
         let mut cur = Cursor::new(&bits);
-        let told = count(alloc, &mut cur, Stop::Telegram).err();
-        assert!(rt; told == fault(14, 14, NoEnd), "{end}");
+        let error = count(alloc, &mut cur, Stop::Telegram).err();
+        assert!(rt; error == fault(14, 14, NoEnd), "{end}");
         assert!(rt; cur.at() == 0, "{end}");
         assert!(rt; count(alloc, &mut cur, Stop::Message) == Ok(1), "{end}");
         assert!(rt; cur.at() == 14, "{end}");
@@ -52,8 +52,8 @@ fn fewer_than_eight_bits_end_a_message_alone(rt: HostRuntime) -> Result<(), Fail
 #[test]
 fn eight_bits_are_a_packet_that_is_due(rt: HostRuntime) -> Result<(), Fail> {
     let bits = spelled(rt.alloc(), "00000000 100101 00000000")?;
-    let told = count(rt.alloc(), &mut Cursor::new(&bits), Stop::Message).err();
-    assert!(rt; told == fault(22, 22, Short));
+    let error = count(rt.alloc(), &mut Cursor::new(&bits), Stop::Message).err();
+    assert!(rt; error == fault(22, 22, Short));
     Ok(())
 }
 
@@ -83,7 +83,7 @@ fn packets_are_read_one_by_one(rt: HostRuntime) -> Result<(), Fail> {
     Ok(())
 }
 
-// The head's number and flag, and how many packets stand behind it.
+// The head's number and flag, and how many packets stand after it.
 fn whole(alloc: Global, cur: &mut Cursor<'_>) -> Result<(u32, bool, usize), DecodeError> {
     let stop = Stop::Message;
     let (head, found) = next_whole::<(Plain<3>, bool), TrackPacket>(alloc, cur, stop)?;

@@ -1,11 +1,11 @@
-//! A telegram from outside that holds three packets, one behind the other.
+//! A telegram from outside that holds three packets, one after the other.
 
 use crate::{Authority, Gradient, Reach, SpeedProfile};
 use etcs_bits::{Bits, Cursor, Layout};
 use std::test::Fail;
 
 // Packet 12 with an end section of 1,000 metres, packets 21 and 27 with an end mark each: the bits
-// of a telegram behind its header.
+// of a telegram after its header.
 const PACKETS: [u8; 30] = [
     0x0c, 0x40, 0x92, 0x94, 0x01, 0xff, 0x80, 0x1f, 0x40, 0x0a, 0xa0, 0x4e, 0x80, 0x00, 0x41, 0x42,
     0x01, 0x91, 0xfe, 0x36, 0x81, 0x58, 0x00, 0x00, 0x50, 0x00, 0xa7, 0x10, 0xfe, 0x04,

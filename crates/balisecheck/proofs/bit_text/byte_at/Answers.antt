@@ -1,8 +1,8 @@
 use Rattle.std.proofs.Common.{◌≡◌, ◌≤◌, length, take, drop, sym, subst, arith}
 use Rattle.std.proofs.lemmas.List.{length-take, length-drop}
-use Rattle.etcs_bits.specs.Number.{num_of_bits}
+use Rattle.etcs_bits.specs.bits.Number.{num_of_bits}
 use Rattle.etcs_bits.proofs.NumberLemmas.{num_of_bits-lt}
-use Rattle.etcs_bits.proofs.NumeralLemmas.{num_of_none}
+use Rattle.etcs_bits.proofs.ConversionLemmas.{num_of_none}
 use Rattle.balisecheck.specs.BitText.{filled_up}
 use Rattle.balisecheck.proofs.BitTextLemmas.{byte_more, filled_length}
 use Rattle.balisecheck.proofs.bit_text.byte_at.Goals as goal

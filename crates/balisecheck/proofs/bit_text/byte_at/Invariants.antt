@@ -1,5 +1,5 @@
 use Rattle.std.proofs.Common.{◌≡◌, take, drop}
-use Rattle.etcs_bits.specs.Number.{num_of_bits}
+use Rattle.etcs_bits.specs.bits.Number.{num_of_bits}
 use Rattle.balisecheck.specs.BitText.{filled_up}
 use Rattle.balisecheck.proofs.bit_text.byte_at.Given as goal
 

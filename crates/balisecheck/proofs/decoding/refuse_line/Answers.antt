@@ -1,7 +1,7 @@
 use Rattle.std.proofs.Common.{◌≡◌, rules}
 use Rattle.std.proofs.lemmas.Result.{err_from_is_err_and}
 use Rattle.balisecheck.specs.TelegramLines.{refusal_of}
-use Rattle.balisecheck.proofs.TellingLemmas.{begins_refused, put_failed}
+use Rattle.balisecheck.proofs.AnswerLemmas.{begins_refused, put_failed}
 use Rattle.balisecheck.proofs.decoding.refuse_line.Goals as goal
 
 -- the part of a refusal that was written is a beginning of it
@@ -10,4 +10,4 @@ returns-in_err-put-in-Ok-clause-turns g c =
     let passed_on = err_from_is_err_and c.from_residual.result c.from_residual.ensures.1 in
     let text : c.as_bytes.result.now ≡ refusal_of c.args.number c.args.why.now = search rules in
     let begins = begins_refused c.args.number c.args.why.now text in
-    rw passed_on.1 (put_failed passed_on.0 c.put.ensures.puts begins)
+    rw passed_on.1 (put_failed passed_on.0 c.put.ensures.written begins)

@@ -1,4 +1,4 @@
-use Rattle.etcs_bits.specs.Format.{behind_length}
+use Rattle.etcs_bits.specs.layout.Format.{behind_length}
 use Rattle.etcs_bits.proofs.LayoutLemmas.{laid_out}
 use Rattle.etcs_bits.proofs.laws.bodies_are_laid_out.Goals as goal
 

@@ -10,5 +10,5 @@ returns g c = λ p within few. record {
   reached = p;
   follow = refl;
   goes_on = rw (lt-ltb _ _ few) refl;
-  told = no_end_here g.T.Layout.format.fields p c.requires few;
+  is_fault = no_end_here g.T.Layout.format.fields p c.requires few;
 }

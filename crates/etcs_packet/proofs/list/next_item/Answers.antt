@@ -1,7 +1,7 @@
 use Rattle.std.proofs.Common.{◌≡◌, ◌+◌, ◌<◌, ℕ, ap, arith, false, length, ◌∙◌}
 use Rattle.std.proofs.lemmas.Result.{err_from_is_err_and}
-use Rattle.etcs_bits.specs.declared.fault.DecodeError.TheVariants as errors
-use Rattle.etcs_bits.specs.declared.fault.FaultKind.TheVariants.{NoEnd}
+use Rattle.etcs_bits.specs.declared.layout.fault.DecodeError.TheVariants as errors
+use Rattle.etcs_bits.specs.declared.layout.fault.FaultKind.TheVariants.{NoEnd}
 use Rattle.etcs_packet.specs.Lists.{ends}
 use Rattle.etcs_packet.proofs.EndLemmas.{no_end_here}
 use Rattle.etcs_packet.proofs.ListLemmas.{lacks_step, no_step}

@@ -1,6 +1,6 @@
 use Rattle.std.proofs.Common.{ap, map, Some, None, Err}
 use Rattle.std.proofs.lemmas.Result.{err_from_is_err_and}
-use Rattle.etcs_bits.specs.Layout.{OfFault}
+use Rattle.etcs_bits.specs.layout.Results.{OfFault}
 use Rattle.etcs_packet.specs.Lists.{IsListFault, IsStep, Stand}
 use Rattle.etcs_packet.proofs.EndLemmas.{less_left}
 use Rattle.etcs_packet.proofs.FollowLemmas.{follow_within}
@@ -12,18 +12,18 @@ pub returns-in_err-item-clause-none : goal.returns-in_err-item-clause-none
 returns-in_err-item-clause-none g c =
     let failed = err_from_is_err_and c.from_residual.result c.from_residual.ensures.1 in
     let e = c.in_err-item.field-0.0 in
-    let told : OfFault e (λ f. IsListFault c.args.stop g.T.Layout.format.fields c.args.cur.now f) =
+    let is_fault : OfFault e (λ f. IsListFault c.args.stop g.T.Layout.format.fields c.args.cur.now f) =
     list_fault g.T.Layout.format.rows e c.loop-found.found.items c.args.stop g.T.Layout.format.fields c.args.cur.now c.loop-found.ahead c.loop-found.invariant.follow c.in_err-item.ensures.fault in
-    rw (failed.1, failed.2) (none_of g.T.Layout.format.rows e c.args.stop g.T.Layout.format.fields c.args.cur.now c.requires g.T.Layout.format.laid.are_rows c.loop-found.invariant.inside told)
+    rw (failed.1, failed.2) (none_of g.T.Layout.format.rows e c.args.stop g.T.Layout.format.fields c.args.cur.now c.requires g.T.Layout.format.laid.are_rows c.loop-found.invariant.inside is_fault)
 
 -- and reading reports that fault
 pub returns-in_err-item-clause-exact : goal.returns-in_err-item-clause-exact
 returns-in_err-item-clause-exact g c =
     let failed = err_from_is_err_and c.from_residual.result c.from_residual.ensures.1 in
     let e = c.in_err-item.field-0.0 in
-    let told : OfFault e (λ f. IsListFault c.args.stop g.T.Layout.format.fields c.args.cur.now f) =
+    let is_fault : OfFault e (λ f. IsListFault c.args.stop g.T.Layout.format.fields c.args.cur.now f) =
     list_fault g.T.Layout.format.rows e c.loop-found.found.items c.args.stop g.T.Layout.format.fields c.args.cur.now c.loop-found.ahead c.loop-found.invariant.follow c.in_err-item.ensures.fault in
-    rw (failed.1, failed.2) (list_fails g.T.Layout.format.of e c.args.stop g.T.Layout.format.fields c.args.cur.now c.requires c.loop-found.invariant.inside told)
+    rw (failed.1, failed.2) (list_fails g.T.Layout.format.of e c.args.stop g.T.Layout.format.fields c.args.cur.now c.requires c.loop-found.invariant.inside is_fault)
 
 -- a packet has at least eight bits
 pub loop-found-smaller : goal.loop-found-smaller

@@ -1,6 +1,6 @@
 use Rattle.std.proofs.Common.{◌≡◌, ◌++◌, take}
 use Rattle.std.specs.List.{flat_map}
-use Rattle.etcs_bits.specs.Rows.{join}
+use Rattle.etcs_bits.specs.layout.Rows.{join}
 use Rattle.etcs_packet.proofs.list.write_items.Given as goal
 
 -- the packets up to here are written

@@ -1,10 +1,10 @@
 use Rattle.std.proofs.Common.{◌≤◌, ap, length, Err}
 use Rattle.std.proofs.lemmas.Result.{err_from_is_err_and}
-use Rattle.etcs_bits.specs.Rows.{IsSpelled}
-use Rattle.etcs_bits.specs.Fault.{IsFault}
-use Rattle.etcs_bits.specs.Layout.{OfFault}
+use Rattle.etcs_bits.specs.layout.Rows.{IsSpelled}
+use Rattle.etcs_bits.specs.layout.Fault.{IsFault}
+use Rattle.etcs_bits.specs.layout.Results.{OfFault}
 use Rattle.etcs_packet.specs.Whole.{IsWhole}
-use Rattle.etcs_packet.proofs.WholeLemmas.{head_fault, head_stands, head_told, later_fault, whole_fails, whole_is_read, none_of_whole}
+use Rattle.etcs_packet.proofs.WholeLemmas.{head_fault, head_stands, head_fault_is_reported, later_fault, whole_fails, whole_is_read, none_of_whole}
 use Rattle.etcs_packet.proofs.whole.next_whole.Goals as goal
 
 -- the fault of the head is that of the whole
@@ -13,8 +13,8 @@ returns-in_err-head-clause-exact g c =
     let failed = err_from_is_err_and c.from_residual.result c.from_residual.ensures.1 in
     let e = c.in_err-head.field-0.0 in
     let inside : c.args.cur.now.at ≤ length c.args.cur.now.bits = rw c.fork-ahead.ensures.same at c.fork-ahead.ensures.inside in
-    let told : OfFault e (λ f. IsFault g.H.Layout.format.fields c.args.cur.now f) = rw c.fork-ahead.ensures.same at c.in_err-head.ensures.fault in
-    rw (failed.1, failed.2) (whole_fails g.H.Layout.format.of g.T.Layout.format.of e c.args.stop g.H.Layout.format.fields g.T.Layout.format.fields c.args.cur.now c.requires inside (head_fault e c.args.stop g.H.Layout.format.fields g.T.Layout.format.fields c.args.cur.now told))
+    let is_fault : OfFault e (λ f. IsFault g.H.Layout.format.fields c.args.cur.now f) = rw c.fork-ahead.ensures.same at c.in_err-head.ensures.fault in
+    rw (failed.1, failed.2) (whole_fails g.H.Layout.format.of g.T.Layout.format.of e c.args.stop g.H.Layout.format.fields g.T.Layout.format.fields c.args.cur.now c.requires inside (head_fault e c.args.stop g.H.Layout.format.fields g.T.Layout.format.fields c.args.cur.now is_fault))
 
 -- where a head stands, the fault of the list is that of the whole, and then no whole stands
 pub returns-in_err-items-clause-none : goal.returns-in_err-items-clause-none
@@ -24,8 +24,8 @@ returns-in_err-items-clause-none g c =
     let head = c.in_ok-head.head in
     let inside : c.args.cur.now.at ≤ length c.args.cur.now.bits = rw c.fork-ahead.ensures.same at c.fork-ahead.ensures.inside in
     let spelled : IsSpelled (g.H.Layout.format.rows head) c.args.cur.now c.read.new.cur = rw c.fork-ahead.ensures.same at c.in_ok-head.ensures.ok in
-    let told = later_fault e c.args.stop g.H.Layout.format.fields g.T.Layout.format.fields (g.H.Layout.format.rows head) c.args.cur.now c.read.new.cur (g.H.Layout.format.laid.are_rows head) spelled c.in_err-items.ensures.fault in
-    rw (failed.1, failed.2) (none_of_whole g.H.Layout.format.laid g.T.Layout.format.laid e c.args.stop c.args.cur.now c.requires inside told)
+    let is_fault = later_fault e c.args.stop g.H.Layout.format.fields g.T.Layout.format.fields (g.H.Layout.format.rows head) c.args.cur.now c.read.new.cur (g.H.Layout.format.laid.are_rows head) spelled c.in_err-items.ensures.fault in
+    rw (failed.1, failed.2) (none_of_whole g.H.Layout.format.laid g.T.Layout.format.laid e c.args.stop c.args.cur.now c.requires inside is_fault)
 
 -- and reading reports that fault
 pub returns-in_err-items-clause-exact : goal.returns-in_err-items-clause-exact
@@ -35,8 +35,8 @@ returns-in_err-items-clause-exact g c =
     let head = c.in_ok-head.head in
     let inside : c.args.cur.now.at ≤ length c.args.cur.now.bits = rw c.fork-ahead.ensures.same at c.fork-ahead.ensures.inside in
     let spelled : IsSpelled (g.H.Layout.format.rows head) c.args.cur.now c.read.new.cur = rw c.fork-ahead.ensures.same at c.in_ok-head.ensures.ok in
-    let told = later_fault e c.args.stop g.H.Layout.format.fields g.T.Layout.format.fields (g.H.Layout.format.rows head) c.args.cur.now c.read.new.cur (g.H.Layout.format.laid.are_rows head) spelled c.in_err-items.ensures.fault in
-    rw (failed.1, failed.2) (whole_fails g.H.Layout.format.of g.T.Layout.format.of e c.args.stop g.H.Layout.format.fields g.T.Layout.format.fields c.args.cur.now c.requires inside told)
+    let is_fault = later_fault e c.args.stop g.H.Layout.format.fields g.T.Layout.format.fields (g.H.Layout.format.rows head) c.args.cur.now c.read.new.cur (g.H.Layout.format.laid.are_rows head) spelled c.in_err-items.ensures.fault in
+    rw (failed.1, failed.2) (whole_fails g.H.Layout.format.of g.T.Layout.format.of e c.args.stop g.H.Layout.format.fields g.T.Layout.format.fields c.args.cur.now c.requires inside is_fault)
 
 -- a whole that stands is what reading gives
 pub returns-clause-exact : goal.returns-clause-exact
@@ -53,8 +53,8 @@ returns-in_err-head-clause-head g c = λ none f fault.
     let failed = err_from_is_err_and c.from_residual.result c.from_residual.ensures.1 in
     let e = c.in_err-head.field-0.0 in
     let inside : c.args.cur.now.at ≤ length c.args.cur.now.bits = rw c.fork-ahead.ensures.same at c.fork-ahead.ensures.inside in
-    let told : OfFault e (λ h. IsFault g.H.Layout.format.fields c.args.cur.now h) = rw c.fork-ahead.ensures.same at c.in_err-head.ensures.fault in
-    rw (failed.1, failed.2) (ap Err (head_told e g.H.Layout.grows g.H.Layout.format.fields c.args.cur.now f inside told c.in_err-head.ensures.memory none fault))
+    let is_fault : OfFault e (λ h. IsFault g.H.Layout.format.fields c.args.cur.now h) = rw c.fork-ahead.ensures.same at c.in_err-head.ensures.fault in
+    rw (failed.1, failed.2) (ap Err (head_fault_is_reported e g.H.Layout.grows g.H.Layout.format.fields c.args.cur.now f inside is_fault c.in_err-head.ensures.memory none fault))
 
 -- and where a head stands, it has no fault
 pub returns-in_err-items-clause-head : goal.returns-in_err-items-clause-head

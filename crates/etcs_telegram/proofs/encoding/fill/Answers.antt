@@ -1,6 +1,6 @@
 use Rattle.std.proofs.Common.{◌≡◌, ◌-◌, ◌*◌, ◌%◌, ◌^◌, ◌∙◌, ◌++◌, true, replicate, ap, arith}
 use Rattle.std.proofs.lemmas.Nat.{one_shl}
-use Rattle.etcs_bits.specs.Number.{num}
+use Rattle.etcs_bits.specs.bits.Number.{num}
 use Rattle.etcs_telegram.proofs.FillLemmas.{ones_are, more_ones, grown}
 use Rattle.etcs_telegram.proofs.encoding.fill.Goals as goal
 

@@ -2,6 +2,7 @@ use Rattle.std.proofs.Common.{◌-◌, ◌∙◌, length, sym, subst, List, Bool
 use Rattle.etcs_telegram.specs.Sizes.{byte_count}
 use Rattle.etcs_telegram.specs.Telegram.{IsTelegramFault, IsNoTelegram}
 use Rattle.etcs_telegram.proofs.TextLemmas.{size_counts, padded_when, set_when, of_its_size}
+use Rattle.etcs_telegram.proofs.ReasonLemmas.{of_user_bits}
 use Rattle.etcs_telegram.proofs.text.telegram_in.Goals as goal
 
 -- if the last byte is not divisible, a pad bit is set
@@ -37,3 +38,8 @@ returns-clause-reason c =
       first = subst (λ (bits : List Bool). IsTelegramFault bits f) is fault;
       none = subst (λ (bits : List Bool). IsNoTelegram bits f) is none;
     }
+
+-- memory ran out after the checks, which take none
+pub returns-in_default-from_bytes-clause-memory : goal.returns-in_default-from_bytes-clause-memory
+returns-in_default-from_bytes-clause-memory c = λ _.
+    of_user_bits c.in-Some.size c.args.bytes.now (sym c.in_bytes.ensures ∙ c.in-Some.is) (sym c.is_padded.ensures ∙ c.if-not-is_padded.false)

@@ -1,6 +1,6 @@
 use Rattle.std.proofs.Common.{[], ◌∷◌, arith, codes}
 use Rattle.std.proofs.lemmas.Result.{on_ok_weaker}
-use Rattle.etcs_bits.specs.Number.{worth}
+use Rattle.etcs_bits.specs.bits.Number.{worth}
 use Rattle.balisecheck.specs.Forms.{always, whole}
 use Rattle.balisecheck.proofs.FormLemmas.{finished, members_len-maybe, object_sent, then}
 use Rattle.balisecheck.proofs.linking_form.LinkForm.send.Goals as goal

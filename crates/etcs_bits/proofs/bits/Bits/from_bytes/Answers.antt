@@ -1,7 +1,7 @@
 use Rattle.std.proofs.Common.{◌≡◌, ◌∙◌, ◌++◌, ◌/◌, ◌%◌, ◌<◌, sym, ap, ap₂, arith, length, take, Bool, Vec, Global}
 use Rattle.std.proofs.lemmas.List.{take_all}
-use Rattle.etcs_bits.specs.Number.{bits_of_bytes}
-use Rattle.etcs_bits.proofs.NumeralLemmas.{bits_of_none, bits_of_next, whole_bytes, whole_and_front, front_length}
+use Rattle.etcs_bits.specs.bits.Number.{bits_of_bytes}
+use Rattle.etcs_bits.proofs.ConversionLemmas.{bits_of_none, bits_of_next, whole_bytes, whole_and_front, front_length}
 use Rattle.etcs_bits.proofs.bits.Bits.from_bytes.Goals as goal
 use Rattle.etcs_bits.proofs.bits.Bits.from_bytes.Goals.{then-used-gt0+in_ok-extend_from_slice-2, else-used-gt0}
 

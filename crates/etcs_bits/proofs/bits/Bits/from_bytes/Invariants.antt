@@ -1,5 +1,5 @@
 use Rattle.std.proofs.Common.{◌≡◌, take}
-use Rattle.etcs_bits.specs.Number.{bits_of_bytes}
+use Rattle.etcs_bits.specs.bits.Number.{bits_of_bytes}
 use Rattle.etcs_bits.proofs.bits.Bits.from_bytes.Given as goal
 
 abbrev pub invariant-bytes : goal.invariant-bytes

@@ -1,5 +1,5 @@
 use Rattle.std.proofs.Common.{◌≤◌, ◌<◌, length, arith}
-use Rattle.etcs_bits.specs.Rows.{alone}
+use Rattle.etcs_bits.specs.layout.Rows.{alone}
 use Rattle.etcs_packet.proofs.RawLemmas.{rest_allowed}
 use Rattle.etcs_packet.proofs.raw.RawPacketLayout.is_allowed.Goals as goal
 

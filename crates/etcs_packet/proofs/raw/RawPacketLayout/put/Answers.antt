@@ -1,7 +1,7 @@
 use Rattle.std.proofs.Common.{◌≡◌, ◌+◌, ◌++◌, length, ap, ◌∙◌, arith}
-use Rattle.etcs_bits.specs.Number.{num}
-use Rattle.etcs_bits.specs.Rows.{alone, join}
-use Rattle.etcs_bits.specs.VariableFormats.{q_dir}
+use Rattle.etcs_bits.specs.bits.Number.{num}
+use Rattle.etcs_bits.specs.layout.Rows.{alone, join}
+use Rattle.etcs_bits.specs.variables.VariableFormats.{q_dir}
 use Rattle.etcs_bits.proofs.PutLemmas.{puts_bits, puts_then}
 use Rattle.etcs_packet.specs.Free.{free_rows}
 use Rattle.etcs_packet.specs.Raw.{tail_rows, raw_rest}

@@ -1,6 +1,6 @@
 use Rattle.std.proofs.Common.{refl, sym, ◌∙◌}
 use Rattle.etcs_bits.proofs.SumLemmas.{number_read, chosen_gives}
-use Rattle.etcs_packet.specs.Numbers.{nid_raw}
+use Rattle.etcs_packet.specs.PacketNumbers.{nid_raw}
 use Rattle.etcs_packet.specs.Raw.{others}
 use Rattle.etcs_packet.proofs.raw.RawPacketLayout.scan.Goals as goal
 

@@ -1,8 +1,7 @@
-use Rattle.std.proofs.Common.{refl}
-use Rattle.etcs_bits.specs.Rows.{alone}
+use Rattle.etcs_bits.specs.layout.Rows.{alone}
 use Rattle.etcs_bits.proofs.SumLemmas.{rest_read, chosen_read}
 use Rattle.etcs_profile.specs.Authority.{numbered}
-use Rattle.etcs_packet.specs.Numbers.{nid_track}
+use Rattle.etcs_packet.specs.PacketNumbers.{nid_track}
 use Rattle.etcs_packet.specs.Raw.{others}
 use Rattle.etcs_packet.specs.Track.{track_numbered}
 use Rattle.etcs_packet.proofs.TrackLemmas.{authority_next, authority_here, other_next}
@@ -16,7 +15,7 @@ returns-then-number-eq0-clause-gives c =
 pub returns-then-number-eq5-clause-gives : goal.returns-then-number-eq5-clause-gives
 unfolding alone
 returns-then-number-eq5-clause-gives c =
-    rest_read nid_track track_numbered.next c.in_ok-number.number 5 c.args.cur.now c.scan_number.new.cur _ _ c.in_ok-number.ensures.gives c.if-number-eq5.true c.in_ok-scan_rest.ensures
+    rest_read nid_track track_numbered.next c.in_ok-number.number 5 c.args.cur.now c.scan_number.new.cur _ _ c.in_ok-number.ensures.gives c.if-number-eq5.true c.in_ok-scan_rest.ensures.gives
 
 pub returns-then-number-eq12-clause-gives : goal.returns-then-number-eq12-clause-gives
 unfolding alone
@@ -38,7 +37,7 @@ returns-then-number-eq27-clause-gives c =
 pub returns-then-number-eq41-clause-gives : goal.returns-then-number-eq41-clause-gives
 unfolding alone
 returns-then-number-eq41-clause-gives c =
-    rest_read nid_track track_numbered.next c.in_ok-number.number 41 c.args.cur.now c.scan_number.new.cur _ _ c.in_ok-number.ensures.gives c.if-number-eq41.true c.in_ok-scan_rest-4.ensures
+    rest_read nid_track track_numbered.next c.in_ok-number.number 41 c.args.cur.now c.scan_number.new.cur _ _ c.in_ok-number.ensures.gives c.if-number-eq41.true c.in_ok-scan_rest-4.ensures.gives
 
 -- none of the known numbers
 pub returns-clause-gives : goal.returns-clause-gives

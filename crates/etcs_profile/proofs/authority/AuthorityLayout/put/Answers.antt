@@ -1,5 +1,5 @@
-use Rattle.etcs_bits.specs.Number.{num}
-use Rattle.etcs_bits.specs.Rows.{alone}
+use Rattle.etcs_bits.specs.bits.Number.{num}
+use Rattle.etcs_bits.specs.layout.Rows.{alone}
 use Rattle.etcs_bits.proofs.PutLemmas.{puts_bits}
 use Rattle.etcs_profile.proofs.authority.AuthorityLayout.put.Goals as goal
 

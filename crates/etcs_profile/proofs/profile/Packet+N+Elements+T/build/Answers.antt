@@ -1,7 +1,7 @@
 use Rattle.std.proofs.Common.{◌≡◌, ◌≤◌, ◌<◌, length, arith}
 use Rattle.std.proofs.Math.Nat.{lt_of_not-le}
 use Rattle.std.specs.Prelude.{◌↔◌, IsSome}
-use Rattle.etcs_bits.specs.Rows.{width, alone}
+use Rattle.etcs_bits.specs.layout.Rows.{width, alone}
 use Rattle.etcs_profile.specs.Packet.{packet}
 use Rattle.etcs_profile.specs.Elements.{elements, profile}
 use Rattle.etcs_profile.specs.Built.{HasMany}

@@ -1,5 +1,5 @@
 use Rattle.std.proofs.Common.{refl, lit<}
-use Rattle.etcs_bits.specs.Rows.{alone}
+use Rattle.etcs_bits.specs.layout.Rows.{alone}
 use Rattle.etcs_telegram.proofs.header.HeaderLayout.is_allowed.Goals as goal
 
 -- each part ensures that its numbers are in range

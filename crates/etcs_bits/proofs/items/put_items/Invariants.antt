@@ -1,8 +1,0 @@
-use Rattle.std.proofs.Common.{◌≡◌, ◌++◌, take}
-use Rattle.std.specs.List.{flat_map}
-use Rattle.etcs_bits.specs.Rows.{join}
-use Rattle.etcs_bits.proofs.items.put_items.Given as goal
-
-abbrev pub invariant-items : goal.invariant-items
-invariant-items g l =
-    l.out ≡ l.fn.out ++ join (flat_map g.T.Layout.format.rows (take l.item-index l.items))

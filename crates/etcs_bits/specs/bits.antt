@@ -1,0 +1,2 @@
+-- Bits as numbers.
+pub mod Number

@@ -1,0 +1,19 @@
+-- Records of variables: their rows, spellings, faults, reading, and how layouts are made of others.
+pub mod Rows
+pub mod Fields
+pub mod Fault
+pub mod FaultWords
+pub mod Reading
+pub mod Results
+pub mod Cut
+pub mod CutLemmas
+pub mod Found
+pub mod RowLemmas
+pub mod Values
+pub mod Combined
+pub mod Laid
+pub mod CombinedLemmas
+pub mod LaidLemmas
+pub mod Choice
+pub mod ChoiceLemmas
+pub mod Format

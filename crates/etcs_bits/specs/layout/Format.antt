@@ -1,0 +1,157 @@
+-- The layout of a record as one value, and how layouts are made of others (SUBSET-026, 7.4). One
+-- expression describes a record, and reads as its table in the standard.
+use Rattle.std.specs.Prelude.{◌≡◌, ℕ, ◌==◌, ◌⊎◌, Bool, false, List, [], ◌++◌, Option, drop, refl}
+use Rattle.etcs_bits.specs.declared.layout.fault.FaultKind.{FaultKind}
+use Rattle.etcs_bits.specs.bits.Number.{worth}
+use Rattle.etcs_bits.specs.layout.Rows.{Variable, Row, alone}
+use Rattle.etcs_bits.specs.layout.Found.{number_at, either_of, pair_of, option_of, counted_of, body_of}
+use Rattle.etcs_bits.specs.layout.Fields.{Fields, nothing, one, field, ◌▹◌, sized, option, counted}
+use Rattle.etcs_bits.specs.variables.Variables.{plain, only, ranged}
+use Rattle.etcs_bits.specs.variables.VariableValues.{flag_of}
+use Rattle.etcs_bits.specs.layout.Values.{HasValues}
+use Rattle.etcs_bits.specs.layout.Laid.{IsLayout}
+use Rattle.etcs_bits.specs.layout.Choice.{Choice, either_allows, either_next, either_number, either_rows}
+use Rattle.etcs_bits.specs.layout.Combined.{qualifier, n_iter, pair_rows, option_rows, counted_rows, body_rows}
+use Rattle.etcs_bits.specs.layout.ChoiceLemmas.{is_itself, last_value, either_is_number, either_are_rows, either_is_value, either_has_value, chosen_laid}
+use Rattle.etcs_bits.specs.variables.VariableLemmas.{flags_have_values}
+use Rattle.etcs_bits.specs.layout.CombinedLemmas.{pair_laid, option_laid, counted_laid, body_laid}
+use Rattle.etcs_bits.specs.layout.LaidLemmas.{alone_laid, empty_laid, only_laid, named_laid, parted_laid}
+
+-- the table of fields, the rows of a record, the record of rows, and the proof that these agree
+pub record Format (X : Type 0) : Type 0 where
+  pub fields : Fields
+  pub rows : X → List Row
+  pub of : List Row → X
+  pub laid : IsLayout fields rows of
+
+-- ---- one variable
+
+-- a variable, seen as its number
+abbrev pub variable : Variable → Format ℕ
+variable x = record { fields = one x; rows = alone x; of = number_at 0; laid = alone_laid x }
+
+-- a number of w bits without a spare one
+abbrev pub number : ℕ → Format ℕ
+number w = variable (plain w)
+
+-- a number of w bits, up to `last` or at least `from`; the numbers between are spare
+abbrev pub ranges : ℕ → ℕ → ℕ → Format ℕ
+ranges w last from = variable (ranged w last from)
+
+-- a variable whose numbers have names
+abbrev pub names : {X : Type 0} (x : Variable) (w : ℕ) (number : X → ℕ) (of : ℕ → X)
+    → HasValues x w number of → Format X
+names x w number of values = record {
+  fields = one x;
+  rows = λ v. alone x (number v);
+  of = λ r. of (number_at 0 r);
+  laid = named_laid values;
+}
+
+-- a flag of one bit: 1 is true
+abbrev pub flag : Format Bool
+flag = names (plain 1) 1 worth flag_of flags_have_values
+
+-- the number k of w bits, the only one that is read: it carries no information
+abbrev pub fixed : ℕ → ℕ → FaultKind → Format (Unit {0})
+fixed w k why = record {
+  fields = one (only w k why);
+  rows = λ _. alone (only w k why) k;
+  of = λ _. tt;
+  laid = only_laid w k why tt (λ _. refl);
+}
+
+-- nothing, which carries no information either
+abbrev pub empty : Format (Unit {0})
+empty = record { fields = nothing; rows = λ _. []; of = λ _. tt; laid = empty_laid }
+
+-- ---- records made of others
+
+infixr 5 ◌then◌
+-- a record, and another one after it
+abbrev pub ◌then◌ : {A B : Type 0} → Format A → Format B → Format (A × B)
+a then b = record {
+  fields = a.fields ▹ b.fields;
+  rows = pair_rows a.rows b.rows;
+  of = pair_of a.fields a.of b.of;
+  laid = pair_laid a.laid b.laid;
+}
+
+-- a qualifier of one bit, such as Q_OVERLAP, and the record if the qualifier is 1
+abbrev pub if_there : {A : Type 0} → Format A → Format (Option A)
+if_there a = record {
+  fields = option qualifier a.fields;
+  rows = option_rows a.rows;
+  of = option_of a.of;
+  laid = option_laid a.laid;
+}
+
+-- N_ITER, and that many records
+abbrev pub several : {A : Type 0} → Format A → Format (List A)
+several a = record {
+  fields = counted n_iter a.fields;
+  rows = counted_rows a.rows;
+  of = counted_of a.fields a.of;
+  laid = counted_laid a.laid;
+}
+
+-- L_PACKET and the record; L_PACKET counts the `before` bits ahead of it, its own and the record's
+abbrev pub behind_length : {A : Type 0} → ℕ → Format A → Format A
+behind_length before a = record {
+  fields = sized before a.fields;
+  rows = body_rows before a.rows;
+  of = body_of a.of;
+  laid = body_laid before a.laid;
+}
+
+-- ---- sums
+
+-- only the number k, and this record
+abbrev pub last : {A : Type 0} → ℕ → Format A → Choice A
+last k a = record {
+  allows = λ n. n == k;
+  next = λ _. a.fields;
+  number = λ _. k;
+  rows = a.rows;
+  of = λ _ rows. a.of rows;
+  is_number = λ _. is_itself k;
+  are_rows = a.laid.are_rows;
+  is_value = a.laid.is_record;
+  has_value = last_value a.laid k;
+}
+
+-- the number k and this record, or another number, which is not k, and that number's record
+abbrev pub either : {A B : Type 0} (k : ℕ) → Format A → (c : Choice B) → c.allows k ≡ false → Choice (A ⊎ B)
+either k a c fresh = record {
+  allows = either_allows k c.allows;
+  next = either_next k a.fields c.next;
+  number = either_number k c.number;
+  rows = either_rows a.rows c.rows;
+  of = either_of k a.of c.of;
+  is_number = either_is_number k c fresh;
+  are_rows = either_are_rows k a.laid c fresh;
+  is_value = either_is_value k a.laid c fresh;
+  has_value = either_has_value k a.laid c;
+}
+
+-- a variable with the numbers of a choice, and the record that its number decides
+abbrev pub chosen : {X : Type 0} (x : Variable) (c : Choice X) → ((n : ℕ) → x.allows n ≡ c.allows n) → Format X
+chosen x c same = record {
+  fields = field x c.next;
+  rows = λ v. alone x (c.number v) ++ c.rows v;
+  of = λ rows. c.of (number_at 0 rows) (drop 1 rows);
+  laid = chosen_laid x c same;
+}
+
+-- ---- another type
+
+-- The same layout for another type, such as a struct instead of pairs. `make` and `parts` turn each
+-- type into the other, and are inverse.
+abbrev pub named : {X Y : Type 0} → Format X → (make : X → Y) (parts : Y → X)
+    → ((x : X) → parts (make x) ≡ x) → ((y : Y) → make (parts y) ≡ y) → Format Y
+named a make parts back again = record {
+  fields = a.fields;
+  rows = λ y. a.rows (parts y);
+  of = λ r. make (a.of r);
+  laid = parted_laid make parts back again a.laid;
+}

@@ -1,0 +1,157 @@
+//! A place among bits, from which fields are read.
+
+ghost use Rattle.std.specs.Prelude.{◌≡◌, ◌+◌, ◌<◌, ◌≤◌, ◌^◌, length, Ok, Err, IfOk, MatchResult, OnErr};
+ghost use Rattle.etcs_bits.specs.layout.Fault.{short};
+ghost use Rattle.etcs_bits.specs.bits.Number.{num_of_bits};
+ghost use Rattle.etcs_bits.specs.layout.Reading.{taken, field_at};
+ghost use Rattle.etcs_bits.specs.layout.Results.{Gives};
+
+use crate::bits::Bits;
+use crate::bits::conversions::num_of;
+use crate::layout::fault::{DecodeError, Fault, FaultKind};
+use std::alloc::Global;
+use std::marker::Model;
+
+/// The place where a reader stands: borrowed bits, and the place of the next bit. Contracts see it
+/// as such a place. None of its calls takes memory.
+#[derive(Drop)]
+pub struct Cursor<'a> {
+    bits: &'a [bool],
+    at: usize,
+}
+
+impl<'a> Model for Cursor<'a> {
+    ghost use Rattle.std.specs.Prelude.{length, ◌≤◌};
+    ghost use Rattle.etcs_bits.specs.layout.Rows.{Place};
+
+    ghost Value = { Place };
+
+    ghost view = { λ c. record { bits = c.bits.now; at = c.at } };
+
+    ghost invariant = { λ c. c.at ≤ length c.bits.now };
+}
+
+// The fault of a field that does not fit.
+#[cold]
+fn no_room(at: usize, end: usize) -> Fault
+    ensures { result ≡ record { at = at; end = end; why = FaultKind.Short } }
+{
+    Fault {
+        at,
+        end,
+        why: FaultKind::Short,
+    }
+}
+
+impl<'a> Cursor<'a> {
+    ghost use Rattle.etcs_bits.specs.variables.Variables.{free};
+
+    /// The beginning of the bits.
+    #[inline]
+    pub fn new(bits: &'a Bits) -> Cursor<'a>
+        ensures { result ≡ record { bits = bits.now; at = 0 } }
+    {
+        Cursor {
+            bits: bits.as_slice(),
+            at: 0,
+        }
+    }
+
+    /// The place of the next bit, counted from 0 at the start of the bits.
+    #[inline]
+    pub fn at(&self) -> usize
+        ensures place { result ≡ self.now.at }
+        ensures inside { result ≤ length self.now.bits }
+    {
+        // The type keeps it inside.
+        self.at
+    }
+
+    /// The number of bits that are left.
+    #[inline]
+    pub fn left(&self) -> usize
+        ensures { self.now.at + result ≡ length self.now.bits }
+    {
+        self.bits.len() - self.at
+    }
+
+    /// The number that the next `width` bits spell, most significant first (SUBSET-026, 7.5).
+    /// `width` is 1 to 32. The cursor then stands after them.
+    ///
+    /// If fewer bits are left, the error is a Short fault at the cursor, whose `end` is the length
+    /// of the bits. The cursor then does not move.
+    #[inline(always)]
+    pub fn take(&mut self, width: u32) -> Result<u64, Fault>
+        requires low { 1 ≤ width }
+        requires high { width ≤ 32 }
+        ensures exact { MatchResult result (λ n. taken width self.old ≡ Ok (n, self.new))
+            (λ f. taken width self.old ≡ Err f) }
+        ensures small { IfOk result (λ n. n < 2 ^ width) }
+        ensures err { OnErr result (self.new ≡ self.old) }
+    {
+        let len = self.bits.len();
+        if len - self.at < width as usize {
+            return Err(no_room(self.at, len));
+        }
+        let n = num_of(&self.bits[self.at..self.at + width as usize]);
+        self.at += width as usize;
+        Ok(n)
+    }
+
+    /// A copy of the next `width` bits, as they are. The cursor then stands after them.
+    ///
+    /// If fewer bits are left, the error is a Short fault at the cursor, whose `end` is the length
+    /// of the bits. After an error the cursor has not moved.
+    pub fn take_bits(&mut self, alloc: Global, width: usize) -> Result<Bits, DecodeError>
+        ensures gives { Gives num_of_bits result (field_at (free width) self.old) self.new }
+        ensures len { IfOk result (λ bits. length bits ≡ width) }
+        ensures err { OnErr result (self.new ≡ self.old) }
+
+        // If too few bits are left, no memory is asked for.
+        ensures short { length self.old.bits < self.old.at + width
+            → result ≡ Err (DecodeError.Fault (short self.old)) }
+    {
+        let len = self.bits.len();
+        if len - self.at < width {
+            return Err(DecodeError::Fault(no_room(self.at, len)));
+        }
+        let end = self.at + width;
+        let bits = Bits::copied(alloc, &self.bits[self.at..end])?;
+        self.at = end;
+        Ok(bits)
+    }
+
+    // The fault of a field of `width` bits that allows no number.
+    #[cold]
+    pub(crate) fn refusal(&self, width: u32) -> Fault
+        ensures short { length self.now.bits < self.now.at + width → result ≡ short self.now }
+        ensures spare { self.now.at + width ≤ length self.now.bits
+            → result ≡ record {
+              at = self.now.at;
+              end = self.now.at + width;
+              why = FaultKind.Spare;
+            } }
+    {
+        let len = self.bits.len();
+        if len - self.at < width as usize {
+            return no_room(self.at, len);
+        }
+        Fault {
+            at: self.at,
+            end: self.at + width as usize,
+            why: FaultKind::Spare,
+        }
+    }
+
+    /// A second cursor at the same place, to look ahead with.
+    #[inline]
+    pub fn fork(&self) -> Cursor<'a>
+        ensures same { result ≡ self.now }
+        ensures inside { result.at ≤ length result.bits }
+    {
+        Cursor {
+            bits: self.bits,
+            at: self.at,
+        }
+    }
+}

@@ -1,0 +1,113 @@
+//! Linking, packet 5.
+
+ghost use Rattle.std.specs.Prelude.{◌<◌, length};
+
+use crate::elements::Elements;
+use crate::error::BuildError;
+use crate::packet::Packet;
+use etcs_bits::{
+    Bits, Country, Cursor, DecodeError, Dir, Distance, GroupNumber, Layout, Memory, Plain, Ranged,
+    Same, Scale,
+};
+use std::alloc::Global;
+
+/// Packet 5, linking: the balise groups that come next. It lets a train notice a group that it
+/// misses. Contracts see the direction, and the scale with the links (SUBSET-026, 3.4.4 and 7.4.2).
+pub type Linking = Packet<5, Elements<Link>>;
+
+impl Packet<5, Elements<Link>> {
+    ghost use Rattle.etcs_profile.specs.Elements.{profile};
+    ghost use Rattle.etcs_profile.specs.Built.{IsBuilt};
+
+    /// Makes the packet of these links. The distance of the first link counts from the group that
+    /// sends the packet. The call takes no memory. After an error the links are lost.
+    ///
+    /// `TooMany`: there are more than 31 links after the first.
+    pub fn new(
+        dir: Dir,
+        scale: Scale,
+        first: Link,
+        further: Vec<Link>,
+    ) -> Result<Linking, BuildError>
+        ensures { IsBuilt result (dir, profile scale first further.items) (31 < length further.items) ⊥ }
+    {
+        // A packet with 32 links has at most 1,598 bits, so it is never too long.
+        Packet::build(dir, scale, first, further)
+    }
+}
+
+/// What the train does where it misses the group: Q_LINKREACTION, 2 bits. 0 is train trip, 1
+/// service brake, 2 nothing. 3 is spare: a Spare fault (SUBSET-026, 7.5.1).
+pub type Reaction = Ranged<2, 2, 4>;
+
+/// A balise group that comes, and how far away it is. A link has 39 bits, and 10 more where it
+/// names another country (SUBSET-026, 3.4.4 and 7.4.2).
+#[derive(Clone, Copy, Debug, PartialEq, Eq)]
+pub struct Link {
+    /// The distance from the group before: D_LINK, 15 bits, in the packet's scale.
+    pub distance: Distance,
+    /// The country or region of the group, if it differs from that of the group before:
+    /// Q_NEWCOUNTRY, 1 bit, and NID_C, 10 bits.
+    pub country: Option<Country>,
+    /// The number of the group in its country or region: NID_BG, 14 bits.
+    pub group: GroupNumber,
+    /// Whether the train passes the group in its nominal direction: Q_LINKORIENTATION, 1 bit.
+    pub nominal: bool,
+    /// What the train does where it misses the group: Q_LINKREACTION, 2 bits.
+    pub reaction: Reaction,
+    /// How exactly the group's place is known, in metres to either side: Q_LOCACC, 6 bits.
+    pub accuracy: Plain<6>,
+}
+
+impl Layout for Link {
+    ghost use Rattle.etcs_profile.specs.Linking.{link};
+
+    ghost format = { link };
+
+    #[tactic(auto, using(etcs_bits::proofs::PutLemmas::allowed_both, etcs_bits::proofs::FitLemmas::some_fit))]
+    fn is_allowed(&self) -> bool {
+        self.distance.is_allowed()
+            && self.country.is_allowed()
+            && self.group.is_allowed()
+            && self.nominal.is_allowed()
+            && self.reaction.is_allowed()
+            && self.accuracy.is_allowed()
+    }
+
+    #[tactic(auto, using(etcs_bits::proofs::WidthLemmas::width_both), unfolding(etcs_bits::specs::layout::Rows::alone))]
+    fn width(&self) -> u64 {
+        self.country.width().saturating_add(38)
+    }
+
+    #[tactic(auto, using(etcs_bits::proofs::PutLemmas::puts_then, etcs_bits::proofs::PutLemmas::keeps_front, etcs_bits::proofs::PutLemmas::allowed_both))]
+    fn put(&self, out: &mut Bits) -> Result<(), Memory> {
+        self.distance.put(out)?;
+        self.country.put(out)?;
+        self.group.put(out)?;
+        self.nominal.put(out)?;
+        self.reaction.put(out)?;
+        self.accuracy.put(out)
+    }
+
+    fn scan(alloc: Global, cur: &mut Cursor<'_>) -> Result<Self, DecodeError> {
+        Ok(Link {
+            distance: Layout::scan(alloc, cur)?,
+            country: Layout::scan(alloc, cur)?,
+            group: Layout::scan(alloc, cur)?,
+            nominal: Layout::scan(alloc, cur)?,
+            reaction: Layout::scan(alloc, cur)?,
+            accuracy: Layout::scan(alloc, cur)?,
+        })
+    }
+}
+
+impl Same for Link {
+    fn same(&self, other: &Self) -> bool {
+        self.distance.same(&other.distance)
+            && self.country.same(&other.country)
+            && self.group.same(&other.group)
+            && self.nominal.same(&other.nominal)
+            && self.reaction.same(&other.reaction)
+            && self.accuracy.same(&other.accuracy)
+    }
+}
