@@ -1,0 +1,11 @@
+pub mod PlaceLemmas
+pub mod MarkLemmas
+pub mod ReadingLemmas
+pub mod RefusalLemmas
+pub mod DecidedLemmas
+pub mod PassingLemmas
+pub mod SaidLemmas
+pub mod BlockLemmas
+pub mod PointedLemmas
+pub mod MissedLemmas
+pub mod StepLemmas

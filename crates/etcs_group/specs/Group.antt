@@ -1,0 +1,53 @@
+-- Balise groups and their marks (SUBSET-026, 3.16.2). A group is the telegrams of its balises, in the
+-- order of the document; a place is an index in it. By its mark, M_DUP, a balise declares that a
+-- neighbour carries the same information, so that a train may miss either of the two. What is made of
+-- that here is this project's rule.
+use Rattle.std.specs.Prelude.{◌≡◌, ◌≢◌, ℕ, zero, suc, ◌+◌, ◌<◌, Bool, not, ◌||◌, ◌==◌, nat_lt, if◌then◌else◌, List, length, slice_get, Option, Some, None, IsSome, option_and_then}
+use Rattle.std.specs.List.{AllPass}
+use Rattle.etcs_bits.specs.declared.variables.duplicate.Dup.{Dup}
+use Rattle.etcs_bits.specs.declared.variables.duplicate.Dup.TheVariants as dups
+use Rattle.etcs_packet.specs.declared.track.TrackPacket.{TrackPacket}
+use Rattle.etcs_packet.specs.Track.{track_number}
+use Rattle.etcs_telegram.specs.Record.{Telegram}
+use Rattle.etcs_group.specs.Places.{At}
+
+-- what a mark at number p names: the number after it, the one before it, or none
+abbrev pub named_by : Dup → ℕ → Option ℕ
+named_by dups.Single p = None
+named_by dups.Next p = Some (p + 1)
+named_by dups.Previous zero = None
+named_by dups.Previous (suc p) = Some p
+
+-- the partner of place p: the place that the mark there names, if it lies in the group
+abbrev pub partner_of : List Telegram → ℕ → Option ℕ
+partner_of group p =
+    option_and_then (λ q. if nat_lt q (length group) then Some q else None)
+    (option_and_then (λ t. named_by t.header.dup p) (slice_get group p))
+
+-- the same version, identity and link flag
+pub record AreAlike (t u : Telegram) : Type 0 where
+  pub version : t.header.version ≡ u.header.version
+  pub identity : t.header.identity ≡ u.header.identity
+  pub linked : t.header.linked ≡ u.header.linked
+
+-- whether the meaning of a packet is modelled: that of all but packets 0, 136 and 254
+abbrev pub is_modelled : TrackPacket → Bool
+is_modelled p = not ((track_number p == 0) || ((track_number p == 136) || (track_number p == 254)))
+
+-- A well-formed group. Each position (N_PIG) is the place, each total (N_TOTAL) and one is the count,
+-- all balises are alike, each mark has a partner, whose partner is the balise itself, and every packet
+-- is modelled.
+pub record IsWellFormed (group : List Telegram) : Type 0 where
+  pub placed : (b : ℕ) (t : Telegram) → At group b t → t.header.position ≡ b
+  pub counted : (b : ℕ) (t : Telegram) → At group b t → t.header.total + 1 ≡ length group
+  pub alike : (b : ℕ) (t first : Telegram) → At group b t → At group 0 first → AreAlike t first
+  pub inside : (b : ℕ) (t : Telegram) → At group b t → t.header.dup ≢ dups.Single
+      → IsSome (partner_of group b)
+  pub answered : (b p : ℕ) → partner_of group b ≡ Some p → partner_of group p ≡ Some b
+  pub modelled : (b : ℕ) (t : Telegram) → At group b t → AllPass is_modelled t.packets
+
+-- No counter (M_MCOUNT) is 254, which fits no message. Any two below 254 are equal. 255 fits them all.
+pub record HasOneCounter (telegrams : List Telegram) : Type 0 where
+  pub fits : (i : ℕ) (t : Telegram) → At telegrams i t → t.header.counter ≢ 254
+  pub equal : (i j : ℕ) (t u : Telegram) → At telegrams i t → At telegrams j u
+      → t.header.counter < 254 → u.header.counter < 254 → t.header.counter ≡ u.header.counter

@@ -1,0 +1,50 @@
+-- The message of an accepted list, and what a group says with nothing missed (this project's rule,
+-- after SUBSET-026, 3.16.2). Of a pair of duplicates the one that is passed first speaks.
+use Rattle.std.specs.Prelude.{◌≡◌, ℕ, ◌+◌, nat_lt, Bool, false, if◌then◌else◌, List, [], length, Option, Some, take, filter, flat_map}
+use Rattle.std.specs.List.{enumerate_from, list_any}
+use Rattle.etcs_bits.specs.declared.variables.duplicate.Dup.{Dup}
+use Rattle.etcs_bits.specs.declared.variables.duplicate.Dup.TheVariants as dups
+use Rattle.etcs_packet.specs.declared.run.Run.{Run}
+use Rattle.etcs_packet.specs.declared.run.Run.TheVariants as runs
+use Rattle.etcs_packet.specs.declared.track.TrackPacket.{TrackPacket}
+use Rattle.etcs_packet.specs.Track.{holds}
+use Rattle.etcs_telegram.specs.Record.{Telegram}
+use Rattle.etcs_group.specs.Places.{At}
+use Rattle.etcs_group.specs.Group.{partner_of}
+use Rattle.etcs_group.specs.Reading.{in_passing_order}
+use Rattle.etcs_group.specs.Assembly.{names}
+
+-- the packets of a telegram that hold in the running direction
+abbrev pub held_by : Run → Telegram → List TrackPacket
+held_by run t = filter (holds run) t.packets
+
+-- those of the telegram at place i; none where its mark names a position at an earlier place
+abbrev pub given_at : Run → List Telegram → ℕ → Telegram → List TrackPacket
+given_at run read i t =
+    if list_any (λ u. names t u.header.position) (take i read) then [] else held_by run t
+
+-- the packets of a list of telegrams, in passing order
+abbrev pub packets_of : Run → List Telegram → List TrackPacket
+packets_of run read = flat_map (λ e. given_at run read e.0 e.1) (enumerate_from 0 read)
+
+-- ---- by the places of a group alone
+
+-- whether the balise at place b of n is silent: it is passed after the one in the group that its mark names
+abbrev pub is_silent : Run → Dup → ℕ → ℕ → Bool
+is_silent runs.Nominal dups.Previous n b = nat_lt 0 b
+is_silent runs.Reverse dups.Next n b = nat_lt (b + 1) n
+is_silent run mark n b = false
+
+-- the packets of the balise at place b of n that are said
+abbrev pub said_at : Run → ℕ → ℕ → Telegram → List TrackPacket
+said_at run n b t = if is_silent run t.header.dup n b then [] else held_by run t
+
+-- what a group says: the packets of the balises that are not silent, in passing order
+abbrev pub said_by : Run → List Telegram → List TrackPacket
+said_by run group =
+    flat_map (λ e. said_at run (length group) e.0 e.1) (in_passing_order run (enumerate_from 0 group))
+
+-- each balise and its partner have equal lists of packets that hold in the running direction
+abbrev pub HasEqualPairs : Run → List Telegram → Type 0
+HasEqualPairs run group = (b p : ℕ) (t u : Telegram) → partner_of group b ≡ Some p
+    → At group b t → At group p u → held_by run t ≡ held_by run u

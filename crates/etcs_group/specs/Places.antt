@@ -1,0 +1,20 @@
+-- Places of a list, which are counted from 0, and what stands there.
+use Rattle.std.specs.Prelude.{◌≡◌, ℕ, ◌<◌, Bool, List, map, find, slice_get, Option, Some}
+use Rattle.std.specs.List.{range_with_len}
+use Rattle.std.specs.Borrow.{Bor}
+
+-- x stands at place i
+abbrev pub At : {X : Type 0} → List X → ℕ → X → Type 0
+At xs i x = slice_get xs i ≡ Some x
+
+-- the least of the numbers below n that passes the test
+abbrev pub least : ℕ → (ℕ → Bool) → Option ℕ
+least n test = find test (range_with_len 0 n)
+
+-- P holds of k, and of no number below it
+abbrev pub IsLeast : (ℕ → Type 0) → ℕ → Type 0
+IsLeast P k = P k × ((j : ℕ) → j < k → P j → ⊥)
+
+-- what the references of a list refer to
+abbrev pub pointed : {X : Type 0} → List (Bor X) → List X
+pointed xs = map (λ x. x.now) xs

@@ -1,0 +1,17 @@
+-- What a train reads of a group (SUBSET-026, 3.4.2): the telegrams that it does not miss, in the order
+-- in which it passes the balises.
+use Rattle.std.specs.Prelude.{ℕ, Bool, not, List, map, reverse, filter}
+use Rattle.std.specs.List.{enumerate_from}
+use Rattle.etcs_packet.specs.declared.run.Run.{Run}
+use Rattle.etcs_packet.specs.declared.run.Run.TheVariants as runs
+use Rattle.etcs_telegram.specs.Record.{Telegram}
+
+-- a list by rising place, put into the order in which the places are passed
+abbrev pub in_passing_order : {X : Type 0} → Run → List X → List X
+in_passing_order runs.Nominal xs = xs
+in_passing_order runs.Reverse xs = reverse xs
+
+-- the reading of a group: the telegrams whose places are not missed
+abbrev pub reading_of : Run → (ℕ → Bool) → List Telegram → List Telegram
+reading_of run missed group =
+    in_passing_order run (map (λ e. e.1) (filter (λ e. not (missed e.0)) (enumerate_from 0 group)))

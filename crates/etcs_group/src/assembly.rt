@@ -1,0 +1,91 @@
+//! The message of telegrams that were read.
+
+ghost use Rattle.std.specs.Prelude.{◌≡◌, ◌≢◌, ◌++◌, [], Err, Some, IfErr, IfOk, OnErr, OnOk};
+ghost use Rattle.std.specs.List.{list_any};
+ghost use Rattle.etcs_group.specs.declared.refused.Refused.{Refused};
+ghost use Rattle.etcs_group.specs.Places.{pointed};
+ghost use Rattle.etcs_group.specs.Assembly.{IsAccepted, names, refusal_of};
+ghost use Rattle.etcs_group.specs.Packets.{held_by, packets_of};
+
+use crate::header::{names, position};
+use crate::refusal::first_refusal;
+use crate::refused::Refused;
+use etcs_bits::Memory;
+use etcs_packet::{Run, TrackPacket};
+use etcs_telegram::Telegram;
+use std::alloc::Global;
+
+// Whether the telegram's mark names a position that was passed earlier.
+fn is_named_before(earlier: &[&Telegram], telegram: &Telegram) -> bool
+    ensures { result ≡ list_any (λ u. names telegram.now u.header.position) (pointed earlier.now) }
+{
+    'earlier: for passed in earlier {
+        if names(telegram, position(passed)) {
+            return true;
+        }
+    }
+    false
+}
+
+// Appends the telegram's packets that hold in the running direction.
+fn push_held<'a>(
+    packets: &mut Vec<&'a TrackPacket>,
+    run: Run,
+    telegram: &'a Telegram,
+) -> Result<(), Memory>
+    ensures ok { OnOk result (pointed packets.new.items ≡ pointed packets.old.items ++ held_by run telegram.now) }
+    ensures memory { OnErr result (held_by run telegram.now ≢ []) }
+{
+    'packets: for packet in &telegram.packets {
+        if packet.holds_in(run) {
+            packets.push(packet)?;
+        }
+    }
+    Ok(())
+}
+
+// The packets of telegrams, in passing order.
+fn packets<'a>(
+    alloc: Global,
+    run: Run,
+    read: &[&'a Telegram],
+) -> Result<Vec<&'a TrackPacket>, Memory>
+    ensures ok { IfOk result (λ packets. pointed packets.items ≡ packets_of run (pointed read.now)) }
+    ensures memory { OnErr result (packets_of run (pointed read.now) ≢ []) }
+{
+    let mut packets = Vec::new(alloc);
+    'telegrams: for (place, telegram) in read.iter().enumerate() {
+        if !is_named_before(&read[..place], telegram) {
+            push_held(&mut packets, run, telegram)?;
+        }
+    }
+    Ok(packets)
+}
+
+/// The one message of telegrams, which stand in the order in which a train passed their balises: their
+/// packets that hold in the running direction, in that order. A telegram whose mark names a position
+/// that was passed earlier gives none. The packets are not copied. (This project's rule, after
+/// SUBSET-026, 3.16.2.)
+///
+/// Telegrams that make no message are refused for the first reason of [`Refused`] that holds, even where
+/// no memory is left. Memory runs out only where there are packets to give.
+pub fn assemble<'a>(
+    alloc: Global,
+    run: Run,
+    read: &[&'a Telegram],
+) -> Result<Vec<&'a TrackPacket>, Refused>
+    ensures ok { IfOk result (λ packets. pointed packets.items ≡ packets_of run (pointed read.now)) }
+    ensures accepted { IfOk result (λ _. IsAccepted run (pointed read.now)) }
+
+    // Found before memory is asked for.
+    ensures refused { (why : Refused) → refusal_of run (pointed read.now) ≡ Some why → result ≡ Err why }
+
+    // An accepted list wants for memory alone, and only where it has packets.
+    ensures memory { IsAccepted run (pointed read.now)
+        → IfErr result (λ why. (why ≡ Refused.Memory) × (packets_of run (pointed read.now) ≢ [])) }
+{
+    match first_refusal(run, read) {
+        Some(why) => Err(why),
+        None => Ok(packets(alloc, run, read)?),
+    }
+}

@@ -1,0 +1,140 @@
+//! The first reason to refuse telegrams. Each is looked for without memory.
+
+ghost use Rattle.std.specs.Prelude.{◌≡◌, ◌<◌, length};
+ghost use Rattle.etcs_group.specs.Places.{least, pointed};
+ghost use Rattle.etcs_group.specs.Assembly.{agree, disagrees_at, is_absent, is_miscounted_at, is_misplaced_at, positions_of, refusal_of};
+
+use crate::header::{comes_after, counter, header, position, stands_for, total};
+use crate::refused::Refused;
+use etcs_packet::Run;
+use etcs_telegram::{Header, Telegram};
+
+// Whether two headers have the same version, identity, total and link flag.
+fn agree(this: &Header, that: &Header) -> bool
+    ensures { result ≡ agree this.now that.now }
+{
+    this.version == that.version
+        && this.identity == that.identity
+        && this.total == that.total
+        && this.linked == that.linked
+}
+
+fn disagrees_at(read: &[&Telegram], place: usize) -> bool
+    requires { place < length read.now }
+    ensures { result ≡ disagrees_at (pointed read.now) place }
+{
+    !agree(header(read[0]), header(read[place]))
+}
+
+// The least place that disagrees with place 0.
+fn first_disagreement(read: &[&Telegram]) -> Option<usize>
+    ensures { result ≡ least (length (pointed read.now)) (disagrees_at (pointed read.now)) }
+{
+    'places: for place in 0..read.len() {
+        if disagrees_at(read, place) {
+            return Some(place);
+        }
+    }
+    None
+}
+
+fn is_misplaced_at(run: Run, read: &[&Telegram], place: usize) -> bool
+    requires { place < length read.now }
+    ensures { result ≡ is_misplaced_at run (pointed read.now) place }
+{
+    let telegram: &Telegram = read[place];
+    if total(telegram) < position(telegram) {
+        return true;
+    }
+    place > 0 && !comes_after(run, read[place - 1], telegram)
+}
+
+// The least place that is out of order.
+fn first_misplaced(run: Run, read: &[&Telegram]) -> Option<usize>
+    ensures { result ≡ least (length (pointed read.now)) (is_misplaced_at run (pointed read.now)) }
+{
+    'places: for place in 0..read.len() {
+        if is_misplaced_at(run, read, place) {
+            return Some(place);
+        }
+    }
+    None
+}
+
+fn is_absent(read: &[&Telegram], wanted: u32) -> bool
+    requires { wanted < 8 }
+    ensures { result ≡ is_absent (pointed read.now) wanted }
+{
+    'telegrams: for telegram in read {
+        if stands_for(telegram, wanted) {
+            return false;
+        }
+    }
+    true
+}
+
+// The least position, up to the total of place 0, for which no telegram stands.
+fn first_absent(read: &[&Telegram]) -> Option<usize>
+    requires { 0 < length read.now }
+    ensures { result ≡ least (positions_of (pointed read.now)) (is_absent (pointed read.now)) }
+{
+    let count = total(read[0]) + 1;
+    'positions: for wanted in 0..count {
+        if is_absent(read, wanted) {
+            return Some(wanted as usize);
+        }
+    }
+    None
+}
+
+fn is_miscounted_at(read: &[&Telegram], place: usize) -> bool
+    requires { place < length read.now }
+    ensures { result ≡ is_miscounted_at (pointed read.now) place }
+{
+    let own = counter(read[place]);
+    if own >= 254 {
+        return own == 254;
+    }
+    'earlier: for earlier in &read[..place] {
+        let other = counter(earlier);
+        if other < 254 && other != own {
+            return true;
+        }
+    }
+    false
+}
+
+// The least place whose counter does not fit.
+fn first_miscounted(read: &[&Telegram]) -> Option<usize>
+    ensures { result ≡ least (length (pointed read.now)) (is_miscounted_at (pointed read.now)) }
+{
+    'places: for place in 0..read.len() {
+        if is_miscounted_at(read, place) {
+            return Some(place);
+        }
+    }
+    None
+}
+
+// The first reason to refuse the telegrams, if there is one. The order of the reasons keeps this linear:
+// where none disagrees and none is out of order, there are eight telegrams at most.
+pub(crate) fn first_refusal(run: Run, read: &[&Telegram]) -> Option<Refused>
+    ensures { result ≡ refusal_of run (pointed read.now) }
+{
+    if read.is_empty() {
+        return Some(Refused::Nothing);
+    }
+    if let Some(place) = first_disagreement(read) {
+        return Some(Refused::Disagree(place));
+    }
+    if let Some(place) = first_misplaced(run, read) {
+        return Some(Refused::Order(place));
+    }
+    if let Some(position) = first_absent(read) {
+        return Some(Refused::Absent(position));
+    }
+    match first_miscounted(read) {
+        Some(place) => Some(Refused::Counter(place)),
+        None => None,
+    }
+}
