@@ -58,11 +58,15 @@ fn main(rt: HostRuntime) -> io::Result<()> {
     if let Some(telegram) = telegram(rt.alloc(), "a102ff802000") {
         'counts: for count in [100_000usize, 1_000_000] {
             if let Some(read) = times(rt.alloc(), &telegram, count) {
-                let start = Instant::now(&rt)?;
-                let refused = assemble(rt.alloc(), Run::Nominal, read.as_slice()).err();
-                let spent = start.elapsed(&rt)?.as_micros();
-                let is_order = refused == Some(Refused::Order(1));
-                println!(rt; "{count} telegrams: Order(1) {is_order}, {spent} us")?;
+                let mut least = u128::MAX;
+                'calls: for _ in 0..10 {
+                    let start = Instant::now(&rt)?;
+                    let refused = assemble(rt.alloc(), Run::Nominal, read.as_slice()).err();
+                    if refused == Some(Refused::Order(1)) {
+                        least = least.min(start.elapsed(&rt)?.as_micros());
+                    }
+                }
+                println!(rt; "{count} telegrams: Order(1), {least} us")?;
             }
         }
     }

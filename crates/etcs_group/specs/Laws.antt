@@ -22,19 +22,19 @@ pub record IsDecided (run : Run) (group : List Telegram) (missed : ℕ → Bool)
   pub absent : (b : ℕ) → b < length group → IsFalse (missed b) → (IsCovered group missed → ⊥)
       → (p : ℕ) × IsLeast (IsLost group missed) p × (refusal_of run s ≡ Some (reasons.Absent p))
 
--- In a well-formed group whose counters fit, the reading is decided so for each set of missed balises.
+-- This holds of the reading of each well-formed group whose counters fit, for each set of its places.
 abbrev pub ReadingsAreDecided : Type 0
 ReadingsAreDecided = (run : Run) (group : List Telegram) (missed : ℕ → Bool)
     → IsWellFormed group → HasOneCounter group → 0 < length group → IsSetOf group missed
     → IsDecided run group missed (reading_of run missed group)
 
--- What a group says is the message of its reading with nothing missed. If the duplicates of each pair
--- have equal packets, it is that of each covered reading.
+-- What a group says is the message of its reading with nothing missed. If each balise and its partner
+-- have equal packets, it is the message of each covered reading too.
 pub record SaysTheSame (run : Run) (group : List Telegram) : Type 0 where
   pub full : said_by run group ≡ packets_of run (reading_of run none_missed group)
   pub covered : HasEqualPairs run group → (missed : ℕ → Bool) → IsCovered group missed
       → packets_of run (reading_of run missed group) ≡ said_by run group
 
--- So it is in each well-formed group.
+-- Both hold in each well-formed group.
 abbrev pub ReadingsSayTheSame : Type 0
 ReadingsSayTheSame = (run : Run) (group : List Telegram) → IsWellFormed group → SaysTheSame run group

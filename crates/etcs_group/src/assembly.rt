@@ -62,13 +62,13 @@ fn packets<'a>(
     Ok(packets)
 }
 
-/// The one message of telegrams, which stand in the order in which a train passed their balises: their
-/// packets that hold in the running direction, in that order. A telegram whose mark names a position
-/// that was passed earlier gives none. The packets are not copied. (This project's rule, after
-/// SUBSET-026, 3.16.2.)
+/// The message that a train makes of telegrams, which stand in the order in which it passed their
+/// balises: their packets that hold in the running direction, in that order. A telegram whose mark names
+/// a position that was passed earlier gives none, since its duplicate gave them. The packets are not
+/// copied. (This project's rule, after SUBSET-026, 3.16.2.)
 ///
-/// Telegrams that make no message are refused for the first reason of [`Refused`] that holds, even where
-/// no memory is left. Memory runs out only where there are packets to give.
+/// Telegrams that make no message are refused for the first reason of [`Refused`] that holds, even if no
+/// memory is left. Memory is asked for only if there are packets to give.
 pub fn assemble<'a>(
     alloc: Global,
     run: Run,
@@ -80,7 +80,7 @@ pub fn assemble<'a>(
     // Found before memory is asked for.
     ensures refused { (why : Refused) → refusal_of run (pointed read.now) ≡ Some why → result ≡ Err why }
 
-    // An accepted list wants for memory alone, and only where it has packets.
+    // The only error of an accepted list is want of memory, and only where it has packets.
     ensures memory { IsAccepted run (pointed read.now)
         → IfErr result (λ why. (why ≡ Refused.Memory) × (packets_of run (pointed read.now) ≢ [])) }
 {

@@ -4,8 +4,8 @@
 //! miss a balise whose partner it reads ([`is_covered`]). What it reads is [`Group::reading`], and
 //! [`assemble`] makes one message of that, or refuses it ([`Refused`]). Read `assembly.rt` first,
 //! with `specs/Assembly.antt` and `specs/Packets.antt`, then `missed.rt` with `specs/Missed.antt`. The
-//! laws in [`laws`] are what the check of a line stands on: the message never depends on what was
-//! missed. The crate leaves out how a train learns its direction, and how it reacts to a refusal.
+//! laws in [`laws`] state when the message does not depend on what was missed. The crate leaves out
+//! how a train learns its direction, and how it reacts to a refusal.
 #![tactic(auto)]
 
 mod assembly;

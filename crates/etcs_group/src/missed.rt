@@ -52,9 +52,9 @@ fn is_served(telegrams: &[Telegram], missed: Missed, place: usize) -> bool
     }
 }
 
-/// Whether the train reads enough: each missed balise has a partner, and that one is read. The partner
-/// is the neighbour that its mark names, by index, if it lies in the group. A place past the group's
-/// end has none. (This project's rule, after SUBSET-026, 3.16.2.)
+/// Whether each missed balise has a partner that is read. The partner of a balise is the neighbour that
+/// its mark names, by index, if it lies in the group. A bit past the group's end is never covered. (This
+/// project's rule, after SUBSET-026, 3.16.2.)
 pub fn is_covered(group: &Group, missed: Missed) -> bool
     ensures { IsTrue result ↔ IsCovered group.now (is_missed missed.0) }
 {
