@@ -4,15 +4,17 @@
 # For each count of telegrams of 210 bits with a header alone (100,000 and 1,000,000 if none is given)
 # it stands beside bench/decode.py, ten lines of Python: both read the same file and have to write the
 # same bytes. Then half as many telegrams of 830 bits, filled with packets: what it writes has to be
-# what bench/packets.py chose to put in. At last a line of a million digits has to be refused. The
-# first failure ends the run with status 1. The counts above take 2 GB of the temporary folder, which
-# TMPDIR names.
+# what bench/packets.py chose to put in. At last a line of a million digits has to be refused. Where
+# valgrind is there, it counts the instructions for each byte of a thousand telegrams, which no load of
+# the machine changes. The first failure ends the run with status 1. The counts above take 2 GB of the
+# temporary folder, which TMPDIR names.
 #
 # BALISECHECK names another program to measure.
 set -euo pipefail
 
 here=$(cd "$(dirname "${BASH_SOURCE[0]}")" && pwd)
 program=${BALISECHECK:-$here/../balisecheck}
+binary=${BALISECHECK:-$here/../out/balisecheck} # valgrind counts no instructions of a start script
 [ $# -gt 0 ] || set -- 100000 1000000
 room=$(mktemp -d)
 trap 'rm -rf "$room"' EXIT
@@ -77,6 +79,20 @@ refuse_long_line() {
     echo "a line of 1,000,000 digits is refused in $elapsed s, with at most $memory MiB"
 }
 
+# instructions INPUT: how many the program takes for it.
+instructions() {
+    valgrind --tool=callgrind --callgrind-out-file=/dev/null "$binary" decode <"$1" 2>&1 >/dev/null |
+        sed -n 's/.*Collected : *\([0-9]*\).*/\1/p'
+}
+
+# Those of the start are not counted.
+count_instructions() {
+    python3 "$here/packets.py" 1000 >"$room/telegrams"
+    awk -v all="$(instructions "$room/telegrams")" -v start="$(instructions /dev/null)" \
+        -v bytes="$(wc -c <"$room/telegrams")" \
+        'BEGIN { printf "%.1f instructions a byte of input\n", (all - start) / bytes }'
+}
+
 # Builds it, so that no build is measured.
 "$program" decode </dev/null || fail "no telegrams: status $? in place of 0"
 
@@ -91,3 +107,6 @@ for count; do
     compare_packets $(((count + 1) / 2))
 done
 refuse_long_line
+if command -v valgrind >/dev/null && [ -x "$binary" ]; then
+    count_instructions
+fi

@@ -1,40 +1,48 @@
 -- Bytes of bits, filled up with zeros.
-use Rattle.std.proofs.Common.{◌≡◌, ℕ, zero, suc, ◌+◌, ◌-◌, ◌*◌, ◌%◌, ◌^◌, ◌<◌, ◌≤◌, Bool, false, List, [], ◌∷◌, ◌++◌, length, take, drop, replicate, get_or, set, refl, sym, ap, ◌∙◌, arith, add-one, bit_or, inl, inr}
-use Rattle.std.proofs.lemmas.Bool.{cases_lt}
-use Rattle.std.proofs.lemmas.List.{get_or_past, get_or_append_left, get_or-append_right, get_or-replicate, get_or-drop, drop-drop, take_more_set, length-append, length-replicate, length-drop}
-use mir.Val.{bool_byte}
-use Rattle.etcs_bits.specs.bits.Number.{num_of_bits}
-use Rattle.etcs_bits.proofs.ConversionLemmas.{number_more}
+use Rattle.std.proofs.Common.{◌≡◌, ℕ, zero, suc, ◌+◌, ◌-◌, ◌*◌, ◌^◌, ◌<◌, ◌≤◌, Bool, false, List, [], ◌∷◌, ◌++◌, length, take, drop, replicate, set, refl, sym, ap, ◌∙◌, arith, add-one}
+use Rattle.std.proofs.Math.Seq.{take-append-add}
+use Rattle.std.proofs.lemmas.Nat.{pow_pos}
+use Rattle.std.proofs.lemmas.List.{take_all, take-append-le, drop-append-le, take-replicate, drop-drop, take_more_set, length-append, length-replicate, length-drop, length-take-le}
+use Rattle.etcs_bits.specs.bits.Number.{num_of_bits, num}
+use Rattle.etcs_bits.proofs.NumberLemmas.{length-num, num_of_bits-append, num_of_bits-lt, num_of_bits-small}
+use Rattle.etcs_bits.proofs.ViewLemmas.{zeros_are}
 use Rattle.balisecheck.specs.BitText.{bytes_for, bytes_in, filled_up}
 
 -- the bits and the zeros are whole bytes
 pub filled_length : (bits : List Bool) → length (filled_up bits) ≡ 8 * bytes_for (length bits)
 filled_length bits = rw (length-append, length-replicate) (omega arith)
 
-zero_bit : (n i : ℕ) → get_or (replicate n false) i false ≡ false
-zero_bit n i = elim (cases_lt i n) [
-  | inl low ↦ get_or-replicate n i false false low
-  | inr past ↦ get_or_past (replicate n false) i false (rw length-replicate past)
-]
-
--- zeros follow the bits
-pub filled_bit : (bits : List Bool) (i : ℕ) → get_or (filled_up bits) i false ≡ get_or bits i false
-filled_bit bits i =
+-- eight of the bits
+pub whole_byte : (bits : List Bool) (at : ℕ) → at + 8 ≤ length bits → take 8 (drop at bits) ≡ take 8 (drop at (filled_up bits))
+whole_byte bits at inside =
     let zeros = replicate (8 * bytes_for (length bits) - length bits) false in
-    elim (cases_lt i (length bits)) [
-      | inl low ↦ get_or_append_left bits zeros false i low
-      | inr past ↦ get_or-append_right bits zeros (length bits) i false refl past ∙ zero_bit (8 * bytes_for (length bits) - length bits) (i - length bits) ∙ sym (get_or_past bits i false past)
-    ]
+    sym (ap (take 8) (drop-append-le at bits zeros (omega arith)) ∙ take-append-le 8 (drop at bits) zeros (rw length-drop (omega arith)))
 
--- one more bit of a byte
-pub byte_more : (bits : List Bool) (at n i : ℕ) → at + 8 ≤ 8 * bytes_for (length bits) → i < 8
-    → n ≡ num_of_bits (take i (drop at (filled_up bits)))
-    → bit_or (n * 2 % 2 ^ 64) (bool_byte (get_or bits (at + i) false)) ≡ num_of_bits (take (i + 1) (drop at (filled_up bits)))
-byte_more bits at n i inside low so_far =
-    let filled = filled_up bits in
-    let long : i < length (drop at filled) = rw (length-drop, filled_length bits) (omega arith) in
-    let bit : get_or (drop at filled) i false ≡ get_or bits (at + i) false = get_or-drop at filled i false ∙ filled_bit bits (at + i) in
-    rw bit at (number_more (drop at filled) n i long (omega arith) so_far)
+-- the last bits, and zeros
+pub last_byte : (bits : List Bool) (at left : ℕ) → at + left ≡ length bits → left < 8 → at + 8 ≤ 8 * bytes_for (length bits)
+    → num_of_bits (take left (drop at bits)) * 2 ^ (8 - left) ≡ num_of_bits (take 8 (drop at (filled_up bits)))
+last_byte bits at left last few inside =
+    let z = 8 * bytes_for (length bits) - length bits in
+    let rest = drop at bits in
+    let count : length rest ≡ left = rw length-drop (omega arith) in
+    let whole : 8 ≡ length rest + (8 - left) = omega (arith, count) in
+    let filled : take 8 (drop at (filled_up bits)) ≡ rest ++ num (8 - left) 0 =
+    ap (take 8) (drop-append-le at bits (replicate z false) (omega arith))
+    ∙ ap (λ n. take n (rest ++ replicate z false)) whole
+    ∙ take-append-add rest (replicate z false) (8 - left)
+    ∙ ap (λ ys. rest ++ ys) (take-replicate (8 - left) z false (omega arith) ∙ sym (zeros_are (8 - left))) in
+    let zero : num_of_bits (num (8 - left) 0) ≡ 0 = num_of_bits-small (8 - left) 0 (pow_pos (8 - left)) in
+    let sum : num_of_bits (rest ++ num (8 - left) 0) ≡ num_of_bits rest * 2 ^ (8 - left) =
+    num_of_bits-append rest (num (8 - left) 0) ∙ rw (length-num, zero) (omega arith) in
+    ap (λ bs. num_of_bits bs * 2 ^ (8 - left)) (take_all left rest (omega arith)) ∙ sym (ap num_of_bits filled ∙ sum)
+
+-- a byte has eight bits
+pub byte_small : (bits : List Bool) (at : ℕ) → at + 8 ≤ 8 * bytes_for (length bits) → num_of_bits (take 8 (drop at (filled_up bits))) < 256
+byte_small bits at inside =
+    let rest = drop at (filled_up bits) in
+    let count : length (take 8 rest) ≡ 8 = length-take-le 8 rest (rw (length-drop, filled_length bits) (omega (arith, inside))) in
+    let small = num_of_bits-lt (take 8 rest) in
+    rw count at small
 
 -- one more byte
 bytes_next : (n : ℕ) (bits : List Bool)

@@ -1,12 +1,12 @@
 //! Bits as hexadecimal text, made on the stack without a request for memory.
 
-ghost use Rattle.std.specs.Prelude.{◌≡◌, ◌+◌, ◌*◌, ◌≤◌, false, length, take, drop, slice_index_or, OnOk};
+ghost use Rattle.std.specs.Prelude.{◌≡◌, ◌+◌, ◌*◌, ◌<◌, ◌≤◌, length, take, drop, OnOk};
 ghost use Rattle.etcs_bits.specs.bits.Number.{num_of_bits};
 ghost use Rattle.serde_json.specs.Data.{string};
 ghost use Rattle.balisecheck.specs.BitText.{bit_text, bytes_for, bytes_of_bits, filled_up};
 ghost use Rattle.balisecheck.specs.Forms.{always, SendsEntry};
 
-use etcs_bits::Bits;
+use etcs_bits::{BitSlice, Bits};
 use serde::Serializer;
 
 // The number of bytes for 8,168 bits. No packet's body has more bits.
@@ -15,29 +15,22 @@ const MOST_BYTES: usize = 1021;
 // The number of hexadecimal digits of these bytes.
 const MOST_DIGITS: usize = 2042;
 
-// The bit at this place, or zero after the last bit.
+// The byte that eight bits make, the first of them at this place. Zeros follow the last bit.
 #[inline]
-fn bit_at(bits: &Bits, place: usize) -> bool
-    ensures { result ≡ slice_index_or bits.now place false }
-{
-    place < bits.len() && bits.bit(place)
-}
-
-// The byte that eight bits make, the first of them at this place.
-fn byte_at(bits: &Bits, at: usize) -> u8
+fn byte_at(bits: &BitSlice<'_>, at: usize) -> u8
     requires inside { at + 8 ≤ 8 * bytes_for (length bits.now) }
-    requires short { length bits.now ≤ 8168 }
+    requires not_past { at < length bits.now }
     ensures { result ≡ num_of_bits (take 8 (drop at (filled_up bits.now))) }
 {
-    let mut byte = 0u64;
-    'bits: for i in 0..8 {
-        byte = byte << 1 | bit_at(bits, at + i) as u64;
+    let left = bits.len() - at;
+    if left >= 8 {
+        return bits.num(at, 8) as u8;
     }
-    byte as u8
+    (bits.num(at, left as u32) << (8 - left)) as u8
 }
 
 // The bytes of the bits. The rest of the array carries no information.
-fn bytes_of(bits: &Bits) -> [u8; MOST_BYTES]
+fn bytes_of(bits: &BitSlice<'_>) -> [u8; MOST_BYTES]
     requires { length bits.now ≤ 8168 }
     ensures { take (bytes_for (length bits.now)) result ≡ bytes_of_bits bits.now }
 {
@@ -55,7 +48,7 @@ pub fn send_bits<S: Serializer>(out: &mut S, key: &str, bits: &Bits) -> Result<(
     ensures { OnOk result (SendsEntry (always key.now (string (bit_text bits.now)))
         (S.written out.old) (S.written out.new)) }
 {
-    let bytes = bytes_of(bits);
+    let bytes = bytes_of(&bits.slice());
     let count = bits.len().div_ceil(8);
     let mut digits = [0; MOST_DIGITS];
     let room = &mut digits[..2 * count];

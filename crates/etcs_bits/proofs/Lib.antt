@@ -7,7 +7,11 @@ pub mod FieldLemmas
 pub mod LayoutLemmas
 pub mod PutLemmas
 pub mod WidthLemmas
-pub mod ConversionLemmas
+pub mod LoadLemmas
+pub mod ViewLemmas
+pub mod StoreLemmas
+pub mod AppendLemmas
+pub mod StepLemmas
 pub mod ListLemmas
 pub mod SizedLemmas
 pub mod ValueLemmas

@@ -1,8 +1,8 @@
 -- Laws of the bits of numbers and of bytes.
-use Rattle.std.proofs.Common.{◌≡◌, ℕ, zero, suc, ◌+◌, ◌*◌, ◌/◌, ◌%◌, ◌^◌, ◌<◌, ◌≤◌, Bool, true, false, List, [], ◌∷◌, ◌++◌, length, take, drop, refl, sym, ap, ap₂, ◌∙◌, arith, length-append, length-drop, append_assoc, eqb}
+use Rattle.std.proofs.Common.{◌≡◌, ℕ, zero, suc, ◌+◌, ◌-◌, ◌*◌, ◌/◌, ◌%◌, ◌^◌, ◌<◌, ◌≤◌, Bool, true, false, List, [], ◌∷◌, ◌++◌, length, take, drop, refl, sym, ap, ap₂, ◌∙◌, arith, length-append, length-drop, append_assoc, eqb}
 use Rattle.std.proofs.Common.{mod-eq_of_lt}
 use Rattle.std.proofs.lemmas.Nat.{pow-add, mod-pow-add, field_of, shr_high, mod_low}
-use Rattle.std.proofs.lemmas.List.{take-append-drop, drop-drop, drop_at, append-nil}
+use Rattle.std.proofs.lemmas.List.{take-append-drop, drop-drop, drop-take, take-take, drop_at, append-nil}
 use Rattle.std.proofs.Math.Seq.{drop-nil, take-nil, take-append-add}
 use Rattle.etcs_bits.specs.bits.Number.{worth, num_of_bits, num, bits_of_bytes}
 
@@ -148,3 +148,29 @@ take-bits_of_bytes (suc k) [] = unfold bits_of_bytes in take-nil (8 * suc k)
 take-bits_of_bytes (suc k) (b ∷ bs) =
     let e : 8 * suc k ≡ length (num 8 b) + 8 * k = rw length-num (omega arith) in
     rw (e, bits_of_bytes-cons, take-append-add, take-bits_of_bytes k bs) (sym (bits_of_bytes-cons b (take k bs)))
+
+-- the part of w bits from place 8 q + r lies in the n bytes from byte q
+pub part_in_block : (bs : List ℕ) (q r w n : ℕ) → r + w ≤ 8 * n → take w (drop (8 * q + r) (bits_of_bytes bs)) ≡ take w (drop r (bits_of_bytes (take n (drop q bs))))
+part_in_block bs q r w n h =
+    let m = 8 * n - r in
+    let e : r + m ≡ 8 * n = omega arith in
+    let ys = bits_of_bytes (drop q bs) in
+    let a : drop (8 * q + r) (bits_of_bytes bs) ≡ drop r ys = sym (drop-drop r (8 * q) (bits_of_bytes bs)) ∙ ap (drop r) (drop-bits_of_bytes q bs) in
+    let b : bits_of_bytes (take n (drop q bs)) ≡ take (r + m) ys = sym (take-bits_of_bytes n (drop q bs)) ∙ ap (λ j. take j ys) (sym e) in
+    let c : drop r (take (r + m) ys) ≡ take m (drop r ys) = drop-take r m ys in
+    let d : take w (take m (drop r ys)) ≡ take w (drop r ys) = take-take w m (drop r ys) (omega arith) in
+    ap (take w) a ∙ sym (ap (λ zs. take w (drop r zs)) b ∙ ap (take w) c ∙ d)
+
+-- its number, from the number of the block: the code's two shifts
+pub num_of_part : (bs : List ℕ) (q r w n k : ℕ) → length (take n (drop q bs)) ≡ n → r + w + k ≡ 8 * n → num_of_bits (take w (drop (8 * q + r) (bits_of_bytes bs))) ≡ num_of_bits (bits_of_bytes (take n (drop q bs))) / 2 ^ k % 2 ^ w
+num_of_part bs q r w n k l e =
+    ap num_of_bits (part_in_block bs q r w n (omega arith))
+    ∙ num_of_window (bits_of_bytes (take n (drop q bs))) r w k (rw (length-bits_of_bytes, l) e)
+
+-- one byte more
+pub num_of_bytes-push : (bs : List ℕ) (b : ℕ) → b < 256 → num_of_bits (bits_of_bytes (bs ++ b ∷ [])) ≡ num_of_bits (bits_of_bytes bs) * 256 + b
+num_of_bytes-push bs b h =
+    ap num_of_bits (bits_of_bytes-append bs (b ∷ []))
+    ∙ num_of_bits-append (bits_of_bytes bs) (bits_of_bytes (b ∷ []))
+    ∙ (let e : bits_of_bytes (b ∷ []) ≡ num 8 b = bits_of_one b in
+    rw (e, length-num, num_of_bits-num, mod-eq_of_lt h) refl)

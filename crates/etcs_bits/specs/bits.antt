@@ -1,2 +1,3 @@
--- Bits as numbers.
+-- Bits as numbers, and bits in bytes.
 pub mod Number
+pub mod Packed

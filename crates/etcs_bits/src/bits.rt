@@ -1,32 +1,40 @@
 //! Lists of bits.
 
-pub(crate) mod conversions;
+pub(crate) mod bytes;
 pub(crate) mod cursor;
 pub(crate) mod memory;
+pub(crate) mod slice;
 
 ghost use Rattle.std.specs.Prelude.{◌≡◌, ◌+◌, ◌-◌, ◌*◌, ◌<◌, ◌≤◌, ◌^◌, ◌++◌, false, List, Bool, [], length, take, replicate, slice_get, Some, IfOk, OnOk, OnErr};
 ghost use Rattle.etcs_bits.specs.bits.Number.{num, bits_of_bytes};
+ghost use Rattle.etcs_bits.specs.layout.Results.{Puts};
 
-use crate::bits::conversions::{bits_of_byte, bits_of_num, bytes_of};
 use crate::bits::memory::Memory;
-use crate::layout::same::{Same, are_same};
+use crate::bits::slice::BitSlice;
+use crate::layout::same::Same;
 use std::alloc::Global;
 use std::marker::Model;
 
-/// A list of bits, such as the user bits of a telegram (SUBSET-036, 4.3).
+/// A list of bits, such as the user bits of a telegram (SUBSET-036, 4.3). Eight bits are kept in
+/// each byte.
 ///
 /// Contracts see it as a list of truth values. It grows in the allocator that it was made with.
 #[derive(Debug, Drop)]
 pub struct Bits {
-    items: Vec<bool>,
+    bytes: Vec<u8>,
+    len: usize,
 }
 
 impl Model for Bits {
-    ghost use Rattle.std.specs.Prelude.{Bool, List};
+    ghost use Rattle.std.specs.Prelude.{Bool, List, take};
+    ghost use Rattle.etcs_bits.specs.bits.Number.{bits_of_bytes};
+    ghost use Rattle.etcs_bits.specs.bits.Packed.{IsPacked};
 
     ghost Value = { List Bool };
 
-    ghost view = { λ b. b.items.items };
+    ghost view = { λ b. take b.len (bits_of_bytes b.bytes.items) };
+
+    ghost invariant = { λ b. IsPacked b.bytes.items b.len };
 }
 
 impl Bits {
@@ -35,8 +43,17 @@ impl Bits {
         ensures { result ≡ [] }
     {
         Bits {
-            items: Vec::new(alloc),
+            bytes: Vec::new(alloc),
+            len: 0,
         }
+    }
+
+    // An empty list with room for `len` bits. Fails only if memory runs out.
+    pub(crate) fn with_room(alloc: Global, len: usize) -> Result<Bits, Memory>
+        ensures { IfOk result (λ b. b ≡ []) }
+    {
+        let bytes = Vec::with_capacity(alloc, len.div_ceil(8))?;
+        Ok(Bits { bytes, len: 0 })
     }
 
     /// The number of bits.
@@ -44,7 +61,16 @@ impl Bits {
     pub fn len(&self) -> usize
         ensures { result ≡ length self.now }
     {
-        self.items.len()
+        // Bits, not bytes.
+        self.len
+    }
+
+    /// All its bits, borrowed.
+    #[inline]
+    pub fn slice(&self) -> BitSlice<'_>
+        ensures { result ≡ self.now }
+    {
+        BitSlice::of_bytes(self.bytes.as_slice(), self.len)
     }
 
     /// The bit at place `i`, counted from 0: 1 is true. `i` is below the length.
@@ -53,7 +79,7 @@ impl Bits {
         requires { i < length self.now }
         ensures { slice_get self.now i ≡ Some result }
     {
-        self.items[i]
+        bytes::bit_at(self.bytes.as_slice(), i)
     }
 
     /// Appends the `width` bits of `n`, most significant first. `width` is 1 to 32, and `n` fits in
@@ -65,8 +91,11 @@ impl Bits {
         ensures ok { OnOk result (self.new ≡ self.old ++ num width n) }
         ensures err { OnErr result (self.new ≡ self.old) }
     {
-        let block = bits_of_num(width, n);
-        self.items.extend_from_slice(&block[..width as usize])?;
+        let Some(len) = self.len.checked_add(width as usize) else {
+            return Err(Memory);
+        };
+        bytes::append(&mut self.bytes, self.len, width, n)?;
+        self.len = len;
         Ok(())
     }
 
@@ -76,7 +105,28 @@ impl Bits {
         ensures ok { OnOk result (self.new ≡ self.old ++ bits.now) }
         ensures err { OnErr result (self.new ≡ self.old) }
     {
-        self.items.extend_from_slice(bits.as_slice())?;
+        let len = self.len();
+        let done = self.push_slice(bits.slice());
+        if done.is_err() {
+            self.truncate(len);
+        }
+        done
+    }
+
+    // Appends borrowed bits, 32 at a time. If memory runs out, a part of them may be appended.
+    pub(crate) fn push_slice(&mut self, bits: BitSlice<'_>) -> Result<(), Memory>
+        ensures { Puts bits.entry result self.old self.new }
+    {
+        let len = bits.len();
+        let mut at = 0;
+        while len - at >= 32 {
+            self.push_num(32, bits.num(at, 32))?;
+            at += 32;
+        }
+        let left = (len - at) as u32;
+        if left > 0 {
+            self.push_num(left, bits.num(at, left))?;
+        }
         Ok(())
     }
 
@@ -87,15 +137,9 @@ impl Bits {
         ensures bits { IfOk result (λ b. b ≡ take len (bits_of_bytes bytes.now)) }
         ensures len { IfOk result (λ b. length b ≡ len) }
     {
-        let mut items = Vec::with_capacity(alloc, len)?;
-        'bytes: for byte in &bytes[..len / 8] {
-            items.extend_from_slice(&bits_of_byte(*byte))?;
-        }
-        let used = len % 8;
-        if used > 0 {
-            items.extend_from_slice(&bits_of_byte(bytes[len / 8])[..used])?;
-        }
-        Ok(Bits { items })
+        let mut kept = Vec::from_slice(alloc, &bytes[..len.div_ceil(8)])?;
+        bytes::cut(&mut kept, len);
+        Ok(Bits { bytes: kept, len })
     }
 
     /// The bits as bytes, eight in each, most significant first. Zeros fill the last byte. Fails
@@ -105,36 +149,23 @@ impl Bits {
             ≡ self.now ++ replicate (8 * length v.items - length self.now) false) }
         ensures few { IfOk result (λ v. 8 * length v.items < length self.now + 8) }
     {
-        Ok(bytes_of(alloc, self.items.as_slice())?)
-    }
-
-    // A copy of truth values. Fails only if memory runs out.
-    pub(crate) fn copied(alloc: Global, bits: &[bool]) -> Result<Bits, Memory>
-        ensures { IfOk result (λ b. b ≡ bits.now) }
-    {
-        let mut items = Vec::with_capacity(alloc, bits.len())?;
-        items.extend_from_slice(bits)?;
-        Ok(Bits { items })
-    }
-
-    // The bits as truth values.
-    #[inline]
-    pub(crate) fn as_slice(&self) -> &[bool]
-        ensures { result.now ≡ self.now }
-    {
-        self.items.as_slice()
+        let copy = Vec::from_slice(alloc, self.bytes.as_slice())?;
+        Ok(copy)
     }
 
     /// Keeps the first `len` bits, or all if there are fewer.
     pub fn truncate(&mut self, len: usize)
         ensures { self.new ≡ take len self.old }
     {
-        self.items.truncate(len);
+        if len < self.len {
+            bytes::cut(&mut self.bytes, len);
+            self.len = len;
+        }
     }
 }
 
 impl Same for Bits {
     fn same(&self, other: &Bits) -> bool {
-        are_same(self.as_slice(), other.as_slice())
+        self.slice().same(other.slice())
     }
 }

@@ -21,6 +21,7 @@ mod variables;
 pub use bits::Bits;
 pub use bits::cursor::Cursor;
 pub use bits::memory::Memory;
+pub use bits::slice::BitSlice;
 pub use layout::Layout;
 pub use layout::body::Body;
 pub use layout::fault::{DecodeError, Fault, FaultKind, refused};

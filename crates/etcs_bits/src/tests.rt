@@ -4,6 +4,7 @@ mod combined;
 mod level;
 mod raw;
 mod same;
+mod slice;
 
 use crate::{
     Bits, Counter, Country, Cursor, DecodeError, Dup, Fault, FaultKind, GroupNumber, Identity,

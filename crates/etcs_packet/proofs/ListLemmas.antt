@@ -40,6 +40,13 @@ no_step rows errors.Memory stop fields p head within goes t none = tt
 no_step rows (errors.Fault f) stop fields p head within goes t none =
     λ bits len same o to s. no_step_here rows stop fields p f bits o to head within goes t none len same s
 
+-- the fault of the packet that is due
+pub due_fault : (e : DecodeError) (stop : Stop) (fields : Fields) (p : Place) → ends stop p ≡ false
+    → OfFault e (λ f. IsFault fields p f)
+    → OfFault e (λ f. (ends stop p ≡ false) × IsFault fields p f)
+due_fault errors.Memory stop fields p goes is_fault = tt
+due_fault (errors.Fault f) stop fields p goes is_fault = (goes, is_fault)
+
 -- too few bits for NID_PACKET
 pub lacks_step : {X : Type 0} {rows : X → List Row} {of : List Row → X} {fields : Fields}
     → IsLayout fields rows of → (stop : Stop) (p : Place) → IsHeaded fields → p.at ≤ length p.bits

@@ -1,14 +1,11 @@
 -- A packet's rows by itself and as one of a list have the same bits.
-use Rattle.std.proofs.Common.{◌≡◌, ◌⊎◌, ℕ, Bool, true, false, List, ◌∷◌, ◌++◌, Option, Some, None, Result, Ok, length, refl, sym, ap, ◌∙◌, inl, inr}
-use Rattle.std.proofs.lemmas.Bool.{ne_eqb}
-use Rattle.std.specs.Prelude.{◌==◌, ◌||◌, not}
-use Rattle.etcs_bits.specs.declared.layout.fault.Fault.{Fault}
-use Rattle.etcs_bits.specs.layout.Rows.{Row, row, alone, Place, AreAllowed, join, width}
-use Rattle.etcs_bits.specs.layout.Choice.{numbered_rows}
-use Rattle.etcs_profile.specs.Authority.{Permission, permission, WithMain, WithoutMain, numbered, numbered_by, numbered_of, authority}
+use Rattle.std.proofs.Common.{◌≡◌, ℕ, Bool, true, false, List, ◌++◌, Option, Some, None, length, refl}
+use Rattle.std.specs.Prelude.{◌==◌, ◌||◌, not, if◌then◌else◌}
+use Rattle.etcs_bits.specs.layout.Rows.{Row, alone, AreAllowed, join, width}
+use Rattle.etcs_profile.specs.Authority.{Permission, permission, numbered_by, authority}
 use Rattle.etcs_packet.specs.declared.track.TrackPacket.{TrackPacket}
 use Rattle.etcs_packet.specs.declared.track.TrackPacket.TheVariants as packets
-use Rattle.etcs_packet.specs.PacketNumbers.{is_known, nid_track}
+use Rattle.etcs_packet.specs.PacketNumbers.{is_known, is_other, nid_track}
 use Rattle.etcs_packet.specs.Raw.{raw_rest, other_of}
 use Rattle.etcs_packet.specs.Track.{track_numbered, authority_in, track_packet, own_rows}
 
@@ -73,28 +70,20 @@ track_allowed (packets.Raw p) allowed =
 
 -- ---- reading
 
-abbrev Not : ℕ → ℕ → Type 0
-Not n k = n ≡ k → ⊥
+next_by : {X : Type 0} (z o w v u t s rest : X) (a b c d e f g m : Bool)
+    → not ((a || (b || (c || (d || (e || (f || g)))))) || m) ≡ true
+    → (if a then z else (if b then o else (if c then w else (if d then v
+    else (if e then u else (if f then t else (if g then s else rest))))))) ≡ rest
+next_by z o w v u t s rest true b c d e f g m h = absurd cc
+next_by z o w v u t s rest false true c d e f g m h = absurd cc
+next_by z o w v u t s rest false false true d e f g m h = absurd cc
+next_by z o w v u t s rest false false false true e f g m h = absurd cc
+next_by z o w v u t s rest false false false false true f g m h = absurd cc
+next_by z o w v u t s rest false false false false false true g m h = absurd cc
+next_by z o w v u t s rest false false false false false false true m h = absurd cc
+next_by z o w v u t s rest false false false false false false false m h = refl
 
 -- what follows a number that is none of the known ones
-pub other_next : (n : ℕ) → Not n 0 → Not n 5 → Not n 12 → Not n 15 → Not n 21 → Not n 27 → Not n 41
-    → track_numbered.next n ≡ raw_rest.fields
-other_next n a b c d e f g =
-    rw (ne_eqb n 0 a, ne_eqb n 5 b, ne_eqb n 12 c, ne_eqb n 15 d, ne_eqb n 21 e, ne_eqb n 27 f, ne_eqb n 41 g) refl
-
--- what follows the number of an authority
-pub authority_next : (n : ℕ) → (n ≡ 12) ⊎ ((n ≡ 12 → ⊥) × (n ≡ 15)) → track_numbered.next n ≡ numbered.next n
-authority_next n (inl is) = rw is refl
-authority_next n (inr other) = rw other.1 refl
-
-in_rows : (s : WithMain ⊎ WithoutMain) → numbered_rows track_numbered (authority_in s) ≡ numbered_rows numbered s
-in_rows (inl p) = refl
-in_rows (inr p) = refl
-
--- an authority that was read
-pub authority_here : (a : Permission) {read : Result (List Row × Place) Fault} {to : Place}
-    → read ≡ Ok (row nid_track (numbered.number (numbered_of a)) ∷ numbered.rows (numbered_of a), to)
-    → read ≡ Ok (track_packet.rows (packets.Authority a), to)
-unfolding alone
-authority_here a {to = to} read =
-    read ∙ ap (λ (z : ℕ × List Row). Ok (row nid_track z.0 ∷ z.1, to)) (sym (in_rows (numbered_of a)))
+pub other_next : (n : ℕ) → is_other n ≡ true → track_numbered.next n ≡ raw_rest.fields
+other_next n other =
+    next_by _ _ _ _ _ _ _ raw_rest.fields (n == 0) (n == 5) (n == 12) (n == 15) (n == 21) (n == 27) (n == 41) (n == 255) other

@@ -4,16 +4,17 @@
 //! [`TrackPacket`] is any packet from track to train. [`CoverMarker`] is packet 0. [`RawPacket`] is
 //! a packet whose layout is not known. All others stand in `etcs_profile`; [`Linking`] and
 //! [`Transition`], packets 5 and 41, are exported here too. [`read_packets`] and [`write_packets`]
-//! read and write lists of track packets.
+//! read and write lists of track packets. [`next_view`] reads one of them without a copy of its
+//! body: a [`PacketView`].
 //!
 //! Below them are calls that take any record whose table of fields begins with NID_PACKET.
 //! [`next_item`] reads one packet, [`read_items`] reads all packets of a list, and [`write_items`]
 //! writes packets. [`next_whole`] and [`read_whole`] also read the head before the packets. A
 //! [`Stop`] says where a list ends. All these calls rest on the contract of [`etcs_bits::Layout`].
 //!
-//! Read `track.rt` and `packets.rt` first, with `specs/Track.antt`. Then
-//! read `list.rt` with `specs/Lists.antt`, and `whole.rt` with `specs/Whole.antt`. The laws that
-//! hold of every list are in [`laws`]. Packets from train to track are left out.
+//! Read `track.rt` and `packets.rt` first, with `specs/Track.antt`. Then read `view.rt` with
+//! `specs/View.antt`, `list.rt` with `specs/Lists.antt`, and `whole.rt` with `specs/Whole.antt`. The
+//! laws that hold of every list are in [`laws`]. Packets from train to track are left out.
 #![tactic(auto)]
 
 mod cover;
@@ -26,14 +27,16 @@ mod stop;
 #[cfg(test)]
 mod tests;
 mod track;
+mod view;
 mod whole;
 
 pub use cover::CoverMarker;
 pub use etcs_profile::{LevelOrder, Link, Linking, Reaction, Transition};
 pub use list::{is_end, next_item, read_items, write_items};
-pub use packets::{read_packets, write_packets};
+pub use packets::{next_view, read_packets, write_packets};
 pub use raw::RawPacket;
 pub use run::Run;
 pub use stop::Stop;
 pub use track::TrackPacket;
+pub use view::PacketView;
 pub use whole::{next_whole, read_whole};

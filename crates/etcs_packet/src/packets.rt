@@ -1,19 +1,55 @@
 //! The packets of a telegram or of a message.
 
-ghost use Rattle.std.specs.Prelude.{◌≡◌, ◌+◌, ◌<◌, ◌++◌, length, true, Err, IfOk, OnOk, OnErr};
+ghost use Rattle.std.specs.Prelude.{◌≡◌, ◌+◌, ◌<◌, ◌++◌, length, true, false, Err, IfOk, OnOk, OnErr};
 ghost use Rattle.std.specs.List.{flat_map};
 ghost use Rattle.etcs_bits.specs.layout.Rows.{AreAllowed, join};
-ghost use Rattle.etcs_bits.specs.layout.Fault.{lack};
-ghost use Rattle.etcs_bits.specs.layout.Results.{Gives, IfFault};
-ghost use Rattle.etcs_packet.specs.Lists.{IsListFault, NoneStand, Stand};
+ghost use Rattle.etcs_bits.specs.layout.Fault.{IsFault, lack};
+ghost use Rattle.etcs_bits.specs.layout.Results.{Gives, IfFault, IfMemory};
+ghost use Rattle.etcs_packet.specs.Lists.{IsListFault, NoStep, NoneStand, Stand, ends};
 ghost use Rattle.etcs_packet.specs.Reading.{items_at};
 ghost use Rattle.etcs_packet.specs.Track.{track_packet};
+ghost use Rattle.etcs_packet.specs.View.{IsViewStep, grows_at};
 
-use crate::list::{read_items, write_items};
+use crate::list::{is_end, read_items, write_items};
 use crate::stop::Stop;
 use crate::track::TrackPacket;
+use crate::view::PacketView;
 use etcs_bits::{Bits, Cursor, DecodeError, Memory, are_allowed};
 use std::alloc::Global;
+
+/// Reads a view of the packet at the cursor. The cursor then stands after the packet. The result is
+/// `None` where the list ends.
+///
+/// A reported fault is the first one of the packet that is due. No input of the same length with
+/// the same first `end` bits has a packet or the end of the list at this place. Fewer than eight
+/// bits in a telegram are a NoEnd fault. If memory runs out, a fault may go unseen. After an error
+/// the cursor stands where it stood. See SUBSET-026, 7.4.2 and 8.4.
+pub fn next_view<'a>(
+    alloc: Global,
+    cur: &mut Cursor<'a>,
+    stop: Stop,
+) -> Result<Option<PacketView<'a>>, DecodeError>
+    ensures ok { IfOk result (λ o. IsViewStep stop o cur.old cur.new) }
+
+    ensures fault { IfFault result (λ f. (ends stop cur.old ≡ false) × IsFault track_packet.fields cur.old f) }
+    ensures none { IfFault result (λ f. NoStep stop track_packet.rows cur.old f) }
+    ensures err { OnErr result (cur.new ≡ cur.old) }
+
+    // This NoEnd fault is always reported: finding it takes no memory.
+    ensures no_end { stop ≡ Stop.Telegram → length cur.old.bits < cur.old.at + 8
+        → result ≡ Err (DecodeError.Fault (lack true cur.old)) }
+
+    // Memory is asked for only where a known packet that holds a list is due.
+    ensures memory { IfMemory result (grows_at cur.old ≡ true) }
+{
+    if is_end(cur, stop) {
+        return Ok(None);
+    }
+    let mut ahead = cur.fork();
+    let view = PacketView::scan(alloc, &mut ahead)?;
+    *cur = ahead;
+    Ok(Some(view))
+}
 
 /// Reads the packets from the cursor up to the end of their list. The cursor then stands at that
 /// end: at the end mark, or at the bits that are left.

@@ -1,19 +1,24 @@
 //! Packets whose layout is not known here.
 
 ghost use Rattle.std.specs.Prelude.{◌≡◌, ◌≤◌, ◌<◌, ◌+◌, length, true, IfOk, IfErr, IsOk, ◌↔◌};
-ghost use Rattle.etcs_bits.specs.layout.Reading.{field_at};
+ghost use Rattle.etcs_bits.specs.bits.Number.{num_of_bits};
+ghost use Rattle.etcs_bits.specs.layout.Reading.{field_at, rows_at};
 ghost use Rattle.etcs_bits.specs.layout.Results.{Gives, IfMemory, Puts};
 ghost use Rattle.etcs_bits.specs.layout.Rows.{join};
+ghost use Rattle.etcs_bits.specs.variables.Variables.{free};
 ghost use Rattle.etcs_packet.specs.Free.{free_rows};
 ghost use Rattle.etcs_packet.specs.PacketNumbers.{is_kept, is_other, l_raw};
 
-use etcs_bits::{Bits, Cursor, DecodeError, Dir, FaultKind, Layout, Memory, Same, refused};
+use etcs_bits::{
+    BitSlice, Bits, Cursor, DecodeError, Dir, FaultKind, Layout, Memory, Same, refused,
+};
 use std::alloc::Global;
 
 // The most bits that a body may have. L_PACKET has 13 bits, and counts the 23 of the head too.
 const MOST_BITS: usize = 8168;
 
 /// Whether a number is neither that of a known packet nor that of the end mark.
+#[inline]
 pub(crate) fn is_raw(number: u64) -> bool
     ensures { result ≡ is_other number }
 {
@@ -21,6 +26,7 @@ pub(crate) fn is_raw(number: u64) -> bool
 }
 
 // Reads L_PACKET of a packet that is kept as bits.
+#[inline]
 fn scan_length(cur: &mut Cursor<'_>) -> Result<u64, DecodeError>
     ensures gives { Gives (λ n. n) result (field_at l_raw cur.old) cur.new }
     ensures least { IfOk result (λ n. 23 ≤ n) }
@@ -35,6 +41,16 @@ fn scan_length(cur: &mut Cursor<'_>) -> Result<u64, DecodeError>
         return Err(refused(at, cur, FaultKind::Length));
     }
     Ok(length)
+}
+
+// The next bits, borrowed.
+#[inline]
+fn scan_body<'a>(cur: &mut Cursor<'a>, width: usize) -> Result<BitSlice<'a>, DecodeError>
+    ensures gives { Gives num_of_bits result (field_at (free width) cur.old) cur.new }
+    ensures len { IfOk result (λ body. length body ≡ width) }
+    ensures memory { IfMemory result ⊥ }
+{
+    Ok(cur.take_slice(width)?)
 }
 
 // Appends bits as they are.
@@ -96,26 +112,39 @@ impl RawPacket {
 }
 
 impl RawPacket {
-    ghost use Rattle.etcs_bits.specs.layout.Choice.{chosen_at, numbered_rows};
-    ghost use Rattle.etcs_packet.specs.Raw.{others};
+    ghost use Rattle.etcs_packet.specs.Raw.{raw_rest};
 
-    /// Reads what follows a number that is kept as bits. After an error the cursor may stand anywhere.
-    pub(crate) fn scan_rest(
+    /// Reads what follows NID_PACKET: Q_DIR, and the body after L_PACKET, borrowed. After an error
+    /// the cursor may stand anywhere.
+    #[inline]
+    pub(crate) fn scan_rest<'a>(
         alloc: Global,
-        number: u64,
-        cur: &mut Cursor<'_>,
-    ) -> Result<Self, DecodeError>
-        requires small { number < 256 }
-        requires other { is_other number ≡ true }
-        ensures { Gives (numbered_rows others) result (chosen_at others number cur.old) cur.new }
+        cur: &mut Cursor<'a>,
+    ) -> Result<(Dir, BitSlice<'a>), DecodeError>
+        ensures gives { Gives raw_rest.rows result (rows_at raw_rest.fields cur.old) cur.new }
+        ensures short { IfOk result (λ rest. length rest.1 ≤ 8168) }
+        ensures memory { IfMemory result ⊥ }
     {
         let dir = Dir::scan(alloc, cur)?;
         let length = scan_length(cur)?;
-        let body = cur.take_bits(alloc, (length - 23) as usize)?;
+        let body = scan_body(cur, (length - 23) as usize)?;
+        Ok((dir, body))
+    }
+
+    /// The packet of these parts, with a copy of the body. Fails only if memory runs out.
+    pub(crate) fn with_copy(
+        alloc: Global,
+        number: u8,
+        dir: Dir,
+        body: BitSlice<'_>,
+    ) -> Result<Self, Memory>
+        requires { is_kept number (length body) ≡ true }
+        ensures { IfOk result (λ r. (r.number ≡ number) × ((r.dir ≡ dir) × (r.body ≡ body.entry))) }
+    {
         Ok(RawPacket {
-            number: number as u8,
+            number,
             dir,
-            body,
+            body: body.to_bits(alloc)?,
         })
     }
 }
@@ -153,7 +182,9 @@ impl Layout for RawPacket {
         if !is_raw(number) {
             return Err(refused(at, cur, FaultKind::Spare));
         }
-        RawPacket::scan_rest(alloc, number, cur)
+        let (dir, body) = RawPacket::scan_rest(alloc, cur)?;
+        let packet = RawPacket::with_copy(alloc, number as u8, dir, body)?;
+        Ok(packet)
     }
 }
 

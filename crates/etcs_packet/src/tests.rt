@@ -5,3 +5,4 @@ mod built;
 mod lists;
 mod same;
 mod spelled;
+mod views;

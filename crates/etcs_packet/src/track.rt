@@ -5,11 +5,12 @@ ghost use Rattle.etcs_bits.specs.layout.Reading.{field_at};
 ghost use Rattle.etcs_bits.specs.layout.Results.{Gives, IfMemory, Puts};
 ghost use Rattle.etcs_bits.specs.layout.Rows.{AreAllowed, join, width};
 ghost use Rattle.etcs_packet.specs.RunningDirection.{is_for_run};
-ghost use Rattle.etcs_packet.specs.PacketNumbers.{nid_track};
+ghost use Rattle.etcs_packet.specs.PacketNumbers.{is_known, nid_track};
 
 use crate::cover::CoverMarker;
 use crate::raw::RawPacket;
 use crate::run::Run;
+use crate::view::PacketView;
 use etcs_bits::{
     Bits, Cursor, DecodeError, Dir, Fault, FaultKind, Layout, Memory, Plain, Same, refused,
 };
@@ -35,8 +36,9 @@ pub enum TrackPacket {
     Raw(RawPacket),
 }
 
-// NID_PACKET of the packet at the cursor, which no end mark is.
-fn scan_number(cur: &mut Cursor<'_>) -> Result<u64, DecodeError>
+/// NID_PACKET of the packet at the cursor, which no end mark is.
+#[inline]
+pub(crate) fn scan_number(cur: &mut Cursor<'_>) -> Result<u64, DecodeError>
     ensures gives { Gives (λ n. n) result (field_at nid_track cur.old) cur.new }
     ensures number { IfOk result (λ n. (n < 256) × (not (n == 255) ≡ true)) }
 
@@ -162,6 +164,42 @@ impl TrackPacket {
     }
 }
 
+impl TrackPacket {
+    ghost use Rattle.etcs_bits.specs.layout.Choice.{chosen_at, numbered_rows};
+    ghost use Rattle.etcs_packet.specs.Track.{parts_of, track_numbered};
+    ghost use Rattle.etcs_packet.specs.View.{view_of};
+    ghost use Rattle.etcs_packet.specs.declared.view.PacketView.TheVariants as views;
+
+    /// Reads what follows the number of a packet whose layout is known. After an error the cursor
+    /// may stand anywhere.
+    #[inline]
+    pub(crate) fn scan_known(
+        alloc: Global,
+        number: u64,
+        cur: &mut Cursor<'_>,
+    ) -> Result<Self, DecodeError>
+        requires { is_known number ≡ true }
+        ensures gives { Gives (λ p. numbered_rows track_numbered (parts_of p)) result
+            (chosen_at track_numbered number cur.old) cur.new }
+        ensures known { IfOk result (λ p. view_of p ≡ views.Known p) }
+
+        // Packet 0 has no list, and reading it takes no memory.
+        ensures memory { IfMemory result (not (number == 0) ≡ true) }
+    {
+        Ok(match number {
+            0 => TrackPacket::Cover(CoverMarker {
+                marker: Plain::scan(alloc, cur)?,
+            }),
+            5 => TrackPacket::Linking(Packet::scan_rest(alloc, cur)?),
+            12 | 15 => TrackPacket::Authority(Authority::scan_rest(alloc, number, cur)?),
+            21 => TrackPacket::Gradient(Packet::scan_rest(alloc, cur)?),
+            27 => TrackPacket::Speed(Packet::scan_rest(alloc, cur)?),
+            // No other known number is left.
+            _ => TrackPacket::Transition(Packet::scan_rest(alloc, cur)?),
+        })
+    }
+}
+
 impl Layout for TrackPacket {
     ghost use Rattle.etcs_packet.specs.Track.{track_packet};
 
@@ -182,29 +220,8 @@ impl Layout for TrackPacket {
     }
 
     fn scan(alloc: Global, cur: &mut Cursor<'_>) -> Result<Self, DecodeError> {
-        let number = scan_number(cur)?;
-        // For the proof alone, tests in place of a match: each failed one shows what the number is not.
-        if number == 0 {
-            let marker = Plain::scan(alloc, cur)?;
-            return Ok(TrackPacket::Cover(CoverMarker { marker }));
-        }
-        if number == 5 {
-            return Ok(TrackPacket::Linking(Packet::scan_rest(alloc, cur)?));
-        }
-        if number == 12 || number == 15 {
-            let packet = Authority::scan_rest(alloc, number, cur)?;
-            return Ok(TrackPacket::Authority(packet));
-        }
-        if number == 21 {
-            return Ok(TrackPacket::Gradient(Packet::scan_rest(alloc, cur)?));
-        }
-        if number == 27 {
-            return Ok(TrackPacket::Speed(Packet::scan_rest(alloc, cur)?));
-        }
-        if number == 41 {
-            return Ok(TrackPacket::Transition(Packet::scan_rest(alloc, cur)?));
-        }
-        Ok(TrackPacket::Raw(RawPacket::scan_rest(alloc, number, cur)?))
+        let view = PacketView::scan(alloc, cur)?;
+        Ok(view.into_packet(alloc)?)
     }
 }
 

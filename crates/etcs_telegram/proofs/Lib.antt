@@ -3,3 +3,5 @@ pub mod FillLemmas
 pub mod TextLemmas
 pub mod LawLemmas
 pub mod ReasonLemmas
+pub mod DigitLemmas
+pub mod HeaderLemmas

@@ -1,5 +1,5 @@
 -- The reason to refuse a text, and what the text means.
-use Rattle.std.proofs.Common.{◌≡◌, ◌≢◌, ◌↔◌, ℕ, ◌-◌, ◌*◌, Bool, arith, sym, IsErrOf, true, false, List, length, if◌then◌else◌, Option, Some, None, Result, Ok, Err, refl, ap, subst, ◌∙◌}
+use Rattle.std.proofs.Common.{◌≡◌, ◌≢◌, ◌↔◌, ℕ, ◌-◌, ◌*◌, Bool, arith, sym, IsErrOf, IfErr, true, false, List, length, if◌then◌else◌, Option, Some, None, Result, Ok, Err, refl, ap, subst, ◌∙◌}
 use Rattle.std.proofs.lemmas.Bool.{eq-eqb}
 use Rattle.hex.specs.Hex.{decode_of, IsBytes}
 use Rattle.hex.specs.declared.error.FromHexError.{FromHexError}
@@ -184,6 +184,16 @@ pub reported_in : (r : Result Telegram TextError) (e : TextError) (text bytes : 
 reported_in r e text bytes early decoded exact memory =
     let means = decoded_means text bytes decoded in
     reported_early r text e early (rw means exact) (λ none. let of = memory none in (telegram_of of.0, means ∙ of.1))
+
+-- a text whose digits were decoded is hexadecimal
+pub not_not_hex : (r : Result Telegram TextError) (text bytes : List ℕ) → decode_of text ≡ Ok bytes
+    → IfErr r (λ e. IsReasonIn e bytes) → IsErrOf r errors.NotHex ↔ (IsHexadecimal text → ⊥)
+not_not_hex r text bytes decoded reason = (
+  λ is. absurd (rw is at reason),
+  λ not.
+      let digits = decode_of-ok text bytes decoded in
+      absurd (not (record { even = digits.0; digits = digits.1 })),
+)
 
 -- one of these reasons, once found, is no other
 abbrev failing : TextError → Result Telegram TextError

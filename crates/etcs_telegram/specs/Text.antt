@@ -6,9 +6,12 @@ use Rattle.std.specs.List.{AllPass}
 use Rattle.hex.specs.Hex.{decode_of, encode_lower, is_hex_digit, IsBytes}
 use Rattle.etcs_bits.specs.declared.layout.fault.Fault.{Fault}
 use Rattle.etcs_bits.specs.bits.Number.{bits_of_bytes}
+use Rattle.etcs_bits.specs.layout.Fault.{IsFault}
+use Rattle.etcs_packet.specs.Whole.{start}
 use Rattle.etcs_telegram.specs.declared.size.Size.{Size}
 use Rattle.etcs_telegram.specs.declared.error.TextError.{TextError}
 use Rattle.etcs_telegram.specs.declared.error.TextError.TheVariants as errors
+use Rattle.etcs_telegram.specs.Header.{header}
 use Rattle.etcs_telegram.specs.Record.{Telegram}
 use Rattle.etcs_telegram.specs.Sizes.{user_bits, byte_count, pad_count}
 use Rattle.etcs_telegram.specs.Telegram.{IsTelegram, IsTelegramFault, IsNoTelegram, IsEncoding}
@@ -64,6 +67,12 @@ pub record HaveFault (bytes : List ℕ) (f : Fault) : Type 0 where
   pub first : IsTelegramFault (user_bits_in size bytes) f
   pub none : IsNoTelegram (user_bits_in size bytes) f
 
+-- the bytes are those of a telegram, except that its header has a fault
+pub record HaveHeaderFault (bytes : List ℕ) (f : Fault) : Type 0 where
+  pub size : Size
+  pub padded : ArePadded size bytes
+  pub first : IsFault header.fields (start (user_bits_in size bytes)) f
+
 -- the reason to refuse these bytes holds, and no reason checked earlier does
 abbrev pub IsReasonIn : TextError → List ℕ → Type 0
 IsReasonIn errors.Memory bytes = Unit {0}
@@ -77,6 +86,12 @@ pub record IsReasonDecoded (e : TextError) (text : List ℕ) : Type 0 where
   pub bytes : List ℕ
   pub decoded : decode_of text ≡ Ok bytes
   pub reason : IsReasonIn e bytes
+
+-- the text is a telegram's, except that its header has a fault
+pub record HasHeaderFault (text : List ℕ) (f : Fault) : Type 0 where
+  pub bytes : List ℕ
+  pub decoded : decode_of text ≡ Ok bytes
+  pub fault : HaveHeaderFault bytes f
 
 -- The reason to refuse a text holds, and no reason checked earlier does.
 abbrev pub IsReason : TextError → List ℕ → Type 0

@@ -11,15 +11,41 @@ ghost use Rattle.etcs_telegram.specs.Meaning.{telegram_of};
 
 use crate::size::Size;
 use crate::telegram::Telegram;
-use etcs_bits::{Bits, DecodeError};
-use etcs_packet::{Stop, read_whole};
+use etcs_bits::{BitSlice, Bits, Cursor, DecodeError};
+use etcs_packet::{Stop, next_whole};
 use std::alloc::Global;
+
+// The telegram that borrowed bits spell, as `decode` reads it.
+pub(crate) fn decode_slice(alloc: Global, bits: BitSlice<'_>) -> Result<Telegram, DecodeError>
+    requires { AreUserBits bits }
+    ensures ok { IfOk result (λ t. IsTelegram t bits.entry) }
+
+    ensures fault { IfFault result (λ f. IsTelegramFault bits.entry f) }
+    ensures none { IfFault result (λ f. IsNoTelegram bits.entry f) }
+
+    // The same as a function of the bits.
+    ensures exact { Means (λ t. t) result (telegram_of bits.entry) }
+
+    // The header's fault is always reported: reading the header needs no memory.
+    ensures header { (f : Fault) → IsFault header.fields (start bits.entry) f
+        → result ≡ Err (DecodeError.Fault f) }
+{
+    let size = Size::of_len(bits.len()).unwrap();
+    let mut cur = Cursor::over(bits);
+    let (header, packets) = next_whole(alloc, &mut cur, Stop::Telegram)?;
+    Ok(Telegram {
+        size,
+        header,
+        packets,
+    })
+}
 
 /// Reads the telegram that 210 or 830 user bits spell (SUBSET-026, 8.4.2). Bits after the end mark
 /// are ignored.
 ///
 /// A fault that is returned is the first one in the bits. Then no input of the same length with the
-/// same first `end` bits spells a telegram. If memory runs out, a fault may go unseen.
+/// same first `end` bits spells a telegram. Only packets take memory. If it runs out, a fault after
+/// the header may go unseen.
 pub fn decode(alloc: Global, bits: &Bits) -> Result<Telegram, DecodeError>
     requires { AreUserBits bits.now }
     ensures ok { IfOk result (λ t. IsTelegram t bits.now) }
@@ -34,11 +60,5 @@ pub fn decode(alloc: Global, bits: &Bits) -> Result<Telegram, DecodeError>
     ensures header { (f : Fault) → IsFault header.fields (start bits.now) f
         → result ≡ Err (DecodeError.Fault f) }
 {
-    let size = Size::of_len(bits.len()).unwrap();
-    let (header, packets) = read_whole(alloc, bits, Stop::Telegram)?;
-    Ok(Telegram {
-        size,
-        header,
-        packets,
-    })
+    decode_slice(alloc, bits.slice())
 }

@@ -1,20 +1,20 @@
 //! Telegrams as hexadecimal text.
 
-ghost use Rattle.std.specs.Prelude.{◌≡◌, ◌↔◌, ◌*◌, Bool, List, length, Ok, Err, IfOk, IfErr, IsErrOf, IsTrue, OnOk, string_bytes};
+ghost use Rattle.std.specs.Prelude.{◌≡◌, ◌↔◌, ◌*◌, Bool, false, List, length, Ok, Err, IfOk, IfErr, IsErrOf, IsTrue, OnOk, string_bytes};
 ghost use Rattle.hex.specs.Hex.{decode_of, encode_lower, is_hex_digit, IsBytes};
+ghost use Rattle.etcs_bits.specs.declared.layout.fault.Fault.{Fault};
 ghost use Rattle.etcs_telegram.specs.Sizes.{byte_count};
 ghost use Rattle.etcs_telegram.specs.Meaning.{telegram_of};
 ghost use Rattle.etcs_telegram.specs.Telegram.{IsTelegram, IsTooBig};
-ghost use Rattle.etcs_telegram.specs.Text.{ArePadded, IsCanonicalText, IsHexadecimal, IsReason, IsReasonDecoded, IsReasonIn, IsTelegramText, IsTextMeaning, user_bits_in};
+ghost use Rattle.etcs_telegram.specs.Text.{ArePadded, HasHeaderFault, HaveHeaderFault, IsCanonicalText, IsHexadecimal, IsReason, IsReasonDecoded, IsReasonIn, IsTelegramText, IsTextMeaning, user_bits_in};
 ghost use Rattle.etcs_telegram.specs.TextMeaning.{of_bits, of_bytes, pads_with_zeros, telegram_of_text};
 
-use crate::decoding::decode;
+use crate::decoding::decode_slice;
 use crate::encoding::encode;
 use crate::error::{EncodeError, TextError};
 use crate::size::Size;
 use crate::telegram::Telegram;
-use etcs_bits::{Bits, DecodeError};
-use hex::FromHex;
+use etcs_bits::{BitSlice, DecodeError};
 use std::alloc::Global;
 
 // Whether a byte is a hexadecimal digit, of either case.
@@ -31,16 +31,19 @@ fn is_hexadecimal(text: &[u8]) -> bool
     text.len() % 2 == 0 && text.iter().all(|&byte| is_digit(byte))
 }
 
-// The `N` bytes of a hexadecimal text. The call takes no memory.
-fn bytes_of<const N: usize>(text: &[u8]) -> [u8; N]
-    requires digits { IsHexadecimal text.now }
-    requires len { length text.now ≡ 2 * N }
-    ensures { decode_of text.now ≡ Ok result }
+// Writes the bytes that the digits of a text spell, two digits for each. Returns whether each byte
+// of the text is a digit.
+#[inline]
+fn read_digits<const N: usize>(text: &[u8], bytes: &mut [u8; N]) -> bool
+    requires { length text.now ≡ 2 * N }
+    ensures digits { IsTrue result → decode_of text.now ≡ Ok bytes.new }
+    ensures others { result ≡ false → IsHexadecimal text.now → ⊥ }
 {
-    <[u8; N] as FromHex>::from_hex(text).unwrap()
+    hex::decode_to_slice(text, bytes).is_ok()
 }
 
 // Whether all pad bits are zeros.
+#[inline]
 fn is_padded(size: Size, bytes: &[u8]) -> bool
     requires { length bytes.now ≡ byte_count size }
     ensures { result ≡ pads_with_zeros size bytes.now }
@@ -55,9 +58,11 @@ fn telegram_in(alloc: Global, bytes: &[u8]) -> Result<Telegram, TextError>
     ensures reason { IfErr result (λ e. IsReasonIn e bytes.now) }
     ensures exact { IsTextMeaning result (of_bytes bytes.now) }
 
-    // Only the user bits need memory.
+    // Neither the checks before the user bits nor the header need memory.
     ensures memory { result ≡ Err TextError.Memory
         → (bits : List Bool) × (of_bytes bytes.now ≡ of_bits (telegram_of bits)) }
+    ensures header { (f : Fault) → HaveHeaderFault bytes.now f
+        → result ≡ Err (TextError.Fault f) }
 {
     let Some(size) = Size::in_bytes(bytes.len()) else {
         return Err(TextError::WrongSize);
@@ -65,22 +70,40 @@ fn telegram_in(alloc: Global, bytes: &[u8]) -> Result<Telegram, TextError>
     if !is_padded(size, bytes) {
         return Err(TextError::PadBits);
     }
-    let Ok(bits) = Bits::from_bytes(alloc, bytes, size.user_bits()) else {
-        return Err(TextError::Memory);
-    };
-    match decode(alloc, &bits) {
+    match decode_slice(alloc, BitSlice::of_bytes(bytes, size.user_bits())) {
         Ok(telegram) => Ok(telegram),
         Err(DecodeError::Memory) => Err(TextError::Memory),
         Err(DecodeError::Fault(fault)) => Err(TextError::Fault(fault)),
     }
 }
 
+// The telegram in the digits of `N` bytes.
+fn telegram_of_digits<const N: usize>(alloc: Global, text: &[u8]) -> Result<Telegram, TextError>
+    requires { length text.now ≡ 2 * N }
+    ensures ok { IfOk result (λ t. IsTelegramText t text.now) }
+    ensures reason { IfErr result (λ e. IsReason e text.now) }
+    ensures exact { IsTextMeaning result (telegram_of_text text.now) }
+    ensures not_hex { IsErrOf result TextError.NotHex ↔ (IsHexadecimal text.now → ⊥) }
+    ensures wrong_size { IsErrOf result TextError.WrongSize
+        ↔ IsReasonDecoded TextError.WrongSize text.now }
+    ensures pad_bits { IsErrOf result TextError.PadBits
+        ↔ IsReasonDecoded TextError.PadBits text.now }
+    ensures header { (f : Fault) → HasHeaderFault text.now f
+        → result ≡ Err (TextError.Fault f) }
+{
+    let mut bytes = [0u8; N];
+    if !read_digits(text, &mut bytes) {
+        return Err(TextError::NotHex);
+    }
+    telegram_in(alloc, &bytes)
+}
+
 /// Reads a telegram from its text: 54 or 208 hexadecimal digits of either case. The last six or two
 /// bits are zeros (pad bits).
 ///
 /// `NotHex`, `WrongSize`, `PadBits` and the first fault of the user bits are checked in this order.
-/// The call returns the first of them that holds. If memory runs out, a fault may go unseen: the
-/// user bits take memory, and the checks before them take none.
+/// The call returns the first of them that holds. Only packets take memory. If it runs out, a fault
+/// after the header may go unseen.
 pub fn from_hex(alloc: Global, text: &[u8]) -> Result<Telegram, TextError>
     ensures ok { IfOk result (λ t. IsTelegramText t text.now) }
     ensures reason { IfErr result (λ e. IsReason e text.now) }
@@ -94,14 +117,14 @@ pub fn from_hex(alloc: Global, text: &[u8]) -> Result<Telegram, TextError>
         ↔ IsReasonDecoded TextError.WrongSize text.now }
     ensures pad_bits { IsErrOf result TextError.PadBits
         ↔ IsReasonDecoded TextError.PadBits text.now }
+    ensures header { (f : Fault) → HasHeaderFault text.now f
+        → result ≡ Err (TextError.Fault f) }
 {
-    if !is_hexadecimal(text) {
-        return Err(TextError::NotHex);
-    }
     match text.len() {
-        54 => telegram_in(alloc, &bytes_of::<27>(text)),
-        208 => telegram_in(alloc, &bytes_of::<104>(text)),
-        _ => Err(TextError::WrongSize),
+        54 => telegram_of_digits::<27>(alloc, text),
+        208 => telegram_of_digits::<104>(alloc, text),
+        _ if is_hexadecimal(text) => Err(TextError::WrongSize),
+        _ => Err(TextError::NotHex),
     }
 }
 

@@ -1,13 +1,13 @@
 //! A place among bits, from which fields are read.
 
-ghost use Rattle.std.specs.Prelude.{◌≡◌, ◌+◌, ◌<◌, ◌≤◌, ◌^◌, length, Ok, Err, IfOk, MatchResult, OnErr};
+ghost use Rattle.std.specs.Prelude.{◌≡◌, ◌↔◌, ◌+◌, ◌<◌, ◌≤◌, ◌^◌, length, take, drop, Ok, Err, IsOk, IfOk, IfErr, MatchResult, OnOk, OnErr};
 ghost use Rattle.etcs_bits.specs.layout.Fault.{short};
 ghost use Rattle.etcs_bits.specs.bits.Number.{num_of_bits};
-ghost use Rattle.etcs_bits.specs.layout.Reading.{taken, field_at};
+ghost use Rattle.etcs_bits.specs.layout.Reading.{forward, taken, field_at};
 ghost use Rattle.etcs_bits.specs.layout.Results.{Gives};
 
 use crate::bits::Bits;
-use crate::bits::conversions::num_of;
+use crate::bits::slice::BitSlice;
 use crate::layout::fault::{DecodeError, Fault, FaultKind};
 use std::alloc::Global;
 use std::marker::Model;
@@ -16,7 +16,7 @@ use std::marker::Model;
 /// as such a place. None of its calls takes memory.
 #[derive(Drop)]
 pub struct Cursor<'a> {
-    bits: &'a [bool],
+    bits: BitSlice<'a>,
     at: usize,
 }
 
@@ -26,9 +26,9 @@ impl<'a> Model for Cursor<'a> {
 
     ghost Value = { Place };
 
-    ghost view = { λ c. record { bits = c.bits.now; at = c.at } };
+    ghost view = { λ c. record { bits = c.bits; at = c.at } };
 
-    ghost invariant = { λ c. c.at ≤ length c.bits.now };
+    ghost invariant = { λ c. c.at ≤ length c.bits };
 }
 
 // The fault of a field that does not fit.
@@ -51,10 +51,15 @@ impl<'a> Cursor<'a> {
     pub fn new(bits: &'a Bits) -> Cursor<'a>
         ensures { result ≡ record { bits = bits.now; at = 0 } }
     {
-        Cursor {
-            bits: bits.as_slice(),
-            at: 0,
-        }
+        Cursor::over(bits.slice())
+    }
+
+    /// The beginning of borrowed bits.
+    #[inline]
+    pub fn over(bits: BitSlice<'a>) -> Cursor<'a>
+        ensures { result ≡ record { bits = bits.entry; at = 0 } }
+    {
+        Cursor { bits, at: 0 }
     }
 
     /// The place of the next bit, counted from 0 at the start of the bits.
@@ -93,9 +98,31 @@ impl<'a> Cursor<'a> {
         if len - self.at < width as usize {
             return Err(no_room(self.at, len));
         }
-        let n = num_of(&self.bits[self.at..self.at + width as usize]);
+        let n = self.bits.num(self.at, width);
         self.at += width as usize;
         Ok(n)
+    }
+
+    /// The next `n` bits, borrowed. The cursor then stands after them.
+    ///
+    /// If fewer bits are left, the error is a Short fault at the cursor, whose `end` is the length
+    /// of the bits. The cursor then does not move.
+    #[inline]
+    pub fn take_slice(&mut self, n: usize) -> Result<BitSlice<'a>, Fault>
+        ensures enough { IsOk result ↔ (self.old.at + n ≤ length self.old.bits) }
+        ensures bits { IfOk result (λ s. s ≡ take n (drop self.old.at self.old.bits)) }
+        ensures len { IfOk result (λ s. length s ≡ n) }
+        ensures moved { OnOk result (self.new ≡ forward self.old n) }
+        ensures short { IfErr result (λ f. f ≡ short self.old) }
+        ensures err { OnErr result (self.new ≡ self.old) }
+    {
+        let end = self.bits.len();
+        if end - self.at < n {
+            return Err(no_room(self.at, end));
+        }
+        let part = self.bits.part(self.at, self.at + n);
+        self.at += n;
+        Ok(part)
     }
 
     /// A copy of the next `width` bits, as they are. The cursor then stands after them.
@@ -116,7 +143,7 @@ impl<'a> Cursor<'a> {
             return Err(DecodeError::Fault(no_room(self.at, len)));
         }
         let end = self.at + width;
-        let bits = Bits::copied(alloc, &self.bits[self.at..end])?;
+        let bits = self.bits.part(self.at, end).to_bits(alloc)?;
         self.at = end;
         Ok(bits)
     }
@@ -150,7 +177,7 @@ impl<'a> Cursor<'a> {
         ensures inside { result.at ≤ length result.bits }
     {
         Cursor {
-            bits: self.bits,
+            bits: self.bits.part(0, self.bits.len()),
             at: self.at,
         }
     }

@@ -100,7 +100,9 @@ fn scan_items<T: Layout>(
     // If `count` is 0, no memory is asked for.
     ensures memory { IfMemory result (0 < count) }
 {
-    let mut items = Vec::new(alloc);
+    let Ok(mut items) = Vec::with_capacity(alloc, count as usize) else {
+        return Err(DecodeError::Memory);
+    };
     'items: for _ in 0..count {
         let item = T::scan(alloc, cur)?;
         items.push(item)?;

@@ -46,7 +46,7 @@ impl<T: Layout> Layout for Option<T> {
         }
     }
 
-    #[inline]
+    #[inline(always)]
     fn scan(alloc: Global, cur: &mut Cursor<'_>) -> Result<Self, DecodeError> {
         if cur.take(1)? == 1 {
             Ok(Some(Layout::scan(alloc, cur)?))

@@ -35,7 +35,7 @@ impl<A: Layout, B: Layout> Layout for (A, B) {
         self.1.put(out)
     }
 
-    #[inline]
+    #[inline(always)]
     fn scan(alloc: Global, cur: &mut Cursor<'_>) -> Result<Self, DecodeError> {
         Ok((Layout::scan(alloc, cur)?, Layout::scan(alloc, cur)?))
     }

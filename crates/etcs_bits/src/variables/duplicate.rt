@@ -21,7 +21,7 @@ impl Dup {
     ghost use Rattle.etcs_bits.specs.variables.Variables.{duplicate_variable, dup_number};
 
     /// The mark with this number; None from 3 on.
-    #[inline]
+    #[inline(always)]
     pub fn new(n: u32) -> Option<Dup>
         ensures some { IfSome result (λ v. dup_number v ≡ n) }
         ensures allowed { IsSome result ↔ IsTrue (duplicate_variable.allows n) }
@@ -62,7 +62,7 @@ impl Layout for Dup {
         out.push_num(2, u64::from(self.number()))
     }
 
-    #[inline]
+    #[inline(always)]
     fn scan(_alloc: Global, cur: &mut Cursor<'_>) -> Result<Self, DecodeError> {
         let at = cur.at();
         let n = cur.take(2)?;

@@ -31,7 +31,7 @@ impl Layout for bool {
         }
     }
 
-    #[inline]
+    #[inline(always)]
     fn scan(_alloc: Global, cur: &mut Cursor<'_>) -> Result<Self, DecodeError> {
         Ok(cur.take(1)? == 1)
     }

@@ -40,7 +40,7 @@ impl Layout for Identity {
         self.group.put(out)
     }
 
-    #[inline]
+    #[inline(always)]
     fn scan(alloc: Global, cur: &mut Cursor<'_>) -> Result<Self, DecodeError> {
         Ok(Identity {
             country: Layout::scan(alloc, cur)?,

@@ -73,7 +73,7 @@ impl Layout for Level {
         }
     }
 
-    #[inline]
+    #[inline(always)]
     fn scan(_alloc: Global, cur: &mut Cursor<'_>) -> Result<Self, DecodeError> {
         let at = cur.at();
         match cur.take(3)? {

@@ -17,7 +17,7 @@ impl Medium {
     ghost use Rattle.etcs_bits.specs.variables.Variables.{medium_variable, medium_number};
 
     /// The value with this number; None for every number but 0.
-    #[inline]
+    #[inline(always)]
     pub fn new(n: u32) -> Option<Medium>
         ensures some { IfSome result (λ v. medium_number v ≡ n) }
         ensures allowed { IsSome result ↔ IsTrue (medium_variable.allows n) }
@@ -56,7 +56,7 @@ impl Layout for Medium {
         out.push_num(1, u64::from(self.number()))
     }
 
-    #[inline]
+    #[inline(always)]
     fn scan(_alloc: Global, cur: &mut Cursor<'_>) -> Result<Self, DecodeError> {
         let at = cur.at();
         let n = cur.take(1)?;

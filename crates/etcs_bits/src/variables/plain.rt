@@ -59,7 +59,7 @@ impl<const W: u32> Plain<W> {
 
     /// The variable with this number. None exactly if the number does not fit in `W` bits, and
     /// always for a `W` outside 1 to 32.
-    #[inline]
+    #[inline(always)]
     pub fn new(n: u32) -> Option<Self>
         ensures some { IfSome result (λ p. p ≡ n) }
         ensures allowed { IsSome result ↔ ((n < 2 ^ W) × IsTrue ((plain W).allows n)) }
@@ -103,7 +103,7 @@ impl<const W: u32> Layout for Plain<W> {
         out.push_num(W, u64::from(self.number()))
     }
 
-    #[inline]
+    #[inline(always)]
     fn scan(_alloc: Global, cur: &mut Cursor<'_>) -> Result<Self, DecodeError> {
         if W == 0 || 32 < W {
             return Err(DecodeError::Fault(cur.refusal(W)));

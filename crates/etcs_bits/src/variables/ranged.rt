@@ -50,7 +50,7 @@ impl<const W: u32, const LAST: u32, const FROM: u32> Ranged<W, LAST, FROM> {
 
     /// The variable with this number. None exactly if the number does not fit in `W` bits or is
     /// spare, and always for a `W` outside 1 to 32.
-    #[inline]
+    #[inline(always)]
     pub fn new(n: u32) -> Option<Self>
         ensures some { IfSome result (λ p. p ≡ n) }
         ensures allowed { IsSome result ↔ ((n < 2 ^ W) × IsTrue ((ranged W LAST FROM).allows n)) }
@@ -98,7 +98,7 @@ impl<const W: u32, const LAST: u32, const FROM: u32> Layout for Ranged<W, LAST, 
         out.push_num(W, u64::from(self.number()))
     }
 
-    #[inline]
+    #[inline(always)]
     fn scan(_alloc: Global, cur: &mut Cursor<'_>) -> Result<Self, DecodeError> {
         if W == 0 || 32 < W {
             return Err(DecodeError::Fault(cur.refusal(W)));

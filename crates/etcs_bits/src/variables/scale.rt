@@ -21,7 +21,7 @@ impl Scale {
     ghost use Rattle.etcs_bits.specs.variables.Variables.{scale_variable, scale_number};
 
     /// The unit with this number; None from 3 on.
-    #[inline]
+    #[inline(always)]
     pub fn new(n: u32) -> Option<Scale>
         ensures some { IfSome result (λ v. scale_number v ≡ n) }
         ensures allowed { IsSome result ↔ IsTrue (scale_variable.allows n) }
@@ -62,7 +62,7 @@ impl Layout for Scale {
         out.push_num(2, u64::from(self.number()))
     }
 
-    #[inline]
+    #[inline(always)]
     fn scan(_alloc: Global, cur: &mut Cursor<'_>) -> Result<Self, DecodeError> {
         let at = cur.at();
         let n = cur.take(2)?;

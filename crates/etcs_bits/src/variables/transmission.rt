@@ -17,7 +17,7 @@ impl Transmission {
     ghost use Rattle.etcs_bits.specs.variables.Variables.{transmission_variable, transmission_number};
 
     /// The value with this number; None for every number but 1.
-    #[inline]
+    #[inline(always)]
     pub fn new(n: u32) -> Option<Transmission>
         ensures some { IfSome result (λ v. transmission_number v ≡ n) }
         ensures allowed { IsSome result ↔ IsTrue (transmission_variable.allows n) }
@@ -56,7 +56,7 @@ impl Layout for Transmission {
         out.push_num(1, u64::from(self.number()))
     }
 
-    #[inline]
+    #[inline(always)]
     fn scan(_alloc: Global, cur: &mut Cursor<'_>) -> Result<Self, DecodeError> {
         let at = cur.at();
         let n = cur.take(1)?;

@@ -19,7 +19,7 @@ impl Version {
     ghost use Rattle.etcs_bits.specs.variables.Variables.{version_variable, version_number};
 
     /// The version with this number; None for every number but 32 and 33.
-    #[inline]
+    #[inline(always)]
     pub fn new(n: u32) -> Option<Version>
         ensures some { IfSome result (λ v. version_number v ≡ n) }
         ensures allowed { IsSome result ↔ IsTrue (version_variable.allows n) }
@@ -59,7 +59,7 @@ impl Layout for Version {
         out.push_num(7, u64::from(self.number()))
     }
 
-    #[inline]
+    #[inline(always)]
     fn scan(_alloc: Global, cur: &mut Cursor<'_>) -> Result<Self, DecodeError> {
         let at = cur.at();
         let n = cur.take(7)?;

@@ -1,32 +1,26 @@
-use Rattle.std.proofs.Common.{◌≡◌, ◌≤◌, length, take, drop, sym, subst, arith}
-use Rattle.std.proofs.lemmas.List.{length-take, length-drop}
+use Rattle.std.proofs.Common.{◌≡◌, ◌+◌, ◌-◌, ◌*◌, ◌^◌, ◌<◌, ◌∙◌, ap, sym, length, take, drop, subst, arith, mod-eq_of_lt}
 use Rattle.etcs_bits.specs.bits.Number.{num_of_bits}
-use Rattle.etcs_bits.proofs.NumberLemmas.{num_of_bits-lt}
-use Rattle.etcs_bits.proofs.ConversionLemmas.{num_of_none}
 use Rattle.balisecheck.specs.BitText.{filled_up}
-use Rattle.balisecheck.proofs.BitTextLemmas.{byte_more, filled_length}
+use Rattle.balisecheck.proofs.BitTextLemmas.{byte_small, last_byte, whole_byte}
 use Rattle.balisecheck.proofs.bit_text.byte_at.Goals as goal
 
--- the number of no bits is 0
-pub bits-init : goal.bits-init
-bits-init c = sym num_of_none
+-- eight bits are left
+pub returns-then-left-ge8 : goal.returns-then-left-ge8
+returns-then-left-ge8 c =
+    c.num.ensures.value ∙ ap num_of_bits (whole_byte c.args.bits.now c.args.at (omega (arith, c.len.ensures, c.if-left-ge8.true)))
 
--- the next bit doubles the number so far, and adds itself
-pub bits-preserved : goal.bits-preserved
-bits-preserved c =
-    rw c.bit_at.ensures (byte_more c.args.bits.now c.args.at c.bits.byte c.bits.i c.requires.inside (omega arith) c.bits.invariant)
-
--- the number of eight bits is below 256
-pub overflow_cast-result : goal.overflow_cast-result
-overflow_cast-result c =
-    let rest = drop c.args.at (filled_up c.args.bits.now) in
-    let long : 8 ≤ length rest = rw (length-drop, filled_length c.args.bits.now) (omega (arith, c.requires.inside)) in
-    let all : c.bits.i ≡ 8 = omega arith in
-    let count : length (take c.bits.i rest) ≡ 8 = rw (length-take, all) (omega arith) in
-    let small = num_of_bits-lt (take c.bits.i rest) in
-    rw c.bits.invariant (omega (arith, rw count at small))
-
+-- fewer bits are left, and zeros follow them
 pub returns : goal.returns
 returns c =
-    let all : c.bits.i ≡ 8 = omega arith in
-    subst (λ n. c.bits.byte ≡ num_of_bits (take n (drop c.args.at (filled_up c.args.bits.now)))) all c.bits.invariant
+    let bits = c.args.bits.now in
+    let left = c.len.result - c.args.at in
+    let end : c.args.at + left ≡ length bits = omega (arith, c.len.ensures, c.requires.not_past) in
+    let byte : c.num-2.result * 2 ^ (8 - left) ≡ num_of_bits (take 8 (drop c.args.at (filled_up bits))) =
+    ap (λ n. n * 2 ^ (8 - left)) c.num-2.ensures.value ∙ last_byte bits c.args.at left end (omega arith) c.requires.inside in
+    let small = byte_small bits c.args.at c.requires.inside in
+    mod-eq_of_lt (omega (arith, byte, small)) ∙ byte
+
+pub overflow_cast-result-2 : goal.overflow_cast-result-2
+overflow_cast-result-2 c =
+    let small = byte_small c.args.bits.now c.args.at c.requires.inside in
+    omega (arith, returns c, small)

@@ -1,28 +1,5 @@
-use Rattle.std.proofs.Common.{◌≡◌, ap, Err, Some, length}
-use Rattle.std.proofs.lemmas.Result.{err_from_is_err_and}
-use Rattle.etcs_packet.proofs.ListLemmas.{no_error, same_error}
-use Rattle.etcs_telegram.specs.Sizes.{size_of}
-use Rattle.etcs_telegram.proofs.TelegramLemmas.{read_meaning, failed_meaning}
 use Rattle.etcs_telegram.proofs.decoding.decode.Goals as goal
 
--- the telegram is refused for the same reason as its header and packets
-pub returns-in_err-header-clause-exact : goal.returns-in_err-header-clause-exact
-returns-in_err-header-clause-exact c =
-    let failed = err_from_is_err_and c.from_residual.result c.from_residual.ensures.1 in
-    rw (failed.1, failed.2) (failed_meaning c.in_err-header.field-0.0 c.args.bits.now c.in_err-header.ensures.exact)
-
--- the header and packets that are read are the telegram, with the size that was found
-pub returns-clause-exact : goal.returns-clause-exact
-returns-clause-exact c =
-    let found : size_of (length c.args.bits.now) ≡ Some c.unwrap-size.result = cc (c.of_len.ensures, c.len.ensures, c.unwrap-size.ensures) in
-    read_meaning c.in_ok-header.header c.in_ok-header.packets.items c.unwrap-size.result c.args.bits.now found c.in_ok-header.ensures.exact
-
--- the header has no list
-pub returns-in_err-header-clause-header : goal.returns-in_err-header-clause-header
-returns-in_err-header-clause-header c = λ f fault.
-    let failed = err_from_is_err_and c.from_residual.result c.from_residual.ensures.1 in
-    rw (failed.1, failed.2) (ap Err (same_error _ _ (c.in_err-header.ensures.head (λ none. none) f fault)))
-
--- a header that was read has no fault
+-- the bits are borrowed whole
 pub returns-clause-header : goal.returns-clause-header
-returns-clause-header c = λ f fault. no_error _ _ (c.in_ok-header.ensures.head (λ none. none) f fault)
+returns-clause-header c = rw c.slice.ensures at c.decode_slice.ensures.header

@@ -1,13 +1,16 @@
 use Rattle.std.proofs.Common.{refl, sym, ◌∙◌}
-use Rattle.etcs_bits.proofs.SumLemmas.{number_read, chosen_gives}
+use Rattle.etcs_bits.specs.layout.Rows.{alone}
+use Rattle.etcs_bits.proofs.SumLemmas.{number_read, rest_read}
 use Rattle.etcs_packet.specs.PacketNumbers.{nid_raw}
-use Rattle.etcs_packet.specs.Raw.{others}
+use Rattle.etcs_packet.specs.Raw.{others, raw_rest}
 use Rattle.etcs_packet.proofs.raw.RawPacketLayout.scan.Goals as goal
 
 -- the number is one that is kept as bits, and what follows it is read
 pub returns-clause-gives : goal.returns-clause-gives
+unfolding alone
 returns-clause-gives c =
     let n = c.in_ok-number.number in
     let other = sym c.is_raw.ensures ∙ c.if-not-is_raw.false in
     let number = number_read nid_raw n c.args.cur.now c.take.new.self refl other c.in_ok-number.ensures.exact in
-    chosen_gives (λ r. r) nid_raw others n c.args.cur.now c.take.new.self c.scan_rest.new.cur c.scan_rest.result number c.scan_rest.ensures
+    let made = c.in_ok-packet.ensures in
+    rw (made.0, made.1.0, made.1.1) (rest_read nid_raw others.next n n c.args.cur.now c.take.new.self c.scan_rest.new.cur (raw_rest.rows (c.in_ok-dir.dir, c.in_ok-dir.body)) number refl c.in_ok-dir.ensures.gives)

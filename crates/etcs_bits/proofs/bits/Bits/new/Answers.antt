@@ -1,0 +1,5 @@
+use Rattle.etcs_bits.proofs.LoadLemmas.{none_packed}
+use Rattle.etcs_bits.proofs.bits.Bits.new.Goals as goal
+
+pub invariant_of-result : goal.invariant_of-result
+invariant_of-result c = rw c.new.ensures.items none_packed

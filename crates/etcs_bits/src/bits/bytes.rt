@@ -1,0 +1,153 @@
+//! Bits that are kept in bytes, eight in each, most significant first.
+
+ghost use Rattle.std.specs.Prelude.{◌≡◌, ◌+◌, ◌-◌, ◌*◌, ◌/◌, ◌%◌, ◌^◌, ◌<◌, ◌≤◌, ◌++◌, length, take, drop, slice_get, slice_index, vec_len, Some, OnOk, OnErr};
+ghost use Rattle.etcs_bits.specs.bits.Number.{num, num_of_bits, bits_of_bytes};
+ghost use Rattle.etcs_bits.specs.bits.Packed.{IsPacked};
+
+use std::alloc::AllocError;
+
+// Eight bytes from byte `first`, as one number. The compiler makes one load of it.
+#[inline(always)]
+fn word_at(bytes: &[u8], first: usize) -> u64
+    requires { first + 8 ≤ length bytes.now }
+    ensures { result ≡ num_of_bits (bits_of_bytes (take 8 (drop first bytes.now))) }
+{
+    u64::from_be_bytes([
+        bytes[first],
+        bytes[first + 1],
+        bytes[first + 2],
+        bytes[first + 3],
+        bytes[first + 4],
+        bytes[first + 5],
+        bytes[first + 6],
+        bytes[first + 7],
+    ])
+}
+
+// At most five bytes as one number.
+fn few_bytes(bytes: &[u8]) -> u64
+    requires { length bytes.now ≤ 5 }
+    ensures { result ≡ num_of_bits (bits_of_bytes bytes.now) }
+{
+    let mut total = 0u64;
+    for byte in bytes {
+        total = total * 256 + *byte as u64;
+    }
+    total
+}
+
+// The number of a field where fewer than eight bytes are left.
+#[inline(never)]
+fn num_near_end(bytes: &[u8], from: usize, width: u32) -> u64
+    requires low { 1 ≤ width }
+    requires high { width ≤ 32 }
+    requires inside { from + width ≤ 8 * length bytes.now }
+    ensures { result ≡ num_of_bits (take width (drop from (bits_of_bytes bytes.now))) }
+{
+    let first = from / 8;
+    let skipped = (from % 8) as u32;
+    let count = (skipped + width + 7) / 8;
+    let block = few_bytes(&bytes[first..first + count as usize]);
+    (block >> (8 * count - skipped - width)) & ((1 << width) - 1)
+}
+
+// The number that the `width` bits from place `from` spell.
+#[inline(always)]
+pub fn num_at(bytes: &[u8], from: usize, width: u32) -> u64
+    requires low { 1 ≤ width }
+    requires high { width ≤ 32 }
+    requires inside { from + width ≤ 8 * length bytes.now }
+    ensures { result ≡ num_of_bits (take width (drop from (bits_of_bytes bytes.now))) }
+{
+    let first = from / 8;
+    if bytes.len() - first < 8 {
+        return num_near_end(bytes, from, width);
+    }
+    let skipped = (from % 8) as u32;
+    (word_at(bytes, first) << skipped) >> (64 - width)
+}
+
+// The bit at place `i`.
+#[inline(always)]
+pub fn bit_at(bytes: &[u8], i: usize) -> bool
+    requires { i < 8 * length bytes.now }
+    ensures { slice_get (bits_of_bytes bytes.now) i ≡ Some result }
+{
+    (bytes[i / 8] >> (7 - i % 8)) & 1 == 1
+}
+
+// Appends the bits of `n` to whole bytes, and zeros up to a whole byte.
+fn append_whole(bytes: &mut Vec<u8>, width: u32, n: u64) -> Result<(), AllocError>
+    requires low { 1 ≤ width }
+    requires high { width ≤ 32 }
+    requires fits { n < 2 ^ width }
+    ensures ok { OnOk result (bits_of_bytes bytes.new.items
+        ≡ (bits_of_bytes bytes.old.items ++ num width n) ++ num (8 * ((width + 7) / 8) - width) 0) }
+    ensures err { OnErr result (bytes.new.items ≡ bytes.old.items) }
+{
+    let count = (width + 7) / 8;
+    let block = (n << (64 - width)).to_be_bytes();
+    bytes.extend_from_slice(&block[..count as usize])?;
+    Ok(())
+}
+
+// Appends the bits of `n` after the first `used` bits of the last byte, and zeros up to a whole
+// byte.
+fn append_within(bytes: &mut Vec<u8>, used: u32, width: u32, n: u64) -> Result<(), AllocError>
+    requires positive { 1 ≤ used }
+    requires within { used ≤ 7 }
+    requires low { 1 ≤ width }
+    requires high { width ≤ 32 }
+    requires fits { n < 2 ^ width }
+    requires last { 1 ≤ vec_len bytes.old }
+    requires zeros { slice_index bytes.old.items (vec_len bytes.old - 1) % 2 ^ (8 - used) ≡ 0 }
+    ensures ok { OnOk result (bits_of_bytes bytes.new.items
+        ≡ (take (8 * (vec_len bytes.old - 1) + used) (bits_of_bytes bytes.old.items) ++ num width n)
+        ++ num (8 * ((used + width + 7) / 8) - used - width) 0) }
+    ensures err { OnErr result (bytes.new.items ≡ bytes.old.items) }
+{
+    let last = bytes.len() - 1;
+    let count = (used + width + 7) / 8;
+    let block = ((bytes[last] as u64) << 56 | n << (64 - width - used)).to_be_bytes();
+    bytes.extend_from_slice(&block[1..count as usize])?;
+    bytes[last] = block[0];
+    Ok(())
+}
+
+// Appends the bits of `n` after the first `len` bits.
+pub fn append(bytes: &mut Vec<u8>, len: usize, width: u32, n: u64) -> Result<(), AllocError>
+    requires packed { IsPacked bytes.old.items len }
+    requires room { len + width < 2 ^ 64 }
+    requires low { 1 ≤ width }
+    requires high { width ≤ 32 }
+    requires fits { n < 2 ^ width }
+    ensures packed { OnOk result (IsPacked bytes.new.items (len + width)) }
+    ensures bits { OnOk result (take (len + width) (bits_of_bytes bytes.new.items)
+        ≡ take len (bits_of_bytes bytes.old.items) ++ num width n) }
+    ensures err { OnErr result (bytes.new.items ≡ bytes.old.items) }
+{
+    let used = (len % 8) as u32;
+    if used == 0 {
+        append_whole(bytes, width, n)?;
+        Ok(())
+    } else {
+        append_within(bytes, used, width, n)?;
+        Ok(())
+    }
+}
+
+// Keeps the first `len` bits. Zeros fill the last byte.
+pub fn cut(bytes: &mut Vec<u8>, len: usize)
+    requires { len ≤ 8 * length bytes.old.items }
+    ensures packed { IsPacked bytes.new.items len }
+    ensures bits { take len (bits_of_bytes bytes.new.items) ≡ take len (bits_of_bytes bytes.old.items) }
+{
+    let whole = len / 8;
+    let used = (len % 8) as u32;
+    if used == 0 {
+        bytes.truncate(whole);
+    } else {
+        bytes.truncate(whole + 1);
+        bytes[whole] = (bytes[whole] >> (8 - used)) << (8 - used);
+    }
+}

@@ -1,0 +1,32 @@
+use Rattle.std.proofs.Common.{◌≡◌, true, length, Ok, refl, sym, ◌∙◌}
+use Rattle.etcs_bits.specs.layout.Rows.{alone}
+use Rattle.etcs_bits.specs.layout.Reading.{rows_at}
+use Rattle.etcs_bits.proofs.SumLemmas.{rest_read, chosen_read}
+use Rattle.etcs_packet.specs.declared.track.TrackPacket.TheVariants as packets
+use Rattle.etcs_packet.specs.PacketNumbers.{is_other, nid_track}
+use Rattle.etcs_packet.specs.FoundRaw.{raw}
+use Rattle.etcs_packet.specs.Raw.{raw_rest}
+use Rattle.etcs_packet.specs.Track.{track_numbered}
+use Rattle.etcs_packet.proofs.RawLemmas.{kept_of}
+use Rattle.etcs_packet.proofs.TrackLemmas.{other_next}
+use Rattle.etcs_packet.proofs.view.PacketView.scan.Goals as goal
+
+-- the packet has the number, the direction and the body that were read
+pub returns-then-is_raw-clause-gives : goal.returns-then-is_raw-clause-gives
+unfolding alone
+returns-then-is_raw-clause-gives c =
+    let n = c.in_ok-number.number in
+    let dir = c.in_ok-dir.dir in
+    let body = c.in_ok-dir.body in
+    let other : is_other n ≡ true = sym c.is_raw.ensures ∙ c.if-is_raw.true in
+    let seen = raw n dir body (kept_of n (length body) other c.in_ok-dir.ensures.short) in
+    let rest : rows_at (track_numbered.next n) c.scan_number.new.cur ≡ Ok (raw_rest.rows (dir, body), c.scan_rest.new.cur) = rw (other_next n other) c.in_ok-dir.ensures.gives in
+    (packets.Raw seen, refl, rest_read nid_track track_numbered.next n n c.args.cur.now c.scan_number.new.cur c.scan_rest.new.cur (raw_rest.rows (dir, body)) c.in_ok-number.ensures.gives refl rest)
+
+-- the packet that was read
+pub returns-clause-gives : goal.returns-clause-gives
+unfolding alone
+returns-clause-gives c =
+    let n = c.in_ok-number.number in
+    let p = c.in_ok-scan_known.field-0 in
+    (p, c.in_ok-scan_known.ensures.known, chosen_read nid_track track_numbered track_numbered.next n c.args.cur.now c.scan_number.new.cur _ _ c.in_ok-number.ensures.gives refl c.in_ok-scan_known.ensures.gives)

@@ -1,0 +1,78 @@
+//! Views of packets in borrowed bytes.
+
+use super::spelled::fault;
+use crate::{PacketView, Stop, next_view};
+use etcs_bits::{BitSlice, Cursor, DecodeError, Dir, FaultKind};
+use std::test::Fail;
+
+// A header of 50 bits, and packet 44 whose L_PACKET is 22: less than its own head.
+const TOO_SHORT: [u8; 27] = [
+    0xa1, 0x00, 0x7f, 0x80, 0x20, 0x00, 0xcb, 0x20, 0x0b, 0, 0, 0, 0, 0, 0, 0, 0, 0, 0, 0, 0, 0, 0,
+    0, 0, 0, 0,
+];
+
+// The same header, packet 44 with a body of 129 bits, and the end mark.
+const RAW: [u8; 27] = [
+    0xa1, 0x00, 0x7f, 0x80, 0x20, 0x00, 0xcb, 0x20, 0x4c, 0, 0, 0, 0, 0, 0, 0, 0, 0, 0, 0, 0, 0, 0,
+    0, 0, 0x3f, 0xc0,
+];
+
+// Packet 21 with one further element, and the end mark.
+const GRADIENT: [u8; 11] = [
+    0x15, 0x40, 0x9c, 0x83, 0xe8, 0x82, 0x84, 0x00, 0x50, 0x0f, 0xfc,
+];
+
+// The cursor behind the header of 210 user bits.
+fn behind_header(bytes: &[u8; 27]) -> Cursor<'_> {
+    let mut cur = Cursor::over(BitSlice::of_bytes(bytes, 210));
+    let _header = cur.take(32);
+    let _header = cur.take(18);
+    cur
+}
+
+#[test]
+fn a_length_below_23_is_a_fault(rt: HostRuntime) {
+    let mut cur = behind_header(&TOO_SHORT);
+    let error = next_view(rt.alloc(), &mut cur, Stop::Telegram).err();
+    assert!(rt; error == fault(60, 73, FaultKind::Length));
+    assert!(rt; cur.at() == 50);
+}
+
+// Number, direction and length of the body, of a raw view.
+fn raw_parts(view: &PacketView<'_>) -> Option<(u8, Dir, usize)> {
+    match view {
+        PacketView::Raw { number, dir, body } => Some((*number, *dir, body.len())),
+        PacketView::Known(_) => None,
+    }
+}
+
+// Asks for no memory, so it passes too where every request for memory is refused.
+#[test]
+fn a_raw_body_is_borrowed(rt: HostRuntime) -> Result<(), Fail> {
+    let mut cur = behind_header(&RAW);
+    let Some(view) = next_view(rt.alloc(), &mut cur, Stop::Telegram)? else {
+        return Err("no view".into());
+    };
+    assert!(rt; raw_parts(&view) == Some((44, Dir::Both, 129)));
+    assert!(rt; cur.at() == 202);
+    let end = next_view(rt.alloc(), &mut cur, Stop::Telegram)?;
+    assert!(rt; end.is_none() && cur.at() == 202);
+    Ok(())
+}
+
+// Where the one request for memory is refused, the cursor stays.
+#[test]
+fn a_known_packet_is_read_whole(rt: HostRuntime) -> Result<(), Fail> {
+    let mut cur = Cursor::over(BitSlice::of_bytes(&GRADIENT, 86));
+    match next_view(rt.alloc(), &mut cur, Stop::Telegram) {
+        Ok(Some(PacketView::Known(packet))) => {
+            assert!(rt; packet.number() == 21 && cur.at() == 78);
+            Ok(())
+        }
+        Err(DecodeError::Memory) => {
+            assert!(rt; cur.at() == 0);
+            Err("out of memory".into())
+        }
+        _ => Err("no known packet".into()),
+    }
+}

@@ -1,0 +1,65 @@
+//! Packets as views: those that are kept as bits with their bodies borrowed.
+
+ghost use Rattle.std.specs.Prelude.{◌≡◌, true, IfOk};
+ghost use Rattle.etcs_bits.specs.layout.Results.{IfMemory};
+
+use crate::raw::{RawPacket, is_raw};
+use crate::track::{TrackPacket, scan_number};
+use etcs_bits::{BitSlice, Cursor, DecodeError, Dir, Memory};
+use std::alloc::Global;
+
+/// A packet from track to train (SUBSET-026, 7.4.2), without a copy of a body that is kept as bits.
+#[derive(Debug, Drop)]
+pub enum PacketView<'a> {
+    /// A packet whose layout is known: any [`TrackPacket`] but a raw one.
+    Known(TrackPacket),
+    /// A packet whose layout is not known here, as a [`RawPacket`] has it.
+    Raw {
+        /// The number of the packet: NID_PACKET.
+        number: u8,
+        /// The running directions that the packet is for: Q_DIR.
+        dir: Dir,
+        /// The bits after L_PACKET, borrowed from the bits that are read.
+        body: BitSlice<'a>,
+    },
+}
+
+impl<'a> PacketView<'a> {
+    ghost use Rattle.etcs_bits.specs.layout.Reading.{rows_at};
+    ghost use Rattle.etcs_packet.specs.Track.{track_packet};
+    ghost use Rattle.etcs_packet.specs.View.{IsView, Shows, grows_at, view_of};
+
+    /// Reads a view of the packet at the cursor. After an error the cursor may stand anywhere.
+    #[inline]
+    pub(crate) fn scan(alloc: Global, cur: &mut Cursor<'a>) -> Result<PacketView<'a>, DecodeError>
+        ensures gives { Shows result (rows_at track_packet.fields cur.old) cur.new }
+        ensures memory { IfMemory result (grows_at cur.old ≡ true) }
+    {
+        let number = scan_number(cur)?;
+        if is_raw(number) {
+            let (dir, body) = RawPacket::scan_rest(alloc, cur)?;
+            return Ok(PacketView::Raw {
+                number: number as u8,
+                dir,
+                body,
+            });
+        }
+        Ok(PacketView::Known(TrackPacket::scan_known(alloc, number, cur)?))
+    }
+
+    /// The packet that is seen, with a copy of a body that is kept as bits. Fails only if memory
+    /// runs out.
+    #[inline]
+    pub(crate) fn into_packet(self, alloc: Global) -> Result<TrackPacket, Memory>
+        requires { IsView self }
+        ensures { IfOk result (λ p. view_of p ≡ self.entry) }
+    {
+        match self {
+            PacketView::Known(packet) => Ok(packet),
+            PacketView::Raw { number, dir, body } => {
+                let packet = RawPacket::with_copy(alloc, number, dir, body)?;
+                Ok(TrackPacket::Raw(packet))
+            }
+        }
+    }
+}

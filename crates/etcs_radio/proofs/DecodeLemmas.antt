@@ -1,0 +1,166 @@
+-- From what the code reads to what bytes mean.
+use Rattle.std.proofs.Common.{◌≡◌, ℕ, ◌+◌, ◌*◌, ◌<◌, ◌≤◌, ◌^◌, min, ltb, true, false, Bool, List, length, take, drop, Result, Ok, Err, refl, sym, ap, subst, ◌∙◌, ◌==◌, arith}
+use Rattle.std.specs.Prelude.{IfOk}
+use Rattle.std.proofs.lemmas.List.{take_all, length-take, take-take}
+use Rattle.std.proofs.lemmas.Bool.{le-ltb, ltb-true, ltb-false, ne_eqb}
+use Rattle.etcs_bits.specs.declared.layout.fault.Fault.{Fault}
+use Rattle.etcs_bits.specs.declared.layout.fault.DecodeError.{DecodeError}
+use Rattle.etcs_bits.specs.declared.layout.fault.DecodeError.TheVariants as errors
+use Rattle.etcs_bits.specs.declared.layout.fault.FaultKind.TheVariants.{Length, MessageKind}
+use Rattle.etcs_bits.specs.bits.Number.{num_of_bits, bits_of_bytes}
+use Rattle.etcs_bits.specs.layout.Rows.{Row, Place}
+use Rattle.etcs_bits.specs.layout.Fields.{Fields, field, one, ◌▹◌}
+use Rattle.etcs_bits.specs.layout.Reading.{◌>>=◌, forward, taken, field_at, rows_at}
+use Rattle.etcs_bits.specs.layout.Results.{Fails, Means, OfMemory, IfFault}
+use Rattle.etcs_bits.specs.layout.Fault.{IsFault}
+use Rattle.etcs_bits.specs.variables.Variables.{only}
+use Rattle.etcs_bits.proofs.NumberLemmas.{length-bits_of_bytes, num_of_bits-lt}
+use Rattle.etcs_bits.proofs.BindLemmas.{err_is}
+use Rattle.etcs_bits.proofs.FaultLemmas.{fault_is_given}
+use Rattle.etcs_bits.proofs.ReadingLemmas.{taken_ok}
+use Rattle.etcs_packet.specs.Whole.{start}
+use Rattle.etcs_radio.specs.declared.message.Message.{Message}
+use Rattle.etcs_radio.specs.Head.{Head, head, numbered, nid_message, after_length, movement_head, position_head}
+use Rattle.etcs_radio.specs.Meaning.{packets_of, message_of}
+use Rattle.etcs_radio.specs.Message.{beginning, IsMessage, IsMessageFault, IsNoMessage}
+use Rattle.etcs_radio.proofs.MessageLemmas.{then_packets, meant, means_message, meant_fault}
+use Rattle.etcs_radio.proofs.NoMessageLemmas.{fault_none}
+
+-- ---- more bytes than L_MESSAGE can count
+
+-- the next w bits, where there are as many
+taken_there : (w : ℕ) (p : Place) → p.at + w ≤ length p.bits
+    → taken w p ≡ Ok (num_of_bits (take w (drop p.at p.bits)), forward p w)
+taken_there w p fits = rw (le-ltb (length p.bits) (p.at + w) fits) refl
+
+-- L_MESSAGE is no number that does not fit in its ten bits
+length_refused : (n : ℕ) (rest : Fields) (q : Place) → 1024 ≤ n → q.at + 10 ≤ length q.bits
+    → rows_at (one (only 10 n Length) ▹ rest) q ≡ Err (record { at = q.at; end = q.at + 10; why = Length })
+length_refused n rest q many fits =
+    let j = num_of_bits (take 10 (drop q.at q.bits)) in
+    let read = taken_there 10 q fits in
+    let small = (taken_ok 10 q (j, forward q 10) read).small in
+    let other : (j == n) ≡ false = ne_eqb j n (λ e. absurd (omega (arith, small, e, many))) in
+    rw (read, other) refl
+
+-- the rest of a table of fields, after NID_MESSAGE
+abbrev after : ℕ → ℕ → Fields
+after n k = (numbered n).next k
+
+after_refused : (n k : ℕ) (q : Place) → 1024 ≤ n → q.at + 10 ≤ length q.bits
+    → rows_at (after n k) q ≡ Err (record { at = q.at; end = q.at + 10; why = Length })
+after_refused n k q many fits = by_kind (k == 3) refl
+  where
+    by_kind : (b : Bool) → (k == 3) ≡ b → rows_at (after n k) q ≡ Err (record { at = q.at; end = q.at + 10; why = Length })
+    by_kind true is = rw is (length_refused n movement_head.fields q many fits)
+    by_kind false is = rw is (length_refused n position_head.fields q many fits)
+
+-- the fault of a head, by its NID_MESSAGE
+abbrev long_fault : Bool → Fault
+long_fault true = record { at = 8; end = 18; why = Length }
+long_fault false = record { at = 0; end = 8; why = MessageKind }
+
+long_by : (n k : ℕ) (b : Bool) (p : Place) → 1024 ≤ n → p.at ≡ 0 → 18 ≤ length p.bits
+    → taken 8 p ≡ Ok (k, forward p 8) → nid_message.allows k ≡ b
+    → rows_at (head n).fields p ≡ Err (long_fault b)
+long_by n k true p many at fits read is =
+    let refused = after_refused n k (forward p 8) many (omega (arith, fits, at)) in
+    let place : record { at = p.at + 8; end = p.at + 8 + 10; why = Length } ≡ long_fault true = rw at refl in
+    rw (read, is, refused) (ap Err place)
+long_by n k false p many at fits read is = rw (read, is, at) refl
+
+long_head : (n : ℕ) (bits : List Bool) → 1024 ≤ n → 18 ≤ length bits
+    → rows_at (head n).fields (start bits) ≡ Err (long_fault (nid_message.allows (num_of_bits (take 8 bits))))
+long_head n bits many fits =
+    long_by n (num_of_bits (take 8 bits)) (nid_message.allows (num_of_bits (take 8 bits))) (start bits) many refl fits
+    (taken_there 8 (start bits) (omega (arith, fits))) refl
+
+-- the first 1,024 bytes have the same head as all
+pub same_head : (bytes : List ℕ) (few : ℕ) (bits : List Bool) → few ≡ min (length bytes) 1024
+    → bits ≡ take (8 * few) (bits_of_bytes bytes)
+    → rows_at (head (length bytes)).fields (start bits) ≡ rows_at (head (length bytes)).fields (beginning bytes)
+same_head bytes few bits least is = by_size (ltb 1024 (length bytes)) refl
+  where
+    by_size : (b : Bool) → ltb 1024 (length bytes) ≡ b
+        → rows_at (head (length bytes)).fields (start bits) ≡ rows_at (head (length bytes)).fields (beginning bytes)
+    by_size true more =
+        let many : 1024 ≤ length bytes = omega (arith, ltb-true 1024 (length bytes) more) in
+        let all = bits_of_bytes bytes in
+        let count = length-bits_of_bytes bytes in
+        let fits : 18 ≤ length bits = omega (arith, ap length is, length-take (8 * few) all, count, least, many) in
+        let front : take 8 bits ≡ take 8 all = ap (take 8) is ∙ take-take 8 (8 * few) all (omega (arith, least, many)) in
+        long_head (length bytes) bits many fits
+        ∙ ap (λ (xs : List Bool). Err (long_fault (nid_message.allows (num_of_bits xs)))) front
+        ∙ sym (long_head (length bytes) all many (omega (arith, count, many)))
+    by_size false not_more =
+        let least_too : length bytes ≤ 1024 = ltb-false 1024 (length bytes) not_more in
+        let whole = take_all (8 * few) (bits_of_bytes bytes) (omega (arith, length-bits_of_bytes bytes, least, least_too)) in
+        ap (λ (xs : List Bool). rows_at (head (length bytes)).fields (start xs)) (is ∙ whole)
+
+-- ---- what the calls return
+
+-- the bytes that are read, as a place
+pub record AreSeen (bytes : List ℕ) (p : Place) : Type 0 where
+  pub few : ℕ
+  pub bits : List Bool
+  pub least : few ≡ min (length bytes) 1024
+  pub are : bits ≡ take (8 * few) (bits_of_bytes bytes)
+  pub here : p ≡ start bits
+
+seen_head : (bytes : List ℕ) (p : Place) → AreSeen bytes p
+    → rows_at (head (length bytes)).fields p ≡ rows_at (head (length bytes)).fields (beginning bytes)
+seen_head bytes p s =
+    ap (λ (q : Place). rows_at (head (length bytes)).fields q) s.here ∙ same_head bytes s.few s.bits s.least s.are
+
+pub head_fails : (e : DecodeError) (bytes : List ℕ) (p : Place) → AreSeen bytes p
+    → Fails e (rows_at (head (length bytes)).fields p) → Fails e (message_of bytes)
+head_fails errors.Memory bytes p s fails = tt
+head_fails (errors.Fault f) bytes p s fails =
+    meant bytes ∙ ap (λ (r : Result (List Row × Place) Fault). r >>= then_packets (length bytes)) (sym (seen_head bytes p s) ∙ fails)
+
+head_is : (bytes : List ℕ) (p q : Place) (h : Head) → AreSeen bytes p
+    → rows_at (head (length bytes)).fields p ≡ Ok ((head (length bytes)).rows h, q)
+    → message_of bytes ≡ packets_of h q
+head_is bytes p q h s read =
+    meant bytes ∙ ap (λ (r : Result (List Row × Place) Fault). r >>= then_packets (length bytes)) (sym (seen_head bytes p s) ∙ read)
+    ∙ ap (λ (k : Head). packets_of k q) ((head (length bytes)).laid.is_record h)
+
+pub message_means : (r : Result Message DecodeError) (bytes : List ℕ) (p q : Place) (h : Head) → AreSeen bytes p
+    → rows_at (head (length bytes)).fields p ≡ Ok ((head (length bytes)).rows h, q)
+    → Means (λ m. m) r (packets_of h q) → Means (λ m. m) r (message_of bytes)
+message_means r bytes p q h s read means =
+    subst (λ (x : Result Message Fault). Means (λ m. m) r x) (sym (head_is bytes p q h s read)) means
+
+-- the head's fault is the one that is returned
+pub head_reported : (e : DecodeError) (bytes : List ℕ) (p : Place) (f : Fault) → AreSeen bytes p → OfMemory e ⊥
+    → Fails e (rows_at (head (length bytes)).fields p)
+    → IsFault (head (length bytes)).fields (beginning bytes) f → e ≡ errors.Fault f
+head_reported errors.Memory bytes p f s memory fails fault = absurd memory
+head_reported (errors.Fault g) bytes p f s memory fails fault =
+    let given = fault_is_given (head (length bytes)).fields (beginning bytes) f (omega arith) fault in
+    ap errors.Fault (err_is g f (sym fails ∙ seen_head bytes p s ∙ given))
+
+pub no_head_fault : {C : Type 0} (bytes : List ℕ) (p q : Place) (h : Head) (f : Fault) → AreSeen bytes p
+    → rows_at (head (length bytes)).fields p ≡ Ok ((head (length bytes)).rows h, q)
+    → IsFault (head (length bytes)).fields (beginning bytes) f → C
+no_head_fault bytes p q h f s read fault =
+    let given = fault_is_given (head (length bytes)).fields (beginning bytes) f (omega arith) fault in
+    let both = sym read ∙ (seen_head bytes p s ∙ given) in
+    absurd cc
+
+pub ok_of : (r : Result Message DecodeError) (bytes : List ℕ) → Means (λ m. m) r (message_of bytes)
+    → IfOk r (λ m. IsMessage m bytes)
+ok_of (Ok m) bytes means = means_message m bytes means
+ok_of (Err e) bytes means = tt
+
+pub fault_of : (r : Result Message DecodeError) (bytes : List ℕ) → Means (λ m. m) r (message_of bytes)
+    → IfFault r (λ f. IsMessageFault bytes f)
+fault_of (Ok m) bytes means = tt
+fault_of (Err errors.Memory) bytes means = tt
+fault_of (Err (errors.Fault f)) bytes means = meant_fault bytes f means
+
+pub none_of : (r : Result Message DecodeError) (bytes : List ℕ) → Means (λ m. m) r (message_of bytes)
+    → IfFault r (λ f. IsNoMessage bytes f)
+none_of (Ok m) bytes means = tt
+none_of (Err errors.Memory) bytes means = tt
+none_of (Err (errors.Fault f)) bytes means = fault_none bytes f (meant_fault bytes f means)

@@ -1,0 +1,13 @@
+pub mod RawTrainLemmas
+pub mod TrainLemmas
+pub mod LrbgLemmas
+pub mod ReportLemmas
+pub mod MessageLemmas
+pub mod NoMessageLemmas
+pub mod PacketsLemmas
+pub mod DecodeLemmas
+pub mod EncodeLemmas
+pub mod WriteLemmas
+pub mod TextLemmas
+pub mod StreamLemmas
+pub mod SplitterLemmas

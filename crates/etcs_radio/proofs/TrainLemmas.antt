@@ -1,0 +1,82 @@
+-- A train packet's rows by itself and as one of a list have the same bits.
+use Rattle.std.proofs.Common.{◌≡◌, ◌⊎◌, ℕ, Bool, true, false, List, ◌∷◌, ◌++◌, Result, Ok, length, refl, sym, ap, ◌∙◌, inl, inr}
+use Rattle.std.proofs.lemmas.Bool.{ne_eqb}
+use Rattle.std.specs.Prelude.{◌==◌, ◌||◌, not}
+use Rattle.etcs_bits.specs.declared.layout.fault.Fault.{Fault}
+use Rattle.etcs_bits.specs.layout.Rows.{Row, row, alone, Place, AreAllowed, join, width}
+use Rattle.etcs_bits.specs.layout.Choice.{numbered_rows}
+use Rattle.etcs_radio.specs.declared.report.Report.{Report}
+use Rattle.etcs_radio.specs.declared.train_packet.TrainPacket.{TrainPacket}
+use Rattle.etcs_radio.specs.declared.train_packet.TrainPacket.TheVariants as packets
+use Rattle.etcs_radio.specs.Report.{WithOne, WithTwo, numbered, numbered_of, report_variable}
+use Rattle.etcs_radio.specs.RawTrain.{tail, other_of}
+use Rattle.etcs_radio.specs.TrainNumbers.{is_report_number, nid_train}
+use Rattle.etcs_radio.specs.TrainPacket.{train_numbered, report_in, train_packet, own_rows}
+
+-- the rows of a report with its number, as one of a list and by itself
+abbrev listed : WithOne ⊎ WithTwo → List Row
+listed s = alone nid_train (train_numbered.number (report_in s)) ++ train_numbered.rows (report_in s)
+
+abbrev own : WithOne ⊎ WithTwo → List Row
+own s = alone report_variable (numbered.number s) ++ numbered.rows s
+
+report_join : (s : WithOne ⊎ WithTwo) → join (listed s) ≡ join (own s)
+unfolding alone
+report_join (inl p) = refl
+report_join (inr p) = refl
+
+report_width : (s : WithOne ⊎ WithTwo) → width (listed s) ≡ width (own s)
+unfolding alone
+report_width (inl p) = refl
+report_width (inr p) = refl
+
+report_allowed : (s : WithOne ⊎ WithTwo) → AreAllowed (own s) → AreAllowed (listed s)
+unfolding alone
+report_allowed (inl p) allowed = allowed
+report_allowed (inr p) allowed = allowed
+
+pub train_join : (p : TrainPacket) → join (train_packet.rows p) ≡ join (own_rows p)
+unfolding alone
+train_join (packets.Report r) = report_join (numbered_of r)
+train_join (packets.Raw p) = refl
+
+pub train_width : (p : TrainPacket) → width (train_packet.rows p) ≡ width (own_rows p)
+unfolding alone
+train_width (packets.Report r) = report_width (numbered_of r)
+train_width (packets.Raw p) = refl
+
+not_mark : (known mark : Bool) → not (known || mark) ≡ true → not mark ≡ true
+not_mark true mark h = absurd cc
+not_mark false mark h = h
+
+pub train_allowed : (p : TrainPacket) → AreAllowed (own_rows p) → AreAllowed (train_packet.rows p)
+unfolding alone
+train_allowed (packets.Report r) allowed = report_allowed (numbered_of r) allowed
+train_allowed (packets.Raw p) allowed =
+    ((allowed.0.0, not_mark (is_report_number p.number) (p.number == 255) (other_of p.number (length p.body) p.kept)), allowed.1)
+
+-- ---- reading
+
+abbrev Not : ℕ → ℕ → Type 0
+Not n k = n ≡ k → ⊥
+
+-- what follows a number that is no report's
+pub other_next : (n : ℕ) → Not n 0 → Not n 1 → train_numbered.next n ≡ tail.fields
+other_next n a b = rw (ne_eqb n 0 a, ne_eqb n 1 b) refl
+
+-- what follows the number of a report
+pub report_next : (n : ℕ) → (n ≡ 0) ⊎ ((n ≡ 0 → ⊥) × (n ≡ 1)) → train_numbered.next n ≡ numbered.next n
+report_next n (inl is) = rw is refl
+report_next n (inr other) = rw other.1 refl
+
+in_rows : (s : WithOne ⊎ WithTwo) → numbered_rows train_numbered (report_in s) ≡ numbered_rows numbered s
+in_rows (inl p) = refl
+in_rows (inr p) = refl
+
+-- a report that was read
+pub report_here : (r : Report) {read : Result (List Row × Place) Fault} {to : Place}
+    → read ≡ Ok (row nid_train (numbered.number (numbered_of r)) ∷ numbered.rows (numbered_of r), to)
+    → read ≡ Ok (train_packet.rows (packets.Report r), to)
+unfolding alone
+report_here r {to = to} read =
+    read ∙ ap (λ (z : ℕ × List Row). Ok (row nid_train z.0 ∷ z.1, to)) (sym (in_rows (numbered_of r)))

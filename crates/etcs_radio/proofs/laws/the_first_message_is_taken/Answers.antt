@@ -1,0 +1,9 @@
+-- L_MESSAGE of a message is that of each front of it that has three bytes.
+use Rattle.etcs_radio.proofs.SplitterLemmas.{message_taken, rest_never_ready}
+use Rattle.etcs_radio.proofs.laws.the_first_message_is_taken.Goals as goal
+
+pub returns-clause-message : goal.returns-clause-message
+returns-clause-message c = λ message more whole. message_taken message more whole
+
+pub returns-clause-rest : goal.returns-clause-rest
+returns-clause-rest c = λ rest n cut_off within. rest_never_ready rest n cut_off within

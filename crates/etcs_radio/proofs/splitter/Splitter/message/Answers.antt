@@ -1,0 +1,10 @@
+-- What is ready is whole.
+use Rattle.std.proofs.Common.{◌∙◌, ap}
+use Rattle.etcs_radio.specs.Splitter.{state_of}
+use Rattle.etcs_radio.proofs.SplitterLemmas.{ready-whole}
+use Rattle.etcs_radio.proofs.splitter.Splitter.message.Goals as goal
+
+pub returns-clause-whole : goal.returns-clause-whole
+returns-clause-whole c =
+    ready-whole c.as_slice.result.now
+    (ap state_of (c.as_slice.ensures.value ∙ c.self.view_is) ∙ c.requires)

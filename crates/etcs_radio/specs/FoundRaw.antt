@@ -1,0 +1,23 @@
+-- A train packet that is kept as bits, found again in its rows.
+-- Pinned by the law a_record_is_read_as_it_is_spelled.
+use Rattle.std.specs.Prelude.{◌≡◌, ℕ, ◌-◌, Bool, true, false, List, [], length, refl}
+use Rattle.etcs_bits.specs.bits.Number.{num}
+use Rattle.etcs_bits.specs.layout.Rows.{Row}
+use Rattle.etcs_bits.specs.layout.Found.{number_at}
+use Rattle.etcs_radio.specs.declared.raw_train.RawTrainPacket.{RawTrainPacket}
+use Rattle.etcs_radio.specs.TrainNumbers.{is_kept}
+
+-- the body that rows hold
+abbrev pub tail_of : List Row → List Bool
+tail_of rows = num (number_at 0 rows - 21) (number_at 1 rows)
+
+-- the packet of these parts, where they make one, and of any parts
+abbrev pub raw : (n : ℕ) → (body : List Bool) → is_kept n (length body) ≡ true → RawTrainPacket
+raw n body kept = record { number = n; body = body; kept = kept }
+
+abbrev pub raw_by : (n : ℕ) → (body : List Bool) → (b : Bool) → is_kept n (length body) ≡ b → RawTrainPacket
+raw_by n body true kept = raw n body kept
+raw_by n body false other = raw 2 [] refl
+
+abbrev pub raw_with : ℕ → List Bool → RawTrainPacket
+raw_with n body = raw_by n body (is_kept n (length body)) refl

@@ -1,0 +1,60 @@
+-- Whether a train is whole, and how long it is (SUBSET-026, 7.5.1): Q_LENGTH, and L_TRAININT after
+-- two of its numbers.
+use Rattle.std.specs.Prelude.{◌≡◌, ℕ, ◌⊎◌, false, refl}
+use Rattle.std.proofs.Common.{inl, inr}
+use Rattle.etcs_bits.specs.declared.layout.fault.FaultKind.TheVariants.{Spare}
+use Rattle.etcs_bits.specs.layout.Rows.{Variable}
+use Rattle.etcs_bits.specs.layout.Choice.{Choice}
+use Rattle.etcs_bits.specs.layout.Format.{Format, number, empty, last, either, chosen, named}
+use Rattle.etcs_radio.specs.declared.integrity.Integrity.{Integrity}
+use Rattle.etcs_radio.specs.declared.integrity.Integrity.TheVariants as lengths
+
+-- L_TRAININT, 15 bits: the length of the train
+abbrev pub l_trainint : Format ℕ
+l_trainint = number 15
+
+-- what follows each number: L_TRAININT after 1 and 2
+abbrev pub Numbered : Type 0
+Numbered = Unit {0} ⊎ (ℕ ⊎ (ℕ ⊎ Unit {0}))
+
+abbrev pub numbered : Choice Numbered
+numbered = either 0 empty (either 1 l_trainint (either 2 l_trainint (last 3 empty) refl) refl) refl
+
+-- Q_LENGTH, 2 bits: no number is spare
+abbrev pub length_variable : Variable
+length_variable = record { width = 2; allows = numbered.allows; refusal = Spare; closes = false }
+
+-- ---- the number of a value, with what follows it
+
+abbrev pub numbered_of : Integrity → Numbered
+numbered_of lengths.Q0 = inl tt
+numbered_of (lengths.Q1 l) = inr (inl l)
+numbered_of (lengths.Q2 l) = inr (inr (inl l))
+numbered_of lengths.Q3 = inr (inr (inr tt))
+
+-- ---- the value of a number with what follows it
+-- Pinned by the law a_record_is_read_as_it_is_spelled.
+
+abbrev pub integrity_of : Numbered → Integrity
+integrity_of (inl _) = lengths.Q0
+integrity_of (inr (inl l)) = lengths.Q1 l
+integrity_of (inr (inr (inl l))) = lengths.Q2 l
+integrity_of (inr (inr (inr _))) = lengths.Q3
+
+pub back : (n : Numbered) → numbered_of (integrity_of n) ≡ n
+back (inl _) = refl
+back (inr (inl l)) = refl
+back (inr (inr (inl l))) = refl
+back (inr (inr (inr _))) = refl
+
+pub again : (v : Integrity) → integrity_of (numbered_of v) ≡ v
+again lengths.Q0 = refl
+again (lengths.Q1 l) = refl
+again (lengths.Q2 l) = refl
+again lengths.Q3 = refl
+
+-- ---- the record
+
+-- Q_LENGTH, with L_TRAININT
+abbrev pub q_length : Format Integrity
+q_length = named (chosen length_variable numbered (λ _. refl)) integrity_of numbered_of back again

@@ -1,0 +1,87 @@
+-- The packets from train to track (SUBSET-026, 7.4.3): position reports, and all others.
+use Rattle.std.specs.Prelude.{◌≡◌, ℕ, ◌==◌, ◌||◌, ◌⊎◌, not, if◌then◌else◌, Bool, true, false, List, refl}
+use Rattle.std.proofs.Common.{ap, sym, ◌∙◌, inl, inr}
+use Rattle.std.proofs.lemmas.Bool.{ne_eqb, true≢false}
+use Rattle.etcs_bits.specs.layout.Rows.{Row}
+use Rattle.etcs_bits.specs.layout.Choice.{Choice}
+use Rattle.etcs_bits.specs.layout.Format.{Format, either, chosen, named}
+use Rattle.etcs_radio.specs.declared.raw_train.RawTrainPacket.{RawTrainPacket}
+use Rattle.etcs_radio.specs.declared.train_packet.TrainPacket.{TrainPacket}
+use Rattle.etcs_radio.specs.declared.train_packet.TrainPacket.TheVariants as packets
+use Rattle.etcs_radio.specs.Report.{WithOne, WithTwo, with_one, with_two, report_of, numbered_of as report_parts, back as report_back, again as report_again, report}
+use Rattle.etcs_radio.specs.RawTrain.{others, raw_train_packet}
+use Rattle.etcs_radio.specs.TrainNumbers.{is_report_number, nid_train}
+
+-- NID_PACKET, and what follows it
+abbrev pub Numbered : Type 0
+Numbered = WithOne ⊎ (WithTwo ⊎ RawTrainPacket)
+
+abbrev pub train_numbered : Choice Numbered
+train_numbered = either 0 with_one (either 1 with_two others refl) refl
+
+-- ---- the number of a packet with what follows
+
+-- a report as one of all packets
+abbrev pub report_in : WithOne ⊎ WithTwo → Numbered
+report_in (inl p) = inl p
+report_in (inr p) = inr (inl p)
+
+abbrev pub parts_of : TrainPacket → Numbered
+parts_of (packets.Report r) = report_in (report_parts r)
+parts_of (packets.Raw p) = inr (inr p)
+
+-- ---- the packet of a number with what follows
+-- Pinned by the law a_record_is_read_as_it_is_spelled.
+
+abbrev pub train_of : Numbered → TrainPacket
+train_of (inl p) = packets.Report (report_of (inl p))
+train_of (inr (inl p)) = packets.Report (report_of (inr p))
+train_of (inr (inr p)) = packets.Raw p
+
+pub back : (n : Numbered) → parts_of (train_of n) ≡ n
+back (inl p) = refl
+back (inr (inl p)) = refl
+back (inr (inr p)) = refl
+
+train_of_report : (s : WithOne ⊎ WithTwo) → train_of (report_in s) ≡ packets.Report (report_of s)
+train_of_report (inl p) = refl
+train_of_report (inr p) = refl
+
+pub again : (p : TrainPacket) → train_of (parts_of p) ≡ p
+again (packets.Report r) = train_of_report (report_parts r) ∙ ap packets.Report (report_again r)
+again (packets.Raw p) = refl
+
+-- ---- any number but the end mark's has a packet
+
+allowed_by : (a b m : Bool) → ((a || b) ≡ true → m ≡ false)
+    → not m ≡ (if a then true else (if b then true else not ((a || b) || m)))
+allowed_by true b m no_end = rw (no_end refl) refl
+allowed_by false true m no_end = rw (no_end refl) refl
+allowed_by false false m no_end = refl
+
+report_is_no_end : (n : ℕ) → is_report_number n ≡ true → (n == 255) ≡ false
+report_is_no_end n known =
+    ne_eqb n 255 (λ end. true≢false (sym known ∙ ap is_report_number end))
+
+pub all_but_the_end : (n : ℕ) → nid_train.allows n ≡ train_numbered.allows n
+all_but_the_end n = allowed_by (n == 0) (n == 1) (n == 255) (report_is_no_end n)
+
+-- a packet of a list
+abbrev pub train_packet : Format TrainPacket
+train_packet = named (chosen nid_train train_numbered all_but_the_end) train_of parts_of back again
+
+-- the rows of a packet by itself, which have the same bits
+abbrev pub own_rows : TrainPacket → List Row
+own_rows (packets.Report r) = report.rows r
+own_rows (packets.Raw p) = raw_train_packet.rows p
+
+-- ---- what users ask of a packet
+
+-- NID_PACKET
+abbrev pub train_number : TrainPacket → ℕ
+train_number p = train_numbered.number (parts_of p)
+
+-- whether a packet is a position report
+abbrev pub is_report : TrainPacket → Bool
+is_report (packets.Report r) = true
+is_report (packets.Raw p) = false

@@ -1,0 +1,181 @@
+//! Laws of radio messages, their bytes and their texts, and of streams of them, for users. They hold
+//! for any reader, any writer and any splitter. Each law is the contract of a function that does
+//! nothing.
+
+ghost use Rattle.std.specs.Prelude.{◌≡◌, ◌≢◌, ◌↔◌, ◌+◌, ◌≤◌, ◌++◌, ℕ, List, [], length, take, Ok, Err};
+ghost use Rattle.etcs_bits.specs.Laws.{AreLaidOut};
+ghost use Rattle.etcs_bits.specs.declared.layout.fault.Fault.{Fault};
+ghost use Rattle.etcs_bits.specs.layout.Values.{HasValues};
+ghost use Rattle.etcs_radio.specs.declared.message.Message.{Message};
+ghost use Rattle.etcs_radio.specs.Laws.{AreSpelledOut};
+ghost use Rattle.etcs_radio.specs.Lrbg.{nid_lrbg};
+ghost use Rattle.etcs_radio.specs.Integrity.{q_length};
+ghost use Rattle.etcs_radio.specs.Meaning.{message_of};
+ghost use Rattle.etcs_radio.specs.Message.{IsMessage, IsMessageFault, IsNoMessage, IsEncoding, IsTooBig};
+ghost use Rattle.etcs_radio.specs.Report.{report};
+ghost use Rattle.etcs_radio.specs.Text.{IsMessageText, IsCanonicalText, IsReason};
+ghost use Rattle.etcs_radio.specs.TextMeaning.{message_of_text};
+ghost use Rattle.etcs_radio.specs.Train3.{train3, train3_variable, train3_number, train3_of};
+ghost use Rattle.etcs_radio.specs.RawTrain.{raw_train_packet};
+ghost use Rattle.etcs_radio.specs.TrainPacket.{train_packet};
+ghost use Rattle.etcs_radio.specs.Splitter.{IsTaken, state_of};
+ghost use Rattle.etcs_radio.specs.Stream.{AreBroken, AreMessages, AreRest, AreWhole};
+ghost use Rattle.etcs_radio.specs.declared.splitter.State.TheVariants.{Failed, Ready};
+
+use crate::error::RadioTextError;
+use crate::integrity::Integrity;
+use crate::lrbg::Lrbg;
+use crate::raw_train::RawTrainPacket;
+use crate::report::Report;
+use crate::train_packet::TrainPacket;
+use crate::train3::Train3;
+use etcs_bits::laws::records_are_laid_out;
+
+// ---- variables and packets
+
+/// Q_DIRLRBG, Q_DLRBG and Q_DIRTRAIN have two bits. Each value has its number, and no other number is
+/// allowed.
+#[tactic(auto, using(etcs_bits::specs::variables::VariableLemmas::names_have_values, crate::specs::Train3::train3_names))]
+pub fn sides_have_their_numbers()
+    ensures numbers { HasValues train3_variable 2 train3_number train3_of }
+    ensures laid_out { AreLaidOut train3 }
+{
+    records_are_laid_out::<Train3>();
+}
+
+/// Q_LENGTH is laid out with L_TRAININT after 1 and 2.
+pub fn integrities_are_laid_out()
+    ensures { AreLaidOut q_length }
+{
+    records_are_laid_out::<Integrity>();
+}
+
+/// NID_LRBG is laid out in 24 bits.
+pub fn references_are_laid_out()
+    ensures { AreLaidOut nid_lrbg }
+{
+    records_are_laid_out::<Lrbg>();
+}
+
+/// Packets from train to track are laid out in their fields: position reports, packets that are kept
+/// as bits, and both in a list.
+pub fn train_packets_are_laid_out()
+    ensures reports { AreLaidOut report }
+    ensures raw { AreLaidOut raw_train_packet }
+    ensures listed { AreLaidOut train_packet }
+{
+    records_are_laid_out::<Report>();
+    records_are_laid_out::<RawTrainPacket>();
+    records_are_laid_out::<TrainPacket>();
+}
+
+// ---- messages
+
+/// Bytes are a message exactly if they mean that message. So they are one message at most.
+pub fn messages_are_decoded()
+    ensures { (m : Message) (bytes : List ℕ) → IsMessage m bytes ↔ (message_of bytes ≡ Ok m) }
+{}
+
+/// Bytes have a fault exactly if they mean that fault. So they have one at most. Then they are no
+/// message, and no bytes of the same number with the same first `end` bits are one.
+pub fn faults_are_meant()
+    ensures fault { (bytes : List ℕ) (f : Fault)
+        → IsMessageFault bytes f ↔ (message_of bytes ≡ Err f) }
+    ensures none { (bytes : List ℕ) (f : Fault) → IsMessageFault bytes f → IsNoMessage bytes f }
+{}
+
+/// Bytes are a message exactly if they are its head, with L_MESSAGE as their count, its packets, and
+/// a rest that has fewer than eight bits or begins with eight ones.
+pub fn messages_are_spelled_out()
+    ensures { (m : Message) (bytes : List ℕ) → IsMessage m bytes ↔ AreSpelledOut m bytes }
+{}
+
+/// A decoded message is never too big.
+pub fn what_is_decoded_is_not_too_big()
+    ensures { (m : Message) (bytes : List ℕ) → IsMessage m bytes → IsTooBig m → ⊥ }
+{}
+
+/// An encoding is decoded to the message that was encoded.
+pub fn what_is_encoded_is_decoded()
+    ensures { (m : Message) (bytes : List ℕ) → IsEncoding m bytes → message_of bytes ≡ Ok m }
+{}
+
+/// Two messages have equal encodings exactly if they are equal.
+pub fn encodings_are_one_to_one()
+    ensures messages { (m k : Message) (bytes : List ℕ)
+        → IsEncoding m bytes → IsEncoding k bytes → m ≡ k }
+    ensures encodings { (m : Message) (a b : List ℕ)
+        → IsEncoding m a → IsEncoding m b → a ≡ b }
+{}
+
+// ---- texts
+
+/// A text is a message exactly if it means that message. So it is one message at most.
+pub fn texts_are_read()
+    ensures { (m : Message) (text : List ℕ)
+        → IsMessageText m text ↔ (message_of_text text ≡ Ok m) }
+{}
+
+/// A text is refused for a reason, other than lack of memory, exactly if it means that reason. So it
+/// has one reason at most.
+pub fn reasons_are_read()
+    ensures { (e : RadioTextError) (text : List ℕ) → e ≢ RadioTextError.Memory
+        → IsReason e text ↔ (message_of_text text ≡ Err e) }
+{}
+
+/// The canonical text of a message is read as that message.
+pub fn what_is_written_is_read()
+    ensures { (m : Message) (text : List ℕ)
+        → IsCanonicalText m text → message_of_text text ≡ Ok m }
+{}
+
+/// Two messages have equal canonical texts exactly if they are equal.
+pub fn texts_are_one_to_one()
+    ensures messages { (m k : Message) (text : List ℕ)
+        → IsCanonicalText m text → IsCanonicalText k text → m ≡ k }
+    ensures texts { (m : Message) (a b : List ℕ)
+        → IsCanonicalText m a → IsCanonicalText m b → a ≡ b }
+{}
+
+// ---- streams
+
+/// A splitter is ready exactly if it holds as many bytes as one message has. It has failed exactly
+/// if no message begins with the bytes that it holds.
+pub fn states_are_meant()
+    ensures ready { (bytes : List ℕ) → state_of bytes ≡ Ready ↔ AreWhole bytes }
+    ensures failed { (bytes : List ℕ) → state_of bytes ≡ Failed ↔ AreBroken bytes }
+{}
+
+/// How many bytes of a piece are taken depends on the bytes held and on the piece alone.
+pub fn one_number_is_taken()
+    ensures { (held piece : List ℕ) (m n : ℕ)
+        → IsTaken held piece m → IsTaken held piece n → m ≡ n }
+{}
+
+/// A piece fed in two parts is taken as the whole piece is: as many bytes in all, and the same
+/// ones.
+pub fn a_piece_may_be_cut()
+    ensures used { (held one other : List ℕ) (m n : ℕ)
+        → IsTaken held one m → IsTaken (held ++ take m one) other n
+        → IsTaken held (one ++ other) (m + n) }
+    ensures held { (held one other : List ℕ) (m n : ℕ)
+        → IsTaken held one m → IsTaken (held ++ take m one) other n
+        → held ++ take (m + n) (one ++ other) ≡ (held ++ take m one) ++ take n other }
+{}
+
+/// Bytes are messages and a rest in one way only.
+pub fn a_stream_is_cut_in_one_way()
+    ensures messages { (messages others : List (List ℕ)) (rest other bytes : List ℕ)
+        → AreMessages messages rest bytes → AreMessages others other bytes → messages ≡ others }
+    ensures rest { (messages others : List (List ℕ)) (rest other bytes : List ℕ)
+        → AreMessages messages rest bytes → AreMessages others other bytes → rest ≡ other }
+{}
+
+/// A splitter that holds nothing takes the first message of a stream, and no byte after it. No
+/// front of a rest makes it ready.
+pub fn the_first_message_is_taken()
+    ensures message { (message more : List ℕ)
+        → AreWhole message → IsTaken [] (message ++ more) (length message) }
+    ensures rest { (rest : List ℕ) (n : ℕ)
+        → AreRest rest → n ≤ length rest → state_of (take n rest) ≢ Ready }
+{}

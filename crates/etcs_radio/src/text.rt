@@ -1,0 +1,70 @@
+//! Messages as hexadecimal text.
+
+ghost use Rattle.std.specs.Prelude.{◌≡◌, ◌↔◌, Ok, IfOk, IfErr, IsErrOf, IsTrue, OnOk, string_bytes};
+ghost use Rattle.hex.specs.Hex.{decode_of, encode_lower, is_hex_digit, IsBytes};
+ghost use Rattle.etcs_radio.specs.Message.{IsTooBig};
+ghost use Rattle.etcs_radio.specs.Text.{IsCanonicalText, IsHexadecimal, IsMessageText, IsReason, IsTextMeaning};
+ghost use Rattle.etcs_radio.specs.TextMeaning.{message_of_text};
+
+use crate::decoding::decode;
+use crate::encoding::encode;
+use crate::error::{EncodeError, RadioTextError};
+use crate::message::Message;
+use etcs_bits::DecodeError;
+use std::alloc::Global;
+
+// Whether a byte is a hexadecimal digit, of either case.
+fn is_digit(byte: u8) -> bool
+    ensures { result ≡ is_hex_digit byte }
+{
+    matches!(byte, b'0'..=b'9' | b'A'..=b'F' | b'a'..=b'f')
+}
+
+// Whether the text is an even number of hexadecimal digits.
+fn is_hexadecimal(text: &[u8]) -> bool
+    ensures { IsTrue result ↔ IsHexadecimal text.now }
+{
+    text.len() % 2 == 0 && text.iter().all(|&byte| is_digit(byte))
+}
+
+/// Reads a message from its text, which is an even number of hexadecimal digits of either case.
+///
+/// `NotHex` and the first fault of the bytes are checked in this order. If memory runs out, a fault
+/// may go unseen: the bytes take memory, and the check before them takes none.
+pub fn from_hex(alloc: Global, text: &[u8]) -> Result<Message, RadioTextError>
+    ensures ok { IfOk result (λ m. IsMessageText m text.now) }
+    ensures reason { IfErr result (λ e. IsReason e text.now) }
+
+    // The same as a function of the text.
+    ensures exact { IsTextMeaning result (message_of_text text.now) }
+
+    // This is always reported: it needs no memory.
+    ensures not_hex { IsErrOf result RadioTextError.NotHex ↔ (IsHexadecimal text.now → ⊥) }
+{
+    if !is_hexadecimal(text) {
+        return Err(RadioTextError::NotHex);
+    }
+    let Ok(bytes) = hex::decode(alloc, text) else {
+        return Err(RadioTextError::Memory);
+    };
+    match decode(alloc, bytes.as_slice()) {
+        Ok(message) => Ok(message),
+        Err(DecodeError::Memory) => Err(RadioTextError::Memory),
+        Err(DecodeError::Fault(fault)) => Err(RadioTextError::Fault(fault)),
+    }
+}
+
+/// Writes the message's canonical text: its bytes in lower-case hexadecimal digits.
+///
+/// `TooBig`: the head and the packets have more bits than 1,023 bytes have. This is checked before the
+/// call asks for memory.
+pub fn to_hex(alloc: Global, message: &Message) -> Result<String, EncodeError>
+    ensures ok { IfOk result (λ s. IsCanonicalText message.now (string_bytes s)) }
+    ensures too_big { IsErrOf result EncodeError.TooBig ↔ IsTooBig message.now }
+{
+    let bytes = encode(alloc, message)?;
+    match hex::encode(alloc, bytes.as_slice()) {
+        Ok(text) => Ok(text),
+        Err(_) => Err(EncodeError::Memory),
+    }
+}
