@@ -97,8 +97,8 @@ authority_number a = numbered.number (numbered_of a)
 
 -- ---- how far the train may run
 
--- the distance from the balise group that sends the packet to the end of the authority, in
--- decimetres
+-- the distance to the end of the authority, in decimetres, from the balise group that sends packet
+-- 12, and from the LRBG of the message that has packet 15
 abbrev pub authority_end : Permission → ℕ
 authority_end a =
     scale_factor a.scale * (sum_by (λ s. s.length) a.terms.sections + a.terms.l_endsection)

@@ -17,7 +17,7 @@ pub enum EncodeError {
     TooBig,
 }
 
-/// Why a text is not read as a telegram, in the order of the checks.
+/// Why a text is not read as a telegram. All reasons but `Memory` are in the order of the checks.
 #[derive(Clone, Copy, Debug, PartialEq, Eq, Error)]
 pub enum TextError {
     /// Memory ran out. A later reason may then go unseen.

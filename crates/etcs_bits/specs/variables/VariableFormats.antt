@@ -20,7 +20,7 @@ q_updown = names transmission_variable 1 transmission_number transmission_of (na
 abbrev pub q_media : Format Medium
 q_media = names medium_variable 1 medium_number medium_of (names_have_values medium_names)
 
--- M_VERSION, 7 bits: the version of the language
+-- M_VERSION, 7 bits: the version of the ETCS system
 abbrev pub m_version : Format Version
 m_version = names version_variable 7 version_number version_of (names_have_values version_names)
 
