@@ -28,6 +28,12 @@ follow_within stop fields [] p q within there =
 follow_within stop fields (rows ∷ xs) p q within (goes, (m, w, spelled, rest)) =
     follow_within stop fields xs m q (next_within rows p m within spelled) rest
 
+-- a list that goes on after these rows does not end before them
+pub follow_begins : (stop : Stop) (fields : Fields) (xs : List (List Row)) (p q : Place)
+    → Follow stop fields xs p q → ends stop q ≡ false → ends stop p ≡ false
+follow_begins stop fields [] p q there goes = subst (λ (z : Place). ends stop z ≡ false) there goes
+follow_begins stop fields (rows ∷ xs) p q (first, rest) goes = first
+
 -- one more list of rows at the end
 pub follow_more : (stop : Stop) (fields : Fields) (xs : List (List Row)) (rows : List Row)
     (p q r : Place) → Follow stop fields xs p q → ends stop q ≡ false

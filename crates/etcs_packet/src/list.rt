@@ -4,7 +4,7 @@ ghost use Rattle.std.specs.Prelude.{◌≡◌, ◌+◌, ◌<◌, ◌≤◌, ◌+
 ghost use Rattle.std.specs.List.{flat_map};
 ghost use Rattle.etcs_bits.specs.layout.Rows.{AreAllowed, join};
 ghost use Rattle.etcs_bits.specs.layout.Fault.{IsFault, lack};
-ghost use Rattle.etcs_bits.specs.layout.Results.{Gives, IfFault};
+ghost use Rattle.etcs_bits.specs.layout.Results.{Gives, IfFault, IfMemory};
 ghost use Rattle.etcs_packet.specs.Lists.{IsHeaded, IsListFault, IsStep, NoStep, NoneStand, Stand, ends};
 ghost use Rattle.etcs_packet.specs.Reading.{items_at};
 
@@ -49,6 +49,9 @@ pub fn next_item<T: Layout>(
     // This NoEnd fault is always reported: finding it takes no memory.
     ensures no_end { stop ≡ Stop.Telegram → length cur.old.bits < cur.old.at + 8
         → result ≡ Err (DecodeError.Fault (lack true cur.old)) }
+
+    // At the end of the list the answer is never `Memory`.
+    ensures memory { IfMemory result (ends stop cur.old ≡ false) }
 {
     if is_end(cur, stop) {
         return Ok(None);
@@ -85,6 +88,9 @@ pub fn read_items<T: Layout>(
     // This NoEnd fault is always reported: finding it takes no memory.
     ensures no_end { stop ≡ Stop.Telegram → length cur.old.bits < cur.old.at + 8
         → result ≡ Err (DecodeError.Fault (lack true cur.old)) }
+
+    // An empty list takes no memory.
+    ensures memory { IfMemory result (ends stop cur.old ≡ false) }
 {
     let mut ahead = cur.fork();
     let mut found = Vec::new(alloc);

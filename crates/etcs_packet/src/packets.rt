@@ -74,6 +74,9 @@ pub fn read_packets(
     // This NoEnd fault is always reported: finding it takes no memory.
     ensures no_end { stop ≡ Stop.Telegram → length cur.old.bits < cur.old.at + 8
         → result ≡ Err (DecodeError.Fault (lack true cur.old)) }
+
+    // An empty list takes no memory.
+    ensures memory { IfMemory result (ends stop cur.old ≡ false) }
 {
     read_items(alloc, cur, stop)
 }

@@ -10,20 +10,29 @@ use etcs_bits::{Bits, Cursor, DecodeError, Layout, Plain, Same};
 use std::alloc::Global;
 use std::test::Fail;
 
-#[test]
-fn packets_of_all_kinds_are_read_and_written(rt: HostRuntime) -> Result<(), Fail> {
-    let alloc = rt.alloc();
-    let bits = all_kinds(alloc)?;
-    let mut cur = Cursor::new(&bits);
-    let found = read_packets(alloc, &mut cur, Stop::Telegram)?;
-    assert!(rt; found.len() == 8 && cur.at() == 592);
-    for (packet, number) in found.iter().zip([0, 5, 12, 15, 21, 27, 41, 254]) {
-        assert!(rt; packet.number() == number, "{number}");
+// Whether these are the packets of all kinds, by their numbers.
+fn are_all_kinds(packets: &[TrackPacket]) -> bool {
+    let mut are = packets.len() == 8;
+    for (packet, number) in packets.iter().zip([0, 5, 12, 15, 21, 27, 41, 254]) {
+        are = are && packet.number() == number;
     }
+    are
+}
+
+// Whether packets of all kinds stand in these bits, and are written as they were spelled.
+fn are_read_and_written(alloc: Global, bits: &Bits) -> Result<bool, DecodeError> {
+    let mut cur = Cursor::new(bits);
+    let found = read_packets(alloc, &mut cur, Stop::Telegram)?;
     let mut out = Bits::new(alloc);
     write_packets(found.as_slice(), &mut out)?;
     out.push_num(8, 255)?;
-    assert!(rt; out.same(&bits));
+    Ok(are_all_kinds(found.as_slice()) && cur.at() == 592 && out.same(bits))
+}
+
+#[test]
+fn packets_of_all_kinds_are_read_and_written(rt: HostRuntime) -> Result<(), Fail> {
+    let bits = all_kinds(rt.alloc())?;
+    assert!(rt; are_read_and_written(rt.alloc(), &bits) == Ok(true));
     Ok(())
 }
 
@@ -67,19 +76,20 @@ fn rest(alloc: Global, cur: &mut Cursor<'_>) -> Result<usize, DecodeError> {
     Ok(read_items::<TrackPacket>(alloc, cur, Stop::Message)?.len())
 }
 
+// Whether two packets of 14 bits are read, first one and then the rest.
+fn are_read_one_by_one(alloc: Global, cur: &mut Cursor<'_>) -> Result<bool, DecodeError> {
+    let is_first = has_next(alloc, cur)? && cur.at() == 14;
+    let is_second = rest(alloc, cur)? == 1 && cur.at() == 28;
+    Ok(is_first && is_second && !has_next(alloc, cur)?)
+}
+
 #[test]
 fn packets_are_read_one_by_one(rt: HostRuntime) -> Result<(), Fail> {
-    let alloc = rt.alloc();
     // Two packets 0, and three bits of a message.
-    let bits = spelled(alloc, "00000000 100101 00000000 100110 000")?;
+    let bits = spelled(rt.alloc(), "00000000 100101 00000000 100110 000")?;
     let mut cur = Cursor::new(&bits);
-    assert!(rt; has_next(alloc, &mut cur) == Ok(true));
-    assert!(rt; cur.at() == 14);
-    assert!(rt; rest(alloc, &mut cur) == Ok(1));
-    assert!(rt; cur.at() == 28);
-    assert!(rt; has_next(alloc, &mut cur) == Ok(false));
-    assert!(rt; is_end(&cur, Stop::Message));
-    assert!(rt; !is_end(&cur, Stop::Telegram));
+    assert!(rt; are_read_one_by_one(rt.alloc(), &mut cur) == Ok(true));
+    assert!(rt; is_end(&cur, Stop::Message) && !is_end(&cur, Stop::Telegram));
     Ok(())
 }
 
@@ -108,14 +118,19 @@ fn packets_stand_behind_a_head(rt: HostRuntime) -> Result<(), Fail> {
     Ok(())
 }
 
-#[test]
-fn packets_are_written_behind_what_stands(rt: HostRuntime) -> Result<(), Fail> {
-    let alloc = rt.alloc();
+// Packet 0 written behind these bits.
+fn written_behind(alloc: Global, digits: &str) -> Result<Bits, DecodeError> {
     let cover: CoverMarker = read_one(alloc, "00000000 100101")?;
-    let mut out = spelled(alloc, "101")?;
+    let mut out = spelled(alloc, digits)?;
     if cover.is_allowed() {
         write_items(&[cover], &mut out)?;
     }
-    assert!(rt; out.same(&spelled(alloc, "101 00000000 100101")?));
+    Ok(out)
+}
+
+#[test]
+fn packets_are_written_behind_what_stands(rt: HostRuntime) -> Result<(), Fail> {
+    let written = written_behind(rt.alloc(), "101")?;
+    assert!(rt; written.same(&spelled(rt.alloc(), "101 00000000 100101")?));
     Ok(())
 }

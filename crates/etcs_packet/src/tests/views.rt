@@ -3,6 +3,7 @@
 use super::spelled::fault;
 use crate::{PacketView, Stop, next_view};
 use etcs_bits::{BitSlice, Cursor, DecodeError, Dir, FaultKind};
+use std::alloc::Global;
 use std::test::Fail;
 
 // A header of 50 bits, and packet 44 whose L_PACKET is 22: less than its own head.
@@ -46,14 +47,27 @@ fn raw_parts(view: &PacketView<'_>) -> Option<(u8, Dir, usize)> {
     }
 }
 
+// The same of the packet that is next.
+fn next_raw(alloc: Global, cur: &mut Cursor<'_>) -> Result<Option<(u8, Dir, usize)>, DecodeError> {
+    match next_view(alloc, cur, Stop::Telegram)? {
+        Some(view) => Ok(raw_parts(&view)),
+        None => Ok(None),
+    }
+}
+
+// The number of the known packet that is next.
+fn next_known(alloc: Global, cur: &mut Cursor<'_>) -> Result<Option<u8>, DecodeError> {
+    match next_view(alloc, cur, Stop::Telegram)? {
+        Some(PacketView::Known(packet)) => Ok(Some(packet.number())),
+        _ => Ok(None),
+    }
+}
+
 // Asks for no memory, so it passes too where every request for memory is refused.
 #[test]
 fn a_raw_body_is_borrowed(rt: HostRuntime) -> Result<(), Fail> {
     let mut cur = behind_header(&RAW);
-    let Some(view) = next_view(rt.alloc(), &mut cur, Stop::Telegram)? else {
-        return Err("no view".into());
-    };
-    assert!(rt; raw_parts(&view) == Some((44, Dir::Both, 129)));
+    assert!(rt; next_raw(rt.alloc(), &mut cur) == Ok(Some((44, Dir::Both, 129))));
     assert!(rt; cur.at() == 202);
     let end = next_view(rt.alloc(), &mut cur, Stop::Telegram)?;
     assert!(rt; end.is_none() && cur.at() == 202);
@@ -64,15 +78,11 @@ fn a_raw_body_is_borrowed(rt: HostRuntime) -> Result<(), Fail> {
 #[test]
 fn a_known_packet_is_read_whole(rt: HostRuntime) -> Result<(), Fail> {
     let mut cur = Cursor::over(BitSlice::of_bytes(&GRADIENT, 86));
-    match next_view(rt.alloc(), &mut cur, Stop::Telegram) {
-        Ok(Some(PacketView::Known(packet))) => {
-            assert!(rt; packet.number() == 21 && cur.at() == 78);
-            Ok(())
-        }
-        Err(DecodeError::Memory) => {
-            assert!(rt; cur.at() == 0);
-            Err("out of memory".into())
-        }
-        _ => Err("no known packet".into()),
+    let found = next_known(rt.alloc(), &mut cur);
+    if found == Err(DecodeError::Memory) {
+        assert!(rt; cur.at() == 0);
+        return Err("out of memory".into());
     }
+    assert!(rt; found == Ok(Some(21)) && cur.at() == 78);
+    Ok(())
 }

@@ -3,8 +3,8 @@ use Rattle.std.proofs.lemmas.Result.{err_from_is_err_and}
 use Rattle.etcs_bits.specs.layout.Results.{OfFault}
 use Rattle.etcs_packet.specs.Lists.{IsListFault, IsStep, Stand}
 use Rattle.etcs_packet.proofs.EndLemmas.{less_left}
-use Rattle.etcs_packet.proofs.FollowLemmas.{follow_within}
-use Rattle.etcs_packet.proofs.ListLemmas.{goes_on, no_error, none_before, over, same_error, list_fault, list_fails, none_of, stand_is_read}
+use Rattle.etcs_packet.proofs.FollowLemmas.{follow_begins, follow_within}
+use Rattle.etcs_packet.proofs.ListLemmas.{if_memory, of_memory, goes_on, no_error, none_before, over, same_error, list_fault, list_fails, none_of, stand_is_read}
 use Rattle.etcs_packet.proofs.list.read_items.Goals as goal
 
 -- the fault of the next packet is that of the list, and then no list stands
@@ -74,3 +74,16 @@ pub returns-clause-no_end : goal.returns-clause-no_end
 returns-clause-no_end g c = λ telegram few.
     let here = none_before c.args.stop g.T.Layout.format.fields (map g.T.Layout.format.rows c.loop-found.found.items) c.args.cur.now c.loop-found.ahead c.requires c.loop-found.invariant.inside few c.loop-found.invariant.follow in
     no_error _ _ (rw here at c.in_ok-item.ensures.no_end telegram few)
+
+-- memory is asked for only after a place where the list goes on
+pub returns-in_err-item-clause-memory : goal.returns-in_err-item-clause-memory
+returns-in_err-item-clause-memory g c =
+    let failed = err_from_is_err_and c.from_residual.result c.from_residual.ensures.1 in
+    let begins = follow_begins c.args.stop g.T.Layout.format.fields (map g.T.Layout.format.rows c.loop-found.found.items) c.args.cur.now c.loop-found.ahead c.loop-found.invariant.follow in
+    rw (failed.1, failed.2) (of_memory c.in_err-item.field-0.0 begins c.in_err-item.ensures.memory)
+
+pub returns-in_err-push-clause-memory : goal.returns-in_err-push-clause-memory
+returns-in_err-push-clause-memory g c =
+    let step : IsStep c.args.stop g.T.Layout.format.rows (Some c.in-Some.item) c.loop-found.ahead c.next_item.new.cur = rw c.in-Some.is at c.in_ok-item.ensures.ok in
+    let begins = follow_begins c.args.stop g.T.Layout.format.fields (map g.T.Layout.format.rows c.loop-found.found.items) c.args.cur.now c.loop-found.ahead c.loop-found.invariant.follow step.0 in
+    if_memory c.from_residual-in_err-push.result begins
