@@ -9,6 +9,8 @@ use Rattle.etcs_bits.specs.layout.Rows.{Variable, width}
 use Rattle.etcs_bits.specs.layout.Choice.{Choice}
 use Rattle.etcs_bits.specs.layout.Format.{Format, ranges, ◌then◌, last, either, chosen, named}
 use Rattle.etcs_bits.specs.variables.VariableFormats.{q_scale}
+use Rattle.etcs_profile.specs.declared.danger_point.DangerPoint.{DangerPoint}
+use Rattle.etcs_profile.specs.declared.overlap.Overlap.{Overlap}
 use Rattle.etcs_profile.specs.Packet.{rest}
 use Rattle.etcs_profile.specs.Reach.{scale_factor}
 use Rattle.etcs_profile.specs.Terms.{Conditions, terms}
@@ -102,6 +104,18 @@ authority_number a = numbered.number (numbered_of a)
 abbrev pub authority_end : Permission → ℕ
 authority_end a =
     scale_factor a.scale * (sum_by (λ s. s.length) a.terms.sections + a.terms.l_endsection)
+
+-- how far the supervised location is beyond the end, in the packet's scale: at the end of the
+-- overlap if there is one, else at the danger point if there is one, else at the end itself
+abbrev pub beyond_end : Option DangerPoint → Option Overlap → ℕ
+beyond_end _ (Some overlap) = overlap.length
+beyond_end (Some danger_point) None = danger_point.distance
+beyond_end None None = 0
+
+-- the distance to the supervised location, in decimetres, from where the authority counts
+abbrev pub authority_limit : Permission → ℕ
+authority_limit a =
+    authority_end a + scale_factor a.scale * beyond_end a.terms.danger_point a.terms.overlap
 
 -- the packet has more bits than L_PACKET, 13 bits, can count
 abbrev pub IsAuthorityTooLong : Permission → Type 0

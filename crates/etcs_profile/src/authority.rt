@@ -58,7 +58,7 @@ fn length_of(sections: &[Section]) -> u64
 impl Authority {
     ghost use Rattle.etcs_bits.specs.layout.Rows.{width};
     ghost use Rattle.etcs_profile.specs.Terms.{conditions};
-    ghost use Rattle.etcs_profile.specs.Authority.{permission, authority, authority_end, IsAuthorityTooLong};
+    ghost use Rattle.etcs_profile.specs.Authority.{permission, authority, authority_end, authority_limit, IsAuthorityTooLong};
     ghost use Rattle.etcs_profile.specs.Built.{IsBuilt};
 
     /// Makes a movement authority of these parts: packet 12 if there is a `main` speed, else packet
@@ -228,6 +228,21 @@ impl Authority {
     {
         let end_section = u64::from(self.l_endsection().number());
         factor(self.scale()) * (length_of(self.sections()) + end_section)
+    }
+
+    /// The supervised location, up to which the train has to know the track, in decimetres from
+    /// where `end` counts: the end of the overlap if there is one, else the danger point if there is
+    /// one, else the end. Timers are left aside. At most 108,131,100 (SUBSET-026, 3.8).
+    pub fn limit(&self) -> u64
+        ensures sum { result ≡ authority_limit self.now }
+        ensures bound { result ≤ 108131100 }
+    {
+        let beyond = match (self.overlap(), self.danger_point()) {
+            (Some(overlap), _) => overlap.length.number(),
+            (None, Some(danger_point)) => danger_point.distance.number(),
+            (None, None) => 0,
+        };
+        self.end() + factor(self.scale()) * u64::from(beyond)
     }
 }
 

@@ -8,14 +8,14 @@ use std::test::Fail;
 
 /// Parts of an authority, spelled: L_SECTION 32767 with T_SECTIONTIMER 30 and
 /// D_SECTIONTIMERSTOPLOC 7; T_ENDTIMER 40 and D_ENDTIMERSTARTLOC 200; D_DP 50 and V_RELEASEDP 126;
-/// D_STARTOL 300, T_OL 20, D_OL 60 and V_RELEASEOL 127.
+/// D_STARTOL 300, T_OL 20, D_OL 32767 and V_RELEASEOL 127.
 const SECTION: &str = "111111111111111 1 0000011110 000000000000111";
 
 const END_TIMER: &str = "0000101000 000000011001000";
 
 const DANGER_POINT: &str = "000000000110010 1111110";
 
-const OVERLAP: &str = "000000100101100 0000010100 000000000111100 1111111";
+const OVERLAP: &str = "000000100101100 0000010100 111111111111111 1111111";
 
 #[test]
 fn each_part_comes_back(rt: HostRuntime) -> Result<(), Fail> {
@@ -55,7 +55,7 @@ fn an_authority_has_31_sections_at_most(rt: HostRuntime) -> Result<(), Fail> {
     let alloc = rt.alloc();
     for (main, width) in [(Speed::new(24), 1463), (None, 1456)] {
         let longest = whole(alloc, main, 31)??;
-        assert!(rt; longest.end() == 104_854_400);
+        assert!(rt; longest.end() == 104_854_400 && longest.limit() == 108_131_100);
         assert!(rt; comes_back(alloc, &longest, width)?);
         let many = whole(alloc, main, 32)?;
         assert!(rt; many.err() == Some(BuildError::TooMany));
@@ -86,7 +86,7 @@ fn an_authority_has_the_parts_that_may_be_left_out(rt: HostRuntime) -> Result<()
     let danger_point = authority.danger_point().ok_or("no danger point")?;
     assert!(rt; danger_point.distance.number() == 50);
     let overlap = authority.overlap().ok_or("no overlap")?;
-    assert!(rt; overlap.length.number() == 60);
+    assert!(rt; overlap.length.number() == 32767);
     Ok(())
 }
 
@@ -98,5 +98,28 @@ fn an_authority_may_be_short(rt: HostRuntime) -> Result<(), Fail> {
     let short: Authority = read_one(rt.alloc(), digits)?;
     assert!(rt; short.end() == 10_000);
     assert!(rt; short.main().is_none());
+    Ok(())
+}
+
+// The supervised location of an authority for 1,000 m, of which these are the digits of L_PACKET and
+// those after Q_ENDTIMER.
+fn limit_of(alloc: Global, count: &str, beyond: &str) -> Result<u64, Fail> {
+    let authority: Authority = read_one(
+        alloc,
+        format!(in alloc;
+            "00001111 01 {count} 01 0000001 0000000000 00000 000001111101000 0 0 {beyond}"
+        )?.as_str(),
+    )?;
+    Ok(authority.limit())
+}
+
+#[test]
+fn an_overlap_decides_before_a_danger_point(rt: HostRuntime) -> Result<(), Fail> {
+    let alloc = rt.alloc();
+    assert!(rt; limit_of(alloc, "0000001000010", "0 0")? == 10_000);
+    assert!(rt; limit_of(alloc, "0000001011000", "1 000000000000000 1111110 0")? == 10_000);
+    assert!(rt; limit_of(alloc, "0000001011000", "1 000000000000001 1111110 0")? == 10_010);
+    let overlap = "1 000000000000010 1111110 1 000000000000000 0000000000 000000000000001 1111111";
+    assert!(rt; limit_of(alloc, "0000010000111", overlap)? == 10_010);
     Ok(())
 }
