@@ -10,4 +10,8 @@ pub mod EncodeLemmas
 pub mod WriteLemmas
 pub mod TextLemmas
 pub mod StreamLemmas
+pub mod StateLemmas
 pub mod SplitterLemmas
+pub mod PieceLemmas
+pub mod CuttingLemmas
+pub mod CutStreamLemmas

@@ -11,7 +11,8 @@ use Rattle.etcs_radio.specs.TrainNumbers.{is_kept}
 abbrev pub tail_of : List Row → List Bool
 tail_of rows = num (number_at 0 rows - 21) (number_at 1 rows)
 
--- the packet of these parts, where they make one, and of any parts
+-- The packet of these parts where they make one. The laws rule out that allowed rows have other
+-- parts; packet 2 without a body stands there only as a value.
 abbrev pub raw : (n : ℕ) → (body : List Bool) → is_kept n (length body) ≡ true → RawTrainPacket
 raw n body kept = record { number = n; body = body; kept = kept }
 

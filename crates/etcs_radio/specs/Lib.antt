@@ -17,3 +17,4 @@ pub mod Text
 pub mod TextMeaning
 pub mod Stream
 pub mod Splitter
+pub mod Cutting

@@ -10,7 +10,8 @@ use Rattle.etcs_bits.specs.layout.Laid.{IsLayout}
 use Rattle.etcs_bits.specs.layout.Format.{Format}
 use Rattle.etcs_bits.specs.variables.Variables.{plain, free}
 
--- NID_C and NID_BG as one number. A row of no bits after it can only be 0: so NID_BG fits in its bits.
+-- NID_C and NID_BG as one number of 24 bits. The second row has no bits, so that its number can only
+-- be 0. Its number is the group divided by 2 ^ 14: so no group has more than the fourteen bits of NID_BG.
 abbrev pub lrbg_rows : Identity → List Row
 lrbg_rows i = row (plain 24) (i.country * 16384 + i.group) ∷ (row (free 0) (i.group / 16384) ∷ [])
 

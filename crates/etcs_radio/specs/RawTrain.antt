@@ -79,7 +79,7 @@ raw_has n more other w allowed =
 pub other_of : (n bits : ℕ) → is_kept n bits ≡ true → is_other n ≡ true
 other_of n bits kept = (and_parts (is_other n) (nat_le bits 8170) kept).0
 
--- every number that is not a report's, and what follows it
+-- every number that is neither a report's nor the end mark's, and what follows it
 abbrev pub others : Choice RawTrainPacket
 others = record {
   allows = is_other;

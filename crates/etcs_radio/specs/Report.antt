@@ -1,5 +1,5 @@
 -- Train packets 0 and 1, the position reports of a train (SUBSET-026, 3.6.5 and 7.4.3): where the
--- train is, as seen from the last group that it read. Packet 1 has the group before that too.
+-- train is, as seen from the last relevant group. Packet 1 has the group before that too.
 use Rattle.std.specs.Prelude.{◌≡◌, ℕ, ◌⊎◌, false, Option, Some, None, refl}
 use Rattle.std.proofs.Common.{inl, inr}
 use Rattle.etcs_bits.specs.declared.layout.fault.FaultKind.TheVariants.{Spare}

@@ -17,8 +17,8 @@ state_of bytes =
 
 -- ---- what is taken
 
--- Behind the bytes held, so many bytes are taken from the front of a piece: the least number with
--- which the splitter waits for no more, or else the whole piece.
+-- A splitter that holds these bytes takes `used` bytes from the front of the piece: the least number
+-- after which it no longer waits, or else the whole piece.
 pub record IsTaken (held piece : List ℕ) (used : ℕ) : Type 0 where
   pub within : used ≤ length piece
   pub waits_before : (n : ℕ) → n < used → state_of (held ++ take n piece) ≡ More

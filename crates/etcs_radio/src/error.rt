@@ -17,7 +17,7 @@ pub enum EncodeError {
     TooBig,
 }
 
-/// Why a text is not read as a message, in the order of the checks.
+/// Why a text is not read as a message. `NotHex` is checked first, without memory.
 #[derive(Clone, Copy, Debug, PartialEq, Eq, Error)]
 pub enum RadioTextError {
     /// Memory ran out. A fault may then go unseen.

@@ -2,7 +2,8 @@
 //! for any reader, any writer and any splitter. Each law is the contract of a function that does
 //! nothing.
 
-ghost use Rattle.std.specs.Prelude.{◌≡◌, ◌≢◌, ◌↔◌, ◌+◌, ◌≤◌, ◌++◌, ℕ, List, [], length, take, Ok, Err};
+ghost use Rattle.std.specs.Prelude.{◌≡◌, ◌≢◌, ◌↔◌, ◌+◌, ◌<◌, ◌≤◌, ◌++◌, ℕ, List, [], length, take, drop, Ok, Err};
+ghost use Rattle.std.specs.List.{concat};
 ghost use Rattle.etcs_bits.specs.Laws.{AreLaidOut};
 ghost use Rattle.etcs_bits.specs.declared.layout.fault.Fault.{Fault};
 ghost use Rattle.etcs_bits.specs.layout.Values.{HasValues};
@@ -19,7 +20,8 @@ ghost use Rattle.etcs_radio.specs.Train3.{train3, train3_variable, train3_number
 ghost use Rattle.etcs_radio.specs.RawTrain.{raw_train_packet};
 ghost use Rattle.etcs_radio.specs.TrainPacket.{train_packet};
 ghost use Rattle.etcs_radio.specs.Splitter.{IsTaken, state_of};
-ghost use Rattle.etcs_radio.specs.Stream.{AreBroken, AreMessages, AreRest, AreWhole};
+ghost use Rattle.etcs_radio.specs.Cutting.{IsCut, after_message, cut_from, cut_pieces, none_with, one_then};
+ghost use Rattle.etcs_radio.specs.Stream.{AreBroken, AreMessages, AreRest, AreWhole, message_length};
 ghost use Rattle.etcs_radio.specs.declared.splitter.State.TheVariants.{Failed, Ready};
 
 use crate::error::RadioTextError;
@@ -71,9 +73,12 @@ pub fn train_packets_are_laid_out()
 
 // ---- messages
 
-/// Bytes are a message exactly if they mean that message. So they are one message at most.
+/// Bytes are a message exactly if they mean that message. They are one message at most.
 pub fn messages_are_decoded()
-    ensures { (m : Message) (bytes : List ℕ) → IsMessage m bytes ↔ (message_of bytes ≡ Ok m) }
+    ensures meant { (m : Message) (bytes : List ℕ)
+        → IsMessage m bytes ↔ (message_of bytes ≡ Ok m) }
+    ensures one { (m k : Message) (bytes : List ℕ)
+        → IsMessage m bytes → IsMessage k bytes → m ≡ k }
 {}
 
 /// Bytes have a fault exactly if they mean that fault. So they have one at most. Then they are no
@@ -178,4 +183,42 @@ pub fn the_first_message_is_taken()
         → AreWhole message → IsTaken [] (message ++ more) (length message) }
     ensures rest { (rest : List ℕ) (n : ℕ)
         → AreRest rest → n ≤ length rest → state_of (take n rest) ≢ Ready }
+{}
+
+/// What comes out of a splitter that is fed a piece, by what one call of `feed` takes. If it is ready
+/// then, its message comes out, and the rest of the piece is fed to it, cleared. Else nothing comes
+/// out, and it holds what was taken.
+pub fn a_stream_is_fed_call_by_call()
+    ensures ready { (held piece : List ℕ) (n : ℕ)
+        → IsTaken held piece n → state_of (held ++ take n piece) ≡ Ready
+        → cut_from held piece ≡ after_message (held ++ take n piece) (cut_from [] (drop n piece)) }
+    ensures others { (held piece : List ℕ) (n : ℕ)
+        → IsTaken held piece n → state_of (held ++ take n piece) ≢ Ready
+        → cut_from held piece ≡ none_with (held ++ take n piece) }
+{}
+
+/// The same comes out of a splitter, whatever the pieces in which it is fed.
+pub fn a_stream_may_come_in_pieces()
+    ensures two { (held one other : List ℕ)
+        → cut_from held (one ++ other)
+        ≡ one_then (cut_from held one) (cut_from (cut_from held one).held other) }
+    ensures all { (held : List ℕ) (pieces : List (List ℕ))
+        → cut_pieces held pieces ≡ cut_from held (concat pieces) }
+{}
+
+/// The messages of a stream come out of a splitter that held nothing. It then holds the rest. If
+/// L_MESSAGE is below 3 there, it has failed, and holds the first three bytes of the rest.
+pub fn streams_are_cut()
+    ensures cut { (bytes : List ℕ) → IsCut (cut_from [] bytes) bytes }
+    ensures messages { (messages : List (List ℕ)) (rest bytes : List ℕ)
+        → AreMessages messages rest bytes → (cut_from [] bytes).messages ≡ messages }
+    ensures cut_off { (messages : List (List ℕ)) (rest bytes : List ℕ)
+        → AreMessages messages rest bytes → (3 ≤ length rest → length rest < message_length rest)
+        → (cut_from [] bytes).held ≡ rest }
+    ensures failed { (messages : List (List ℕ)) (rest bytes : List ℕ)
+        → AreMessages messages rest bytes → 3 ≤ length rest → message_length rest < 3
+        → state_of (cut_from [] bytes).held ≡ Failed }
+    ensures held { (messages : List (List ℕ)) (rest bytes : List ℕ)
+        → AreMessages messages rest bytes → 3 ≤ length rest → message_length rest < 3
+        → (cut_from [] bytes).held ≡ take 3 rest }
 {}

@@ -6,8 +6,9 @@
 //! [`PositionMessage`] holds [`TrainPacket`]s: a [`Report`], or a [`RawTrainPacket`] whose layout is
 //! not known. A [`Splitter`] is fed pieces of a stream, cut anywhere, and holds one message at a
 //! time. Read `message.rt` and `decoding.rt` first, with `specs/Head.antt` and `specs/Message.antt`,
-//! then `splitter.rt`, with `specs/Splitter.antt`. [`laws`] states what holds of every message, its
-//! text and every stream. The crate leaves out the safety layer, and all other messages.
+//! then `splitter.rt`, with `specs/Splitter.antt` and `specs/Cutting.antt`. [`laws`] states what holds
+//! of every message, its text and every stream. The crate leaves out the safety layer, and all other
+//! messages.
 #![tactic(auto)]
 
 mod decoding;

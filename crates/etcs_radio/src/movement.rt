@@ -7,7 +7,7 @@ use etcs_bits::{Identity, Plain};
 use etcs_packet::TrackPacket;
 use std::marker::Model;
 
-/// A movement authority that a train gets by radio: message 3. It holds a packet 15 at least
+/// A movement authority that a train gets by radio: message 3. It holds at least one packet 15
 /// (SUBSET-026, 8.6). Contracts see its packets as a list.
 #[derive(Debug, Drop)]
 pub struct MovementMessage {

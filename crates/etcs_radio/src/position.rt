@@ -7,7 +7,7 @@ use crate::train_packet::TrainPacket;
 use etcs_bits::Plain;
 use std::marker::Model;
 
-/// A position report that a train sends by radio: message 136. It holds a packet 0 or 1 at least
+/// A position report that a train sends by radio: message 136. It holds at least one packet 0 or 1
 /// (SUBSET-026, 8.7). Contracts see its packets as a list.
 #[derive(Debug, Drop)]
 pub struct PositionMessage {

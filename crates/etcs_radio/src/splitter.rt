@@ -120,8 +120,7 @@ fn length_in(bytes: &[u8]) -> usize
     BitSlice::of_bytes(bytes, 24).num(8, 10) as usize
 }
 
-// Up to how many bytes may be held: up to three, which have L_MESSAGE, and then up to as many as it
-// says.
+// How many bytes may be held: three, which contain L_MESSAGE, and then as many as it says.
 fn wanted(held: &[u8]) -> usize
     ensures few { length held.now < 3 → result ≡ 3 }
     ensures whole { 3 ≤ length held.now → result ≡ max 3 (message_length held.now) }
@@ -134,7 +133,7 @@ fn wanted(held: &[u8]) -> usize
 }
 
 // The state of a splitter that holds these bytes.
-#[tactic(auto, using(crate::proofs::SplitterLemmas::states))]
+#[tactic(auto, using(crate::proofs::StateLemmas::states))]
 fn state_with(held: &[u8]) -> State
     ensures { result ≡ state_of held.now }
 {

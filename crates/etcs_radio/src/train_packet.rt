@@ -20,7 +20,7 @@ pub enum TrainPacket {
     Raw(RawTrainPacket),
 }
 
-// NID_PACKET of the packet at the cursor, which no end mark is.
+// Reads NID_PACKET. 255, the end mark, is spare here. Fewer than eight bits are a NoEnd fault.
 fn scan_number(cur: &mut Cursor<'_>) -> Result<u64, DecodeError>
     ensures gives { Gives (λ n. n) result (field_at nid_train cur.old) cur.new }
     ensures number { IfOk result (λ n. (n < 256) × (not (n == 255) ≡ true)) }

@@ -3,7 +3,7 @@
 use super::{MOVEMENT, POSITION};
 use crate::{
     EncodeError, Lrbg, Message, MovementMessage, PositionMessage, RawTrainPacket, Report,
-    TrainPacket, encode,
+    TrainPacket, encode, to_hex,
 };
 use etcs_bits::{
     Bits, Country, Cursor, DecodeError, Dir, FaultKind, GroupNumber, Identity, Layout, Memory,
@@ -72,6 +72,25 @@ fn a_message_has_1023_bytes_at_most(rt: HostRuntime) -> Result<(), Fail> {
     assert!(rt; encode(alloc, &movement(alloc, 8021)?).err() == Some(EncodeError::TooBig));
     assert!(rt; encode(alloc, &position(alloc, 7975)?)?.len() == 1023);
     assert!(rt; encode(alloc, &position(alloc, 7976)?).err() == Some(EncodeError::TooBig));
+    Ok(())
+}
+
+// Whether the message is too big for both calls that write it.
+fn is_refused(alloc: Global, message: &Message) -> bool {
+    let bytes = encode(alloc, message).err();
+    let text = to_hex(alloc, message).err();
+    bytes == Some(EncodeError::TooBig) && text == bytes
+}
+
+// Where memory is refused, these tests end while a message is built. A built one is too big whatever
+// is refused afterwards.
+#[test]
+fn a_message_is_too_big_without_memory(rt: HostRuntime) -> Result<(), Fail> {
+    let alloc = rt.alloc();
+    let message = movement(alloc, 8021)?;
+    assert!(rt; is_refused(alloc, &message));
+    let message = position(alloc, 7976)?;
+    assert!(rt; is_refused(alloc, &message));
     Ok(())
 }
 

@@ -1,20 +1,30 @@
 //! Texts that are no message.
 
 use super::{MOVEMENT, POSITION};
-use crate::{EncodeError, RadioTextError, from_hex};
-use etcs_bits::{Fault, FaultKind};
+use crate::{EncodeError, RadioTextError, decode, from_hex};
+use etcs_bits::{DecodeError, Fault, FaultKind};
 use std::alloc::Global;
 use std::test::Fail;
 
-// Why the text is refused.
+// Why the text is refused. If it is for a fault, its bytes have to be refused for the same one.
+fn refusal_of(alloc: Global, text: &[u8]) -> Option<RadioTextError> {
+    let refused = from_hex(alloc, text).err()?;
+    if let RadioTextError::Fault(fault) = refused {
+        let bytes = hex::decode(alloc, text).ok()?;
+        if decode(alloc, bytes.as_slice()).err() != Some(DecodeError::Fault(fault)) {
+            return None;
+        }
+    }
+    Some(refused)
+}
+
 fn refusal(alloc: Global, text: &str) -> Option<RadioTextError> {
-    from_hex(alloc, text.as_bytes()).err()
+    refusal_of(alloc, text.as_bytes())
 }
 
 // Why the first `count` bytes of a text are refused.
 fn refusal_of_front(alloc: Global, text: &str, count: usize) -> Option<RadioTextError> {
-    let front = text.as_bytes().get(..count.saturating_mul(2))?;
-    from_hex(alloc, front).err()
+    refusal_of(alloc, text.as_bytes().get(..count.saturating_mul(2))?)
 }
 
 fn fault(why: FaultKind, at: usize, end: usize) -> Option<RadioTextError> {

@@ -1,6 +1,8 @@
 //! What messages hold.
 
-use super::{MOVEMENT, POSITION, SINCE_TWO};
+use super::{
+    COVERED_MOVEMENT, LATE_MOVEMENT, LATE_POSITION, MOVEMENT, POSITION, SINCE_TWO, WITH_LENGTH,
+};
 use crate::{Integrity, Message, Report, Train3, TrainPacket, decode, encode, from_hex, to_hex};
 use etcs_bits::{Country, Dir, Distance, GroupNumber, Identity, Level, Plain, Scale};
 use etcs_packet::TrackPacket;
@@ -81,6 +83,72 @@ fn a_position_report_is_read(rt: HostRuntime) -> Result<(), Fail> {
 }
 
 #[test]
+fn a_report_may_name_the_group_before(rt: HostRuntime) -> Result<(), Fail> {
+    let Message::Position(message) = from_hex(rt.alloc(), SINCE_TWO.as_bytes())? else {
+        return Err("no message 136".into());
+    };
+    assert!(rt; message.time().number() == 200 && message.engine().number() == 1);
+    let [TrainPacket::Report(only)] = message.packets() else {
+        return Err("other packets".into());
+    };
+    assert!(rt; only.number() == 1 && Some(*only) == report(group(2)));
+    Ok(())
+}
+
+#[test]
+fn a_report_may_have_a_length_and_a_national_system(rt: HostRuntime) -> Result<(), Fail> {
+    let Message::Position(message) = from_hex(rt.alloc(), WITH_LENGTH.as_bytes())? else {
+        return Err("no message 136".into());
+    };
+    let mut wanted = report(None).ok_or("no report")?;
+    wanted.length = Integrity::Q1(Distance::new(300).ok_or("no length")?);
+    wanted.level = Level::Ntc(9);
+    let [TrainPacket::Report(only)] = message.packets() else {
+        return Err("other packets".into());
+    };
+    assert!(rt; only.number() == 0 && *only == wanted);
+    Ok(())
+}
+
+#[test]
+fn a_report_may_come_after_a_packet_without_a_body(rt: HostRuntime) -> Result<(), Fail> {
+    let Message::Position(message) = from_hex(rt.alloc(), LATE_POSITION.as_bytes())? else {
+        return Err("no message 136".into());
+    };
+    let [TrainPacket::Raw(first), TrainPacket::Report(second)] = message.packets() else {
+        return Err("other packets".into());
+    };
+    assert!(rt; first.number() == 5 && first.body().len() == 0);
+    assert!(rt; Some(*second) == report(None));
+    Ok(())
+}
+
+#[test]
+fn an_authority_may_come_after_a_packet_without_a_body(rt: HostRuntime) -> Result<(), Fail> {
+    let Message::Movement(message) = from_hex(rt.alloc(), LATE_MOVEMENT.as_bytes())? else {
+        return Err("no message 3".into());
+    };
+    let [TrackPacket::Raw(first), second] = message.packets() else {
+        return Err("other packets".into());
+    };
+    assert!(rt; first.number() == 44 && first.dir() == Dir::Nominal && first.body().len() == 0);
+    assert!(rt; is_authority(second));
+    Ok(())
+}
+
+#[test]
+fn two_bytes_of_zeros_hold_a_packet_0(rt: HostRuntime) -> Result<(), Fail> {
+    let Message::Movement(message) = from_hex(rt.alloc(), COVERED_MOVEMENT.as_bytes())? else {
+        return Err("no message 3".into());
+    };
+    let [first, TrackPacket::Cover(_marker)] = message.packets() else {
+        return Err("other packets".into());
+    };
+    assert!(rt; is_authority(first) && message.packets()[1].number() == 0);
+    Ok(())
+}
+
+#[test]
 fn a_message_has_one_text(rt: HostRuntime) -> Result<(), Fail> {
     for text in [
         MOVEMENT,
@@ -100,7 +168,15 @@ fn a_message_has_one_text(rt: HostRuntime) -> Result<(), Fail> {
 
 #[test]
 fn bytes_are_decoded_and_encoded(rt: HostRuntime) -> Result<(), Fail> {
-    for text in [MOVEMENT, POSITION, SINCE_TWO] {
+    for text in [
+        MOVEMENT,
+        POSITION,
+        SINCE_TWO,
+        WITH_LENGTH,
+        LATE_POSITION,
+        LATE_MOVEMENT,
+        COVERED_MOVEMENT,
+    ] {
         let bytes = hex::decode(rt.alloc(), text).map_err(|_| "no digits")?;
         let message = decode(rt.alloc(), bytes.as_slice())?;
         assert!(rt; encode(rt.alloc(), &message)? == bytes, "{text}");

@@ -1,5 +1,5 @@
 -- The second part adds bytes only where the first was taken to its end.
-use Rattle.etcs_radio.proofs.SplitterLemmas.{parts_taken, parts_join}
+use Rattle.etcs_radio.proofs.PieceLemmas.{parts_taken, parts_join}
 use Rattle.etcs_radio.proofs.laws.a_piece_may_be_cut.Goals as goal
 
 pub returns-clause-used : goal.returns-clause-used

@@ -1,5 +1,5 @@
 -- The tests decide the two facts.
-use Rattle.etcs_radio.proofs.SplitterLemmas.{ready-whole, state-ready, failed-broken, state-failed}
+use Rattle.etcs_radio.proofs.StateLemmas.{ready-whole, state-ready, failed-broken, state-failed}
 use Rattle.etcs_radio.proofs.laws.states_are_meant.Goals as goal
 
 pub returns-clause-ready : goal.returns-clause-ready

@@ -1,5 +1,5 @@
 -- L_MESSAGE of a message is that of each front of it that has three bytes.
-use Rattle.etcs_radio.proofs.SplitterLemmas.{message_taken, rest_never_ready}
+use Rattle.etcs_radio.proofs.PieceLemmas.{message_taken, rest_never_ready}
 use Rattle.etcs_radio.proofs.laws.the_first_message_is_taken.Goals as goal
 
 pub returns-clause-message : goal.returns-clause-message

@@ -1,7 +1,7 @@
 -- What is ready is whole.
 use Rattle.std.proofs.Common.{◌∙◌, ap}
 use Rattle.etcs_radio.specs.Splitter.{state_of}
-use Rattle.etcs_radio.proofs.SplitterLemmas.{ready-whole}
+use Rattle.etcs_radio.proofs.StateLemmas.{ready-whole}
 use Rattle.etcs_radio.proofs.splitter.Splitter.message.Goals as goal
 
 pub returns-clause-whole : goal.returns-clause-whole
