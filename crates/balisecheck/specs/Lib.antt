@@ -2,6 +2,7 @@ pub mod Counted
 pub mod Command
 pub mod TextLines
 pub mod Forms
+pub mod Sender
 pub mod ProfileForms
 pub mod AuthorityForms
 pub mod BitText

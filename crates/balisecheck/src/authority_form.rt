@@ -7,6 +7,7 @@ ghost use Rattle.balisecheck.specs.Forms.{members_of};
 ghost use Rattle.balisecheck.specs.AuthorityForms.{authority_members};
 
 use crate::form::{Form, count, send_member, send_optional, send_several};
+use crate::sender::{Sender, Stopped};
 use etcs_profile::{Authority, DangerPoint, EndTimer, Overlap, Section, SectionTimer};
 use serde::Serializer;
 
@@ -15,11 +16,11 @@ impl Form for SectionTimer {
 
     ghost form = { section_timer_form };
 
-    fn send<S: Serializer>(&self, out: &mut S) -> Result<(), S::Error> {
-        out.begin_map(Some(2))?;
+    fn send<S: Serializer>(&self, out: &mut Sender<'_, S>) -> Result<(), Stopped> {
+        out.begin_object(2)?;
         send_member(out, "d_sectiontimerstoploc", &self.stop)?;
         send_member(out, "t_sectiontimer", &self.time)?;
-        out.end_map()
+        out.end_object()
     }
 }
 
@@ -28,11 +29,11 @@ impl Form for Section {
 
     ghost form = { section_form };
 
-    fn send<S: Serializer>(&self, out: &mut S) -> Result<(), S::Error> {
-        out.begin_map(Some(1 + count(&self.timer)))?;
+    fn send<S: Serializer>(&self, out: &mut Sender<'_, S>) -> Result<(), Stopped> {
+        out.begin_object(1 + count(&self.timer))?;
         send_member(out, "l_section", &self.length)?;
         send_optional(out, "section_timer", &self.timer)?;
-        out.end_map()
+        out.end_object()
     }
 }
 
@@ -41,11 +42,11 @@ impl Form for EndTimer {
 
     ghost form = { end_timer_form };
 
-    fn send<S: Serializer>(&self, out: &mut S) -> Result<(), S::Error> {
-        out.begin_map(Some(2))?;
+    fn send<S: Serializer>(&self, out: &mut Sender<'_, S>) -> Result<(), Stopped> {
+        out.begin_object(2)?;
         send_member(out, "d_endtimerstartloc", &self.start)?;
         send_member(out, "t_endtimer", &self.time)?;
-        out.end_map()
+        out.end_object()
     }
 }
 
@@ -54,11 +55,11 @@ impl Form for DangerPoint {
 
     ghost form = { danger_point_form };
 
-    fn send<S: Serializer>(&self, out: &mut S) -> Result<(), S::Error> {
-        out.begin_map(Some(2))?;
+    fn send<S: Serializer>(&self, out: &mut Sender<'_, S>) -> Result<(), Stopped> {
+        out.begin_object(2)?;
         send_member(out, "d_dp", &self.distance)?;
         send_member(out, "v_releasedp", &self.release_speed)?;
-        out.end_map()
+        out.end_object()
     }
 }
 
@@ -67,13 +68,13 @@ impl Form for Overlap {
 
     ghost form = { overlap_form };
 
-    fn send<S: Serializer>(&self, out: &mut S) -> Result<(), S::Error> {
-        out.begin_map(Some(4))?;
+    fn send<S: Serializer>(&self, out: &mut Sender<'_, S>) -> Result<(), Stopped> {
+        out.begin_object(4)?;
         send_member(out, "d_ol", &self.length)?;
         send_member(out, "d_startol", &self.start)?;
         send_member(out, "t_ol", &self.time)?;
         send_member(out, "v_releaseol", &self.release_speed)?;
-        out.end_map()
+        out.end_object()
     }
 }
 
@@ -103,8 +104,8 @@ impl Form for Authority {
 
     ghost form = { authority_form };
 
-    fn send<S: Serializer>(&self, out: &mut S) -> Result<(), S::Error> {
-        out.begin_map(Some(member_count(self)))?;
+    fn send<S: Serializer>(&self, out: &mut Sender<'_, S>) -> Result<(), Stopped> {
+        out.begin_object(member_count(self))?;
         send_optional(out, "danger_point", &self.danger_point())?;
         send_member(out, "end_speed", &self.end_speed())?;
         send_member(out, "end_timeout", &self.end_timeout())?;
@@ -117,6 +118,6 @@ impl Form for Authority {
         send_optional(out, "section_timer", &self.section_timer())?;
         send_several(out, "sections", self.sections())?;
         send_optional(out, "v_main", &self.main())?;
-        out.end_map()
+        out.end_object()
     }
 }

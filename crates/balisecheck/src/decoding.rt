@@ -65,8 +65,8 @@ fn answer_line<W: Write>(
     ensures counts { CountsDevice result writer.old writer.new }
 {
     match answer(alloc, line) {
-        Ok(text) => {
-            put(writer, text.as_bytes())?;
+        Ok(line) => {
+            put(writer, line.as_slice())?;
             Ok(Turn::Next)
         }
         Err(why) => match why {

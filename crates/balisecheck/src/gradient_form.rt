@@ -2,6 +2,7 @@
 
 use crate::form::{Form, send_member};
 use crate::profile_form::send_profile;
+use crate::sender::{Sender, Stopped};
 use etcs_profile::{Gradient, GradientElement};
 use serde::Serializer;
 
@@ -10,12 +11,12 @@ impl Form for GradientElement {
 
     ghost form = { gradient_element_form };
 
-    fn send<S: Serializer>(&self, out: &mut S) -> Result<(), S::Error> {
-        out.begin_map(Some(3))?;
+    fn send<S: Serializer>(&self, out: &mut Sender<'_, S>) -> Result<(), Stopped> {
+        out.begin_object(3)?;
         send_member(out, "d_gradient", &self.distance)?;
         send_member(out, "g_a", &self.gradient)?;
         send_member(out, "q_gdir", &self.uphill)?;
-        out.end_map()
+        out.end_object()
     }
 }
 
@@ -24,7 +25,7 @@ impl Form for Gradient {
 
     ghost form = { gradient_form };
 
-    fn send<S: Serializer>(&self, out: &mut S) -> Result<(), S::Error> {
+    fn send<S: Serializer>(&self, out: &mut Sender<'_, S>) -> Result<(), Stopped> {
         send_profile(out, "elements", self)
     }
 }

@@ -24,6 +24,7 @@ mod packet_form;
 mod profile_form;
 mod program;
 mod raw_form;
+mod sender;
 mod speed_form;
 mod status;
 mod telegram_form;

@@ -5,14 +5,15 @@ ghost use Rattle.serde_json.specs.Events.{SendsValue};
 ghost use Rattle.balisecheck.specs.Forms.{whole};
 
 use crate::form::Form;
+use crate::sender::{Sender, Stopped};
 use etcs_bits::{Dir, Plain, Ranged, Scale};
 use serde::Serializer;
 
 impl Form for u32 {
     ghost form = { λ n. whole n };
 
-    fn send<S: Serializer>(&self, out: &mut S) -> Result<(), S::Error> {
-        out.u64(u64::from(*self))
+    fn send<S: Serializer>(&self, out: &mut Sender<'_, S>) -> Result<(), Stopped> {
+        out.number(u64::from(*self))
     }
 }
 
@@ -22,15 +23,15 @@ impl Form for bool {
 
     ghost form = { λ flag. whole (worth flag) };
 
-    fn send<S: Serializer>(&self, out: &mut S) -> Result<(), S::Error> {
-        out.u64(if *self { 1 } else { 0 })
+    fn send<S: Serializer>(&self, out: &mut Sender<'_, S>) -> Result<(), Stopped> {
+        out.number(if *self { 1 } else { 0 })
     }
 }
 
 impl<const W: u32> Form for Plain<W> {
     ghost form = { λ n. whole n };
 
-    fn send<S: Serializer>(&self, out: &mut S) -> Result<(), S::Error> {
+    fn send<S: Serializer>(&self, out: &mut Sender<'_, S>) -> Result<(), Stopped> {
         self.number().send(out)
     }
 }
@@ -38,7 +39,7 @@ impl<const W: u32> Form for Plain<W> {
 impl<const W: u32, const LAST: u32, const FROM: u32> Form for Ranged<W, LAST, FROM> {
     ghost form = { λ n. whole n };
 
-    fn send<S: Serializer>(&self, out: &mut S) -> Result<(), S::Error> {
+    fn send<S: Serializer>(&self, out: &mut Sender<'_, S>) -> Result<(), Stopped> {
         self.number().send(out)
     }
 }
@@ -48,7 +49,7 @@ impl Form for Dir {
 
     ghost form = { λ dir. whole (dir_number dir) };
 
-    fn send<S: Serializer>(&self, out: &mut S) -> Result<(), S::Error> {
+    fn send<S: Serializer>(&self, out: &mut Sender<'_, S>) -> Result<(), Stopped> {
         self.number().send(out)
     }
 }
@@ -58,7 +59,7 @@ impl Form for Scale {
 
     ghost form = { λ scale. whole (scale_number scale) };
 
-    fn send<S: Serializer>(&self, out: &mut S) -> Result<(), S::Error> {
+    fn send<S: Serializer>(&self, out: &mut Sender<'_, S>) -> Result<(), Stopped> {
         self.number().send(out)
     }
 }

@@ -1,6 +1,7 @@
 //! The JSON forms of the packets from track to train.
 
 use crate::form::{Form, send_member};
+use crate::sender::{Sender, Stopped};
 use etcs_packet::{CoverMarker, TrackPacket};
 use serde::Serializer;
 
@@ -9,11 +10,11 @@ impl Form for CoverMarker {
 
     ghost form = { cover_form };
 
-    fn send<S: Serializer>(&self, out: &mut S) -> Result<(), S::Error> {
-        out.begin_map(Some(2))?;
+    fn send<S: Serializer>(&self, out: &mut Sender<'_, S>) -> Result<(), Stopped> {
+        out.begin_object(2)?;
         send_member(out, "nid_packet", &0)?;
         send_member(out, "nid_vbcmk", &self.marker)?;
-        out.end_map()
+        out.end_object()
     }
 }
 
@@ -23,7 +24,7 @@ impl Form for TrackPacket {
 
     ghost form = { packet_form };
 
-    fn send<S: Serializer>(&self, out: &mut S) -> Result<(), S::Error> {
+    fn send<S: Serializer>(&self, out: &mut Sender<'_, S>) -> Result<(), Stopped> {
         match self {
             TrackPacket::Cover(packet) => packet.send(out),
             TrackPacket::Linking(packet) => packet.send(out),

@@ -2,6 +2,7 @@
 
 use crate::form::{Form, send_member, send_several};
 use crate::profile_form::send_profile;
+use crate::sender::{Sender, Stopped};
 use etcs_profile::{Difference, SpeedElement, SpeedProfile};
 use serde::Serializer;
 
@@ -10,12 +11,12 @@ impl Form for Difference {
 
     ghost form = { difference_form };
 
-    fn send<S: Serializer>(&self, out: &mut S) -> Result<(), S::Error> {
-        out.begin_map(Some(3))?;
+    fn send<S: Serializer>(&self, out: &mut Sender<'_, S>) -> Result<(), Stopped> {
+        out.begin_object(3)?;
         send_member(out, "nc", &self.category)?;
         send_member(out, "q_diff", &self.kind)?;
         send_member(out, "v_diff", &self.speed)?;
-        out.end_map()
+        out.end_object()
     }
 }
 
@@ -24,13 +25,13 @@ impl Form for SpeedElement {
 
     ghost form = { speed_element_form };
 
-    fn send<S: Serializer>(&self, out: &mut S) -> Result<(), S::Error> {
-        out.begin_map(Some(4))?;
+    fn send<S: Serializer>(&self, out: &mut Sender<'_, S>) -> Result<(), Stopped> {
+        out.begin_object(4)?;
         send_member(out, "d_static", &self.distance)?;
         send_several(out, "differences", self.differences.as_slice())?;
         send_member(out, "q_front", &self.front)?;
         send_member(out, "v_static", &self.speed)?;
-        out.end_map()
+        out.end_object()
     }
 }
 
@@ -39,7 +40,7 @@ impl Form for SpeedProfile {
 
     ghost form = { speed_form };
 
-    fn send<S: Serializer>(&self, out: &mut S) -> Result<(), S::Error> {
+    fn send<S: Serializer>(&self, out: &mut Sender<'_, S>) -> Result<(), Stopped> {
         send_profile(out, "elements", self)
     }
 }

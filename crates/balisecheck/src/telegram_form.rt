@@ -4,6 +4,7 @@ ghost use Rattle.std.specs.Prelude.{◌≡◌};
 ghost use Rattle.etcs_telegram.specs.Sizes.{user_bits};
 
 use crate::form::{Form, send_member, send_several};
+use crate::sender::{Sender, Stopped};
 use etcs_telegram::{Size, Telegram};
 use serde::Serializer;
 
@@ -24,10 +25,10 @@ impl Form for Telegram {
 
     ghost form = { telegram_form };
 
-    fn send<S: Serializer>(&self, out: &mut S) -> Result<(), S::Error> {
+    fn send<S: Serializer>(&self, out: &mut Sender<'_, S>) -> Result<(), Stopped> {
         let header = self.header;
         let identity = header.identity;
-        out.begin_map(Some(10))?;
+        out.begin_object(10)?;
         send_member(out, "m_dup", &header.dup.number())?;
         send_member(out, "m_mcount", &header.counter)?;
         send_member(out, "m_version", &header.version.number())?;
@@ -38,6 +39,6 @@ impl Form for Telegram {
         send_several(out, "packets", self.packets.as_slice())?;
         send_member(out, "q_link", &header.linked)?;
         send_member(out, "user_bits", &user_bit_count(self.size))?;
-        out.end_map()
+        out.end_object()
     }
 }

@@ -9,14 +9,14 @@ use etcs_telegram::{Telegram, TextError, from_hex};
 use std::alloc::{AllocError, Global};
 
 // The telegram's JSON line.
-fn json_line(alloc: Global, telegram: &Telegram) -> Result<String, AllocError>
-    ensures { IfOk result (λ s. string_bytes s ≡ json_line_of telegram.now) }
+fn json_line(alloc: Global, telegram: &Telegram) -> Result<Vec<u8>, AllocError>
+    ensures { IfOk result (λ line. line.items ≡ json_line_of telegram.now) }
 {
     // Numbers, texts and lists always have a JSON text, so only memory can run out.
-    let Ok(mut line) = serde_json::to_string(alloc, &Sent(telegram)) else {
+    let Ok(mut line) = serde_json::to_vec(alloc, &Sent(telegram)) else {
         return Err(AllocError);
     };
-    line.push('\n')?;
+    line.push(b'\n')?;
     Ok(line)
 }
 
@@ -25,8 +25,8 @@ fn json_line(alloc: Global, telegram: &Telegram) -> Result<String, AllocError>
 /// `Memory`: a request for memory was refused. Each other error is the reason why the text is no
 /// telegram, and `refusal` puts it into words.
 #[tactic(auto, unfolding(crate::specs::TelegramLines::meaning_of))]
-pub fn answer(alloc: Global, text: &[u8]) -> Result<String, TextError>
-    ensures { MatchResult result (λ s. meaning_of text.now ≡ Ok (string_bytes s))
+pub fn answer(alloc: Global, text: &[u8]) -> Result<Vec<u8>, TextError>
+    ensures { MatchResult result (λ line. meaning_of text.now ≡ Ok line.items)
         (λ e. Refuses e (meaning_of text.now)) }
 {
     let telegram = from_hex(alloc, text)?;

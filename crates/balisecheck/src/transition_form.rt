@@ -4,6 +4,7 @@ ghost use Rattle.std.specs.Prelude.{◌≡◌};
 ghost use Rattle.balisecheck.specs.PacketForms.{national_system};
 
 use crate::form::{Form, count, send_first_and, send_member, send_optional};
+use crate::sender::{Sender, Stopped};
 use etcs_bits::Level;
 use etcs_packet::{LevelOrder, Transition};
 use serde::Serializer;
@@ -23,13 +24,13 @@ impl Form for LevelOrder {
 
     ghost form = { order_form };
 
-    fn send<S: Serializer>(&self, out: &mut S) -> Result<(), S::Error> {
+    fn send<S: Serializer>(&self, out: &mut Sender<'_, S>) -> Result<(), Stopped> {
         let system = system_of(self.level);
-        out.begin_map(Some(2 + count(&system)))?;
+        out.begin_object(2 + count(&system))?;
         send_member(out, "l_ackleveltr", &self.acknowledge)?;
         send_member(out, "m_leveltr", &self.level.number())?;
         send_optional(out, "nid_ntc", &system)?;
-        out.end_map()
+        out.end_object()
     }
 }
 
@@ -38,13 +39,13 @@ impl Form for Transition {
 
     ghost form = { transition_form };
 
-    fn send<S: Serializer>(&self, out: &mut S) -> Result<(), S::Error> {
-        out.begin_map(Some(5))?;
+    fn send<S: Serializer>(&self, out: &mut Sender<'_, S>) -> Result<(), Stopped> {
+        out.begin_object(5)?;
         send_member(out, "d_leveltr", &self.d_leveltr())?;
         send_member(out, "nid_packet", &41)?;
         send_member(out, "q_dir", &self.dir())?;
         send_member(out, "q_scale", &self.scale())?;
         send_first_and(out, "transitions", self.first(), self.further())?;
-        out.end_map()
+        out.end_object()
     }
 }

@@ -4,4 +4,4 @@ use Rattle.balisecheck.proofs.bit_text.bytes_of.Given as goal
 
 -- the bytes so far
 abbrev pub invariant-bytes : goal.invariant-bytes
-invariant-bytes l = record { whole : length l.bytes ≡ 1021; so_far : take l.i l.bytes ≡ bytes_in l.i (filled_up l.bits) }
+invariant-bytes g l = record { whole : length l.bytes ≡ g.row.BYTES; so_far : take l.i l.bytes ≡ bytes_in l.i (filled_up l.bits) }

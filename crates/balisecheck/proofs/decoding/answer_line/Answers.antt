@@ -8,5 +8,5 @@ use Rattle.balisecheck.proofs.decoding.answer_line.Goals as goal
 pub returns-in_err-put-in-Ok-clause-turns : goal.returns-in_err-put-in-Ok-clause-turns
 returns-in_err-put-in-Ok-clause-turns g c =
     let passed_on = err_from_is_err_and c.from_residual.result c.from_residual.ensures.1 in
-    let means : meaning_of c.args.line.now ≡ Ok c.as_bytes.result.now = search rules in
+    let means : meaning_of c.args.line.now ≡ Ok c.as_slice.result.now = search rules in
     rw passed_on.1 (put_failed passed_on.0 c.put.ensures.written (begins_answered c.args.number means))

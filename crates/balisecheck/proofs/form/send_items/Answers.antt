@@ -5,5 +5,7 @@ use Rattle.balisecheck.proofs.form.send_items.Goals as goal
 
 -- one more item was sent
 pub items-preserved : goal.items-preserved
-items-preserved g c =
-    WritesEach-more (λ x. SendsValue (g.T.Form.form x)) _ _ _ _ _ _ (search rules) c.item-item.is c.items.invariant c.in_ok-send.ensures
+items-preserved g c = record {
+  same = search rules;
+  sent = WritesEach-more (λ x. SendsValue (g.T.Form.form x)) _ _ _ _ _ _ (search rules) c.item-item.is c.items.invariant.sent c.in_ok-send.ensures.sends;
+}

@@ -5,9 +5,9 @@ use Rattle.balisecheck.proofs.FormLemmas.{finished, members_len-maybe, object_se
 use Rattle.balisecheck.proofs.authority_form.SectionForm.send.Goals as goal
 
 -- one member, and a second one if there is a timer
-pub returns : goal.returns
-returns g c =
+pub returns-clause-sends : goal.returns-clause-sends
+returns-clause-sends g c =
     let many = members_len-maybe section_timer_form (codes "section_timer") c.args.self.now.timer [] in
-    on_ok_weaker c.end_map.result (λ ended.
-    object_sent _ _ _ _ c.in_ok-begin_map.ensures (omega (arith, many, c.count.ensures.count))
-    (then c.in_ok-send_member.ensures (then c.in_ok-send_optional.ensures (finished ended)))) c.end_map.ensures
+    on_ok_weaker c.end_object.result (λ ended.
+    object_sent _ _ _ _ c.in_ok-begin_object.ensures.sends (omega (arith, many, c.count.ensures.count))
+    (then c.in_ok-send_member.ensures.sends (then c.in_ok-send_optional.ensures.sends (finished ended)))) c.end_object.ensures.sends
