@@ -1,0 +1,5 @@
+pub mod Keys
+pub mod Objects
+pub mod ListLemmas
+pub mod SendingLemmas
+pub mod ReadLemmas

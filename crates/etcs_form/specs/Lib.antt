@@ -1,0 +1,11 @@
+pub mod Fault
+pub mod Entries
+pub mod EntryLemmas
+pub mod Reading
+pub mod Shape
+pub mod Sending
+pub mod Variables
+pub mod Profiles
+pub mod Choice
+pub mod Transition
+pub mod Cover

@@ -1,0 +1,79 @@
+//! The form of gradient profiles, packet 21.
+
+ghost use Rattle.std.specs.Prelude.{◌≡◌, IfOk, OnOk};
+
+use crate::building::put_key;
+use crate::error::FormError;
+use crate::profile_form::{put_profile, read_profile, send_profile};
+use crate::reading::read_key;
+use crate::record::{Record, is_one_of};
+use crate::sending::send_key;
+use etcs_bits::Memory;
+use etcs_profile::{Gradient, GradientElement};
+use serde::Serializer;
+use serde_json::{Map, Value};
+use std::alloc::Global;
+
+#[tactic(auto, using(crate::proofs::SendingLemmas::then), unfolding(crate::specs::Profiles::gradient_element))]
+impl Record for GradientElement {
+    ghost use Rattle.etcs_form.specs.Profiles.{gradient_element};
+
+    ghost object = { gradient_element };
+
+    fn has_key(name: &str) -> bool {
+        is_one_of(name, &["d_gradient", "q_gdir", "g_a"])
+    }
+
+    fn count(&self) -> usize {
+        3
+    }
+
+    fn send_members<S: Serializer>(&self, out: &mut S) -> Result<(), S::Error> {
+        send_key(out, "d_gradient", &self.distance)?;
+        send_key(out, "g_a", &self.gradient)?;
+        send_key(out, "q_gdir", &self.uphill)?;
+        Ok(())
+    }
+
+    fn put_members(&self, alloc: Global, out: &mut Map<String, Value>) -> Result<(), Memory> {
+        put_key(out, alloc, "d_gradient", &self.distance)?;
+        put_key(out, alloc, "q_gdir", &self.uphill)?;
+        put_key(out, alloc, "g_a", &self.gradient)?;
+        Ok(())
+    }
+
+    fn of_members(alloc: Global, value: &Value) -> Result<Self, FormError> {
+        Ok(GradientElement {
+            distance: read_key(alloc, value, "d_gradient")?,
+            uphill: read_key(alloc, value, "q_gdir")?,
+            gradient: read_key(alloc, value, "g_a")?,
+        })
+    }
+}
+
+#[tactic(auto, unfolding(crate::specs::Profiles::gradient))]
+impl Record for Gradient {
+    ghost use Rattle.etcs_form.specs.Profiles.{gradient};
+
+    ghost object = { gradient };
+
+    fn has_key(name: &str) -> bool {
+        is_one_of(name, &["nid_packet", "q_dir", "q_scale", "elements"])
+    }
+
+    fn count(&self) -> usize {
+        4
+    }
+
+    fn send_members<S: Serializer>(&self, out: &mut S) -> Result<(), S::Error> {
+        send_profile(out, "elements", self)
+    }
+
+    fn put_members(&self, alloc: Global, out: &mut Map<String, Value>) -> Result<(), Memory> {
+        put_profile(out, alloc, "elements", self)
+    }
+
+    fn of_members(alloc: Global, value: &Value) -> Result<Self, FormError> {
+        read_profile(alloc, value, "elements")
+    }
+}

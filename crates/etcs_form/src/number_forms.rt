@@ -1,0 +1,202 @@
+//! Variables as whole numbers.
+
+ghost use Rattle.std.specs.Prelude.{◌≡◌, OnOk, IfOk};
+
+use crate::error::FormError;
+use crate::form::Form;
+use etcs_bits::{Dir, Dup, Memory, Plain, Ranged, Scale, Version};
+use serde::Serializer;
+use serde_json::Value;
+use std::alloc::Global;
+
+#[tactic(auto, unfolding(crate::specs::Reading::number_of))]
+impl<const W: u32> Form for Plain<W> {
+    ghost use Rattle.etcs_form.specs.Variables.{number};
+
+    ghost shape = { number W };
+
+    fn send<S: Serializer>(&self, out: &mut S) -> Result<(), S::Error> {
+        out.u64(u64::from(self.number()))
+    }
+
+    fn build(&self, _alloc: Global) -> Result<Value, Memory> {
+        Ok(Value::from(u64::from(self.number())))
+    }
+
+    fn of_form(alloc: Global, value: &Value) -> Result<Self, FormError> {
+        match value.as_u64() {
+            None => Err(FormError::kind(alloc)),
+            Some(number) => match u32::try_from(number) {
+                Err(_) => Err(FormError::range(alloc)),
+                Ok(number) => match Plain::new(number) {
+                    None => Err(FormError::range(alloc)),
+                    Some(variable) => Ok(variable),
+                },
+            },
+        }
+    }
+}
+
+#[tactic(auto, unfolding(crate::specs::Reading::number_of))]
+impl<const W: u32, const LAST: u32, const FROM: u32> Form for Ranged<W, LAST, FROM> {
+    ghost use Rattle.etcs_form.specs.Variables.{ranges};
+
+    ghost shape = { ranges W LAST FROM };
+
+    fn send<S: Serializer>(&self, out: &mut S) -> Result<(), S::Error> {
+        out.u64(u64::from(self.number()))
+    }
+
+    fn build(&self, _alloc: Global) -> Result<Value, Memory> {
+        Ok(Value::from(u64::from(self.number())))
+    }
+
+    fn of_form(alloc: Global, value: &Value) -> Result<Self, FormError> {
+        match value.as_u64() {
+            None => Err(FormError::kind(alloc)),
+            Some(number) => match u32::try_from(number) {
+                Err(_) => Err(FormError::range(alloc)),
+                Ok(number) => match Ranged::new(number) {
+                    None => Err(FormError::range(alloc)),
+                    Some(variable) => Ok(variable),
+                },
+            },
+        }
+    }
+}
+
+#[tactic(auto, unfolding(crate::specs::Reading::number_of))]
+impl Form for bool {
+    ghost use Rattle.etcs_form.specs.Variables.{flag};
+
+    ghost shape = { flag };
+
+    fn send<S: Serializer>(&self, out: &mut S) -> Result<(), S::Error> {
+        out.u64(if *self { 1u64 } else { 0u64 })
+    }
+
+    fn build(&self, _alloc: Global) -> Result<Value, Memory> {
+        Ok(Value::from(if *self { 1u64 } else { 0u64 }))
+    }
+
+    fn of_form(alloc: Global, value: &Value) -> Result<Self, FormError> {
+        match value.as_u64() {
+            None => Err(FormError::kind(alloc)),
+            Some(0) => Ok(false),
+            Some(1) => Ok(true),
+            Some(_) => Err(FormError::range(alloc)),
+        }
+    }
+}
+
+#[tactic(auto, unfolding(crate::specs::Reading::number_of))]
+impl Form for Dir {
+    ghost use Rattle.etcs_form.specs.Variables.{direction};
+
+    ghost shape = { direction };
+
+    fn send<S: Serializer>(&self, out: &mut S) -> Result<(), S::Error> {
+        out.u64(u64::from(self.number()))
+    }
+
+    fn build(&self, _alloc: Global) -> Result<Value, Memory> {
+        Ok(Value::from(u64::from(self.number())))
+    }
+
+    fn of_form(alloc: Global, value: &Value) -> Result<Self, FormError> {
+        match value.as_u64() {
+            None => Err(FormError::kind(alloc)),
+            Some(number) => match u32::try_from(number) {
+                Err(_) => Err(FormError::range(alloc)),
+                Ok(number) => match Dir::new(number) {
+                    None => Err(FormError::range(alloc)),
+                    Some(dir) => Ok(dir),
+                },
+            },
+        }
+    }
+}
+
+#[tactic(auto, unfolding(crate::specs::Reading::number_of))]
+impl Form for Scale {
+    ghost use Rattle.etcs_form.specs.Variables.{scale};
+
+    ghost shape = { scale };
+
+    fn send<S: Serializer>(&self, out: &mut S) -> Result<(), S::Error> {
+        out.u64(u64::from(self.number()))
+    }
+
+    fn build(&self, _alloc: Global) -> Result<Value, Memory> {
+        Ok(Value::from(u64::from(self.number())))
+    }
+
+    fn of_form(alloc: Global, value: &Value) -> Result<Self, FormError> {
+        match value.as_u64() {
+            None => Err(FormError::kind(alloc)),
+            Some(number) => match u32::try_from(number) {
+                Err(_) => Err(FormError::range(alloc)),
+                Ok(number) => match Scale::new(number) {
+                    None => Err(FormError::range(alloc)),
+                    Some(scale) => Ok(scale),
+                },
+            },
+        }
+    }
+}
+
+#[tactic(auto, unfolding(crate::specs::Reading::number_of))]
+impl Form for Dup {
+    ghost use Rattle.etcs_form.specs.Variables.{duplicate};
+
+    ghost shape = { duplicate };
+
+    fn send<S: Serializer>(&self, out: &mut S) -> Result<(), S::Error> {
+        out.u64(u64::from(self.number()))
+    }
+
+    fn build(&self, _alloc: Global) -> Result<Value, Memory> {
+        Ok(Value::from(u64::from(self.number())))
+    }
+
+    fn of_form(alloc: Global, value: &Value) -> Result<Self, FormError> {
+        match value.as_u64() {
+            None => Err(FormError::kind(alloc)),
+            Some(number) => match u32::try_from(number) {
+                Err(_) => Err(FormError::range(alloc)),
+                Ok(number) => match Dup::new(number) {
+                    None => Err(FormError::range(alloc)),
+                    Some(dup) => Ok(dup),
+                },
+            },
+        }
+    }
+}
+
+#[tactic(auto, unfolding(crate::specs::Reading::number_of))]
+impl Form for Version {
+    ghost use Rattle.etcs_form.specs.Variables.{version};
+
+    ghost shape = { version };
+
+    fn send<S: Serializer>(&self, out: &mut S) -> Result<(), S::Error> {
+        out.u64(u64::from(self.number()))
+    }
+
+    fn build(&self, _alloc: Global) -> Result<Value, Memory> {
+        Ok(Value::from(u64::from(self.number())))
+    }
+
+    fn of_form(alloc: Global, value: &Value) -> Result<Self, FormError> {
+        match value.as_u64() {
+            None => Err(FormError::kind(alloc)),
+            Some(number) => match u32::try_from(number) {
+                Err(_) => Err(FormError::range(alloc)),
+                Ok(number) => match Version::new(number) {
+                    None => Err(FormError::range(alloc)),
+                    Some(version) => Ok(version),
+                },
+            },
+        }
+    }
+}

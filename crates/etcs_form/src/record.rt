@@ -1,0 +1,103 @@
+//! Records whose forms are objects.
+
+ghost use Rattle.std.specs.Prelude.{◌≡◌, IfOk, OnOk};
+ghost use Rattle.std.specs.List.{list_any};
+ghost use Rattle.std.specs.Str.{bytes_eq};
+ghost use Rattle.serde_json.specs.Events.{SendsValue};
+ghost use Rattle.serde_json.specs.View.{members_view, view};
+ghost use Rattle.etcs_form.specs.Entries.{are_known, count_of, is_among, members_onto, sorted};
+ghost use Rattle.etcs_form.specs.Fault.{Gives};
+ghost use Rattle.etcs_form.specs.Reading.{object_with};
+ghost use Rattle.etcs_form.specs.Shape.{Object, object as shape_of};
+ghost use Rattle.etcs_form.specs.Sending.{SendsMembers};
+
+use crate::error::FormError;
+use crate::form::Form;
+use etcs_bits::Memory;
+use serde::Serializer;
+use serde_json::{Map, Value};
+use std::alloc::Global;
+
+/// A record whose form is an object.
+pub trait Record: Drop {
+    /// Its members, in the order in which they are looked for.
+    ghost object: { Object Self };
+
+    /// Whether the form has this key.
+    fn has_key(name: &str) -> bool
+        ensures { result ≡ is_among name.now object.part.keys };
+
+    /// How many members the form has.
+    fn count(&self) -> usize
+        ensures { result ≡ count_of (sorted (object.part.to self.now)) };
+
+    /// Sends the members in the byte order of their keys.
+    fn send_members<S: Serializer>(&self, out: &mut S) -> Result<(), S::Error>
+        ensures { OnOk result (SendsMembers (sorted (object.part.to self.now))
+            (S.written out.old) (S.written out.new)) };
+
+    /// Puts the members into an object, in the order in which they are looked for.
+    fn put_members(&self, alloc: Global, out: &mut Map<String, Value>) -> Result<(), Memory>
+        ensures { OnOk result (members_view out.new.entries
+            ≡ members_onto (members_view out.old.entries) (object.part.to self.now)) };
+
+    /// Reads the members of an object that has no other keys.
+    fn of_members(alloc: Global, value: &Value) -> Result<Self, FormError>
+        ensures { Gives (λ x. x) result (object.part.of (view value.now)) };
+}
+
+/// Whether a key is one of these.
+pub(crate) fn is_one_of(name: &str, keys: &[&str]) -> bool
+    ensures { result ≡ list_any (λ l. bytes_eq name.now l.now) keys.now }
+{
+    keys.iter().any(|key| name == *key)
+}
+
+// Whether the record's form has each of these keys.
+fn all_known<T: Record>(members: &Map<String, Value>) -> bool
+    ensures { result ≡ are_known T.object.part.keys (members_view members.now.entries) }
+{
+    for name in members.keys() {
+        if !T::has_key(name.as_str()) {
+            return false;
+        }
+    }
+    true
+}
+
+// Refuses a value that is no object, and an object with a key that the record's form does not have.
+fn check_keys<T: Record>(alloc: Global, value: &Value) -> Result<(), FormError>
+    ensures { Gives (λ u. u) result (object_with T.object.part.keys (view value.now)) }
+{
+    match value.as_object() {
+        None => Err(FormError::kind(alloc)),
+        Some(members) => {
+            if all_known::<T>(members) {
+                Ok(())
+            } else {
+                Err(FormError::unknown(alloc))
+            }
+        }
+    }
+}
+
+impl<T: Record> Form for T {
+    ghost shape = { shape_of T.object };
+
+    fn send<S: Serializer>(&self, out: &mut S) -> Result<(), S::Error> {
+        out.begin_map(Some(self.count()))?;
+        self.send_members(out)?;
+        out.end_map()
+    }
+
+    fn build(&self, alloc: Global) -> Result<Value, Memory> {
+        let mut members = Map::new(alloc);
+        self.put_members(alloc, &mut members)?;
+        Ok(Value::Object(members))
+    }
+
+    fn of_form(alloc: Global, value: &Value) -> Result<Self, FormError> {
+        check_keys::<T>(alloc, value)?;
+        T::of_members(alloc, value)
+    }
+}

@@ -1,0 +1,119 @@
+//! The form of static speed profiles, packet 27.
+
+ghost use Rattle.std.specs.Prelude.{◌≡◌, IfOk, OnOk};
+
+use crate::building::{put_key, put_list_at};
+use crate::error::FormError;
+use crate::profile_form::{put_profile, read_profile, send_profile};
+use crate::reading::{read_items_at, read_key};
+use crate::record::{Record, is_one_of};
+use crate::sending::{send_key, send_list_at};
+use etcs_bits::Memory;
+use etcs_profile::{Difference, SpeedElement, SpeedProfile};
+use serde::Serializer;
+use serde_json::{Map, Value};
+use std::alloc::Global;
+
+#[tactic(auto, using(crate::proofs::SendingLemmas::then), unfolding(crate::specs::Profiles::difference))]
+impl Record for Difference {
+    ghost use Rattle.etcs_form.specs.Profiles.{difference};
+
+    ghost object = { difference };
+
+    fn has_key(name: &str) -> bool {
+        is_one_of(name, &["q_diff", "nc", "v_diff"])
+    }
+
+    fn count(&self) -> usize {
+        3
+    }
+
+    fn send_members<S: Serializer>(&self, out: &mut S) -> Result<(), S::Error> {
+        send_key(out, "nc", &self.category)?;
+        send_key(out, "q_diff", &self.kind)?;
+        send_key(out, "v_diff", &self.speed)?;
+        Ok(())
+    }
+
+    fn put_members(&self, alloc: Global, out: &mut Map<String, Value>) -> Result<(), Memory> {
+        put_key(out, alloc, "q_diff", &self.kind)?;
+        put_key(out, alloc, "nc", &self.category)?;
+        put_key(out, alloc, "v_diff", &self.speed)?;
+        Ok(())
+    }
+
+    fn of_members(alloc: Global, value: &Value) -> Result<Self, FormError> {
+        Ok(Difference {
+            kind: read_key(alloc, value, "q_diff")?,
+            category: read_key(alloc, value, "nc")?,
+            speed: read_key(alloc, value, "v_diff")?,
+        })
+    }
+}
+
+#[tactic(auto, using(crate::proofs::SendingLemmas::then), unfolding(crate::specs::Profiles::speed_element))]
+impl Record for SpeedElement {
+    ghost use Rattle.etcs_form.specs.Profiles.{speed_element};
+
+    ghost object = { speed_element };
+
+    fn has_key(name: &str) -> bool {
+        is_one_of(name, &["d_static", "v_static", "q_front", "differences"])
+    }
+
+    fn count(&self) -> usize {
+        4
+    }
+
+    fn send_members<S: Serializer>(&self, out: &mut S) -> Result<(), S::Error> {
+        send_key(out, "d_static", &self.distance)?;
+        send_list_at(out, "differences", self.differences.as_slice())?;
+        send_key(out, "q_front", &self.front)?;
+        send_key(out, "v_static", &self.speed)?;
+        Ok(())
+    }
+
+    fn put_members(&self, alloc: Global, out: &mut Map<String, Value>) -> Result<(), Memory> {
+        put_key(out, alloc, "d_static", &self.distance)?;
+        put_key(out, alloc, "v_static", &self.speed)?;
+        put_key(out, alloc, "q_front", &self.front)?;
+        put_list_at(out, alloc, "differences", self.differences.as_slice())?;
+        Ok(())
+    }
+
+    fn of_members(alloc: Global, value: &Value) -> Result<Self, FormError> {
+        Ok(SpeedElement {
+            distance: read_key(alloc, value, "d_static")?,
+            speed: read_key(alloc, value, "v_static")?,
+            front: read_key(alloc, value, "q_front")?,
+            differences: read_items_at(alloc, value, "differences")?,
+        })
+    }
+}
+
+#[tactic(auto, using(crate::proofs::ReadLemmas::few_differences), unfolding(crate::specs::Profiles::speed_profile))]
+impl Record for SpeedProfile {
+    ghost use Rattle.etcs_form.specs.Profiles.{speed_profile};
+
+    ghost object = { speed_profile };
+
+    fn has_key(name: &str) -> bool {
+        is_one_of(name, &["nid_packet", "q_dir", "q_scale", "elements"])
+    }
+
+    fn count(&self) -> usize {
+        4
+    }
+
+    fn send_members<S: Serializer>(&self, out: &mut S) -> Result<(), S::Error> {
+        send_profile(out, "elements", self)
+    }
+
+    fn put_members(&self, alloc: Global, out: &mut Map<String, Value>) -> Result<(), Memory> {
+        put_profile(out, alloc, "elements", self)
+    }
+
+    fn of_members(alloc: Global, value: &Value) -> Result<Self, FormError> {
+        read_profile(alloc, value, "elements")
+    }
+}
