@@ -14,7 +14,7 @@ ones=ffffffffffffffffffffffffffffffffffffff
 telegram=a1007f802000ff${ones}c0
 json='{"m_dup":0,"m_mcount":255,"m_version":33,"n_pig":0,"n_total":0,"nid_bg":1,"nid_c":1,'
 json+='"packets":[],"q_link":1,"user_bits":210}'
-version=$(sed -n 's/^## //p' "$here/../CHANGELOG.md" | head -n 1)
+version=$(sed -n "s/^## \([0-9]\)/\1/p" "$here/../CHANGELOG.md" | head -n 1)
 
 # count NAME DIFFERENCE: an empty difference is a pass.
 count() {
