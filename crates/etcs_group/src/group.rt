@@ -5,7 +5,7 @@ ghost use Rattle.std.specs.Prelude.{◌≡◌, ◌↔◌, ◌<◌, ◌≤◌, le
 use etcs_telegram::Telegram;
 use std::marker::Model;
 
-/// A balise group: the telegrams of one to eight balises, in the order of the document, which a train
+/// A balise group: the telegrams of one to eight balises, in the order given, which a train
 /// reads as one message (SUBSET-026, 3.4.1 and 3.16.2). Whether they fit together is not asked of it.
 ///
 /// Contracts see it as the list of its telegrams.
@@ -39,7 +39,7 @@ impl Group {
         Ok(Group { telegrams })
     }
 
-    /// The telegrams, in the order of the document: one to eight.
+    /// The telegrams, in the order given: one to eight.
     pub fn telegrams(&self) -> &[Telegram]
         ensures value { result.now ≡ self.now }
         ensures some { 0 < length result.now }

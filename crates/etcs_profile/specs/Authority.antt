@@ -28,7 +28,7 @@ abbrev pub permission : Dir → Scale → Option ℕ → Conditions → Permissi
 permission dir scale main terms =
     record { dir = dir; scale = scale; main = main; terms = terms }
 
--- V_MAIN, 7 bits: the speed of the train as a whole, in steps of 5 km/h, 0 to 120
+-- V_MAIN, 7 bits: how fast the signal lets a train run, in steps of 5 km/h, 0 to 120
 abbrev pub v_main : Format ℕ
 v_main = ranges 7 120 128
 

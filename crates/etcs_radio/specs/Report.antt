@@ -22,11 +22,11 @@ use Rattle.etcs_radio.specs.Train3.{q_dirlrbg, q_dlrbg, q_dirtrain}
 abbrev pub d_lrbg : Format ℕ
 d_lrbg = number 15
 
--- L_DOUBTOVER, 15 bits: how much nearer to the group the front may be
+-- L_DOUBTOVER, 15 bits: how far the estimate of the front may lie ahead of it
 abbrev pub l_doubtover : Format ℕ
 l_doubtover = number 15
 
--- L_DOUBTUNDER, 15 bits: how much further from the group the front may be
+-- L_DOUBTUNDER, 15 bits: how far the estimate of the front may lie behind it
 abbrev pub l_doubtunder : Format ℕ
 l_doubtunder = number 15
 

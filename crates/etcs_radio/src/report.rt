@@ -12,7 +12,7 @@ use etcs_bits::{
 use std::alloc::Global;
 
 /// A position report of a train: train packet 0, or 1 if it has the group before the last one too. All
-/// distances are in the report's scale (SUBSET-026, 3.6.5 and 7.4.3).
+/// distances but L_TRAININT are in the report's scale (SUBSET-026, 3.6.5 and 7.4.3).
 #[derive(Clone, Copy, Debug, PartialEq, Eq)]
 pub struct Report {
     /// Q_SCALE, 2 bits: the unit of all distances.
