@@ -1,5 +1,13 @@
 pub mod Keys
+pub mod SortedLemmas
 pub mod Objects
 pub mod ListLemmas
 pub mod SendingLemmas
 pub mod ReadLemmas
+pub mod AuthorityLemmas
+pub mod AuthorityWidth
+pub mod BodyTextLemmas
+pub mod RawLemmas
+pub mod PathLemmas
+pub mod RunLemmas
+pub mod AnyList

@@ -1,5 +1,5 @@
 -- A list: what it is read as, for items of any kind.
-use Rattle.std.proofs.Common.{◌≡◌, ◌∙◌, ◌&&◌, ℕ, suc, true, false, List, [], ◌∷◌, length, map, Some, Result, Err, refl, ap, sym, subst, ◌++◌, ◌+◌, ◌<◌, take, get_or}
+use Rattle.std.proofs.Common.{◌≡◌, ◌∙◌, ◌&&◌, ℕ, suc, true, false, List, [], ◌∷◌, length, map, Some, Result, Ok, Err, refl, ap, sym, subst, ◌++◌, ◌+◌, ◌<◌, take, get_or}
 use Rattle.std.specs.Prelude.{nat_le}
 use Rattle.std.proofs.lemmas.List.{take_more}
 use Rattle.serde_json.specs.Data.{Data, Items, item, no_items}
@@ -54,3 +54,8 @@ pub built_more : {X : Type 0} (to : X → Data) (xs : List X) (i : ℕ) (x : X) 
 built_more to xs i x vs v ws lt is so_far one pushed =
     ap items_view pushed ∙ items_view-push vs v _ (to x) so_far one ∙ sym (items_of-push to (take i xs) x)
     ∙ ap (items_of to) (ap (λ y. take i xs ++ y ∷ []) is ∙ sym (take_more xs i x lt))
+
+-- what was found, and then what is read
+abbrev pub with_front : {A : Type 0} → List A → Result (List A) Fault → Result (List A) Fault
+with_front front (Ok xs) = Ok (front ++ xs)
+with_front front (Err f) = Err f

@@ -1,13 +1,12 @@
 -- Faults as the code finds them, and objects as it makes them.
-use Rattle.std.proofs.Common.{◌≡◌, ◌∙◌, ℕ, List, [], true, false, Option, Some, None, Result, Ok, Err, IfSome, IsErrAnd, String, Global, BTreeMap, ap, sym, refl}
+use Rattle.std.proofs.Common.{◌≡◌, ◌∙◌, ℕ, List, [], true, false, Option, Some, None, Result, Ok, Err, IfOk, IfSome, IsErrAnd, String, Global, BTreeMap, ap, sym, refl}
 use Rattle.serde_json.specs.View.{members_view, view}
 use Rattle.serde_json.specs.declared.value.Value.{Value, Object as ValueObject}
 use Rattle.serde_json.proofs.Views.{view-Object}
 use Rattle.serde_json.specs.Data.{Data, Members, object}
 use Rattle.serde_json.specs.Find.{as_object}
-use Rattle.etcs_form.specs.EntryLemmas.{made_members}
-use Rattle.etcs_form.specs.Shape.{Object}
-use Rattle.etcs_form.specs.Entries.{are_apart, are_known, members_onto, object_of}
+use Rattle.etcs_form.specs.Shape.{Object, Shape}
+use Rattle.etcs_form.specs.Entries.{are_known, members_onto, object_of}
 use Rattle.etcs_form.specs.Fault.{Fault, Fails, Gives, IsAround, IsDeeper, IsFault, Kind, Step, Unknown, fault_of, here, under}
 use Rattle.etcs_form.specs.Reading.{object_with, known_or}
 use Rattle.etcs_form.specs.declared.error.FormError.{FormError}
@@ -48,8 +47,7 @@ other_key keys d ms e is known h = fails_as e (here Unknown) (object_with keys d
 pub made_object : {X : Type 0} (o : Object X) (x : X) (old : List (String Global × Value)) (m : BTreeMap (String Global) Value) → old ≡ []
     → members_view m.entries ≡ members_onto (members_view old) (o.part.to x) → view (ValueObject m) ≡ object_of (o.part.to x)
 made_object o x old m none made =
-    view-Object m ∙ ap object (made ∙ ap (λ ms. members_onto ms (o.part.to x)) (ap members_view none)
-    ∙ made_members (o.part.to x) (ap are_apart (o.part.has_keys x) ∙ o.apart))
+    view-Object m ∙ ap object (made ∙ ap (λ ms. members_onto ms (o.part.to x)) (ap members_view none))
 
 same_at : {X Y : Type 0} (o : Option Fault) (r : Result X Fault) (s : Result Y Fault) → IfSome o (λ f. r ≡ Err f) → ((f : Fault) → r ≡ Err f → s ≡ Err f) → IfSome o (λ f. s ≡ Err f)
 same_at None r s fails same = tt
@@ -64,3 +62,12 @@ pub fails_up : {X Y A : Type 0} (view : X → Y) (result : Result X FormError) (
     → IsErrAnd result (λ y. y ≡ e) → Fails e r → ((f : Fault) → r ≡ Err f → s ≡ Err f) → Gives view result s
 fails_up view (Ok x) e r s passed fails same = absurd passed
 fails_up view (Err y) e r s passed fails same = rw passed (fails_same e r s fails same)
+
+-- what was written is read again
+pub read_again : {X : Type 0} (s : Shape X) (x : X) (d : Data) → d ≡ s.to x → s.fits x ≡ true → s.of d ≡ Ok x
+read_again s x d is fits = ap s.of is ∙ s.again x fits
+
+-- the same for what a call returned, unless it failed
+pub written_again : {X E : Type 0} → (s : Shape X) (x : X) (result : Result Value E) → IfOk result (λ v. view v ≡ s.to x) → IfOk result (λ v. s.fits x ≡ true → s.of (view v) ≡ Ok x)
+written_again s x (Ok v) is = read_again s x (view v) is
+written_again s x (Err e) is = tt

@@ -105,7 +105,7 @@ short : {A : Type 0} (high : ℕ) (r : Result (List A) Fault) → IfOk r (λ xs.
 short high (Err e) h = tt
 short high (Ok xs) h = h.1
 
-short_list : {X : Type 0} (s : Shape X) (name : List ℕ) (low high : ℕ) (d : Data) → IfOk (at_key (list_of s.of low high) name d) (λ xs. length xs ≤ high)
+pub short_list : {X : Type 0} (s : Shape X) (name : List ℕ) (low high : ℕ) (d : Data) → IfOk (at_key (list_of s.of low high) name d) (λ xs. length xs ≤ high)
 unfolding at_key list_of
 short_list s name low high d =
     key_read (λ xs. length xs ≤ high) (list_of s.of low high) name (get name d)

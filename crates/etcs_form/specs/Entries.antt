@@ -1,8 +1,6 @@
 -- The members of an object as a list of keys, each with its value or none, in any order.
-use Rattle.std.specs.Prelude.{◌≡◌, ◌&&◌, ◌+◌, ℕ, Bool, true, not, List, [], ◌∷◌, Option, Some, None}
-use Rattle.std.specs.Cmp.Lexicographic.{slice_cmp}
+use Rattle.std.specs.Prelude.{◌≡◌, ◌&&◌, ℕ, Bool, true, not, List, [], ◌∷◌, Option, Some, None}
 use Rattle.std.specs.List.{list_any}
-use Rattle.std.specs.Ordering.{nat_cmp, match_ordering}
 use Rattle.std.specs.Str.{bytes_eq}
 use Rattle.serde_json.specs.Data.{Data, Members, member, no_members, object, put}
 use Rattle.serde_json.specs.Find.{get}
@@ -14,32 +12,6 @@ Entry = List ℕ × Option Data
 abbrev pub keys_of : List Entry → List (List ℕ)
 keys_of [] = []
 keys_of (e ∷ es) = e.0 ∷ keys_of es
-
--- the keys that are there, in this order
-abbrev pub member_or : List ℕ → Option Data → Members → Members
-member_or k None ms = ms
-member_or k (Some d) ms = member k d ms
-
-abbrev pub members_of : List Entry → Members
-members_of [] = no_members
-members_of (e ∷ es) = member_or e.0 e.1 (members_of es)
-
--- in the byte order of the keys
-abbrev pub insert : Entry → List Entry → List Entry
-insert e [] = e ∷ []
-insert e (f ∷ fs) = match_ordering (slice_cmp nat_cmp e.0 f.0) (e ∷ f ∷ fs) (e ∷ f ∷ fs) (f ∷ insert e fs)
-
--- entries in their order, and further ones put in one after the other
-abbrev pub onto : List Entry → List Entry → List Entry
-onto done [] = done
-onto done (e ∷ es) = onto (insert e done) es
-
-abbrev pub sorted : List Entry → List Entry
-sorted es = onto [] es
-
--- the object of these keys: its text has them in byte order
-abbrev pub object_of : List Entry → Data
-object_of es = object (members_of (sorted es))
 
 abbrev pub is_among : List ℕ → List (List ℕ) → Bool
 is_among k ls = list_any (λ l. bytes_eq k l) ls
@@ -69,11 +41,6 @@ abbrev pub members_onto : Members → List Entry → Members
 members_onto ms [] = ms
 members_onto ms (e ∷ es) = members_onto (put_or e.0 e.1 ms) es
 
--- how many there are
-abbrev pub present : Option Data → ℕ
-present None = 0
-present (Some d) = 1
-
-abbrev pub count_of : List Entry → ℕ
-count_of [] = 0
-count_of (e ∷ es) = present e.1 + count_of es
+-- the object of these entries; its text has the keys in byte order
+abbrev pub object_of : List Entry → Data
+object_of es = object (members_onto no_members es)

@@ -15,7 +15,7 @@ use Rattle.etcs_profile.specs.declared.gradient.GradientElement.{GradientElement
 use Rattle.etcs_profile.specs.declared.linking.Link.{Link}
 use Rattle.etcs_profile.specs.declared.speed.Difference.{Difference}
 use Rattle.etcs_profile.specs.declared.speed.SpeedElement.{SpeedElement}
-use Rattle.etcs_form.specs.Shape.{Object, Part, Shape, fixed, key, key_if, list, list_from_one, named, object, within, ◌then◌}
+use Rattle.etcs_form.specs.Shape.{Object, Part, Shape, closed, fixed, key, key_if, list, list_from_one, named, object, within, ◌then◌}
 use Rattle.etcs_form.specs.Variables.{direction, flag, number, ranges, scale}
 
 -- packet k with a list of elements at this key; it is refused where it has more than 8,191 bits
@@ -30,62 +30,50 @@ profile k name layout element = within (λ p. nat_le (23 + width ((elements layo
 
 -- a balise group ahead; its country is there only if it is a new one
 unfoldable pub link : Object Link
-link = record {
-  apart = refl;
-  part =
-      named
-      (λ p. record { distance = p.0; country = p.1.0; group = p.1.1.0; nominal = p.1.1.1.0; reaction = p.1.1.1.1.0; accuracy = p.1.1.1.1.1 })
-      (λ l. (l.distance, (l.country, (l.group, (l.nominal, (l.reaction, l.accuracy))))))
-      (λ _. refl)
-      (key (codes "d_link") (number 15) then key_if (codes "nid_c") (number 10) then key (codes "nid_bg") (number 14)
-      then key (codes "q_linkorientation") flag then key (codes "q_linkreaction") (ranges 2 2 4) then key (codes "q_locacc") (number 6));
-}
+link =
+    closed (named
+    (λ p. record { distance = p.0; country = p.1.0; group = p.1.1.0; nominal = p.1.1.1.0; reaction = p.1.1.1.1.0; accuracy = p.1.1.1.1.1 })
+    (λ l. (l.distance, (l.country, (l.group, (l.nominal, (l.reaction, l.accuracy))))))
+    (λ _. refl)
+    (key (codes "d_link") (number 15) then key_if (codes "nid_c") (number 10) then key (codes "nid_bg") (number 14)
+    then key (codes "q_linkorientation") flag then key (codes "q_linkreaction") (ranges 2 2 4) then key (codes "q_locacc") (number 6))) refl
 
 -- packet 5
 unfoldable pub linking : Object (Dir × Profile Link)
-linking = record { apart = refl; part = profile 5 (codes "links") link_layout (object link) }
+linking = closed (profile 5 (codes "links") link_layout (object link)) refl
 
 -- a gradient, and the place where it begins
 unfoldable pub gradient_element : Object GradientElement
-gradient_element = record {
-  apart = refl;
-  part =
-      named
-      (λ p. record { distance = p.0; uphill = p.1.0; gradient = p.1.1 })
-      (λ e. (e.distance, (e.uphill, e.gradient)))
-      (λ _. refl)
-      (key (codes "d_gradient") (number 15) then key (codes "q_gdir") flag then key (codes "g_a") (number 8));
-}
+gradient_element =
+    closed (named
+    (λ p. record { distance = p.0; uphill = p.1.0; gradient = p.1.1 })
+    (λ e. (e.distance, (e.uphill, e.gradient)))
+    (λ _. refl)
+    (key (codes "d_gradient") (number 15) then key (codes "q_gdir") flag then key (codes "g_a") (number 8))) refl
 
 -- packet 21
 unfoldable pub gradient : Object (Dir × Profile GradientElement)
-gradient = record { apart = refl; part = profile 21 (codes "elements") gradient_layout (object gradient_element) }
+gradient = closed (profile 21 (codes "elements") gradient_layout (object gradient_element)) refl
 
 -- another speed for some trains
 unfoldable pub difference : Object Difference
-difference = record {
-  apart = refl;
-  part =
-      named
-      (λ p. record { kind = p.0; category = p.1.0; speed = p.1.1 })
-      (λ d. (d.kind, (d.category, d.speed)))
-      (λ _. refl)
-      (key (codes "q_diff") (ranges 2 2 4) then key (codes "nc") (number 4) then key (codes "v_diff") (ranges 7 120 128));
-}
+difference =
+    closed (named
+    (λ p. record { kind = p.0; category = p.1.0; speed = p.1.1 })
+    (λ d. (d.kind, (d.category, d.speed)))
+    (λ _. refl)
+    (key (codes "q_diff") (ranges 2 2 4) then key (codes "nc") (number 4) then key (codes "v_diff") (ranges 7 120 128))) refl
 
 -- a speed, and the place where it begins
 unfoldable pub speed_element : Object SpeedElement
-speed_element = record {
-  apart = refl;
-  part =
-      named
-      (λ p. record { distance = p.0; speed = p.1.0; front = p.1.1.0; differences = p.1.1.1 })
-      (λ e. (e.distance, (e.speed, (e.front, e.differences))))
-      (λ _. refl)
-      (key (codes "d_static") (number 15) then key (codes "v_static") (ranges 7 120 127) then key (codes "q_front") flag
-      then key (codes "differences") (list 0 31 (object difference)));
-}
+speed_element =
+    closed (named
+    (λ p. record { distance = p.0; speed = p.1.0; front = p.1.1.0; differences = p.1.1.1 })
+    (λ e. (e.distance, (e.speed, (e.front, e.differences))))
+    (λ _. refl)
+    (key (codes "d_static") (number 15) then key (codes "v_static") (ranges 7 120 127) then key (codes "q_front") flag
+    then key (codes "differences") (list 0 31 (object difference)))) refl
 
 -- packet 27
 unfoldable pub speed_profile : Object (Dir × Profile SpeedElement)
-speed_profile = record { apart = refl; part = profile 27 (codes "elements") speed_layout (object speed_element) }
+speed_profile = closed (profile 27 (codes "elements") speed_layout (object speed_element)) refl

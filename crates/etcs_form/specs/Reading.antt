@@ -1,5 +1,5 @@
 -- How a value is read as a record: one part after the other, up to the first fault.
-use Rattle.std.specs.Prelude.{◌++◌, ◌&&◌, ◌+◌, ℕ, Bool, List, [], ◌∷◌, length, Option, Some, None, Result, Ok, Err, if◌then◌else◌, nat_le, option_and_then}
+use Rattle.std.specs.Prelude.{◌&&◌, ◌+◌, ℕ, Bool, List, [], ◌∷◌, length, Option, Some, None, Result, Ok, Err, if◌then◌else◌, nat_le, option_and_then}
 use Rattle.serde_json.specs.Data.{Data, Items, item, no_items, Members}
 use Rattle.serde_json.specs.Find.{get, as_object, as_array, as_number, as_u64}
 use Rattle.etcs_form.specs.Entries.{are_known}
@@ -81,8 +81,3 @@ unwanted_or name (Some d) = Err (at_once Range (key name))
 -- what must not be there
 unfoldable pub no_key : List ℕ → Data → Result (Unit {0}) Fault
 no_key name d = unwanted_or name (get name d)
-
--- what was found, and then what is read
-abbrev pub with_front : {A : Type 0} → List A → Result (List A) Fault → Result (List A) Fault
-with_front front (Ok xs) = Ok (front ++ xs)
-with_front front (Err f) = Err f

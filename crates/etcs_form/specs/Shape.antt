@@ -199,6 +199,10 @@ pub record Object (X : Type 0) : Type 0 where
   pub part : Part X
   pub apart : are_apart part.keys ≡ true
 
+-- these members, and no others
+abbrev pub closed : {X : Type 0} (part : Part X) → are_apart part.keys ≡ true → Object X
+closed part apart = record { part = part; apart = apart }
+
 pub object_again : {X : Type 0} (o : Object X) (x : X) → o.part.fits x ≡ true → (object_with o.part.keys (object_of (o.part.to x)) >>= λ u. o.part.of (object_of (o.part.to x))) ≡ Ok x
 unfolding object_with
 object_again o x fits =

@@ -9,7 +9,7 @@ use Rattle.etcs_bits.specs.variables.Variables.{ranged}
 use Rattle.etcs_profile.specs.Transition.{Orders, orders}
 use Rattle.etcs_profile.specs.declared.transition.LevelOrder.{LevelOrder}
 use Rattle.etcs_form.specs.Choice.{decided}
-use Rattle.etcs_form.specs.Shape.{Object, Part, fixed, key, list_from_one, named, object, ◌then◌}
+use Rattle.etcs_form.specs.Shape.{Object, Part, closed, fixed, key, list_from_one, named, object, ◌then◌}
 use Rattle.etcs_form.specs.Variables.{direction, is_allowed, number, scale}
 
 -- the national system of level NTC
@@ -45,25 +45,19 @@ level name = decided name (is_allowed (ranged 3 4 8)) (λ n. n == 1) (codes "nid
 
 -- one level of the order
 unfoldable pub level_order : Object LevelOrder
-level_order = record {
-  apart = refl;
-  part =
-      named
-      (λ p. record { level = p.0; acknowledge = p.1 })
-      (λ o. (o.level, o.acknowledge))
-      (λ _. refl)
-      (level (codes "m_leveltr") then key (codes "l_ackleveltr") (number 15));
-}
+level_order =
+    closed (named
+    (λ p. record { level = p.0; acknowledge = p.1 })
+    (λ o. (o.level, o.acknowledge))
+    (λ _. refl)
+    (level (codes "m_leveltr") then key (codes "l_ackleveltr") (number 15))) refl
 
 -- packet 41
 unfoldable pub transition : Object (Dir × Orders)
-transition = record {
-  apart = refl;
-  part =
-      named
-      (λ p. (p.1.0, orders p.1.1.0 p.1.1.1.0 p.1.1.1.1.0 p.1.1.1.1.1))
-      (λ p. (tt, (p.0, (p.1.scale, (p.1.d_leveltr, (p.1.first, p.1.further))))))
-      (λ _. refl)
-      (fixed (codes "nid_packet") 41 then key (codes "q_dir") direction then key (codes "q_scale") scale
-      then key (codes "d_leveltr") (number 15) then key (codes "transitions") (list_from_one 32 (object level_order)));
-}
+transition =
+    closed (named
+    (λ p. (p.1.0, orders p.1.1.0 p.1.1.1.0 p.1.1.1.1.0 p.1.1.1.1.1))
+    (λ p. (tt, (p.0, (p.1.scale, (p.1.d_leveltr, (p.1.first, p.1.further))))))
+    (λ _. refl)
+    (fixed (codes "nid_packet") 41 then key (codes "q_dir") direction then key (codes "q_scale") scale
+    then key (codes "d_leveltr") (number 15) then key (codes "transitions") (list_from_one 32 (object level_order)))) refl

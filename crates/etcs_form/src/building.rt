@@ -37,7 +37,7 @@ pub(crate) fn put_key<T: Form>(
     ensures { OnOk result (members_view out.new.entries
         ≡ put_or name.now (Some (T.shape.to value.now)) (members_view out.old.entries)) }
 {
-    let form = value.build(alloc)?;
+    let form = value.to_form(alloc)?;
     put_value(out, alloc, name, form)
 }
 
@@ -76,7 +76,7 @@ fn build_items<T: Form>(alloc: Global, items: &[T]) -> Result<Vec<Value>, Memory
 {
     let mut values = Vec::new(alloc);
     'items: for item in items {
-        let form = item.build(alloc)?;
+        let form = item.to_form(alloc)?;
         if values.push(form).is_err() {
             return Err(Memory);
         }
@@ -110,7 +110,7 @@ pub(crate) fn put_first_and<T: Form>(
         (Some (array (items_of T.shape.to (first.now ∷ further.now)))) (members_view out.old.entries)) }
 {
     let mut values = build_items(alloc, further)?;
-    let form = first.build(alloc)?;
+    let form = first.to_form(alloc)?;
     if values.insert(0, form).is_err() {
         return Err(Memory);
     }

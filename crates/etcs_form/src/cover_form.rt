@@ -5,29 +5,27 @@ ghost use Rattle.std.specs.Prelude.{◌≡◌, IfOk, OnOk};
 use crate::building::{put_key, put_number};
 use crate::error::FormError;
 use crate::reading::{read_fixed, read_key};
-use crate::record::{Record, is_one_of};
+use crate::record::{Members, Record, is_one_of};
 use crate::sending::{send_key, send_number};
 use etcs_bits::Memory;
 use etcs_packet::CoverMarker;
-use serde::Serializer;
+use json::Writer;
 use serde_json::{Map, Value};
 use std::alloc::Global;
 
-#[tactic(auto, using(crate::proofs::SendingLemmas::then), unfolding(crate::specs::Cover::cover_marker))]
 impl Record for CoverMarker {
     ghost use Rattle.etcs_form.specs.Cover.{cover_marker};
 
     ghost object = { cover_marker };
+}
 
+#[tactic(auto, using(crate::proofs::SendingLemmas::then), unfolding(crate::specs::Cover::cover_marker))]
+impl Members for CoverMarker {
     fn has_key(name: &str) -> bool {
         is_one_of(name, &["nid_packet", "nid_vbcmk"])
     }
 
-    fn count(&self) -> usize {
-        2
-    }
-
-    fn send_members<S: Serializer>(&self, out: &mut S) -> Result<(), S::Error> {
+    fn send_members(&self, out: &mut Writer) -> Result<(), Memory> {
         send_number(out, "nid_packet", 0)?;
         send_key(out, "nid_vbcmk", &self.marker)?;
         Ok(())

@@ -6,29 +6,27 @@ use crate::building::put_key;
 use crate::error::FormError;
 use crate::profile_form::{put_profile, read_profile, send_profile};
 use crate::reading::read_key;
-use crate::record::{Record, is_one_of};
+use crate::record::{Members, Record, is_one_of};
 use crate::sending::send_key;
 use etcs_bits::Memory;
 use etcs_profile::{Gradient, GradientElement};
-use serde::Serializer;
+use json::Writer;
 use serde_json::{Map, Value};
 use std::alloc::Global;
 
-#[tactic(auto, using(crate::proofs::SendingLemmas::then), unfolding(crate::specs::Profiles::gradient_element))]
 impl Record for GradientElement {
     ghost use Rattle.etcs_form.specs.Profiles.{gradient_element};
 
     ghost object = { gradient_element };
+}
 
+#[tactic(auto, using(crate::proofs::SendingLemmas::then), unfolding(crate::specs::Profiles::gradient_element))]
+impl Members for GradientElement {
     fn has_key(name: &str) -> bool {
         is_one_of(name, &["d_gradient", "q_gdir", "g_a"])
     }
 
-    fn count(&self) -> usize {
-        3
-    }
-
-    fn send_members<S: Serializer>(&self, out: &mut S) -> Result<(), S::Error> {
+    fn send_members(&self, out: &mut Writer) -> Result<(), Memory> {
         send_key(out, "d_gradient", &self.distance)?;
         send_key(out, "g_a", &self.gradient)?;
         send_key(out, "q_gdir", &self.uphill)?;
@@ -51,21 +49,19 @@ impl Record for GradientElement {
     }
 }
 
-#[tactic(auto, unfolding(crate::specs::Profiles::gradient))]
 impl Record for Gradient {
     ghost use Rattle.etcs_form.specs.Profiles.{gradient};
 
     ghost object = { gradient };
+}
 
+#[tactic(auto, unfolding(crate::specs::Profiles::gradient))]
+impl Members for Gradient {
     fn has_key(name: &str) -> bool {
         is_one_of(name, &["nid_packet", "q_dir", "q_scale", "elements"])
     }
 
-    fn count(&self) -> usize {
-        4
-    }
-
-    fn send_members<S: Serializer>(&self, out: &mut S) -> Result<(), S::Error> {
+    fn send_members(&self, out: &mut Writer) -> Result<(), Memory> {
         send_profile(out, "elements", self)
     }
 

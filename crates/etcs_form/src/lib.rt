@@ -4,28 +4,49 @@
 //! [`FormError`], the first fault with the way to it. A [`Record`] is a record whose form is an
 //! object. Each form is stated once, as a `Shape`: what is written, what is read, and that the one
 //! undoes the other (`specs/Shape.antt`). A writer of lines sends a form member by member. So far
-//! variables have forms, and packets 0, 5, 21, 27 and 41, with their parts. Read `form.rt` and
-//! `record.rt` first, with `specs/Shape.antt` and `specs/Profiles.antt`, then `linking_form.rt`.
-//! The crate leaves out all other packets, telegrams and messages.
+//! variables and packets have forms. Read `form.rt` and `record.rt` first, with `specs/Shape.antt`
+//! and `specs/Profiles.antt`, then `linking_form.rt`. [`refusal_text`] tells why an input is
+//! refused. The crate leaves out telegrams and messages.
 #![tactic(auto)]
 
+mod authority_form;
+mod authority_parts;
+mod body_form;
+mod body_text;
 mod building;
 mod cover_form;
 mod error;
 mod form;
 mod gradient_form;
+mod head_form;
+mod integrity_form;
+mod known_keys;
 mod level_form;
 mod linking_form;
+mod message_form;
+mod movement_form;
 mod number_forms;
+mod packets_form;
+mod position_form;
 mod profile_form;
+mod raw_form;
+mod raw_train_form;
 mod reading;
 mod record;
+mod refusal;
+mod report_form;
+mod reports_form;
 mod sending;
 mod speed_form;
+mod telegram_form;
+mod terms_form;
 #[cfg(test)]
 mod tests;
+mod track_form;
+mod train_form;
 mod transition_form;
 
 pub use error::{FormError, Step};
-pub use form::Form;
+pub use form::{Form, InPieces};
 pub use record::Record;
+pub use refusal::{LineFault, Refusal, StreamFault, refusal_text};

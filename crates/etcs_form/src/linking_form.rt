@@ -6,20 +6,22 @@ use crate::building::{put_key, put_key_if};
 use crate::error::FormError;
 use crate::profile_form::{put_profile, read_profile, send_profile};
 use crate::reading::{read_key, read_key_if};
-use crate::record::{Record, is_one_of};
-use crate::sending::{count, send_key, send_key_if};
+use crate::record::{Members, Record, is_one_of};
+use crate::sending::{send_key, send_key_if};
 use etcs_bits::Memory;
 use etcs_profile::{Link, Linking};
-use serde::Serializer;
+use json::Writer;
 use serde_json::{Map, Value};
 use std::alloc::Global;
 
-#[tactic(auto, using(crate::proofs::SendingLemmas::then), unfolding(crate::specs::Profiles::link))]
 impl Record for Link {
     ghost use Rattle.etcs_form.specs.Profiles.{link};
 
     ghost object = { link };
+}
 
+#[tactic(auto, using(crate::proofs::SendingLemmas::then), unfolding(crate::specs::Profiles::link))]
+impl Members for Link {
     fn has_key(name: &str) -> bool {
         is_one_of(
             name,
@@ -34,11 +36,7 @@ impl Record for Link {
         )
     }
 
-    fn count(&self) -> usize {
-        5 + count(&self.country)
-    }
-
-    fn send_members<S: Serializer>(&self, out: &mut S) -> Result<(), S::Error> {
+    fn send_members(&self, out: &mut Writer) -> Result<(), Memory> {
         send_key(out, "d_link", &self.distance)?;
         send_key(out, "nid_bg", &self.group)?;
         send_key_if(out, "nid_c", &self.country)?;
@@ -70,21 +68,19 @@ impl Record for Link {
     }
 }
 
-#[tactic(auto, unfolding(crate::specs::Profiles::linking))]
 impl Record for Linking {
     ghost use Rattle.etcs_form.specs.Profiles.{linking};
 
     ghost object = { linking };
+}
 
+#[tactic(auto, unfolding(crate::specs::Profiles::linking))]
+impl Members for Linking {
     fn has_key(name: &str) -> bool {
         is_one_of(name, &["nid_packet", "q_dir", "q_scale", "links"])
     }
 
-    fn count(&self) -> usize {
-        4
-    }
-
-    fn send_members<S: Serializer>(&self, out: &mut S) -> Result<(), S::Error> {
+    fn send_members(&self, out: &mut Writer) -> Result<(), Memory> {
         send_profile(out, "links", self)
     }
 

@@ -3,9 +3,9 @@
 ghost use Rattle.std.specs.Prelude.{◌≡◌, OnOk, IfOk};
 
 use crate::error::FormError;
-use crate::form::Form;
+use crate::form::{Form, InPieces};
 use etcs_bits::{Dir, Dup, Memory, Plain, Ranged, Scale, Version};
-use serde::Serializer;
+use json::Writer;
 use serde_json::Value;
 use std::alloc::Global;
 
@@ -15,11 +15,7 @@ impl<const W: u32> Form for Plain<W> {
 
     ghost shape = { number W };
 
-    fn send<S: Serializer>(&self, out: &mut S) -> Result<(), S::Error> {
-        out.u64(u64::from(self.number()))
-    }
-
-    fn build(&self, _alloc: Global) -> Result<Value, Memory> {
+    fn to_form(&self, _alloc: Global) -> Result<Value, Memory> {
         Ok(Value::from(u64::from(self.number())))
     }
 
@@ -37,17 +33,20 @@ impl<const W: u32> Form for Plain<W> {
     }
 }
 
+impl<const W: u32> InPieces for Plain<W> {
+    fn send(&self, out: &mut Writer) -> Result<(), Memory> {
+        out.u64(u64::from(self.number()))?;
+        Ok(())
+    }
+}
+
 #[tactic(auto, unfolding(crate::specs::Reading::number_of))]
 impl<const W: u32, const LAST: u32, const FROM: u32> Form for Ranged<W, LAST, FROM> {
     ghost use Rattle.etcs_form.specs.Variables.{ranges};
 
     ghost shape = { ranges W LAST FROM };
 
-    fn send<S: Serializer>(&self, out: &mut S) -> Result<(), S::Error> {
-        out.u64(u64::from(self.number()))
-    }
-
-    fn build(&self, _alloc: Global) -> Result<Value, Memory> {
+    fn to_form(&self, _alloc: Global) -> Result<Value, Memory> {
         Ok(Value::from(u64::from(self.number())))
     }
 
@@ -65,17 +64,20 @@ impl<const W: u32, const LAST: u32, const FROM: u32> Form for Ranged<W, LAST, FR
     }
 }
 
+impl<const W: u32, const LAST: u32, const FROM: u32> InPieces for Ranged<W, LAST, FROM> {
+    fn send(&self, out: &mut Writer) -> Result<(), Memory> {
+        out.u64(u64::from(self.number()))?;
+        Ok(())
+    }
+}
+
 #[tactic(auto, unfolding(crate::specs::Reading::number_of))]
 impl Form for bool {
     ghost use Rattle.etcs_form.specs.Variables.{flag};
 
     ghost shape = { flag };
 
-    fn send<S: Serializer>(&self, out: &mut S) -> Result<(), S::Error> {
-        out.u64(if *self { 1u64 } else { 0u64 })
-    }
-
-    fn build(&self, _alloc: Global) -> Result<Value, Memory> {
+    fn to_form(&self, _alloc: Global) -> Result<Value, Memory> {
         Ok(Value::from(if *self { 1u64 } else { 0u64 }))
     }
 
@@ -89,17 +91,20 @@ impl Form for bool {
     }
 }
 
+impl InPieces for bool {
+    fn send(&self, out: &mut Writer) -> Result<(), Memory> {
+        out.u64(if *self { 1u64 } else { 0u64 })?;
+        Ok(())
+    }
+}
+
 #[tactic(auto, unfolding(crate::specs::Reading::number_of))]
 impl Form for Dir {
     ghost use Rattle.etcs_form.specs.Variables.{direction};
 
     ghost shape = { direction };
 
-    fn send<S: Serializer>(&self, out: &mut S) -> Result<(), S::Error> {
-        out.u64(u64::from(self.number()))
-    }
-
-    fn build(&self, _alloc: Global) -> Result<Value, Memory> {
+    fn to_form(&self, _alloc: Global) -> Result<Value, Memory> {
         Ok(Value::from(u64::from(self.number())))
     }
 
@@ -117,17 +122,20 @@ impl Form for Dir {
     }
 }
 
+impl InPieces for Dir {
+    fn send(&self, out: &mut Writer) -> Result<(), Memory> {
+        out.u64(u64::from(self.number()))?;
+        Ok(())
+    }
+}
+
 #[tactic(auto, unfolding(crate::specs::Reading::number_of))]
 impl Form for Scale {
     ghost use Rattle.etcs_form.specs.Variables.{scale};
 
     ghost shape = { scale };
 
-    fn send<S: Serializer>(&self, out: &mut S) -> Result<(), S::Error> {
-        out.u64(u64::from(self.number()))
-    }
-
-    fn build(&self, _alloc: Global) -> Result<Value, Memory> {
+    fn to_form(&self, _alloc: Global) -> Result<Value, Memory> {
         Ok(Value::from(u64::from(self.number())))
     }
 
@@ -145,17 +153,20 @@ impl Form for Scale {
     }
 }
 
+impl InPieces for Scale {
+    fn send(&self, out: &mut Writer) -> Result<(), Memory> {
+        out.u64(u64::from(self.number()))?;
+        Ok(())
+    }
+}
+
 #[tactic(auto, unfolding(crate::specs::Reading::number_of))]
 impl Form for Dup {
     ghost use Rattle.etcs_form.specs.Variables.{duplicate};
 
     ghost shape = { duplicate };
 
-    fn send<S: Serializer>(&self, out: &mut S) -> Result<(), S::Error> {
-        out.u64(u64::from(self.number()))
-    }
-
-    fn build(&self, _alloc: Global) -> Result<Value, Memory> {
+    fn to_form(&self, _alloc: Global) -> Result<Value, Memory> {
         Ok(Value::from(u64::from(self.number())))
     }
 
@@ -173,17 +184,20 @@ impl Form for Dup {
     }
 }
 
+impl InPieces for Dup {
+    fn send(&self, out: &mut Writer) -> Result<(), Memory> {
+        out.u64(u64::from(self.number()))?;
+        Ok(())
+    }
+}
+
 #[tactic(auto, unfolding(crate::specs::Reading::number_of))]
 impl Form for Version {
     ghost use Rattle.etcs_form.specs.Variables.{version};
 
     ghost shape = { version };
 
-    fn send<S: Serializer>(&self, out: &mut S) -> Result<(), S::Error> {
-        out.u64(u64::from(self.number()))
-    }
-
-    fn build(&self, _alloc: Global) -> Result<Value, Memory> {
+    fn to_form(&self, _alloc: Global) -> Result<Value, Memory> {
         Ok(Value::from(u64::from(self.number())))
     }
 
@@ -198,5 +212,12 @@ impl Form for Version {
                 },
             },
         }
+    }
+}
+
+impl InPieces for Version {
+    fn send(&self, out: &mut Writer) -> Result<(), Memory> {
+        out.u64(u64::from(self.number()))?;
+        Ok(())
     }
 }

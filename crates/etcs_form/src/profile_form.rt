@@ -15,27 +15,27 @@ ghost use Rattle.etcs_form.specs.Variables.{direction, scale};
 
 use crate::building::{put_first_and, put_key, put_number};
 use crate::error::FormError;
-use crate::form::Form;
+use crate::form::{Form, InPieces};
 use crate::reading::{read_first_and_at, read_fixed, read_key};
 use crate::sending::{send_first_and, send_key, send_number};
 use etcs_bits::{Dir, Layout, Memory, Scale};
 use etcs_profile::{Elements, Packet};
-use serde::Serializer;
+use json::Writer;
 use serde_json::{Map, Value};
 use std::alloc::Global;
 
 /// Sends the members of a packet of elements. `name` is the key of the list of its elements.
-pub(crate) fn send_profile<const N: u32, T: Form + Layout, S: Serializer>(
-    out: &mut S,
+pub(crate) fn send_profile<const N: u32, T: InPieces + Layout>(
+    out: &mut Writer,
     name: &str,
     packet: &Packet<N, Elements<T>>,
-) -> Result<(), S::Error>
+) -> Result<(), Memory>
     ensures { OnOk result (SendsMembers (
         (name.now, Some (array (items_of T.shape.to (packet.now.1.first ∷ packet.now.1.further))))
         ∷ (codes "nid_packet", Some (whole N))
         ∷ (codes "q_dir", Some (direction.to packet.now.0))
         ∷ (codes "q_scale", Some (scale.to packet.now.1.scale)) ∷ [])
-        (S.written out.old) (S.written out.new)) }
+        out.old out.new) }
 {
     send_first_and(out, name, packet.first(), packet.further())?;
     send_number(out, "nid_packet", u64::from(N))?;

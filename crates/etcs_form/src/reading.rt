@@ -2,6 +2,7 @@
 
 ghost use Rattle.std.specs.Prelude.{◌≡◌, ◌==◌, map};
 ghost use Rattle.serde_json.specs.View.{view};
+ghost use Rattle.etcs_form.specs.Chosen.{any_object, first_at};
 ghost use Rattle.etcs_form.specs.Fault.{Gives};
 ghost use Rattle.etcs_form.specs.Reading.{at_key, at_key_if, items_at, list_of, no_key, number_of};
 ghost use Rattle.etcs_form.specs.Shape.{fixed, list_from_one};
@@ -30,6 +31,30 @@ pub(crate) fn read_key<T: Form>(
     }
 }
 
+/// Refuses a value that is no object.
+#[tactic(auto, using(crate::proofs::Objects::fails_as), unfolding(crate::specs::Chosen::any_object))]
+pub(crate) fn check_object(alloc: Global, value: &Value) -> Result<(), FormError>
+    ensures { Gives (λ u. u) result (any_object (view value.now)) }
+{
+    match value.as_object() {
+        None => Err(FormError::kind(alloc)),
+        Some(_) => Ok(()),
+    }
+}
+
+/// Reads the member at a key that has to be there, whatever other keys the object has. It decides
+/// what the others are.
+pub(crate) fn read_first<T: Form>(
+    alloc: Global,
+    value: &Value,
+    name: &'static str,
+) -> Result<T, FormError>
+    ensures { Gives (λ x. x) result (first_at T.shape.of name.now (view value.now)) }
+{
+    check_object(alloc, value)?;
+    read_key(alloc, value, name)
+}
+
 /// Reads the member at a key that may be left out.
 #[tactic(auto, using(crate::proofs::Objects::fails_under), unfolding(crate::specs::Reading::at_key_if))]
 pub(crate) fn read_key_if<T: Form>(
@@ -48,8 +73,8 @@ pub(crate) fn read_key_if<T: Form>(
     }
 }
 
-// Reads the items of a list, one after the other.
-fn read_items<T: Form>(alloc: Global, values: &[Value]) -> Result<Vec<T>, FormError>
+/// Reads the items of a list, one after the other.
+pub(crate) fn read_items<T: Form>(alloc: Global, values: &[Value]) -> Result<Vec<T>, FormError>
     ensures { Gives (λ v. v.items) result (items_at T.shape.of 0 (map view values.now)) }
 {
     let mut found = Vec::new(alloc);

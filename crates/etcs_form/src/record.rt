@@ -3,18 +3,17 @@
 ghost use Rattle.std.specs.Prelude.{◌≡◌, IfOk, OnOk};
 ghost use Rattle.std.specs.List.{list_any};
 ghost use Rattle.std.specs.Str.{bytes_eq};
-ghost use Rattle.serde_json.specs.Events.{SendsValue};
 ghost use Rattle.serde_json.specs.View.{members_view, view};
-ghost use Rattle.etcs_form.specs.Entries.{are_known, count_of, is_among, members_onto, sorted};
+ghost use Rattle.etcs_form.specs.Entries.{are_known, is_among, members_onto};
 ghost use Rattle.etcs_form.specs.Fault.{Gives};
 ghost use Rattle.etcs_form.specs.Reading.{object_with};
 ghost use Rattle.etcs_form.specs.Shape.{Object, object as shape_of};
-ghost use Rattle.etcs_form.specs.Sending.{SendsMembers};
+ghost use Rattle.etcs_form.specs.Sending.{SendsMembers, sorted};
 
 use crate::error::FormError;
-use crate::form::Form;
+use crate::form::{Form, InPieces};
 use etcs_bits::Memory;
-use serde::Serializer;
+use json::Writer;
 use serde_json::{Map, Value};
 use std::alloc::Global;
 
@@ -22,28 +21,26 @@ use std::alloc::Global;
 pub trait Record: Drop {
     /// Its members, in the order in which they are looked for.
     ghost object: { Object Self };
+}
 
+/// How the members of a record are sent, put into an object and read.
+pub(crate) trait Members: Record {
     /// Whether the form has this key.
     fn has_key(name: &str) -> bool
-        ensures { result ≡ is_among name.now object.part.keys };
-
-    /// How many members the form has.
-    fn count(&self) -> usize
-        ensures { result ≡ count_of (sorted (object.part.to self.now)) };
+        ensures { result ≡ is_among name.now Self.object.part.keys };
 
     /// Sends the members in the byte order of their keys.
-    fn send_members<S: Serializer>(&self, out: &mut S) -> Result<(), S::Error>
-        ensures { OnOk result (SendsMembers (sorted (object.part.to self.now))
-            (S.written out.old) (S.written out.new)) };
+    fn send_members(&self, out: &mut Writer) -> Result<(), Memory>
+        ensures { OnOk result (SendsMembers (sorted (Self.object.part.to self.now)) out.old out.new) };
 
     /// Puts the members into an object, in the order in which they are looked for.
     fn put_members(&self, alloc: Global, out: &mut Map<String, Value>) -> Result<(), Memory>
         ensures { OnOk result (members_view out.new.entries
-            ≡ members_onto (members_view out.old.entries) (object.part.to self.now)) };
+            ≡ members_onto (members_view out.old.entries) (Self.object.part.to self.now)) };
 
     /// Reads the members of an object that has no other keys.
     fn of_members(alloc: Global, value: &Value) -> Result<Self, FormError>
-        ensures { Gives (λ x. x) result (object.part.of (view value.now)) };
+        ensures { Gives (λ x. x) result (Self.object.part.of (view value.now)) };
 }
 
 /// Whether a key is one of these.
@@ -54,7 +51,7 @@ pub(crate) fn is_one_of(name: &str, keys: &[&str]) -> bool
 }
 
 // Whether the record's form has each of these keys.
-fn all_known<T: Record>(members: &Map<String, Value>) -> bool
+fn all_known<T: Members>(members: &Map<String, Value>) -> bool
     ensures { result ≡ are_known T.object.part.keys (members_view members.now.entries) }
 {
     for name in members.keys() {
@@ -66,7 +63,7 @@ fn all_known<T: Record>(members: &Map<String, Value>) -> bool
 }
 
 // Refuses a value that is no object, and an object with a key that the record's form does not have.
-fn check_keys<T: Record>(alloc: Global, value: &Value) -> Result<(), FormError>
+fn check_keys<T: Members>(alloc: Global, value: &Value) -> Result<(), FormError>
     ensures { Gives (λ u. u) result (object_with T.object.part.keys (view value.now)) }
 {
     match value.as_object() {
@@ -81,16 +78,10 @@ fn check_keys<T: Record>(alloc: Global, value: &Value) -> Result<(), FormError>
     }
 }
 
-impl<T: Record> Form for T {
+impl<T: Members> Form for T {
     ghost shape = { shape_of T.object };
 
-    fn send<S: Serializer>(&self, out: &mut S) -> Result<(), S::Error> {
-        out.begin_map(Some(self.count()))?;
-        self.send_members(out)?;
-        out.end_map()
-    }
-
-    fn build(&self, alloc: Global) -> Result<Value, Memory> {
+    fn to_form(&self, alloc: Global) -> Result<Value, Memory> {
         let mut members = Map::new(alloc);
         self.put_members(alloc, &mut members)?;
         Ok(Value::Object(members))
@@ -99,5 +90,14 @@ impl<T: Record> Form for T {
     fn of_form(alloc: Global, value: &Value) -> Result<Self, FormError> {
         check_keys::<T>(alloc, value)?;
         T::of_members(alloc, value)
+    }
+}
+
+impl<T: Members> InPieces for T {
+    fn send(&self, out: &mut Writer) -> Result<(), Memory> {
+        out.begin_object()?;
+        self.send_members(out)?;
+        out.end_object()?;
+        Ok(())
     }
 }

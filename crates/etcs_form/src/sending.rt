@@ -1,75 +1,50 @@
 //! How the parts of a form are sent.
 
-ghost use Rattle.std.specs.Prelude.{◌≡◌, ◌∷◌, ◌≤◌, ◌<◌, [], length, Some, OnOk};
-ghost use Rattle.serde.specs.Event.{WritesEach};
+ghost use Rattle.std.specs.Prelude.{◌≡◌, ◌∷◌, [], Some, OnOk};
 ghost use Rattle.serde_json.specs.Data.{array};
-ghost use Rattle.serde_json.specs.Events.{SendsValue};
-ghost use Rattle.etcs_form.specs.Entries.{present};
-ghost use Rattle.etcs_form.specs.Sending.{SendsMembers};
+ghost use Rattle.etcs_form.specs.Sending.{Adds, SendsMembers, each_tokens};
 ghost use Rattle.etcs_form.specs.Shape.{items_of, optional, whole};
 
-use crate::form::Form;
-use serde::Serializer;
-
-/// How many members an option adds to an object.
-pub(crate) fn count<T: Form>(value: &Option<T>) -> usize
-    ensures count { result ≡ present (optional T.shape.to value.now) }
-    ensures small { result ≤ 1 }
-{
-    match value {
-        Some(_) => 1,
-        None => 0,
-    }
-}
+use crate::form::InPieces;
+use etcs_bits::Memory;
+use json::Writer;
 
 /// Sends a member.
-pub(crate) fn send_key<T: Form, S: Serializer>(
-    out: &mut S,
-    name: &str,
-    value: &T,
-) -> Result<(), S::Error>
-    ensures { OnOk result (SendsMembers ((name.now, Some (T.shape.to value.now)) ∷ [])
-        (S.written out.old) (S.written out.new)) }
+pub(crate) fn send_key<T: InPieces>(out: &mut Writer, name: &str, value: &T) -> Result<(), Memory>
+    ensures { OnOk result
+        (SendsMembers ((name.now, Some (T.shape.to value.now)) ∷ []) out.old out.new) }
 {
     out.key(name)?;
     value.send(out)
 }
 
 /// Sends a member if there is a value, and nothing if there is none.
-pub(crate) fn send_key_if<T: Form, S: Serializer>(
-    out: &mut S,
+pub(crate) fn send_key_if<T: InPieces>(
+    out: &mut Writer,
     name: &str,
     value: &Option<T>,
-) -> Result<(), S::Error>
-    ensures { OnOk result (SendsMembers ((name.now, optional T.shape.to value.now) ∷ [])
-        (S.written out.old) (S.written out.new)) }
+) -> Result<(), Memory>
+    ensures { OnOk result
+        (SendsMembers ((name.now, optional T.shape.to value.now) ∷ []) out.old out.new) }
 {
     match value {
-        Some(value) => {
-            out.key(name)?;
-            value.send(out)
-        }
+        Some(value) => send_key(out, name, value),
         None => Ok(()),
     }
 }
 
 /// Sends a member that is a number.
-pub(crate) fn send_number<S: Serializer>(
-    out: &mut S,
-    name: &str,
-    number: u64,
-) -> Result<(), S::Error>
-    ensures { OnOk result (SendsMembers ((name.now, Some (whole number)) ∷ [])
-        (S.written out.old) (S.written out.new)) }
+pub(crate) fn send_number(out: &mut Writer, name: &str, number: u64) -> Result<(), Memory>
+    ensures { OnOk result (SendsMembers ((name.now, Some (whole number)) ∷ []) out.old out.new) }
 {
     out.key(name)?;
-    out.u64(number)
+    out.u64(number)?;
+    Ok(())
 }
 
 // Sends items one after the other, without the marks of a list.
-fn send_items<T: Form, S: Serializer>(out: &mut S, items: &[T]) -> Result<(), S::Error>
-    ensures { OnOk result (WritesEach (λ x. SendsValue (T.shape.to x)) items.now
-        (S.written out.old) (S.written out.new)) }
+fn send_items<T: InPieces>(out: &mut Writer, items: &[T]) -> Result<(), Memory>
+    ensures { OnOk result (Adds (each_tokens T.shape.to items.now) out.old out.new) }
 {
     'items: for item in items {
         item.send(out)?;
@@ -78,35 +53,36 @@ fn send_items<T: Form, S: Serializer>(out: &mut S, items: &[T]) -> Result<(), S:
 }
 
 /// Sends a member that is a list.
-pub(crate) fn send_list_at<T: Form, S: Serializer>(
-    out: &mut S,
+pub(crate) fn send_list_at<T: InPieces>(
+    out: &mut Writer,
     name: &str,
     items: &[T],
-) -> Result<(), S::Error>
-    ensures { OnOk result (SendsMembers ((name.now, Some (array (items_of T.shape.to items.now))) ∷ [])
-        (S.written out.old) (S.written out.new)) }
+) -> Result<(), Memory>
+    ensures { OnOk result (SendsMembers
+        ((name.now, Some (array (items_of T.shape.to items.now))) ∷ []) out.old out.new) }
 {
     out.key(name)?;
-    out.begin_seq(Some(items.len()))?;
+    out.begin_array()?;
     send_items(out, items)?;
-    out.end_seq()
+    out.end_array()?;
+    Ok(())
 }
 
 /// Sends a member that is a list, of a first item and further ones.
-pub(crate) fn send_first_and<T: Form, S: Serializer>(
-    out: &mut S,
+pub(crate) fn send_first_and<T: InPieces>(
+    out: &mut Writer,
     name: &str,
     first: &T,
     further: &[T],
-) -> Result<(), S::Error>
-    requires { length further.now < 32 }
+) -> Result<(), Memory>
     ensures { OnOk result (SendsMembers
         ((name.now, Some (array (items_of T.shape.to (first.now ∷ further.now)))) ∷ [])
-        (S.written out.old) (S.written out.new)) }
+        out.old out.new) }
 {
     out.key(name)?;
-    out.begin_seq(Some(further.len() + 1))?;
+    out.begin_array()?;
     first.send(out)?;
     send_items(out, further)?;
-    out.end_seq()
+    out.end_array()?;
+    Ok(())
 }

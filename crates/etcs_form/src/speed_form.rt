@@ -6,29 +6,27 @@ use crate::building::{put_key, put_list_at};
 use crate::error::FormError;
 use crate::profile_form::{put_profile, read_profile, send_profile};
 use crate::reading::{read_items_at, read_key};
-use crate::record::{Record, is_one_of};
+use crate::record::{Members, Record, is_one_of};
 use crate::sending::{send_key, send_list_at};
 use etcs_bits::Memory;
 use etcs_profile::{Difference, SpeedElement, SpeedProfile};
-use serde::Serializer;
+use json::Writer;
 use serde_json::{Map, Value};
 use std::alloc::Global;
 
-#[tactic(auto, using(crate::proofs::SendingLemmas::then), unfolding(crate::specs::Profiles::difference))]
 impl Record for Difference {
     ghost use Rattle.etcs_form.specs.Profiles.{difference};
 
     ghost object = { difference };
+}
 
+#[tactic(auto, using(crate::proofs::SendingLemmas::then), unfolding(crate::specs::Profiles::difference))]
+impl Members for Difference {
     fn has_key(name: &str) -> bool {
         is_one_of(name, &["q_diff", "nc", "v_diff"])
     }
 
-    fn count(&self) -> usize {
-        3
-    }
-
-    fn send_members<S: Serializer>(&self, out: &mut S) -> Result<(), S::Error> {
+    fn send_members(&self, out: &mut Writer) -> Result<(), Memory> {
         send_key(out, "nc", &self.category)?;
         send_key(out, "q_diff", &self.kind)?;
         send_key(out, "v_diff", &self.speed)?;
@@ -51,21 +49,19 @@ impl Record for Difference {
     }
 }
 
-#[tactic(auto, using(crate::proofs::SendingLemmas::then), unfolding(crate::specs::Profiles::speed_element))]
 impl Record for SpeedElement {
     ghost use Rattle.etcs_form.specs.Profiles.{speed_element};
 
     ghost object = { speed_element };
+}
 
+#[tactic(auto, using(crate::proofs::SendingLemmas::then), unfolding(crate::specs::Profiles::speed_element))]
+impl Members for SpeedElement {
     fn has_key(name: &str) -> bool {
         is_one_of(name, &["d_static", "v_static", "q_front", "differences"])
     }
 
-    fn count(&self) -> usize {
-        4
-    }
-
-    fn send_members<S: Serializer>(&self, out: &mut S) -> Result<(), S::Error> {
+    fn send_members(&self, out: &mut Writer) -> Result<(), Memory> {
         send_key(out, "d_static", &self.distance)?;
         send_list_at(out, "differences", self.differences.as_slice())?;
         send_key(out, "q_front", &self.front)?;
@@ -91,21 +87,19 @@ impl Record for SpeedElement {
     }
 }
 
-#[tactic(auto, using(crate::proofs::ReadLemmas::few_differences), unfolding(crate::specs::Profiles::speed_profile))]
 impl Record for SpeedProfile {
     ghost use Rattle.etcs_form.specs.Profiles.{speed_profile};
 
     ghost object = { speed_profile };
+}
 
+#[tactic(auto, using(crate::proofs::ReadLemmas::few_differences), unfolding(crate::specs::Profiles::speed_profile))]
+impl Members for SpeedProfile {
     fn has_key(name: &str) -> bool {
         is_one_of(name, &["nid_packet", "q_dir", "q_scale", "elements"])
     }
 
-    fn count(&self) -> usize {
-        4
-    }
-
-    fn send_members<S: Serializer>(&self, out: &mut S) -> Result<(), S::Error> {
+    fn send_members(&self, out: &mut Writer) -> Result<(), Memory> {
         send_profile(out, "elements", self)
     }
 

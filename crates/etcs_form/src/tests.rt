@@ -1,10 +1,19 @@
 //! Forms that were worked out by hand: the JSON text of a record, the record of a text, and which
 //! fault is told of a text that is no form.
 
+mod authorities;
 mod faults;
+mod messages;
 mod packets;
+mod positions;
+mod raw;
+mod refusals;
+mod reports;
+mod telegrams;
 
+use crate::form::InPieces;
 use crate::{Form, FormError, Step};
+use json::Writer;
 use serde_json::Value;
 use std::alloc::Global;
 use std::test::Fail;
@@ -46,11 +55,19 @@ fn fault_of<T: Form>(alloc: Global, text: &str) -> Result<String, Fail> {
     }
 }
 
-// Reads the text as a record, and writes the record.
-fn again<T: Form>(alloc: Global, text: &str) -> Result<String, Fail> {
+// Reads the text as a record, and writes the record: as a value, and piece by piece.
+fn again<T: InPieces>(alloc: Global, text: &str) -> Result<String, Fail> {
     let value = Value::from_str(alloc, text)?;
     match T::of_form(alloc, &value) {
-        Ok(record) => Ok(record.to_form(alloc)?.to_string(alloc)?),
+        Ok(record) => {
+            let form = record.to_form(alloc)?.to_string(alloc)?;
+            let mut out = Writer::new(Vec::new(alloc));
+            record.send(&mut out)?;
+            if out.into_inner().as_slice() != form.as_bytes() {
+                return Err("another text was sent".into());
+            }
+            Ok(form)
+        }
         Err(error) => Err(fault_text(alloc, &error)?.into()),
     }
 }

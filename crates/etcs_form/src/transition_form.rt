@@ -6,29 +6,27 @@ use crate::building::{put_first_and, put_key, put_key_if, put_number};
 use crate::error::FormError;
 use crate::level_form::{national_system_of, read_level};
 use crate::reading::{read_first_and_at, read_fixed, read_key};
-use crate::record::{Record, is_one_of};
-use crate::sending::{count, send_first_and, send_key, send_key_if, send_number};
+use crate::record::{Members, Record, is_one_of};
+use crate::sending::{send_first_and, send_key, send_key_if, send_number};
 use etcs_bits::Memory;
 use etcs_profile::{LevelOrder, Transition};
-use serde::Serializer;
+use json::Writer;
 use serde_json::{Map, Value};
 use std::alloc::Global;
 
-#[tactic(auto, using(crate::proofs::SendingLemmas::then), unfolding(crate::specs::Transition::level_order))]
 impl Record for LevelOrder {
     ghost use Rattle.etcs_form.specs.Transition.{level_order};
 
     ghost object = { level_order };
+}
 
+#[tactic(auto, using(crate::proofs::SendingLemmas::then), unfolding(crate::specs::Transition::level_order))]
+impl Members for LevelOrder {
     fn has_key(name: &str) -> bool {
         is_one_of(name, &["m_leveltr", "nid_ntc", "l_ackleveltr"])
     }
 
-    fn count(&self) -> usize {
-        2 + count(&national_system_of(self.level))
-    }
-
-    fn send_members<S: Serializer>(&self, out: &mut S) -> Result<(), S::Error> {
+    fn send_members(&self, out: &mut Writer) -> Result<(), Memory> {
         let ntc = national_system_of(self.level);
         send_key(out, "l_ackleveltr", &self.acknowledge)?;
         send_number(out, "m_leveltr", u64::from(self.level.number()))?;
@@ -52,12 +50,14 @@ impl Record for LevelOrder {
     }
 }
 
-#[tactic(auto, using(crate::proofs::SendingLemmas::then), unfolding(crate::specs::Transition::transition))]
 impl Record for Transition {
     ghost use Rattle.etcs_form.specs.Transition.{transition};
 
     ghost object = { transition };
+}
 
+#[tactic(auto, using(crate::proofs::SendingLemmas::then), unfolding(crate::specs::Transition::transition))]
+impl Members for Transition {
     fn has_key(name: &str) -> bool {
         is_one_of(
             name,
@@ -65,11 +65,7 @@ impl Record for Transition {
         )
     }
 
-    fn count(&self) -> usize {
-        5
-    }
-
-    fn send_members<S: Serializer>(&self, out: &mut S) -> Result<(), S::Error> {
+    fn send_members(&self, out: &mut Writer) -> Result<(), Memory> {
         send_key(out, "d_leveltr", &self.d_leveltr())?;
         send_number(out, "nid_packet", 41)?;
         send_key(out, "q_dir", &self.dir())?;

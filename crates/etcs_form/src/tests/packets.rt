@@ -5,7 +5,6 @@ use crate::Form;
 use etcs_bits::{Dir, Dup, Plain, Ranged, Scale, Version};
 use etcs_packet::CoverMarker;
 use etcs_profile::{Gradient, GradientElement, LevelOrder, Linking, SpeedProfile, Transition};
-use serde::{Described, Serialize, Serializer};
 use serde_json::Value;
 use std::test::Fail;
 
@@ -91,34 +90,4 @@ fn the_greatest_lists_are_read_and_written(rt: HostRuntime) -> Result<(), Fail> 
     )?;
     assert!(rt; again::<Gradient>(alloc, text.as_str())?.as_str() == text.as_str());
     Ok(())
-}
-
-#[test]
-fn what_is_sent_is_the_form(rt: HostRuntime) -> Result<(), Fail> {
-    let alloc = rt.alloc();
-    let value = Value::from_str(alloc, LINKING)?;
-    let Ok(packet) = Linking::of_form(alloc, &value) else {
-        return Err("no packet".into());
-    };
-    assert_eq!(rt;
-        serde_json::to_string(alloc, &Sent(&packet))?.as_str(),
-        LINKING
-    );
-    Ok(())
-}
-
-/// Hands a record to a serializer.
-#[derive(Clone, Copy)]
-struct Sent<'a, T>(&'a T);
-
-impl<T: Form> Described for Sent<'_, T> {
-    ghost use Rattle.serde_json.specs.Events.{SendsValue};
-
-    ghost writes = { λ sent. SendsValue (T.shape.to sent.0.now) };
-}
-
-impl<T: Form> Serialize for Sent<'_, T> {
-    fn serialize<S: Serializer>(&self, out: &mut S) -> Result<(), S::Error> {
-        self.0.send(out)
-    }
 }

@@ -1,6 +1,7 @@
 use Rattle.std.proofs.Common.{◌≡◌, drop, map}
 use Rattle.serde_json.specs.View.{view}
-use Rattle.etcs_form.specs.Reading.{items_at, with_front}
+use Rattle.etcs_form.specs.Reading.{items_at}
+use Rattle.etcs_form.proofs.ListLemmas.{with_front}
 use Rattle.etcs_form.proofs.reading.read_items.Given as goal
 
 abbrev pub invariant-loop-i : goal.invariant-loop-i

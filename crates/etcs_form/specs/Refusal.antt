@@ -1,0 +1,93 @@
+-- The lines that tell why an input is refused. The words are this project's.
+use Rattle.std.specs.Prelude.{◌++◌, ℕ, List, [], ◌∷◌, codes, decimal, map}
+use Rattle.etcs_bits.specs.layout.FaultWords.{fault_words}
+use Rattle.etcs_telegram.specs.declared.error.TextError.{TextError}
+use Rattle.etcs_telegram.specs.declared.error.TextError.TheVariants as texts
+use Rattle.etcs_form.specs.Fault.{Step, key, place, step_of}
+use Rattle.etcs_form.specs.declared.error.Step.{Step as CodeStep}
+use Rattle.etcs_form.specs.declared.error.FormError.{FormError}
+use Rattle.etcs_form.specs.declared.error.FormError.TheVariants as forms
+use Rattle.etcs_form.specs.declared.refusal.LineFault.{LineFault}
+use Rattle.etcs_form.specs.declared.refusal.LineFault.TheVariants as lines
+use Rattle.etcs_form.specs.declared.refusal.StreamFault.{StreamFault}
+use Rattle.etcs_form.specs.declared.refusal.StreamFault.TheVariants as streams
+use Rattle.etcs_form.specs.declared.refusal.Refusal.{Refusal}
+use Rattle.etcs_form.specs.declared.refusal.Refusal.TheVariants as refusals
+
+-- ---- why a text is no telegram
+
+-- want of memory is no reason
+abbrev pub text_words : TextError → List ℕ
+text_words texts.Memory = []
+text_words texts.NotHex = codes "not hexadecimal"
+text_words texts.WrongSize = codes "wrong size"
+text_words texts.PadBits = codes "pad bits set"
+text_words (texts.Fault fault) = fault_words fault
+
+-- ---- why a value is no form
+
+-- a slash, and then the key or the place
+abbrev pub step_words : Step → List ℕ
+step_words (key name) = codes "/" ++ name
+step_words (place i) = codes "/" ++ decimal i
+
+abbrev pub steps_words : List Step → List ℕ
+steps_words [] = []
+steps_words (step ∷ steps) = step_words step ++ steps_words steps
+
+-- the way to what is at fault; a slash alone is the whole value
+abbrev pub path_words : List Step → List ℕ
+path_words [] = codes "/"
+path_words (step ∷ steps) = steps_words (step ∷ steps)
+
+-- what is wrong, and where
+abbrev pub form_fault : List ℕ → List CodeStep → List ℕ
+form_fault reason path = codes "form " ++ (reason ++ (codes " at " ++ path_words (map step_of path)))
+
+-- want of memory is no reason
+abbrev pub form_words : FormError → List ℕ
+form_words forms.Memory = []
+form_words (forms.Missing path) = form_fault (codes "missing key") path.items
+form_words (forms.Unknown path) = form_fault (codes "unknown key") path.items
+form_words (forms.Kind path) = form_fault (codes "kind") path.items
+form_words (forms.Range path) = form_fault (codes "range") path.items
+
+-- ---- the lines
+
+-- why a line is refused
+unfoldable pub line_words : LineFault → List ℕ
+line_words (lines.Text why) = text_words why
+line_words lines.Json = codes "not JSON"
+line_words (lines.Form why) = form_words why
+line_words lines.TooBig = codes "too big"
+
+-- why a message of a stream is refused
+unfoldable pub stream_words : StreamFault → List ℕ
+stream_words (streams.Fault fault) = fault_words fault
+stream_words streams.BelowThree = codes "length below 3"
+stream_words streams.CutOff = codes "cut off"
+
+-- the line that tells a refusal
+unfoldable pub refusal_words : Refusal → List ℕ
+refusal_words refusals.Usage = codes "refused: usage is balisecheck check, decode [--radio] or encode [--radio]\n"
+refusal_words (refusals.Line n why) = codes "refused: line " ++ (decimal n ++ (codes ": " ++ (line_words why ++ codes "\n")))
+refusal_words (refusals.Message n why) = codes "refused: message " ++ (decimal n ++ (codes ": " ++ (stream_words why ++ codes "\n")))
+
+-- ---- what is told: each reason but want of memory
+
+abbrev pub IsTextTold : TextError → Type 0
+IsTextTold texts.Memory = ⊥
+IsTextTold _ = Unit {0}
+
+abbrev pub IsFormTold : FormError → Type 0
+IsFormTold forms.Memory = ⊥
+IsFormTold _ = Unit {0}
+
+abbrev pub IsLineTold : LineFault → Type 0
+IsLineTold (lines.Text why) = IsTextTold why
+IsLineTold (lines.Form why) = IsFormTold why
+IsLineTold _ = Unit {0}
+
+abbrev pub IsTold : Refusal → Type 0
+IsTold (refusals.Line n why) = IsLineTold why
+IsTold _ = Unit {0}

@@ -1,0 +1,163 @@
+//! `Refusal`: why an input is refused, and the line that tells it.
+
+ghost use Rattle.std.specs.Prelude.{◌≡◌, ◌++◌, map, string_bytes, IfOk, OnOk};
+ghost use Rattle.etcs_form.specs.Fault.{step_of};
+ghost use Rattle.etcs_form.specs.Refusal.{IsFormTold, IsLineTold, IsTextTold, IsTold, form_fault, form_words, line_words, path_words, refusal_words, step_words, steps_words, stream_words, text_words};
+
+use crate::error::{FormError, Step};
+use etcs_bits::{Fault, Memory};
+use etcs_telegram::TextError;
+use std::alloc::{AllocError, Global};
+
+/// Why a line of the input is refused.
+#[derive(Debug, Drop)]
+pub enum LineFault {
+    /// The line is no telegram's text.
+    Text(TextError),
+    /// The line is no JSON value.
+    Json,
+    /// The JSON value is no telegram's form.
+    Form(FormError),
+    /// The telegram has more bits than its size.
+    TooBig,
+}
+
+/// Why a message in a stream of radio messages is refused.
+#[derive(Clone, Copy, Debug, PartialEq, Eq)]
+pub enum StreamFault {
+    /// The bytes of the message are no message. This is their first fault.
+    Fault(Fault),
+    /// L_MESSAGE is below 3, which is the count of its own bytes and those before it.
+    BelowThree,
+    /// The input ends within the message.
+    CutOff,
+}
+
+/// Why the input is refused, and where.
+#[derive(Debug, Drop)]
+pub enum Refusal {
+    /// The words of the command line are none that the program knows.
+    Usage,
+    /// The line with this number is refused. Lines count from 1.
+    Line(u64, LineFault),
+    /// The message with this number is refused. Messages count from 0.
+    Message(u64, StreamFault),
+}
+
+// Why a text is no telegram, in words.
+fn text_reason(alloc: Global, why: &TextError) -> Result<String, AllocError>
+    requires { IsTextTold why.now }
+    ensures { IfOk result (λ s. string_bytes s ≡ text_words why.now) }
+{
+    match why {
+        TextError::Memory => unreachable!("want of memory is no reason"),
+        TextError::NotHex => format!(in alloc; "not hexadecimal"),
+        TextError::WrongSize => format!(in alloc; "wrong size"),
+        TextError::PadBits => format!(in alloc; "pad bits set"),
+        TextError::Fault(fault) => format!(in alloc; "{fault}"),
+    }
+}
+
+// Appends one step of a path.
+fn push_step(alloc: Global, text: &mut String, step: &Step) -> Result<(), AllocError>
+    ensures { OnOk result (string_bytes text.new
+        ≡ string_bytes text.old ++ step_words (step_of step.now)) }
+{
+    let words = match step {
+        Step::Key(name) => format!(in alloc; "/{name}")?,
+        Step::Place(place) => format!(in alloc; "/{place}")?,
+    };
+    text.push_str(words.as_str())
+}
+
+// The steps of a path, one after the other.
+fn steps_text(alloc: Global, path: &[Step]) -> Result<String, AllocError>
+    ensures { IfOk result (λ s. string_bytes s ≡ steps_words (map step_of path.now)) }
+{
+    let mut text = String::new(alloc);
+    'steps: for step in path {
+        push_step(alloc, &mut text, step)?;
+    }
+    Ok(text)
+}
+
+// The path to a value.
+fn path_text(alloc: Global, path: &[Step]) -> Result<String, AllocError>
+    ensures { IfOk result (λ s. string_bytes s ≡ path_words (map step_of path.now)) }
+{
+    if path.is_empty() {
+        return format!(in alloc; "/");
+    }
+    steps_text(alloc, path)
+}
+
+// What is wrong with a form, and where.
+fn form_text(alloc: Global, reason: &str, path: &[Step]) -> Result<String, AllocError>
+    ensures { IfOk result (λ s. string_bytes s ≡ form_fault reason.now path.now) }
+{
+    let path = path_text(alloc, path)?;
+    format!(in alloc; "form {reason} at {path}")
+}
+
+// Why a JSON value is no form, in words.
+fn form_reason(alloc: Global, why: &FormError) -> Result<String, AllocError>
+    requires { IsFormTold why.now }
+    ensures { IfOk result (λ s. string_bytes s ≡ form_words why.now) }
+{
+    match why {
+        FormError::Memory => unreachable!("want of memory is no reason"),
+        FormError::Missing(path) => form_text(alloc, "missing key", path.as_slice()),
+        FormError::Unknown(path) => form_text(alloc, "unknown key", path.as_slice()),
+        FormError::Kind(path) => form_text(alloc, "kind", path.as_slice()),
+        FormError::Range(path) => form_text(alloc, "range", path.as_slice()),
+    }
+}
+
+// Why a line is refused, in words.
+#[tactic(auto, unfolding(crate::specs::Refusal::line_words))]
+fn line_reason(alloc: Global, why: &LineFault) -> Result<String, AllocError>
+    requires { IsLineTold why.now }
+    ensures { IfOk result (λ s. string_bytes s ≡ line_words why.now) }
+{
+    match why {
+        LineFault::Text(why) => text_reason(alloc, why),
+        LineFault::Json => format!(in alloc; "not JSON"),
+        LineFault::Form(why) => form_reason(alloc, why),
+        LineFault::TooBig => format!(in alloc; "too big"),
+    }
+}
+
+// Why a message is refused, in words.
+#[tactic(auto, unfolding(crate::specs::Refusal::stream_words))]
+fn stream_reason(alloc: Global, why: &StreamFault) -> Result<String, AllocError>
+    ensures { IfOk result (λ s. string_bytes s ≡ stream_words why.now) }
+{
+    match why {
+        StreamFault::Fault(fault) => format!(in alloc; "{fault}"),
+        StreamFault::BelowThree => format!(in alloc; "length below 3"),
+        StreamFault::CutOff => format!(in alloc; "cut off"),
+    }
+}
+
+/// The line that tells a refusal, with its `\n`. Want of memory is no reason to refuse an input. The
+/// only error is that memory runs out.
+#[tactic(auto, unfolding(crate::specs::Refusal::refusal_words))]
+pub fn refusal_text(alloc: Global, refusal: &Refusal) -> Result<String, Memory>
+    requires { IsTold refusal.now }
+    ensures { IfOk result (λ s. string_bytes s ≡ refusal_words refusal.now) }
+{
+    let line = match refusal {
+        Refusal::Usage => format!(in alloc;
+            "refused: usage is balisecheck check, decode [--radio] or encode [--radio]\n"
+        )?,
+        Refusal::Line(number, why) => {
+            let reason = line_reason(alloc, why)?;
+            format!(in alloc; "refused: line {number}: {reason}\n")?
+        }
+        Refusal::Message(number, why) => {
+            let reason = stream_reason(alloc, why)?;
+            format!(in alloc; "refused: message {number}: {reason}\n")?
+        }
+    };
+    Ok(line)
+}
