@@ -1,0 +1,86 @@
+-- A list of findings is empty exactly where none of its facts stands.
+use Rattle.std.proofs.Common.{◌≡◌, ℕ, zero, suc, ◌+◌, Bool, true, false, List, [], ◌∷◌, ◌++◌, refl, sym, ap, ◌∙◌, arith}
+use Rattle.std.specs.List.{flat_map, enumerate_from}
+use Rattle.std.proofs.lemmas.Option.{none-some, same_Some}
+use Rattle.etcs_group.specs.Places.{At}
+use Rattle.etcs_packet.specs.declared.run.Run.{Run}
+use Rattle.etcs_packet.specs.declared.run.Run.TheVariants as runs
+use Rattle.etcs_check.specs.Findings.{noted, for_each, for_directions, all_rules}
+use Rattle.etcs_check.specs.declared.finding.Rule.{Rule}
+use Rattle.etcs_check.specs.declared.finding.Rule.TheVariants as rules
+use Rattle.etcs_check.specs.declared.finding.Finding.{Finding}
+
+pub append_parts : {X : Type 0} (xs ys : List X) → xs ++ ys ≡ [] → (xs ≡ []) × (ys ≡ [])
+append_parts [] ys h = (refl, h)
+append_parts (x ∷ xs) ys h = cc
+
+pub append_empty : {X : Type 0} (xs ys : List X) → xs ≡ [] → ys ≡ [] → xs ++ ys ≡ []
+append_empty xs ys e f = rw (e, f) refl
+
+pub noted-false : (fact : Bool) (finding : Finding) → noted fact finding ≡ [] → fact ≡ false
+noted-false true finding h = cc
+noted-false false finding h = refl
+
+for_each_from-says : {X : Type 0} (f : ℕ → X → List Finding) (n : ℕ) (xs : List X) → flat_map (λ (e : ℕ × X). f e.0 e.1) (enumerate_from n xs) ≡ [] → (k : ℕ) (x : X) → At xs k x → f (n + k) x ≡ []
+for_each_from-says f n [] h k x at = absurd (none-some x at)
+for_each_from-says f n (y ∷ ys) h zero x at =
+    let z : n + 0 ≡ n = omega arith in
+    ap (λ m. f m x) z ∙ ap (f n) (sym (same_Some y x at)) ∙ (append_parts (f n y) _ h).0
+for_each_from-says f n (y ∷ ys) h (suc k) x at =
+    let z : n + suc k ≡ (n + 1) + k = omega arith in
+    ap (λ m. f m x) z ∙ for_each_from-says f (n + 1) ys (append_parts (f n y) _ h).1 k x at
+
+pub for_each-says : {X : Type 0} (xs : List X) (f : ℕ → X → List Finding) → for_each xs f ≡ [] → (k : ℕ) (x : X) → At xs k x → f k x ≡ []
+for_each-says xs f h k x at = let z : k ≡ 0 + k = omega arith in ap (λ m. f m x) z ∙ for_each_from-says f 0 xs h k x at
+
+for_each_from-empty : {X : Type 0} (f : ℕ → X → List Finding) (n : ℕ) (xs : List X) → ((k : ℕ) (x : X) → At xs k x → f (n + k) x ≡ []) → flat_map (λ (e : ℕ × X). f e.0 e.1) (enumerate_from n xs) ≡ []
+for_each_from-empty f n [] h = refl
+for_each_from-empty f n (y ∷ ys) h =
+    let z : n ≡ n + 0 = omega arith in
+    append_empty (f n y) _ (ap (λ m. f m y) z ∙ h 0 y refl) (for_each_from-empty f (n + 1) ys (λ k x at.
+    let w : (n + 1) + k ≡ n + suc k = omega arith in ap (λ m. f m x) w ∙ h (suc k) x at))
+
+pub for_each-empty : {X : Type 0} (xs : List X) (f : ℕ → X → List Finding) → ((k : ℕ) (x : X) → At xs k x → f k x ≡ []) → for_each xs f ≡ []
+for_each-empty xs f h = for_each_from-empty f 0 xs (λ k x at. let z : 0 + k ≡ k = omega arith in ap (λ m. f m x) z ∙ h k x at)
+
+pub for_directions-says : (f : Run → List Finding) → for_directions f ≡ [] → (run : Run) → f run ≡ []
+for_directions-says f h runs.Nominal = (append_parts (f runs.Nominal) (f runs.Reverse) h).0
+for_directions-says f h runs.Reverse = (append_parts (f runs.Nominal) (f runs.Reverse) h).1
+
+pub for_directions-empty : (f : Run → List Finding) → ((run : Run) → f run ≡ []) → for_directions f ≡ []
+for_directions-empty f h = append_empty (f runs.Nominal) (f runs.Reverse) (h runs.Nominal) (h runs.Reverse)
+
+pub noted-empty : (fact : Bool) (finding : Finding) → fact ≡ false → noted fact finding ≡ []
+noted-empty fact finding h = ap (λ b. noted b finding) h
+
+pub flat_map-says : {X : Type 0} (f : X → List Finding) (xs : List X) → flat_map f xs ≡ [] → (k : ℕ) (x : X) → At xs k x → f x ≡ []
+flat_map-says f [] h k x at = absurd (none-some x at)
+flat_map-says f (y ∷ ys) h zero x at = ap f (sym (same_Some y x at)) ∙ (append_parts (f y) (flat_map f ys) h).0
+flat_map-says f (y ∷ ys) h (suc k) x at = flat_map-says f ys (append_parts (f y) (flat_map f ys) h).1 k x at
+
+pub flat_map-empty : {X : Type 0} (f : X → List Finding) (xs : List X) → ((k : ℕ) (x : X) → At xs k x → f x ≡ []) → flat_map f xs ≡ []
+flat_map-empty f [] h = refl
+flat_map-empty f (y ∷ ys) h = append_empty (f y) (flat_map f ys) (h 0 y refl) (flat_map-empty f ys (λ k x at. h (suc k) x at))
+
+-- each rule has its place in the list
+pub rule_place : (r : Rule) → (k : ℕ) × At all_rules k r
+rule_place rules.PositionWrong = (0, refl)
+rule_place rules.TotalWrong = (1, refl)
+rule_place rules.HeaderDiffers = (2, refl)
+rule_place rules.MarkOutside = (3, refl)
+rule_place rules.MarkUnanswered = (4, refl)
+rule_place rules.CounterUnfit = (5, refl)
+rule_place rules.CountersDiffer = (6, refl)
+rule_place rules.DuplicatesDiffer = (7, refl)
+rule_place rules.NotModelled = (8, refl)
+rule_place rules.NoGradient = (9, refl)
+rule_place rules.GradientShort = (10, refl)
+rule_place rules.NoSpeed = (11, refl)
+rule_place rules.SpeedShort = (12, refl)
+rule_place rules.IdentityUsed = (13, refl)
+
+pub rules-say : (f : Rule → List Finding) → flat_map f all_rules ≡ [] → (r : Rule) → f r ≡ []
+rules-say f h r = let p = rule_place r in flat_map-says f all_rules h p.0 r p.1
+
+pub rules-empty : (f : Rule → List Finding) → ((r : Rule) → f r ≡ []) → flat_map f all_rules ≡ []
+rules-empty f h = flat_map-empty f all_rules (λ _ r _. h r)

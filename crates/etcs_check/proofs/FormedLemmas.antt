@@ -1,0 +1,181 @@
+-- The facts about positions, marks and counters against a well-formed group whose counters fit.
+use Rattle.std.proofs.Common.{◌≡◌, ◌≢◌, ℕ, zero, suc, ◌+◌, ◌<◌, Bool, true, false, cond, eqb, ltb, List, [], ◌∷◌, length, get_or, slice_get, Option, Some, None, refl, sym, ap, subst, ◌∙◌, arith, IsSome, IsTrue}
+use Rattle.std.specs.Bool.{beq}
+use Rattle.std.specs.Cmp.{booleans_Decides}
+use Rattle.std.specs.List.{AllPass}
+use Rattle.std.proofs.lemmas.Option.{none-some, same_Some, slice_get_within, slice_get-get_or}
+use Rattle.std.proofs.lemmas.Bool.{eqb-true, eq-eqb, eqb-false, ne_eqb, ltb-true, lt-ltb, le-ltb, both_ways, cases_lt, and_parts, and_from, and_cases, and_left, and_right, not-false, not_from_true}
+use mathlib.Core.Logic.{inl, inr}
+use Rattle.etcs_bits.specs.declared.variables.duplicate.Dup.{Dup}
+use Rattle.etcs_bits.specs.declared.variables.duplicate.Dup.TheVariants as dups
+use Rattle.etcs_bits.specs.declared.variables.identity.Identity.{Identity}
+use Rattle.etcs_bits.specs.declared.variables.version.Version.{Version}
+use Rattle.etcs_bits.specs.variables.Variables.{version_number}
+use Rattle.etcs_bits.specs.variables.VariableValues.{version_of}
+use Rattle.etcs_bits.specs.variables.VariableLemmas.{version_names}
+use Rattle.etcs_packet.specs.declared.track.TrackPacket.{TrackPacket}
+use Rattle.etcs_telegram.specs.Record.{Telegram}
+use Rattle.etcs_group.specs.Places.{At}
+use Rattle.etcs_group.specs.Group.{is_modelled, named_by, partner_of, AreAlike, IsWellFormed, HasOneCounter}
+use Rattle.etcs_group.proofs.PlaceLemmas.{some_at}
+use Rattle.etcs_group.proofs.MarkLemmas.{partner-says, partner-is, next-at, previous-at}
+use Rattle.etcs_check.specs.Findings.{is_misplaced, is_miscounted, same_identity, is_unlike, is_outside, is_other, is_unanswered, is_unfit, first_counter, counter_differs, is_unmodelled}
+use Rattle.etcs_check.proofs.CleanLemmas.{IsClean}
+
+-- ---- tests of all packets of a list
+
+pub modelled-from_at : (packets : List TrackPacket) → ((k : ℕ) (p : TrackPacket) → At packets k p → is_unmodelled p ≡ false) → AllPass is_modelled packets
+modelled-from_at packets h k d lt = not-false _ (h k (get_or packets k d) (slice_get-get_or packets k d lt))
+
+pub at-from_modelled : (packets : List TrackPacket) → AllPass is_modelled packets → (k : ℕ) (p : TrackPacket) → At packets k p → is_unmodelled p ≡ false
+at-from_modelled packets h k p at =
+    let lt = slice_get_within packets k p at in
+    not_from_true _ (subst (λ q. IsTrue (is_modelled q)) (same_Some (get_or packets k p) p (sym (slice_get-get_or packets k p lt) ∙ at)) (h k p lt))
+
+-- ---- equal identities and equal headers
+
+pub identity_same : (x y : Identity) → x.country ≡ y.country → x.group ≡ y.group → x ≡ y
+identity_same x y e f = ap (λ c. record { country = c; group = x.group }) e ∙ ap (λ g. record { country = y.country; group = g }) f
+
+pub same_identity-says : (x y : Identity) → same_identity x y ≡ true → x ≡ y
+same_identity-says x y h =
+    let p = and_parts (eqb x.country y.country) (eqb x.group y.group) h in
+    identity_same x y (eqb-true _ _ p.0) (eqb-true _ _ p.1)
+
+pub same_identity-is : (x y : Identity) → x ≡ y → same_identity x y ≡ true
+same_identity-is x y e =
+    and_from _ _ (eq-eqb _ _ (ap (λ (z : Identity). z.country) e)) (eq-eqb _ _ (ap (λ (z : Identity). z.group) e))
+
+version_same : (v w : Version) → version_number v ≡ version_number w → v ≡ w
+version_same v w e = sym (version_names v).0 ∙ ap version_of e ∙ (version_names w).0
+
+alike-says : (t first : Telegram) → is_unlike (Some first) t ≡ false → AreAlike t first
+alike-says t first h =
+    let p = and_parts (eqb (version_number t.header.version) (version_number first.header.version)) _ (not-false _ h) in
+    let q = and_parts (same_identity t.header.identity first.header.identity) (beq t.header.linked first.header.linked) p.1 in
+    record {
+      version = version_same _ _ (eqb-true _ _ p.0);
+      identity = same_identity-says _ _ q.0;
+      linked = (booleans_Decides t.header.linked first.header.linked).0 q.1;
+    }
+
+alike-is : (t first : Telegram) → AreAlike t first → is_unlike (Some first) t ≡ false
+alike-is t first a =
+    not_from_true _ (and_from _ _ (eq-eqb _ _ (ap version_number a.version))
+    (and_from _ _ (same_identity-is _ _ a.identity) ((booleans_Decides t.header.linked first.header.linked).1 a.linked)))
+
+-- ---- marks
+
+is_other-false : (o : Option ℕ) (b : ℕ) → is_other o b ≡ false → o ≡ Some b
+is_other-false None b h = cc
+is_other-false (Some q) b h = ap Some (eqb-true q b (not-false _ h))
+
+other-is_false : (o : Option ℕ) (b : ℕ) → o ≡ Some b → is_other o b ≡ false
+other-is_false o b e = rw e (not_from_true _ (eq-eqb b b refl))
+
+-- ---- no fact, so well formed
+
+module _ (used : Bool) (group : List Telegram) (clean : IsClean (slice_get group 0) used group) where
+  clean_alike : (b : ℕ) (t first : Telegram) → At group b t → At group 0 first → AreAlike t first
+  clean_alike b t first at at0 = alike-says t first (ap (λ o. is_unlike o t) (sym at0) ∙ clean.alike b t at)
+
+  clean_inside : (b : ℕ) (t : Telegram) → At group b t → t.header.dup ≢ dups.Single → IsSome (partner_of group b)
+  clean_inside b t at marked = go t.header.dup refl b at (clean.inside b t at)
+    where
+      some : (b q : ℕ) → partner_of group b ≡ Some q → IsSome (partner_of group b)
+      some b q e = rw e refl
+
+      go : (m : Dup) → t.header.dup ≡ m → (b : ℕ) → At group b t → is_outside (length group) m b ≡ false → IsSome (partner_of group b)
+      go dups.Single e b at h = absurd (marked e)
+      go dups.Next e b at h =
+          let w = slice_get_within group b t at in
+          let n = eqb-false _ _ h in
+          some b (b + 1) (partner-is group b (b + 1) t at (ap (λ m. named_by m b) e) (omega arith))
+      go dups.Previous e zero at h = absurd (both_ways true h refl)
+      go dups.Previous e (suc a) at h =
+          let w = slice_get_within group (suc a) t at in
+          some (suc a) a (partner-is group (suc a) a t at (ap (λ m. named_by m (suc a)) e) (omega arith))
+
+  clean_answered : (b q : ℕ) → partner_of group b ≡ Some q → partner_of group q ≡ Some b
+  clean_answered b q e =
+      let r = partner-says group b q e in
+      let h : is_unanswered group (Some q) b ≡ false = ap (λ o. is_unanswered group o b) (sym e) ∙ clean.answered b r.0 r.1 in
+      is_other-false (partner_of group q) b h
+
+  pub formed-from_clean : IsWellFormed group
+  formed-from_clean = record {
+    placed = λ b t at. eqb-true _ _ (not-false _ (clean.placed b t at));
+    counted = λ b t at. eqb-true _ _ (not-false _ (clean.counted b t at));
+    alike = clean_alike;
+    inside = clean_inside;
+    answered = clean_answered;
+    modelled = λ b t at. modelled-from_at t.packets (λ k p at'. clean.modelled b t k p at at');
+  }
+
+  clean_counter : (b : ℕ) (t : Telegram) → At group b t → t.header.counter < 254 → first_counter group ≡ Some t.header.counter
+  clean_counter b t at lt = elim (and_cases (ltb t.header.counter 254) (is_other (first_counter group) t.header.counter) (clean.one_counter b t at)) [
+    | inl no' ↦ absurd (both_ways _ no' (lt-ltb _ _ lt))
+    | inr same ↦ is_other-false (first_counter group) t.header.counter same
+  ]
+
+  pub fitting-from_clean : HasOneCounter group
+  fitting-from_clean = record {
+    fits = λ b t at. eqb-false _ _ (clean.fit b t at);
+    equal = λ b c t u at au m n. same_Some t.header.counter u.header.counter (sym (clean_counter b t at m) ∙ clean_counter c u au n);
+  }
+
+-- ---- and back
+
+module _ (group : List Telegram) (formed : IsWellFormed group) where
+  pub formed_placed : (b : ℕ) (t : Telegram) → At group b t → is_misplaced b t ≡ false
+  formed_placed b t at = not_from_true _ (eq-eqb _ _ (formed.placed b t at))
+
+  pub formed_counted : (b : ℕ) (t : Telegram) → At group b t → is_miscounted group t ≡ false
+  formed_counted b t at = not_from_true _ (eq-eqb _ _ (formed.counted b t at))
+
+  pub formed_alike : (b : ℕ) (t : Telegram) → At group b t → is_unlike (slice_get group 0) t ≡ false
+  formed_alike b t at =
+      let w = slice_get_within group b t at in
+      let first = some_at group 0 (omega arith) in
+      ap (λ o. is_unlike o t) first.1 ∙ alike-is t first.0 (formed.alike b t first.0 at first.1)
+
+  pub formed_inside : (b : ℕ) (t : Telegram) → At group b t → is_outside (length group) t.header.dup b ≡ false
+  formed_inside b t at = go t.header.dup refl
+    where
+      go : (m : Dup) → t.header.dup ≡ m → is_outside (length group) m b ≡ false
+      go dups.Single e = refl
+      go dups.Next e = let n = next-at group formed b t at e in let w = slice_get_within group (suc b) n.1 n.2 in ne_eqb _ _ (omega arith)
+      go dups.Previous e = let n = previous-at group formed b t at e in let s = n.1 in ne_eqb _ _ (omega arith)
+
+  pub formed_answered : (b : ℕ) (t : Telegram) → At group b t → is_unanswered group (partner_of group b) b ≡ false
+  formed_answered b t at = go (partner_of group b) refl
+    where
+      go : (o : Option ℕ) → partner_of group b ≡ o → is_unanswered group o b ≡ false
+      go None e = refl
+      go (Some q) e = other-is_false (partner_of group q) b (formed.answered b q e)
+
+  pub formed_modelled : (b : ℕ) (t : Telegram) (k : ℕ) (p : TrackPacket) → At group b t → At t.packets k p → is_unmodelled p ≡ false
+  formed_modelled b t k p at at' = at-from_modelled t.packets (formed.modelled b t at) k p at'
+
+first_counter-some : (ts : List Telegram) (b : ℕ) (t : Telegram) → At ts b t → t.header.counter < 254 → (k : ℕ) × (u : Telegram) × At ts k u × (u.header.counter < 254) × (first_counter ts ≡ Some u.header.counter)
+first_counter-some [] b t at lt = absurd (none-some t at)
+first_counter-some (x ∷ ts) zero t at lt =
+    let m = lt-ltb _ _ lt in
+    let e = same_Some x t at in
+    let m' : ltb x.header.counter 254 ≡ true = ap (λ (z : Telegram). ltb z.header.counter 254) e ∙ m in
+    (0, x, refl, ltb-true _ _ m', rw m' refl)
+first_counter-some (x ∷ ts) (suc b) t at lt = go (first_counter-some ts b t at lt) (ltb x.header.counter 254) refl
+  where
+    go : (k : ℕ) × (u : Telegram) × At ts k u × (u.header.counter < 254) × (first_counter ts ≡ Some u.header.counter) → (m : Bool) → ltb x.header.counter 254 ≡ m → (k : ℕ) × (u : Telegram) × At (x ∷ ts) k u × (u.header.counter < 254) × (cond m (Some x.header.counter) (first_counter ts) ≡ Some u.header.counter)
+    go r true e = (0, x, refl, ltb-true _ _ e, refl)
+    go r false e = (suc r.0, r.1, r.2, r.3, r.4)
+
+pub fitting_254 : (group : List Telegram) → HasOneCounter group → (b : ℕ) (t : Telegram) → At group b t → is_unfit t ≡ false
+fitting_254 group fit b t at = ne_eqb _ _ (fit.fits b t at)
+
+pub fitting_one : (group : List Telegram) → HasOneCounter group → (b : ℕ) (t : Telegram) → At group b t → counter_differs group t ≡ false
+fitting_one group fit b t at = elim (cases_lt t.header.counter 254) [
+  | inr ge ↦ and_left _ _ (le-ltb _ _ ge)
+  | inl lt ↦ let r = first_counter-some group b t at lt in
+      and_right (ltb t.header.counter 254) _ (other-is_false (first_counter group) t.header.counter (r.4 ∙ ap Some (fit.equal r.0 b r.1 t r.2 at r.3 lt)))
+]

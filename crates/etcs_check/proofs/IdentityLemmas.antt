@@ -1,0 +1,179 @@
+-- One more mark in a table, one more group that was seen, and what the marks tell.
+use Rattle.std.proofs.Common.{◌≡◌, ◌≢◌, ℕ, suc, ◌+◌, ◌*◌, ◌/◌, ◌%◌, ◌^◌, ◌<◌, ◌≤◌, Bool, true, false, ◌||◌, eqb, List, [], ◌∷◌, length, get_or, set, replicate, take, Some, None, bit_or, slice_get, refl, sym, ap, ap₂, subst, ◌∙◌, arith}
+use Rattle.std.specs.Int.{w64}
+use Rattle.std.specs.Option.{option_map_or}
+use Rattle.std.proofs.lemmas.Nat.{div-add-mod', mod_below, div_below}
+use Rattle.std.proofs.lemmas.Nat.Bits.{bit_at_set_same, bit_at_set_other, bit_at-zero}
+use Rattle.std.proofs.lemmas.Bool.{both_ways, cases_Bool, cases_eq, cases_lt, ne_eqb, eq-eqb, false_from_ne_true}
+use Rattle.std.proofs.lemmas.List.{get_or-set_same, get_or-set_other, get_or-replicate}
+use Rattle.std.proofs.lemmas.List.Folds.{list_any_more}
+use Rattle.std.proofs.lemmas.Option.{none-some, slice_get_within, get_or_from_slice_get, same_Some}
+use mathlib.Core.Logic.{inl, inr}
+use Rattle.etcs_bits.specs.declared.variables.identity.Identity.{Identity}
+use Rattle.etcs_telegram.specs.Record.{Telegram}
+use Rattle.etcs_group.specs.Places.{At}
+use Rattle.etcs_group.proofs.PlaceLemmas.{At-take}
+use Rattle.etcs_check.specs.Findings.{same_identity, have_one_identity, is_used, facts_of, finding_of}
+use Rattle.etcs_check.specs.Line.{group_at, group_list}
+use Rattle.etcs_check.specs.declared.finding.Rule.TheVariants as rules
+use Rattle.etcs_check.specs.declared.finding.Site.TheVariants as sites
+use Rattle.etcs_check.proofs.FindingLemmas.{rules-say, for_each-says, noted-false}
+use Rattle.etcs_check.specs.Identities.{number_of, identity_number, IsNumbered, AreNumbered, has_bit, is_marked, is_among, HasSeen, HasNoRepeat, HasRepeat}
+use Rattle.etcs_check.specs.Soundness.{identity_of}
+use Rattle.etcs_check.proofs.FormedLemmas.{identity_same, same_identity-says, same_identity-is}
+
+-- ---- identities and their numbers
+
+pub number-is : (g : List Telegram) (i : Identity) → identity_of g ≡ Some i → identity_number g ≡ number_of i
+number-is [] i e = absurd (none-some i e)
+number-is (t ∷ ts) i e = ap number_of (same_Some t.header.identity i e)
+
+same_number : (i j : Identity) → i.group < 16384 → j.group < 16384 → number_of i ≡ number_of j → i ≡ j
+same_number i j a b e = identity_same i j (omega arith) (omega arith)
+
+one_number : (g h : List Telegram) → IsNumbered g → IsNumbered h → have_one_identity g h ≡ eqb (identity_number g) (identity_number h)
+one_number g h a b =
+    ap₂ (λ o p. option_map_or (λ i. option_map_or (same_identity i) p false) o false) a.1 b.1
+    ∙ test ∙ sym (ap₂ eqb (number-is g a.0 a.1) (number-is h b.0 b.1))
+  where
+    test : same_identity a.0 b.0 ≡ eqb (number_of a.0) (number_of b.0)
+    test = elim (cases_eq (number_of a.0) (number_of b.0)) [
+      | inl e ↦ same_identity-is a.0 b.0 (same_number a.0 b.0 a.3 b.3 e) ∙ sym (eq-eqb (number_of a.0) (number_of b.0) e)
+      | inr ne ↦ false_from_ne_true _ (λ same. ne (ap number_of (same_identity-says a.0 b.0 same))) ∙ sym (ne_eqb (number_of a.0) (number_of b.0) ne)
+    ]
+
+-- an earlier group has the identity where one has its number
+pub used-among : (earlier : List (List Telegram)) (g : List Telegram) → AreNumbered earlier → IsNumbered g → is_used earlier g ≡ is_among earlier (identity_number g)
+used-among [] g all own = refl
+used-among (h ∷ hs) g all own = ap₂ ◌||◌ (one_number h g (all 0 h refl) own) (used-among hs g (λ k x at. all (suc k) x at) own)
+
+pub numbered_before : (groups : List (List Telegram)) (i : ℕ) → ((k : ℕ) (h : List Telegram) → k < i → At groups k h → IsNumbered h) → AreNumbered (take i groups)
+numbered_before groups i before k h at = let t = At-take i groups k h at in before k h t.0 t.1
+
+-- the word of place q with its bit set
+abbrev pub with_bit : List ℕ → ℕ → ℕ
+with_bit table q = bit_or (get_or table (q / 64) 0) (1 * 2 ^ (q % 64) % 2 ^ 64)
+
+pub marked_after : (table : List ℕ) (q : ℕ) → q < 64 * length table → (p : ℕ) → is_marked (set table (q / 64) (with_bit table q)) p ≡ (eqb p q || is_marked table p)
+marked_after table q lt p =
+    let word : q / 64 < length table = div_below q 64 (length table) (omega arith) (omega arith) in
+    let bit : q % 64 < 64 = mod_below q 64 (omega arith) in
+    elim (cases_eq p q) [
+      | inl e ↦
+          ap (is_marked (set table (q / 64) (with_bit table q))) e
+          ∙ ap (λ v. has_bit v (q % 64)) (get_or-set_same table (q / 64) (with_bit table q) 0 word)
+          ∙ ap (λ v. eqb v 1) (bit_at_set_same w64 (get_or table (q / 64) 0) (q % 64) bit)
+          ∙ sym (ap (λ b. b || is_marked table p) (eq-eqb p q e))
+      | inr ne ↦ elim (cases_eq (p / 64) (q / 64)) [
+        | inl same ↦
+            let other : p % 64 ≢ q % 64 = λ r. ne (sym (div-add-mod' p 64) ∙ ap (λ x. x * 64 + p % 64) same ∙ ap (λ x. q / 64 * 64 + x) r ∙ div-add-mod' q 64) in
+            ap (λ x. has_bit (get_or (set table (q / 64) (with_bit table q)) x 0) (p % 64)) same
+            ∙ ap (λ v. has_bit v (p % 64)) (get_or-set_same table (q / 64) (with_bit table q) 0 word)
+            ∙ ap (λ v. eqb v 1) (bit_at_set_other w64 (get_or table (q / 64) 0) (q % 64) bit (p % 64) other)
+            ∙ ap (λ x. has_bit (get_or table x 0) (p % 64)) (sym same)
+            ∙ sym (ap (λ b. b || is_marked table p) (ne_eqb p q ne))
+        | inr other ↦
+            ap (λ v. has_bit v (p % 64)) (get_or-set_other table (q / 64) (p / 64) (with_bit table q) 0 other)
+            ∙ sym (ap (λ b. b || is_marked table p) (ne_eqb p q ne))
+      ]
+    ]
+
+pub unmarked : (n p : ℕ) → p < 64 * n → is_marked (replicate n 0) p ≡ false
+unmarked n p lt =
+    let word : p / 64 < n = div_below p 64 n (omega arith) (omega arith) in
+    ap (λ v. has_bit v (p % 64)) (get_or-replicate n (p / 64) 0 0 word) ∙ ap (λ v. eqb v 1) (bit_at-zero (p % 64))
+
+-- ---- one more group
+
+pub among_more : (groups : List (List Telegram)) (i : ℕ) (g : List Telegram) (x : ℕ) → At groups i g → is_among (take (i + 1) groups) x ≡ (is_among (take i groups) x || eqb (identity_number g) x)
+among_more groups i g x at =
+    list_any_more (λ h. eqb (identity_number h) x) groups i g (slice_get_within groups i g at)
+    ∙ ap (λ h. is_among (take i groups) x || eqb (identity_number h) x) (get_or_from_slice_get groups i g g at)
+
+or_swap : (a b : Bool) → (a || b) ≡ (b || a)
+or_swap true true = refl
+or_swap true false = refl
+or_swap false true = refl
+or_swap false false = refl
+
+or_false : (a b : Bool) → b ≡ false → (a || b) ≡ a
+or_false true b e = refl
+or_false false b e = e
+
+eqb_moved : (base p q : ℕ) → eqb p q ≡ eqb (base + q) (base + p)
+eqb_moved base p q = elim (cases_eq p q) [
+  | inl e ↦ eq-eqb p q e ∙ sym (eq-eqb (base + q) (base + p) (ap (λ x. base + x) (sym e)))
+  | inr ne ↦ ne_eqb p q ne ∙ sym (ne_eqb (base + q) (base + p) (λ e. ne (omega arith)))
+]
+
+-- its identity is of this part, and was marked
+pub seen_marked : (base n : ℕ) (table new : List ℕ) (groups : List (List Telegram)) (i : ℕ) (g : List Telegram) (q : ℕ) → At groups i g → identity_number g ≡ base + q
+    → ((p : ℕ) → is_marked new p ≡ (eqb p q || is_marked table p)) → HasSeen base n table (take i groups) → HasSeen base n new (take (i + 1) groups)
+seen_marked base n table new groups i g q at is marked seen p lt =
+    marked p ∙ ap (λ b. eqb p q || b) (seen p lt) ∙ or_swap (eqb p q) (is_among (take i groups) (base + p))
+    ∙ ap (λ b. is_among (take i groups) (base + p) || b) (eqb_moved base p q ∙ ap (λ x. eqb x (base + p)) (sym is))
+    ∙ sym (among_more groups i g (base + p) at)
+
+-- its identity is of another part
+pub seen_other : (base n : ℕ) (table : List ℕ) (groups : List (List Telegram)) (i : ℕ) (g : List Telegram) → At groups i g
+    → ((p : ℕ) → p < n → identity_number g ≢ base + p) → HasSeen base n table (take i groups) → HasSeen base n table (take (i + 1) groups)
+seen_other base n table groups i g at other seen p lt =
+    seen p lt ∙ sym (among_more groups i g (base + p) at ∙ or_false _ _ (ne_eqb _ _ (other p lt)))
+
+-- the mark of its identity tells whether it was used
+pub used_mark : (base n : ℕ) (table : List ℕ) (groups : List (List Telegram)) (g : List Telegram) (q : ℕ) → identity_number g ≡ base + q → q < n → HasSeen base n table groups → is_used groups g ≡ is_among groups (identity_number g) → is_used groups g ≡ is_marked table q
+used_mark base n table groups g q is lt seen numbered = numbered ∙ sym (seen q lt ∙ ap (is_among groups) (sym is))
+
+pub seen_none : (base n w : ℕ) → n ≤ 64 * w → HasSeen base n (replicate w 0) []
+seen_none base n w le p lt = unmarked w p (omega arith)
+
+-- what is known of each group so far, and of one more
+pub fresh_more : (base n : ℕ) (groups : List (List Telegram)) (i : ℕ) (g : List Telegram) → At groups i g
+    → ((k : ℕ) (h : List Telegram) → k < i → At groups k h → base ≤ identity_number h → identity_number h < base + n → is_used (take k groups) h ≡ false)
+    → (base ≤ identity_number g → identity_number g < base + n → is_used (take i groups) g ≡ false)
+    → (k : ℕ) (h : List Telegram) → k < i + 1 → At groups k h → base ≤ identity_number h → identity_number h < base + n → is_used (take k groups) h ≡ false
+fresh_more base n groups i g at before now k h lt at' = elim (cases_eq k i) [
+  | inl e ↦
+      let same : g ≡ h = same_Some g h (sym at ∙ ap (slice_get groups) (sym e) ∙ at') in
+      let P : ℕ → List Telegram → Type 0 = λ k h. base ≤ identity_number h → identity_number h < base + n → is_used (take k groups) h ≡ false in
+      subst (λ h. P k h) same (subst (λ k. P k g) (sym e) now)
+  | inr ne ↦ before k h (omega arith) at'
+]
+
+-- one more part
+pub no_repeat_more : (m n next : ℕ) (groups : List (List Telegram)) → next ≡ m + n → HasNoRepeat 0 m groups → HasNoRepeat m n groups → HasNoRepeat 0 next groups
+no_repeat_more m n next groups e low high i g at lo hi = elim (cases_lt (identity_number g) m) [
+  | inl lt ↦ low i g at lo (omega arith)
+  | inr ge ↦ high i g at (omega arith) (omega arith)
+]
+
+-- ---- the table of all identities
+
+pub seen_more : (groups : List (List Telegram)) (i : ℕ) (g : List Telegram) (table new : List ℕ) → At groups i g
+    → ((p : ℕ) → is_marked new p ≡ (eqb p (identity_number g) || is_marked table p)) → HasSeen 0 16777216 table (take i groups) → HasSeen 0 16777216 new (take (i + 1) groups)
+seen_more groups i g table new at marked seen =
+    let whole : identity_number g ≡ 0 + identity_number g = omega arith in
+    seen_marked 0 16777216 table new groups i g (identity_number g) at whole marked seen
+
+-- what is told of one more group is whether its identity was used
+pub used_told : (groups : List (List Telegram)) (i : ℕ) (g : List Telegram) (repeated used : Bool) (table : List ℕ) → At groups i g → IsNumbered g → AreNumbered (take i groups)
+    → (repeated ≡ true → used ≡ is_marked table (identity_number g)) → (repeated ≡ false → used ≡ false)
+    → (repeated ≡ false → HasNoRepeat 0 16777216 groups) → (repeated ≡ true → HasSeen 0 16777216 table (take i groups))
+    → used ≡ is_used (take i groups) g
+used_told groups i g repeated used table at own before marked not_marked none seen =
+    let n = number-is g own.0 own.1 in
+    let country = own.2 in
+    let group = own.3 in
+    let small : identity_number g < 16777216 = omega arith in
+    elim (cases_Bool repeated) [
+      | inl hit ↦
+          let whole : identity_number g ≡ 0 + identity_number g = omega arith in
+          marked hit ∙ sym (used_mark 0 16777216 table (take i groups) g (identity_number g) whole small (seen hit) (used-among (take i groups) g before own))
+      | inr out ↦ not_marked out ∙ sym (none out i g at (omega arith) (omega arith))
+    ]
+
+-- a repeat is a finding
+pub repeat_stands : (groups : List (List Telegram)) → HasRepeat groups → group_list groups ≢ []
+repeat_stands groups r h =
+    let none = rules-say (facts_of (sites.Group r.0) (slice_get r.1 0) (is_used (take r.0 groups) r.1) r.1) (for_each-says groups (group_at groups) h r.0 r.1 r.2) rules.IdentityUsed in
+    both_ways _ (noted-false _ (finding_of rules.IdentityUsed (sites.Group r.0) None None None) none) r.3

@@ -1,0 +1,14 @@
+pub mod FindingLemmas
+pub mod NumberLemmas
+pub mod MemberLemmas
+pub mod ProfileLemmas
+pub mod CleanLemmas
+pub mod FormedLemmas
+pub mod PairLemmas
+pub mod SoundLemmas
+pub mod LineLemmas
+pub mod MeaningLemmas
+pub mod CompareLemmas
+pub mod NoteLemmas
+pub mod GreatestLemmas
+pub mod IdentityLemmas

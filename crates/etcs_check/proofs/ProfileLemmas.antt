@@ -1,0 +1,130 @@
+-- The facts about profiles against packets that are reached.
+use Rattle.std.proofs.Common.{◌≡◌, ℕ, Bool, true, false, not, ◌&&◌, List, length, Option, Some, None, is_some, refl}
+use Rattle.std.specs.List.{list_any, filter}
+use Rattle.std.specs.Option.{option_map_or}
+use Rattle.std.proofs.lemmas.Bool.{ltb-false, le-ltb, both_ways, cases_Bool, and_cases, and_left, and_right, not-false, not_from_true, false_from_ne_true}
+use mathlib.Core.Logic.{inl, inr}
+use Rattle.etcs_packet.specs.Track.{holds}
+use Rattle.etcs_packet.specs.declared.run.Run.{Run}
+use Rattle.etcs_packet.specs.declared.track.TrackPacket.{TrackPacket}
+use Rattle.etcs_profile.specs.declared.reach.Reach.{Reach}
+use Rattle.etcs_profile.specs.declared.reach.Reach.TheVariants.{Ends, Open}
+use Rattle.etcs_telegram.specs.Record.{Telegram}
+use Rattle.etcs_group.specs.Places.{At}
+use Rattle.etcs_group.specs.Packets.{is_silent, said_by}
+use Rattle.etcs_group.proofs.PlaceLemmas.{at_list_any, list_any-at, list_any-none}
+use Rattle.etcs_check.specs.Profiles.{limit_of, Reaches, HasProfiles}
+use Rattle.etcs_check.specs.Findings.{lacks, lies_past, goes_past, is_short, is_short_at}
+use Rattle.etcs_check.specs.Line.{is_short_in}
+use Rattle.etcs_check.proofs.MemberLemmas.{filter-at, at-filter, said-site, site-said}
+
+some_is : {X : Type 0} (o : Option X) (x : X) → o ≡ Some x → is_some o ≡ true
+some_is o x e = rw e refl
+
+is_some-says : {X : Type 0} (o : Option X) → is_some o ≡ true → (x : X) × (o ≡ Some x)
+is_some-says None h = cc
+is_some-says (Some x) h = (x, refl)
+
+-- ---- one reach and one supervised location
+
+not_past : (r : Reach) (limit : ℕ) → lies_past r limit ≡ false → Reaches r limit
+not_past (Ends n) limit h = ltb-false n limit h
+not_past Open limit h = tt
+
+reaches-not_past : (r : Reach) (limit : ℕ) → Reaches r limit → lies_past r limit ≡ false
+reaches-not_past (Ends n) limit h = le-ltb n limit h
+reaches-not_past Open limit h = refl
+
+-- ---- a profile that is not short
+
+abbrev pub ReachesAll : List TrackPacket → Reach → Type 0
+ReachesAll packets r = (i : ℕ) (a : TrackPacket) (limit : ℕ) → At packets i a → limit_of a ≡ Some limit → Reaches r limit
+
+pub short-says : (reach : TrackPacket → Option Reach) (packets : List TrackPacket) (p : TrackPacket) → is_short reach packets p ≡ false → (r : Reach) → reach p ≡ Some r → ReachesAll packets r
+short-says reach packets p h r has i a limit at is =
+    let none : list_any (goes_past r) packets ≡ false = rw has at h in
+    not_past r limit (false_from_ne_true _ (λ past. both_ways _ none (at_list_any (goes_past r) packets i a at (rw is past))))
+
+pub short-from : (reach : TrackPacket → Option Reach) (packets : List TrackPacket) (p : TrackPacket) → ((r : Reach) → reach p ≡ Some r → ReachesAll packets r) → is_short reach packets p ≡ false
+short-from reach packets p h = go (reach p) refl
+  where
+    no_limit : (r : Reach) (o : Option ℕ) → ((limit : ℕ) → o ≡ Some limit → Reaches r limit) → option_map_or (lies_past r) o false ≡ false
+    no_limit r None g = refl
+    no_limit r (Some limit) g = reaches-not_past r limit (g limit refl)
+
+    go : (o : Option Reach) → reach p ≡ o → option_map_or (λ r. list_any (goes_past r) packets) o false ≡ false
+    go None e = refl
+    go (Some r) e = list_any-none (goes_past r) packets (λ i a at. no_limit r (limit_of a) (λ limit is. h r e i a limit at is))
+
+-- ---- a list of packets
+
+abbrev pub HaveProfiles : (TrackPacket → Option Reach) → List TrackPacket → Type 0
+HaveProfiles reach packets = (i : ℕ) (a : TrackPacket) (limit : ℕ) → At packets i a → limit_of a ≡ Some limit → HasProfiles reach packets limit
+
+pub profiles-from_list : (reach : TrackPacket → Option Reach) (packets : List TrackPacket) → lacks reach packets ≡ false → ((j : ℕ) (p : TrackPacket) → At packets j p → is_short reach packets p ≡ false) → HaveProfiles reach packets
+profiles-from_list reach packets there long i a limit at is = record {
+  one =
+      let some = at_list_any (λ p. is_some (limit_of p)) packets i a at (some_is (limit_of a) limit is) in
+      list_any-at (λ p. is_some (reach p)) packets (elim (and_cases (list_any (λ p. is_some (limit_of p)) packets) (not (list_any (λ p. is_some (reach p)) packets)) there) [
+        | inl none ↦ absurd (both_ways _ none some)
+        | inr none ↦ not-false _ none
+      ]);
+  each = λ j p r at' has. short-says reach packets p (long j p at') r has i a limit at is;
+}
+
+pub lacks-from_profiles : (reach : TrackPacket → Option Reach) (packets : List TrackPacket) → HaveProfiles reach packets → lacks reach packets ≡ false
+lacks-from_profiles reach packets h = elim (cases_Bool (list_any (λ p. is_some (limit_of p)) packets)) [
+  | inr none ↦ and_left _ _ none
+  | inl some ↦
+      let r = list_any-at (λ p. is_some (limit_of p)) packets some in
+      let e = is_some-says (limit_of r.1) r.3 in
+      let p = (h r.0 r.1 e.0 r.2 e.1).one in
+      and_right (list_any (λ p. is_some (limit_of p)) packets) _ (not_from_true _ (at_list_any (λ p. is_some (reach p)) packets p.0 p.1 p.2 p.3))
+]
+
+pub long-from_profiles : (reach : TrackPacket → Option Reach) (packets : List TrackPacket) → HaveProfiles reach packets → (j : ℕ) (p : TrackPacket) → At packets j p → is_short reach packets p ≡ false
+long-from_profiles reach packets h j p at = short-from reach packets p (λ r has i a limit at_a is. (h i a limit at_a is).each j p r at has)
+
+-- ---- what a group says
+
+-- no packet of the group is a profile of the kind that is said and short
+abbrev pub NoneShort : (TrackPacket → Option Reach) → List Telegram → Run → Type 0
+NoneShort reach group run = (b : ℕ) (t : Telegram) (k : ℕ) (p : TrackPacket) → At group b t → At t.packets k p → is_short_at reach group run b t p ≡ false
+
+pub profiles-said : (reach : TrackPacket → Option Reach) (group : List Telegram) (run : Run) → lacks reach (said_by run group) ≡ false → NoneShort reach group run → HaveProfiles reach (said_by run group)
+profiles-said reach group run there long = profiles-from_list reach (said_by run group) there (λ j p at.
+    let s = said-site run group j p at in
+    spoken (is_silent run s.1.header.dup (length group) s.0) (holds run p) (is_short reach (said_by run group) p) s.5 s.6 (long s.0 s.1 s.2 p s.3 s.4))
+  where
+    spoken : (silent held short : Bool) → silent ≡ false → held ≡ true → (not silent && (held && short)) ≡ false → short ≡ false
+    spoken silent held short e f h = rw (e, f) at h
+
+pub long-said : (reach : TrackPacket → Option Reach) (group : List Telegram) (run : Run) → HaveProfiles reach (said_by run group) → NoneShort reach group run
+long-said reach group run h b t k p at at' = elim (cases_Bool (is_silent run t.header.dup (length group) b)) [
+  | inl silent ↦ and_left _ _ (not_from_true _ silent)
+  | inr speaks ↦ elim (cases_Bool (holds run p)) [
+    | inr not_held ↦ and_right (not (is_silent run t.header.dup (length group) b)) _ (and_left _ _ not_held)
+    | inl held ↦
+        let s = site-said run group b t k p at at' speaks held in
+        and_right (not (is_silent run t.header.dup (length group) b)) _ (and_right (holds run p) _ (long-from_profiles reach (said_by run group) h s.0 p s.1))
+  ]
+]
+
+-- ---- what a message says
+
+abbrev pub NoneShortIn : (TrackPacket → Option Reach) → List TrackPacket → Run → Type 0
+NoneShortIn reach packets run = (k : ℕ) (p : TrackPacket) → At packets k p → is_short_in reach packets run p ≡ false
+
+pub profiles-held : (reach : TrackPacket → Option Reach) (packets : List TrackPacket) (run : Run) → lacks reach (filter (holds run) packets) ≡ false → NoneShortIn reach packets run → HaveProfiles reach (filter (holds run) packets)
+profiles-held reach packets run there long = profiles-from_list reach (filter (holds run) packets) there (λ j p at.
+    let f = filter-at (holds run) packets j p at in
+    elim (and_cases (holds run p) (is_short reach (filter (holds run) packets) p) (long f.0 p f.1)) [
+      | inl not_held ↦ absurd (both_ways _ not_held f.2)
+      | inr long ↦ long
+    ])
+
+pub long-held : (reach : TrackPacket → Option Reach) (packets : List TrackPacket) (run : Run) → HaveProfiles reach (filter (holds run) packets) → NoneShortIn reach packets run
+long-held reach packets run h k p at = elim (cases_Bool (holds run p)) [
+  | inr not_held ↦ and_left _ _ not_held
+  | inl held ↦ let f = at-filter (holds run) packets k p at held in and_right (holds run p) _ (long-from_profiles reach (filter (holds run) packets) h f.0 p f.1)
+]

@@ -1,0 +1,41 @@
+use Rattle.std.proofs.Common.{◌≡◌, ◌++◌, sym, ap, subst, ◌∙◌}
+use Rattle.etcs_group.specs.Places.{At}
+use Rattle.etcs_check.specs.Laws.{HaveBalises}
+use Rattle.etcs_check.specs.Line.{group_list, message_list, findings}
+use Rattle.etcs_check.proofs.LineLemmas.{no_finding_means_sound_line}
+use Rattle.etcs_check.proofs.MeaningLemmas.{findings_are_facts}
+use Rattle.etcs_check.proofs.SoundLemmas.{sound_groups_are_decided}
+use Rattle.etcs_check.proofs.line.check.Goals as goal
+
+-- The list is empty exactly where the line is sound.
+pub returns-clause-sound : goal.returns-clause-sound
+returns-clause-sound c =
+    let eq : c.note_messages.new.found.items ≡ findings c.args.line.now.groups.items c.args.line.now.messages.items =
+    c.in_ok-note_messages.ensures.ok
+    ∙ ap (λ l. l ++ message_list c.deref-2.result.now) (c.in_ok-note_groups.ensures.ok ∙ ap (λ l. l ++ group_list c.deref.result.now) c.new-found.ensures.items)
+    ∙ ap (λ l. group_list c.deref.result.now ++ message_list l) c.deref-2.ensures.value
+    ∙ ap (λ l. group_list l ++ message_list c.args.line.now.messages.items) c.deref.ensures.value in
+    let law = no_finding_means_sound_line c.args.line.now.groups.items c.args.line.now.messages.items (subst HaveBalises c.deref.ensures.value c.in_ok-note_groups.ensures.balises) in
+    (λ none. law.0 (sym eq ∙ none), λ sound. eq ∙ law.1 sound)
+
+-- Each finding of the list is a fact.
+pub returns-clause-facts : goal.returns-clause-facts
+returns-clause-facts c = λ i f at.
+    let eq : c.note_messages.new.found.items ≡ findings c.args.line.now.groups.items c.args.line.now.messages.items =
+    c.in_ok-note_messages.ensures.ok
+    ∙ ap (λ l. l ++ message_list c.deref-2.result.now) (c.in_ok-note_groups.ensures.ok ∙ ap (λ l. l ++ group_list c.deref.result.now) c.new-found.ensures.items)
+    ∙ ap (λ l. group_list c.deref.result.now ++ message_list l) c.deref-2.ensures.value
+    ∙ ap (λ l. group_list l ++ message_list c.args.line.now.messages.items) c.deref.ensures.value in
+    findings_are_facts c.args.line.now.groups.items c.args.line.now.messages.items i f (subst (λ l. At l i f) eq at)
+
+-- Each group of a sound line is sound.
+pub returns-clause-decided : goal.returns-clause-decided
+returns-clause-decided c = λ none g group run missed at set.
+    let eq : c.note_messages.new.found.items ≡ findings c.args.line.now.groups.items c.args.line.now.messages.items =
+    c.in_ok-note_messages.ensures.ok
+    ∙ ap (λ l. l ++ message_list c.deref-2.result.now) (c.in_ok-note_groups.ensures.ok ∙ ap (λ l. l ++ group_list c.deref.result.now) c.new-found.ensures.items)
+    ∙ ap (λ l. group_list c.deref.result.now ++ message_list l) c.deref-2.ensures.value
+    ∙ ap (λ l. group_list l ++ message_list c.args.line.now.messages.items) c.deref.ensures.value in
+    let some = subst HaveBalises c.deref.ensures.value c.in_ok-note_groups.ensures.balises in
+    let law = no_finding_means_sound_line c.args.line.now.groups.items c.args.line.now.messages.items some in
+    sound_groups_are_decided group run missed ((law.0 (sym eq ∙ none)).sound g group at) (some g group at) set

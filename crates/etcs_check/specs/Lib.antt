@@ -1,0 +1,9 @@
+pub mod Profiles
+pub mod Soundness
+pub mod Duplicates
+pub mod Findings
+pub mod Line
+pub mod Identities
+pub mod Greatest
+pub mod Meaning
+pub mod Laws

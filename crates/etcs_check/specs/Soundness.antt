@@ -1,0 +1,50 @@
+-- Sound groups, messages and lines, by what trains may read of them (this project's rule, after
+-- SUBSET-026, 3.16.2). No finding is mentioned here. A train may run over a group in either direction,
+-- and may miss balises whose duplicates it reads.
+use Rattle.std.specs.Prelude.{◌≡◌, ◌≢◌, ℕ, ◌<◌, Bool, List, [], ◌∷◌, Option, Some, None, filter, ⊤}
+use Rattle.std.specs.List.{AllPass}
+use Rattle.etcs_bits.specs.declared.variables.identity.Identity.{Identity}
+use Rattle.etcs_packet.specs.Track.{holds}
+use Rattle.etcs_packet.specs.declared.run.Run.{Run}
+use Rattle.etcs_telegram.specs.Record.{Telegram}
+use Rattle.etcs_group.specs.Places.{At}
+use Rattle.etcs_group.specs.Group.{IsWellFormed, is_modelled}
+use Rattle.etcs_group.specs.Missed.{IsSetOf, IsCovered, none_missed}
+use Rattle.etcs_group.specs.Reading.{reading_of}
+use Rattle.etcs_group.specs.Assembly.{IsAccepted}
+use Rattle.etcs_group.specs.Packets.{packets_of}
+use Rattle.etcs_radio.specs.declared.message.Message.{Message}
+use Rattle.etcs_radio.specs.declared.message.Message.TheVariants as messages
+use Rattle.etcs_check.specs.Profiles.{AreReached}
+
+-- A reading is sound: it makes a message, which is that of the reading with nothing missed, and whose
+-- packets are reached.
+pub record IsSoundReading (group : List Telegram) (run : Run) (missed : ℕ → Bool) : Type 0 where
+  pub accepted : IsAccepted run (reading_of run missed group)
+  pub same : packets_of run (reading_of run missed group) ≡ packets_of run (reading_of run none_missed group)
+  pub reached : AreReached (packets_of run (reading_of run missed group))
+
+-- A sound group is well formed, and in each running direction each covered reading of it is sound.
+pub record IsSoundGroup (group : List Telegram) : Type 0 where
+  pub formed : IsWellFormed group
+  pub readings : (run : Run) (missed : ℕ → Bool) → IsSetOf group missed → IsCovered group missed
+      → IsSoundReading group run missed
+
+-- the identity of a group: that of its balise 0
+abbrev pub identity_of : List Telegram → Option Identity
+identity_of [] = None
+identity_of (t ∷ _) = Some t.header.identity
+
+-- A sound message 3 has modelled packets alone, and those that hold in a running direction are
+-- reached. A message 136 is always sound.
+abbrev pub IsSoundMessage : Message → Type 0
+IsSoundMessage (messages.Movement m) =
+    AllPass is_modelled m.packets × ((run : Run) → AreReached (filter (holds run) m.packets))
+IsSoundMessage (messages.Position m) = ⊤
+
+-- In a sound line the groups and the messages are sound, and no two groups have one identity.
+pub record IsSoundLine (groups : List (List Telegram)) (messages : List Message) : Type 0 where
+  pub sound : (i : ℕ) (group : List Telegram) → At groups i group → IsSoundGroup group
+  pub distinct : (i j : ℕ) (g h : List Telegram) → i < j → At groups i g → At groups j h
+      → identity_of g ≢ identity_of h
+  pub messages_sound : (i : ℕ) (m : Message) → At messages i m → IsSoundMessage m

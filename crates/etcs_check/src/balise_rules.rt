@@ -1,0 +1,248 @@
+//! The rules about balises by themselves, about pairs of duplicates, and about packets that are not
+//! modelled.
+
+ghost use Rattle.std.specs.Prelude.{◌≡◌, ◌≢◌, ◌<◌, ◌≤◌, ◌+◌, ◌++◌, [], ℕ, length, slice_get, Some, OnOk, OnErr};
+ghost use Rattle.etcs_telegram.specs.Record.{Telegram};
+ghost use Rattle.etcs_group.specs.Group.{partner_of};
+ghost use Rattle.etcs_check.specs.Findings.{are_pair, balise_fact, balise_facts, counter_differs, first_counter, is_other, is_outside, is_unanswered, is_unlike, is_unmodelled, pair_differs, pair_facts, unmodelled_facts, unmodelled_in};
+
+use crate::duplicates::same_held;
+use crate::finding::{Finding, Rule, Site, note};
+use etcs_bits::{Dup, Memory};
+use etcs_packet::{Run, TrackPacket};
+use etcs_telegram::Telegram;
+
+// The place that the mark of the balise at this place names, if it lies in the group.
+fn partner(group: &[Telegram], place: usize) -> Option<usize>
+    requires { length group.now ≤ 8 }
+    ensures { result ≡ partner_of group.now place }
+{
+    if place >= group.len() {
+        return None;
+    }
+    let telegram = &group[place];
+    match telegram.header.dup {
+        Dup::Next if place + 1 < group.len() => Some(place + 1),
+        Dup::Previous if place > 0 => Some(place - 1),
+        _ => None,
+    }
+}
+
+// Whether a number is not this one, or is not there.
+fn is_other(number: Option<usize>, wanted: usize) -> bool
+    ensures { result ≡ is_other number wanted }
+{
+    match number {
+        Some(number) => number != wanted,
+        None => true,
+    }
+}
+
+// Whether the partner of the balise at this place has another partner, or none.
+fn is_unanswered(group: &[Telegram], place: usize) -> bool
+    requires { length group.now ≤ 8 }
+    ensures { result ≡ is_unanswered group.now (partner_of group.now place) place }
+{
+    match partner(group, place) {
+        Some(named) => is_other(partner(group, named), place),
+        None => false,
+    }
+}
+
+// Whether a telegram has another version, identity or link flag than balise 0.
+fn is_unlike(first: &Telegram, telegram: &Telegram) -> bool
+    ensures { result ≡ is_unlike (Some first.now) telegram.now }
+{
+    let (this, that) = (&telegram.header, &first.header);
+    !(this.version == that.version && this.identity == that.identity && this.linked == that.linked)
+}
+
+// Whether a mark names a balise outside the group of this many balises.
+fn is_outside(count: usize, mark: Dup, place: usize) -> bool
+    requires few { count ≤ 8 }
+    requires within { place < count }
+    ensures { result ≡ is_outside count mark place }
+{
+    match mark {
+        Dup::Single => false,
+        Dup::Next => place + 1 == count,
+        Dup::Previous => place == 0,
+    }
+}
+
+// The first counter below 254.
+fn first_counter(group: &[Telegram]) -> Option<u32>
+    ensures { result ≡ first_counter group.now }
+{
+    'telegrams: for telegram in group {
+        let counter = telegram.header.counter.number();
+        if counter < 254 {
+            return Some(counter);
+        }
+    }
+    None
+}
+
+// Whether a counter is below 254, and not the first one below 254.
+fn counter_differs(group: &[Telegram], telegram: &Telegram) -> bool
+    ensures { result ≡ counter_differs group.now telegram.now }
+{
+    let counter = telegram.header.counter.number();
+    if counter >= 254 {
+        return false;
+    }
+    match first_counter(group) {
+        Some(first) => first != counter,
+        None => true,
+    }
+}
+
+// Whether the rule is broken by the balise at this place. It is compared with `first`, balise 0.
+fn balise_fact(first: &Telegram, group: &[Telegram], rule: Rule, place: usize) -> bool
+    requires within { place < length group.now }
+    requires few { length group.now ≤ 8 }
+    ensures { (t : Telegram) → slice_get group.now place ≡ Some t
+        → result ≡ balise_fact (Some first.now) group.now rule place t }
+{
+    let telegram = &group[place];
+    let header = &telegram.header;
+    match rule {
+        Rule::PositionWrong => header.position.number() as usize != place,
+        Rule::TotalWrong => header.total.number() as usize + 1 != group.len(),
+        Rule::HeaderDiffers => is_unlike(first, telegram),
+        Rule::MarkOutside => is_outside(group.len(), header.dup, place),
+        Rule::MarkUnanswered => is_unanswered(group, place),
+        Rule::CounterUnfit => header.counter.number() == 254,
+        Rule::CountersDiffer => counter_differs(group, telegram),
+        _ => false,
+    }
+}
+
+// Appends a finding for each balise that breaks the rule.
+pub(crate) fn note_balises(
+    found: &mut Vec<Finding>,
+    rule: Rule,
+    site: Site,
+    first: &Telegram,
+    group: &[Telegram],
+) -> Result<(), Memory>
+    requires few { length group.now ≤ 8 }
+    ensures ok { OnOk result (found.new.items ≡ found.old.items
+        ++ balise_facts rule site (balise_fact (Some first.now) group.now rule) group.now) }
+    ensures memory { OnErr result (balise_facts rule site (balise_fact (Some first.now) group.now rule) group.now ≢ []) }
+{
+    'places: for place in 0..group.len() {
+        let fact = balise_fact(first, group, rule, place);
+        note(found, fact, rule, site, None, Some(place), None)?;
+    }
+    Ok(())
+}
+
+// Whether a mark names the next balise, and another one the previous balise.
+fn are_pair(first: Dup, second: Dup) -> bool
+    ensures { result ≡ are_pair first second }
+{
+    match (first, second) {
+        (Dup::Next, Dup::Previous) => true,
+        _ => false,
+    }
+}
+
+// Whether two neighbours are a pair of duplicates whose packets that hold differ.
+fn pair_differs(first: &Telegram, second: &Telegram, run: Run) -> bool
+    ensures { result ≡ pair_differs run first.now (Some second.now) }
+{
+    are_pair(first.header.dup, second.header.dup) && !same_held(first, second, run)
+}
+
+// The same of the balise at this place and the one after it.
+fn pair_differs_at(group: &[Telegram], run: Run, place: usize) -> bool
+    requires { place < length group.now }
+    ensures { (t : Telegram) → slice_get group.now place ≡ Some t
+        → result ≡ pair_differs run t (slice_get group.now (place + 1)) }
+{
+    match group.get(place + 1) {
+        Some(second) => pair_differs(&group[place], second, run),
+        None => false,
+    }
+}
+
+// Appends a finding for each pair of duplicates whose packets differ in the running direction.
+pub(crate) fn note_pairs(
+    found: &mut Vec<Finding>,
+    site: Site,
+    group: &[Telegram],
+    run: Run,
+) -> Result<(), Memory>
+    ensures ok { OnOk result (found.new.items ≡ found.old.items ++ pair_facts site group.now run) }
+    ensures memory { OnErr result (pair_facts site group.now run ≢ []) }
+{
+    'places: for place in 0..group.len() {
+        let fact = pair_differs_at(group, run, place);
+        note(
+            found,
+            fact,
+            Rule::DuplicatesDiffer,
+            site,
+            Some(run),
+            Some(place),
+            None,
+        )?;
+    }
+    Ok(())
+}
+
+// The packets of a telegram.
+pub(crate) fn packets(telegram: &Telegram) -> &[TrackPacket]
+    ensures { result.now ≡ telegram.now.packets }
+{
+    &telegram.packets
+}
+
+// Whether the meaning of the packet is not modelled.
+fn is_unmodelled(packet: &TrackPacket) -> bool
+    ensures { result ≡ is_unmodelled packet.now }
+{
+    let number = packet.number();
+    number == 0 || number == 136 || number == 254
+}
+
+// Appends a finding for each packet of a balise, or of a message, that is not modelled.
+pub(crate) fn note_unmodelled(
+    found: &mut Vec<Finding>,
+    site: Site,
+    balise: Option<usize>,
+    packets: &[TrackPacket],
+) -> Result<(), Memory>
+    ensures ok { OnOk result (found.new.items ≡ found.old.items ++ unmodelled_in site balise packets.now) }
+    ensures memory { OnErr result (unmodelled_in site balise packets.now ≢ []) }
+{
+    'places: for place in 0..packets.len() {
+        let fact = is_unmodelled(&packets[place]);
+        note(
+            found,
+            fact,
+            Rule::NotModelled,
+            site,
+            None,
+            balise,
+            Some(place),
+        )?;
+    }
+    Ok(())
+}
+
+// Appends a finding for each packet of a group that is not modelled.
+pub(crate) fn note_group_unmodelled(
+    found: &mut Vec<Finding>,
+    site: Site,
+    group: &[Telegram],
+) -> Result<(), Memory>
+    ensures ok { OnOk result (found.new.items ≡ found.old.items ++ unmodelled_facts site group.now) }
+    ensures memory { OnErr result (unmodelled_facts site group.now ≢ []) }
+{
+    'places: for place in 0..group.len() {
+        note_unmodelled(found, site, Some(place), packets(&group[place]))?;
+    }
+    Ok(())
+}

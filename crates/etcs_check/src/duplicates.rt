@@ -1,0 +1,69 @@
+//! Whether the packets of two balises are the same.
+
+ghost use Rattle.std.specs.Prelude.{◌≡◌, ◌↔◌, ◌≤◌, ◌<◌, ℕ, length, drop, filter, slice_get, Some, IsTrue};
+ghost use Rattle.std.specs.Cmp.Lexicographic.{pointwise};
+ghost use Rattle.etcs_packet.specs.Track.{holds};
+ghost use Rattle.etcs_packet.specs.declared.track.TrackPacket.{TrackPacket};
+ghost use Rattle.etcs_group.specs.Packets.{held_by};
+ghost use Rattle.etcs_check.specs.Duplicates.{same_held, same_packet};
+
+use etcs_bits::Same;
+use etcs_packet::{Run, TrackPacket};
+use etcs_telegram::Telegram;
+
+// The first place from `from` on at which a packet holds, or the length.
+fn next_held(packets: &[TrackPacket], run: Run, from: usize) -> usize
+    requires { from ≤ length packets.now }
+    ensures behind { from ≤ result }
+    ensures within { result ≤ length packets.now }
+    ensures same { filter (holds run) (drop from packets.now) ≡ filter (holds run) (drop result packets.now) }
+    ensures holds { (p : TrackPacket) → slice_get packets.now result ≡ Some p → IsTrue (holds run p) }
+{
+    'places: for place in from..packets.len() {
+        if packets[place].holds_in(run) {
+            return place;
+        }
+    }
+    packets.len()
+}
+
+// Whether a packet of one list and a packet of another one are the same.
+fn same_at(these: &[TrackPacket], i: usize, those: &[TrackPacket], j: usize) -> bool
+    requires first { i < length these.now }
+    requires second { j < length those.now }
+    ensures { (p q : TrackPacket) → slice_get these.now i ≡ Some p → slice_get those.now j ≡ Some q
+        → result ≡ same_packet p q }
+{
+    these[i].same(&those[j])
+}
+
+// Whether the packets that hold in the running direction are the same in two lists.
+fn same_lists(these: &[TrackPacket], those: &[TrackPacket], run: Run) -> bool
+    ensures { result ≡ pointwise same_packet (filter (holds run) these.now) (filter (holds run) those.now) }
+{
+    let mut i = next_held(these, run, 0);
+    let mut j = next_held(those, run, 0);
+    'packets: while i < these.len() && j < those.len() {
+        if !same_at(these, i, those, j) {
+            return false;
+        }
+        i = next_held(these, run, i + 1);
+        j = next_held(those, run, j + 1);
+    }
+    i == these.len() && j == those.len()
+}
+
+// Whether two telegrams have the same packets that hold in the running direction.
+pub(crate) fn same_held(this: &Telegram, that: &Telegram, run: Run) -> bool
+    ensures { result ≡ same_held run this.now that.now }
+{
+    same_lists(&this.packets, &that.packets, run)
+}
+
+/// Whether two telegrams have equal lists of packets that hold in the running direction, in the same
+/// order. So the two balises of a pair of duplicates have to (SUBSET-026, 3.16.2). Takes no memory.
+pub fn same_packets(this: &Telegram, that: &Telegram, run: Run) -> bool
+    ensures { IsTrue result ↔ (held_by run this.now ≡ held_by run that.now) }
+{
+    same_held(this, that, run)
+}

@@ -1,0 +1,96 @@
+//! Findings: facts against a line, each of one rule at one place.
+
+ghost use Rattle.std.specs.Prelude.{◌≡◌, ◌≢◌, ◌++◌, [], OnOk, OnErr};
+ghost use Rattle.etcs_check.specs.Findings.{finding_of, noted};
+
+use etcs_bits::Memory;
+use etcs_packet::Run;
+
+/// The rules, in the order in which findings are listed (this project's rules, after SUBSET-026,
+/// 3.16.2). The first eight and the last are about balise groups, the others about groups and
+/// messages 3.
+#[derive(Clone, Copy, Debug, PartialEq, Eq)]
+pub enum Rule {
+    /// F1: the position of a balise, N_PIG, is not its place in the group.
+    PositionWrong,
+    /// F2: the total of a balise, N_TOTAL, and one is not the number of balises of the group.
+    TotalWrong,
+    /// F3: the version, the identity or the link flag of a balise differs from that of balise 0.
+    HeaderDiffers,
+    /// F4: the mark of a balise, M_DUP, names a balise outside the group.
+    MarkOutside,
+    /// F5: the mark of a balise names a balise of the group whose own mark does not name it.
+    MarkUnanswered,
+    /// F6: the message counter of a balise, M_MCOUNT, is 254, which fits no message.
+    CounterUnfit,
+    /// F7: the counter of a balise is below 254, and differs from the first below 254 in the group.
+    CountersDiffer,
+    /// F8: two balises that declare each other duplicates have different packets that hold in a
+    /// running direction.
+    DuplicatesDiffer,
+    /// F9: a packet is 0, 136 or 254, whose meaning is not modelled.
+    NotModelled,
+    /// F10: in a running direction a movement authority is said, and no gradient profile.
+    NoGradient,
+    /// F11: a gradient profile that is said ends before the supervised location of an authority
+    /// that is said.
+    GradientShort,
+    /// F12: in a running direction a movement authority is said, and no speed profile.
+    NoSpeed,
+    /// F13: a speed profile that is said ends before the supervised location of an authority that
+    /// is said.
+    SpeedShort,
+    /// F14: an earlier group has the identity of the group.
+    IdentityUsed,
+}
+
+/// Where a finding stands. Groups and messages are counted from 0, each by themselves.
+#[derive(Clone, Copy, Debug, PartialEq, Eq)]
+pub enum Site {
+    /// The balise group at this place.
+    Group(usize),
+    /// The radio message at this place.
+    Message(usize),
+}
+
+/// A fact against a line.
+#[derive(Clone, Copy, Debug, PartialEq, Eq)]
+pub struct Finding {
+    /// The rule that the fact breaks.
+    pub rule: Rule,
+    /// The group or message.
+    pub site: Site,
+    /// The running direction, for the rules F8 and F10 to F13.
+    pub dir: Option<Run>,
+    /// The balise, counted from 0 by its place in the group, for all rules about one balise.
+    pub balise: Option<usize>,
+    /// The packet, counted from 0 in its balise or message, for the rules F9, F11 and F13.
+    pub packet: Option<usize>,
+}
+
+// Appends the finding of these parts where its fact stands. Memory is asked for only there. All
+// findings are made here.
+pub(crate) fn note(
+    found: &mut Vec<Finding>,
+    fact: bool,
+    rule: Rule,
+    site: Site,
+    dir: Option<Run>,
+    balise: Option<usize>,
+    packet: Option<usize>,
+) -> Result<(), Memory>
+    ensures ok { OnOk result (found.new.items ≡ found.old.items ++ noted fact (finding_of rule site dir balise packet)) }
+    ensures memory { OnErr result (noted fact (finding_of rule site dir balise packet) ≢ []) }
+{
+    if fact {
+        let finding = Finding {
+            rule,
+            site,
+            dir,
+            balise,
+            packet,
+        };
+        found.push(finding)?;
+    }
+    Ok(())
+}

@@ -1,0 +1,78 @@
+//! Identities that were used before, found by a table of bits and without memory from the heap.
+
+ghost use Rattle.std.specs.Prelude.{◌≡◌, ℕ, ◌+◌, ◌*◌, ◌^◌, ◌<◌, ◌≤◌, ◌||◌, ◌==◌, length, IsTrue, IsFalse};
+ghost use Rattle.etcs_check.specs.Identities.{AreNumbered, HasNoRepeat, HasRepeat, IsNumbered, identity_number, is_marked, number_of};
+
+use etcs_group::Group;
+use etcs_telegram::Telegram;
+
+// How many identities are looked at in one pass over the groups, 64 to a word of the table.
+const PART: u32 = 2_097_152;
+
+// The number of the identity in a telegram.
+fn number_of(telegram: &Telegram) -> u32
+    ensures value { result ≡ number_of telegram.now.header.identity }
+    ensures country { telegram.now.header.identity.country < 1024 }
+    ensures group { telegram.now.header.identity.group < 16384 }
+    ensures small { result < 16777216 }
+{
+    let country = telegram.header.identity.country.number();
+    let group = telegram.header.identity.group.number();
+    country * 16_384 + group
+}
+
+// The number of a group's identity.
+pub(crate) fn identity_number(group: &[Telegram]) -> u32
+    requires { 0 < length group.now }
+    ensures value { result ≡ identity_number group.now }
+    ensures small { result < 16777216 }
+    ensures numbered { IsNumbered group.now }
+{
+    number_of(&group[0])
+}
+
+// Marks the place, and tells whether it was marked before.
+pub(crate) fn mark(table: &mut [u64], place: usize) -> bool
+    requires { place < 64 * length table.old }
+    ensures before { result ≡ is_marked table.old place }
+    ensures after { (p : ℕ) → is_marked table.new p ≡ (p == place || is_marked table.old p) }
+{
+    let word = place / 64;
+    let bit = place % 64;
+    let marked = (table[word] >> bit) & 1 == 1;
+    table[word] |= 1 << bit;
+    marked
+}
+
+// Whether a group whose identity is one of those from `base` on has that of an earlier one.
+fn repeats_in(groups: &[Group], base: u32) -> bool
+    requires { base + PART < 2 ^ 32 }
+    ensures found { IsTrue result → HasRepeat groups.now }
+    ensures none { IsFalse result → HasNoRepeat base PART groups.now }
+    ensures numbered { IsFalse result → AreNumbered groups.now }
+{
+    let mut table = [0u64; 32_768];
+    'groups: for i in 0..groups.len() {
+        let identity = identity_number(groups[i].telegrams());
+        if base <= identity && identity < base + PART {
+            if mark(&mut table, (identity - base) as usize) {
+                return true;
+            }
+        }
+    }
+    false
+}
+
+// Whether a group has the identity of an earlier one. Takes no memory from the heap.
+pub(crate) fn has_repeat(groups: &[Group]) -> bool
+    ensures found { IsTrue result → HasRepeat groups.now }
+    ensures none { IsFalse result → HasNoRepeat 0 16777216 groups.now }
+    ensures numbered { IsFalse result → AreNumbered groups.now }
+{
+    'parts: for part in 0..8 {
+        if repeats_in(groups, part * PART) {
+            return true;
+        }
+    }
+    false
+}

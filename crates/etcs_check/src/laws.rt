@@ -1,0 +1,35 @@
+//! Laws of findings and soundness, for users. Each law is the contract of a function that does
+//! nothing.
+
+ghost use Rattle.etcs_check.specs.Laws.{FindingsAreFacts, NoFindingMeansSoundGroup, NoFindingMeansSoundLine, PacketsAreTheirNumbers, SoundGroupsAreDecided};
+
+/// Two packets are equal exactly if the numbers in the rows of their tables are.
+pub fn packets_are_their_numbers()
+    ensures { PacketsAreTheirNumbers }
+{}
+
+/// A group has no finding exactly if it is sound and no earlier group has its identity.
+pub fn no_finding_means_sound_group()
+    ensures { NoFindingMeansSoundGroup }
+{}
+
+/// A line whose groups have balises has no finding exactly if it is sound: over every group, running
+/// direction and set of missed balises whose duplicates are read, and over every message.
+pub fn no_finding_means_sound_line()
+    ensures { NoFindingMeansSoundLine }
+{}
+
+/// Each finding of a line states a fact at its site, running direction, balise and packet. A counter
+/// that does not fit means that the reading with nothing missed is refused. Duplicates that differ
+/// mean that what a train makes of the group depends on which of the two it misses. A missing or
+/// short profile means that what the group says does not reach a supervised location.
+pub fn findings_are_facts()
+    ensures { FindingsAreFacts }
+{}
+
+/// Of a sound group a reading is accepted exactly if what is missed is covered. Else it is refused: as
+/// Nothing if all balises are missed, and if not, as Absent at the least missed place whose partner is
+/// none or missed.
+pub fn sound_groups_are_decided()
+    ensures { SoundGroupsAreDecided }
+{}

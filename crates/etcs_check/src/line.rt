@@ -1,0 +1,121 @@
+//! A railway line, and all facts against it.
+
+ghost use Rattle.std.specs.Prelude.{◌≡◌, ◌≢◌, ◌↔◌, ◌<◌, ◌++◌, ◌||◌, ◌==◌, [], ℕ, Bool, true, false, List, length, replicate, IfOk, OnOk, OnErr};
+ghost use Rattle.etcs_packet.specs.declared.run.Run.{Run};
+ghost use Rattle.etcs_telegram.specs.Record.{Telegram};
+ghost use Rattle.etcs_group.specs.Places.{At};
+ghost use Rattle.etcs_group.specs.Missed.{IsSetOf};
+ghost use Rattle.etcs_group.specs.Reading.{reading_of};
+ghost use Rattle.etcs_group.specs.Laws.{IsDecided};
+ghost use Rattle.etcs_check.specs.Identities.{IsNumbered, identity_number, is_marked};
+ghost use Rattle.etcs_check.specs.Laws.{HaveBalises};
+ghost use Rattle.etcs_check.specs.Line.{findings, group_list, message_list};
+ghost use Rattle.etcs_check.specs.Meaning.{Hurts, States};
+ghost use Rattle.etcs_check.specs.Soundness.{IsSoundLine};
+ghost use Rattle.etcs_check.specs.declared.finding.Finding.{Finding};
+
+use crate::checking::{note_group, note_message};
+use crate::finding::{Finding, Site};
+use crate::identities::{has_repeat, identity_number, mark};
+use etcs_bits::Memory;
+use etcs_group::Group;
+use etcs_radio::Message;
+use etcs_telegram::Telegram;
+use std::alloc::Global;
+
+/// The data of a railway line: its balise groups and its radio messages.
+#[derive(Debug, Drop)]
+pub struct Line {
+    /// The balise groups.
+    pub groups: Vec<Group>,
+    /// The radio messages.
+    pub messages: Vec<Message>,
+}
+
+// How many words a table of all identities has.
+const WORDS: usize = 262_144;
+
+// A table of all identities, none of which is marked; an empty one where none is used twice.
+fn table_of(alloc: Global, repeated: bool) -> Result<Vec<u64>, Memory>
+    ensures all { IfOk result (λ table. repeated ≡ true → table.items ≡ replicate 262144 0) }
+    ensures memory { OnErr result (repeated ≡ true) }
+{
+    if repeated {
+        Ok(vec![in alloc; 0u64; WORDS]?)
+    } else {
+        Ok(Vec::new(alloc))
+    }
+}
+
+// Whether the identity of the group is marked in the table; then marks it. Where none is used twice,
+// there is no table.
+fn was_used(table: &mut Vec<u64>, repeated: bool, group: &[Telegram]) -> bool
+    requires some { 0 < length group.now }
+    requires long { repeated ≡ true → length table.old.items ≡ 262144 }
+    ensures before { repeated ≡ true → result ≡ is_marked table.old.items (identity_number group.now) }
+    ensures none { repeated ≡ false → result ≡ false }
+    ensures after { repeated ≡ true → (p : ℕ) → is_marked table.new.items p
+        ≡ (p == identity_number group.now || is_marked table.old.items p) }
+    ensures long { repeated ≡ true → length table.new.items ≡ 262144 }
+    ensures numbered { IsNumbered group.now }
+{
+    let identity = identity_number(group);
+    repeated && mark(table, identity as usize)
+}
+
+// Appends the findings about the groups. Each of them has a balise.
+fn note_groups(alloc: Global, found: &mut Vec<Finding>, groups: &[Group]) -> Result<(), Memory>
+    ensures ok { OnOk result (found.new.items ≡ found.old.items ++ group_list groups.now) }
+    ensures memory { OnErr result (group_list groups.now ≢ []) }
+    ensures balises { OnOk result (HaveBalises groups.now) }
+{
+    let repeated = has_repeat(groups);
+    let mut table = table_of(alloc, repeated)?;
+    'places: for place in 0..groups.len() {
+        let group = groups[place].telegrams();
+        let used = was_used(&mut table, repeated, group);
+        note_group(found, Site::Group(place), used, group)?;
+    }
+    Ok(())
+}
+
+// Appends the findings about the messages.
+fn note_messages(found: &mut Vec<Finding>, messages: &[Message]) -> Result<(), Memory>
+    ensures ok { OnOk result (found.new.items ≡ found.old.items ++ message_list messages.now) }
+    ensures memory { OnErr result (message_list messages.now ≢ []) }
+{
+    'places: for place in 0..messages.len() {
+        note_message(found, Site::Message(place), &messages[place])?;
+    }
+    Ok(())
+}
+
+/// All facts against a line: by group, then by message; within each by rule, then by running
+/// direction, nominal first, then by balise and packet. No finding hides another. An empty list says
+/// that the line is sound: over every group, running direction and set of missed balises whose
+/// duplicates are read, a train makes the same message, in which every movement authority has gradient
+/// and speed profiles up to its supervised location (this project's rules, after SUBSET-026, 3.16.2).
+///
+/// Memory is asked for only if there is a finding.
+pub fn check(alloc: Global, line: &Line) -> Result<Vec<Finding>, Memory>
+    ensures ok { IfOk result (λ found. found.items ≡ findings line.now.groups.items line.now.messages.items) }
+    ensures memory { OnErr result (findings line.now.groups.items line.now.messages.items ≢ []) }
+
+    // No finding means sound.
+    ensures sound { IfOk result (λ found. (found.items ≡ [])
+        ↔ IsSoundLine line.now.groups.items line.now.messages.items) }
+
+    // Each finding states a fact, which means what it says for the readings of its group.
+    ensures facts { IfOk result (λ found. (i : ℕ) (f : Finding) → At found.items i f
+        → States line.now.groups.items line.now.messages.items f × Hurts line.now.groups.items f) }
+
+    // In a sound line each reading is accepted or refused by what was missed alone.
+    ensures decided { IfOk result (λ found. found.items ≡ [] → (g : ℕ) (group : List Telegram) (run : Run)
+        (missed : ℕ → Bool) → At line.now.groups.items g group → IsSetOf group missed
+        → IsDecided run group missed (reading_of run missed group)) }
+{
+    let mut found = Vec::new(alloc);
+    note_groups(alloc, &mut found, &line.groups)?;
+    note_messages(&mut found, &line.messages)?;
+    Ok(found)
+}
