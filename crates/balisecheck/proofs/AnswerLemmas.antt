@@ -1,11 +1,14 @@
 -- What was written for a line when a write failed.
-use Rattle.std.proofs.Common.{◌≡◌, ◌++◌, ℕ, List, [], take, drop, Option, Result, Ok, Err, sym, ap, ◌∙◌, append_assoc, refl}
+use Rattle.std.proofs.Common.{◌≡◌, ◌+◌, ◌++◌, ℕ, List, [], take, drop, Option, Result, Ok, Err, sym, ap, ◌∙◌, append_assoc, refl}
 use Rattle.std.proofs.lemmas.List.{append-nil, take-append-drop}
 use Rattle.etcs_telegram.specs.declared.error.TextError.{TextError}
-use Rattle.balisecheck.specs.Output.{Output, answered}
-use Rattle.balisecheck.specs.Ran.{WritesBytes, Turns}
+use Rattle.balisecheck.specs.Output.{Output, after_line, answered, answers}
+use Rattle.balisecheck.specs.Ran.{TakesTurn, Turns, WritesBytes}
 use Rattle.balisecheck.specs.TelegramLines.{refusal_of}
+use Rattle.balisecheck.specs.TextLines.{trimmed}
 use Rattle.balisecheck.specs.declared.error.RunError.{RunError}
+use Rattle.balisecheck.specs.declared.turn.Turn.{Turn}
+use Rattle.balisecheck.specs.declared.turn.Turn.TheVariants.{Next, Stop}
 
 -- The text to be written is a beginning of the answer. So is the part of it that was written.
 pub put_failed : {old new : Option (List ℕ)} {bytes : List ℕ} {after : Output → Output}
@@ -33,3 +36,12 @@ begins_answered n is rest = (rest.0, rw is refl)
 pub begins_refused : (n : ℕ) (why : TextError) {bytes : List ℕ} → bytes ≡ refusal_of n why
     → (rest : Output) → (more : List ℕ) × ((answered n (Err why) rest).0 ≡ bytes ++ more)
 begins_refused n why {bytes} is rest = ([], sym is ∙ sym (append-nil bytes))
+
+-- the turn of a command that carries nothing from line to line
+pub turn_taken : {old new : Option (List ℕ)} (number : ℕ) (line : List ℕ) (result : Result Turn RunError)
+    → Turns old new (after_line number (trimmed line)) result
+    → TakesTurn old new answers answers number line result
+unfolding answers
+turn_taken number line (Ok Next) turn = record { text = turn.text; appended = turn.appended; says = λ lines. turn.says (answers (number + 1) lines) }
+turn_taken number line (Ok (Stop status)) turn = record { text = turn.text; appended = turn.appended; says = λ lines. turn.says (answers (number + 1) lines) }
+turn_taken number line (Err e) turn = record { text = turn.text; appended = turn.appended; says = λ lines. turn.says (answers (number + 1) lines) }

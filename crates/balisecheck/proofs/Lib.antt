@@ -4,6 +4,4 @@ pub mod FillLemmas
 pub mod AnswerLemmas
 pub mod RunLemmas
 pub mod CommandLemmas
-pub mod FormLemmas
-pub mod BitTextLemmas
-pub mod FloatLemmas
+pub mod JsonLineLemmas

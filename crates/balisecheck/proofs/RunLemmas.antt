@@ -1,13 +1,13 @@
 -- How a run over lines goes on, and how it ends. `output` is what the run has to write for an
 -- input, and `left` is what is left to write.
-use Rattle.std.proofs.Common.{◌≡◌, ◌+◌, ◌++◌, ℕ, Bool, true, false, List, [], Option, Some, None, IfSome, Result, Ok, Err, inr, refl, sym, ap, ◌∙◌, append_assoc, take, drop, subst, arith}
+use Rattle.std.proofs.Common.{◌≡◌, ◌+◌, ◌++◌, ℕ, Bool, true, false, List, [], ◌∷◌, Option, Some, None, IfSome, Result, Ok, Err, inr, refl, sym, ap, ◌∙◌, append_assoc, take, drop, subst, arith}
 use Rattle.std.proofs.lemmas.List.{append-nil, take_all, take-append-drop}
 use Rattle.std.specs.Io.KnownBytes.{Appends, Consumes, IsAtEnd, Keeps}
 use Rattle.balisecheck.specs.LineReading.{CountsDevice, Reads}
 use Rattle.balisecheck.specs.Ran.{MayFollow}
-use Rattle.balisecheck.specs.TextLines.{lines_of, trimmed}
-use Rattle.balisecheck.specs.Output.{Output, after_line, answers, decode_output, prepend}
-use Rattle.balisecheck.specs.Ran.{CountsOneDevice, WritesBytes, Ran, IsOutputSoFar, Turns, Writes}
+use Rattle.balisecheck.specs.TextLines.{lines_of}
+use Rattle.balisecheck.specs.Output.{Output, line_by_line, prepend}
+use Rattle.balisecheck.specs.Ran.{CountsOneDevice, IsOutputSoFar, Ran, TakesTurn, Writes, WritesBytes}
 use Rattle.balisecheck.specs.declared.counted.Counted.{Counted}
 use Rattle.balisecheck.specs.declared.error.RunError.{RunError}
 use Rattle.balisecheck.specs.declared.error.RunError.TheVariants.{Memory, Device}
@@ -27,15 +27,18 @@ pub record Running (remaining_old remaining_new contents_old contents_new : Opti
   pub says : (rest : List ℕ) → MayFollow ended rest
       → output (bytes ++ rest) ≡ prepend text (left rest)
 
+-- what is written from a line onwards
+abbrev pub Answers : Type 0
+Answers = ℕ → List (List ℕ) → Output
+
 -- what is left to write after n lines
-abbrev pub left_of : ℕ → List ℕ → List ℕ → Output
-left_of n held rest = answers (n + 1) (lines_of (held ++ rest))
+abbrev pub left_of : Answers → ℕ → List ℕ → List ℕ → Output
+left_of answers n held rest = answers (n + 1) (lines_of (held ++ rest))
 
 -- nothing is read yet, and all is left
-pub Running-start : {r c : Option (List ℕ)} {ended : Bool} {held : List ℕ} → held ≡ []
-    → Running r r c c ended decode_output (left_of 0 held)
-unfolding decode_output
-Running-start {r} {c} none = record {
+pub Running-start : {r c : Option (List ℕ)} {ended : Bool} {held : List ℕ} (answers : Answers)
+    → held ≡ [] → Running r r c c ended (line_by_line answers) (left_of answers 0 held)
+Running-start {r} {c} answers none = record {
   bytes = [];
   consumed = Consumes-none r;
   text = [];
@@ -55,12 +58,10 @@ regroup output a b rest = ap output (append_assoc a b rest)
 module _ {r0 r r1 c0 c : Option (List ℕ)} {before after : Bool} {output : List ℕ → Output}
     {held line now : List ℕ} where
   -- a line was found, and its answer is not written yet
-  pub Running-line : (n : ℕ) → Running r0 r c0 c before output (left_of n held)
+  pub Running-line : (answers : Answers) (n : ℕ) → Running r0 r c0 c before output (left_of answers n held)
       → Reads r r1 before held line now after (Ok true) → (before ≡ true → after ≡ true)
-      → Running r0 r1 c0 c after output
-      (λ rest. after_line (n + 1) (trimmed line) (left_of (n + 1) now rest))
-  unfolding answers
-  Running-line n run read stays = record {
+      → Running r0 r1 c0 c after output (λ rest. answers (n + 1) (line ∷ lines_of (now ++ rest)))
+  Running-line answers n run read stays = record {
     bytes = run.bytes ++ read.bytes;
     consumed = Consumes-then r0 r r1 _ _ run.consumed read.consumed;
     text = run.text;
@@ -72,16 +73,14 @@ module _ {r0 r r1 c0 c : Option (List ℕ)} {before after : Bool} {output : List
         ∙ ap (λ ls. prepend run.text (answers (n + 1) ls)) lines;
   }
 
-  -- nothing is left
-  pub Running-end : (n : ℕ) → Running r0 r c0 c before output (left_of n held)
+  -- no line is left
+  pub Running-end : (answers : Answers) (n : ℕ) → Running r0 r c0 c before output (left_of answers n held)
       → Reads r r1 before held line now after (Ok false) → (before ≡ true → after ≡ true)
-      → (after ≡ true → IsAtEnd r1) → Ran r0 r1 c0 c output (Ok Done)
-  unfolding answers lines_of
-  Running-end n run read stays met = record {
+      → Running r0 r1 c0 c after output (λ _. answers (n + 1) [])
+  unfolding lines_of
+  Running-end answers n run read stays = record {
     bytes = run.bytes ++ read.bytes;
     consumed = Consumes-then r0 r r1 _ _ run.consumed read.consumed;
-    ended = after;
-    met = met;
     text = run.text;
     appended = run.appended;
     says = λ rest may.
@@ -89,8 +88,7 @@ module _ {r0 r r1 c0 c : Option (List ℕ)} {before after : Bool} {output : List
         let nothing : (held ++ read.bytes) ++ rest ≡ [] = rw (read.gives.1, may read.gives.0) refl in
         let nothing_left = sym (append_assoc held read.bytes rest) ∙ nothing in
         regroup output run.bytes read.bytes rest ∙ first
-        ∙ ap (λ s. prepend run.text (answers (n + 1) (lines_of s))) nothing_left
-        ∙ ap (λ s. (s, Done)) (append-nil run.text);
+        ∙ ap (λ s. prepend run.text (answers (n + 1) (lines_of s))) nothing_left;
   }
 
   -- a read failed, or the line was longer than memory
@@ -112,22 +110,24 @@ module _ {r0 r r1 c0 c : Option (List ℕ)} {before after : Bool} {output : List
   }
 
 module _ {r0 r c0 c c1 : Option (List ℕ)} {ended : Bool} {output : List ℕ → Output}
-    {after : Output → Output} (left : List ℕ → Output)
-    (run : Running r0 r c0 c ended output (λ rest. after (left rest))) where
+    (before after : Answers) (n : ℕ) {line : List ℕ} (now : List ℕ)
+    (run : Running r0 r c0 c ended output (λ rest. before (n + 1) (line ∷ lines_of (now ++ rest)))) where
   -- a line was answered
-  pub Running-answered : Turns c c1 after (Ok Next) → Running r0 r c0 c1 ended output left
+  pub Running-answered : TakesTurn c c1 before after (n + 1) line (Ok Next)
+      → Running r0 r c0 c1 ended output (left_of after (n + 1) now)
   Running-answered turn = record {
     bytes = run.bytes;
     consumed = run.consumed;
     text = run.text ++ turn.text;
     appended = Appends-then c0 c c1 _ _ run.appended turn.appended;
     says = λ rest may.
-        run.says rest may ∙ ap (prepend run.text) (turn.says (left rest))
-        ∙ ap (λ s. (s, (left rest).1)) (sym (append_assoc run.text turn.text (left rest).0));
+        let later = after ((n + 1) + 1) (lines_of (now ++ rest)) in
+        run.says rest may ∙ ap (prepend run.text) (turn.says (lines_of (now ++ rest)))
+        ∙ ap (λ s. (s, later.1)) (sym (append_assoc run.text turn.text later.0));
   }
 
   -- the run stops at a line
-  pub Running-stopped : {status : Status} → Turns c c1 after (Ok (Stop status))
+  pub Running-stopped : {status : Status} → TakesTurn c c1 before after (n + 1) line (Ok (Stop status))
       → (ended ≡ true → IsAtEnd r) → Ran r0 r c0 c1 output (Ok status)
   Running-stopped turn met = record {
     bytes = run.bytes;
@@ -136,11 +136,12 @@ module _ {r0 r c0 c c1 : Option (List ℕ)} {ended : Bool} {output : List ℕ �
     met = met;
     text = run.text ++ turn.text;
     appended = Appends-then c0 c c1 _ _ run.appended turn.appended;
-    says = λ rest may. run.says rest may ∙ ap (prepend run.text) (turn.says (left rest));
+    says = λ rest may.
+        run.says rest may ∙ ap (prepend run.text) (turn.says (lines_of (now ++ rest)));
   }
 
   -- a write failed, or memory ran out
-  pub Running-cut : {e : RunError} (x : RunError) → Turns c c1 after (Err e)
+  pub Running-cut : {e : RunError} (x : RunError) → TakesTurn c c1 before after (n + 1) line (Err e)
       → (ended ≡ true → IsAtEnd r) → Ran r0 r c0 c1 output (Err x)
   Running-cut x turn met = record {
     bytes = run.bytes;
@@ -150,12 +151,35 @@ module _ {r0 r c0 c c1 : Option (List ℕ)} {ended : Bool} {output : List ℕ �
     text = run.text ++ turn.text;
     appended = Appends-then c0 c c1 _ _ run.appended turn.appended;
     says = λ rest may.
-        let cut = turn.says (left rest) in (
+        let cut = turn.says (lines_of (now ++ rest)) in (
           cut.0,
           ap (λ o. o.0) (run.says rest may) ∙ ap (λ s. run.text ++ s) cut.1
               ∙ sym (append_assoc run.text turn.text cut.0),
         );
   }
+
+-- a text before an output, or before a beginning of it
+behind : (result : Result Status RunError) (first text : List ℕ) (output : Output)
+    → IsOutputSoFar result text output → IsOutputSoFar result (first ++ text) (prepend first output)
+behind (Ok status) first text output is = ap (prepend first) is
+behind (Err e) first text output is =
+    (is.0, ap (λ s. first ++ s) is.1 ∙ sym (append_assoc first text is.0))
+
+-- the end of the input was answered
+pub Running-ended : {r0 r c0 c c1 : Option (List ℕ)} {ended : Bool} {output : List ℕ → Output}
+    {last : Output} {result : Result Status RunError} → Running r0 r c0 c ended output (λ _. last)
+    → Writes c c1 last result → (ended ≡ true → IsAtEnd r) → Ran r0 r c0 c1 output result
+Running-ended {c0} {c} {c1} {ended} {last} {result} run end met = record {
+  bytes = run.bytes;
+  consumed = run.consumed;
+  ended = ended;
+  met = met;
+  text = run.text ++ end.text;
+  appended = Appends-then c0 c c1 _ _ run.appended end.appended;
+  says = λ rest may.
+      let P : Output → Type 0 = IsOutputSoFar result (run.text ++ end.text) in
+      subst P (sym (run.says rest may)) (behind result run.text end.text last end.says);
+}
 
 -- nothing was written since
 pub Ran-kept : {r0 r c0 c c1 : Option (List ℕ)} {output : List ℕ → Output}

@@ -1,12 +1,6 @@
 pub mod Counted
 pub mod Command
 pub mod TextLines
-pub mod Forms
-pub mod Sender
-pub mod ProfileForms
-pub mod AuthorityForms
-pub mod BitText
-pub mod PacketForms
 pub mod TelegramLines
 pub mod Output
 pub mod Ran

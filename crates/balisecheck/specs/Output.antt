@@ -34,9 +34,13 @@ unfoldable pub answers : ℕ → List (List ℕ) → Output
 answers number [] = ([], Done)
 answers number (line ∷ lines) = after_line number (trimmed line) (answers (number + 1) lines)
 
+-- what is written for an input that is answered line by line
+abbrev pub line_by_line : (ℕ → List (List ℕ) → Output) → List ℕ → Output
+line_by_line answers input = answers 1 (lines_of input)
+
 -- what `decode` writes for an input
-unfoldable pub decode_output : List ℕ → Output
-decode_output input = answers 1 (lines_of input)
+abbrev pub decode_output : List ℕ → Output
+decode_output = line_by_line answers
 
 -- the line that is written if the words are no command
 unfoldable pub usage_line : List ℕ

@@ -4,7 +4,7 @@
 -- whose bytes are not known. For a writer whose contents are not known, only the status is
 -- promised. If the whole input is known, the promise is simpler: the text written and the status
 -- are the output of that input.
-use Rattle.std.specs.Prelude.{◌≡◌, ◌≤◌, ◌++◌, ◌⊎◌, ℕ, Bool, true, List, [], take, length, Option, Result, Ok, Err, IfSome, OnOk}
+use Rattle.std.specs.Prelude.{◌≡◌, ◌≤◌, ◌+◌, ◌++◌, ◌⊎◌, ℕ, Bool, true, List, [], ◌∷◌, take, length, Option, Result, Ok, Err, IfSome, OnOk}
 use Rattle.std.specs.Io.KnownBytes.{Appends, Consumes, IsAtEnd}
 use Rattle.balisecheck.specs.Counted.{CountsNone, CountsOne, inner_of, is_flushed}
 use Rattle.balisecheck.specs.Output.{Output, prepend}
@@ -92,3 +92,20 @@ pub record Turns (old new : Option (List ℕ)) (after : Output → Output)
   pub text : List ℕ
   pub appended : Appends old new text
   pub says : IsAnswerSoFar result text after
+
+-- What is written from a line onwards: this text and then what is written from the next line
+-- onwards, this text and the end, or more than this text.
+abbrev pub IsTurnSoFar : Result Turn RunError → List ℕ → Output → Output → Type 0
+IsTurnSoFar (Ok Next) text now later = now ≡ prepend text later
+IsTurnSoFar (Ok (Stop status)) text now later = now ≡ (text, status)
+IsTurnSoFar (Err _) text now later = (more : List ℕ) × (now.0 ≡ text ++ more)
+
+-- This text was written, and it is the answer to the line, or a beginning of it, whatever lines
+-- follow. `before` and `after` are what is written from a line onwards, before the answer and
+-- after it.
+pub record TakesTurn (old new : Option (List ℕ)) (before after : ℕ → List (List ℕ) → Output)
+    (number : ℕ) (line : List ℕ) (result : Result Turn RunError) : Type 0 where
+  pub text : List ℕ
+  pub appended : Appends old new text
+  pub says : (lines : List (List ℕ))
+      → IsTurnSoFar result text (before number (line ∷ lines)) (after (number + 1) lines)

@@ -4,35 +4,24 @@
 //! status. Its contract says what is written for every input. `specs/Output.antt` defines that
 //! text, and `specs/Ran.antt` defines what is promised of it. `main` adds the arguments, standard
 //! input and standard output, which no contract can describe. Read `program.rt` first, then
-//! `decoding.rt`, `text_lines.rt` and `telegram_lines.rt`. `form.rt` and `packet_form.rt` show
-//! packets as JSON. The commands `check` and `encode` do not exist yet.
+//! `answering.rt`, `line_command.rt`, `decoding.rt`, `text_lines.rt` and `telegram_lines.rt`. The
+//! commands `check` and `encode` do not exist yet.
 #![tactic(auto)]
 
 mod advice;
-mod authority_form;
-mod bit_text;
+mod answering;
 mod command;
 mod counted;
 mod decoding;
 mod error;
-mod form;
-mod gradient_form;
-mod linking_form;
-mod number_forms;
+mod line_command;
 mod output;
-mod packet_form;
-mod profile_form;
 mod program;
-mod raw_form;
-mod sender;
-mod speed_form;
 mod status;
-mod telegram_form;
 mod telegram_lines;
 #[cfg(test)]
 mod tests;
 mod text_lines;
-mod transition_form;
 mod turn;
 
 use crate::advice::advice_for;

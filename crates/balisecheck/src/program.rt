@@ -7,9 +7,10 @@ ghost use Rattle.balisecheck.specs.LineReading.{CountsDevice};
 ghost use Rattle.balisecheck.specs.Output.{of_command, output_of, usage_line};
 ghost use Rattle.balisecheck.specs.Ran.{Answers, CountsOneDevice, EndsFlushed, Runs, Writes};
 
+use crate::answering::answer_input;
 use crate::command::{Command, read_command};
 use crate::counted::Counted;
-use crate::decoding::decode;
+use crate::decoding::Decoding;
 use crate::error::RunError;
 use crate::output::{finish, put};
 use crate::status::Status;
@@ -48,7 +49,7 @@ fn obey<R: Read, W: Write>(
     ensures counts { CountsOneDevice result reader.old reader.new writer.old writer.new }
 {
     match command {
-        Some(Command::Decode) => decode(alloc, reader, writer),
+        Some(Command::Decode) => answer_input(alloc, Decoding::new(alloc), reader, writer),
         None => refuse_words(writer),
     }
 }

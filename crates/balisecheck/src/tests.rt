@@ -2,7 +2,6 @@
 //! and what is written for them are cases of `tests/` at the top.
 
 mod devices;
-mod forms;
 
 use crate::counted::Counted;
 use crate::error::RunError;

@@ -8,6 +8,6 @@ use Rattle.balisecheck.proofs.decoding.refuse_line.Goals as goal
 pub returns-in_err-put-in-Ok-clause-turns : goal.returns-in_err-put-in-Ok-clause-turns
 returns-in_err-put-in-Ok-clause-turns g c =
     let passed_on = err_from_is_err_and c.from_residual.result c.from_residual.ensures.1 in
-    let text : c.as_bytes.result.now ≡ refusal_of c.args.number c.args.why.now = search rules in
-    let begins = begins_refused c.args.number c.args.why.now text in
+    let text : c.as_bytes.result.now ≡ refusal_of c.args.number c.args.why = search rules in
+    let begins = begins_refused c.args.number c.args.why text in
     rw passed_on.1 (put_failed passed_on.0 c.put.ensures.written begins)

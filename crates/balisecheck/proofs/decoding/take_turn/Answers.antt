@@ -1,7 +1,6 @@
 use Rattle.std.proofs.Common.{◌≡◌, ◌∙◌, ap, sym, arith, [], refl, length}
 use Rattle.std.proofs.lemmas.Grind.{common_steps}
 use Rattle.std.proofs.lemmas.List.{nil_from_length}
-use Rattle.balisecheck.specs.LineReading.{line_of}
 use Rattle.balisecheck.specs.TextLines.{trimmed}
 use Rattle.balisecheck.proofs.StreamLemmas.{Appends-none}
 use Rattle.balisecheck.proofs.decoding.take_turn.Goals as goal
@@ -9,9 +8,7 @@ use Rattle.balisecheck.proofs.decoding.take_turn.Goals as goal
 -- nothing is written for an empty line
 pub returns-then-is_empty-clause-turns : goal.returns-then-is_empty-clause-turns
 returns-then-is_empty-clause-turns g c =
-    let trim_is : c.trim-line.result.now ≡ trimmed (line_of c.args.lines.now) =
-    c.trim-line.ensures ∙ ap trimmed c.line.ensures in
     let short : length c.trim-line.result.now ≡ 0 =
     grind (arith, common_steps, c.is_empty.ensures) in
-    let empty : trimmed (line_of c.args.lines.now) ≡ [] = sym trim_is ∙ nil_from_length _ short in
+    let empty : trimmed c.args.line.now ≡ [] = sym c.trim-line.ensures ∙ nil_from_length _ short in
     record { text = []; appended = Appends-none _; says = λ rest. rw empty refl }

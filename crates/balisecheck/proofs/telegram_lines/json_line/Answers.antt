@@ -1,14 +1,14 @@
-use Rattle.std.proofs.Common.{◌≡◌, rules}
-use Rattle.serde_json.proofs.FreeTexts.{text_of_value}
-use Rattle.serde_json.specs.Written.{compact_text}
-use Rattle.balisecheck.specs.TelegramLines.{json_line_of, telegram_form}
-use Rattle.balisecheck.proofs.FloatLemmas.{telegram_whole}
+use Rattle.std.proofs.Common.{◌∙◌, ◌++◌, ap}
+use Rattle.std.specs.Prelude.{codes}
+use Rattle.etcs_form.specs.Shape.{object}
+use Rattle.etcs_form.specs.Telegrams.{telegram}
+use Rattle.balisecheck.specs.TelegramLines.{json_line_of}
+use Rattle.balisecheck.proofs.JsonLineLemmas.{text_of_sent}
 use Rattle.balisecheck.proofs.telegram_lines.json_line.Goals as goal
 
--- a telegram's form has no float, so its text is known
+-- the telegram's form stands alone in the room, and then the end of the line
 pub returns : goal.returns
 unfolding json_line_of
 returns c =
-    let sent = c.in-Ok.ensures.events in
-    let text : c.in-Ok.line.items ≡ compact_text (telegram_form c.args.telegram.now) = text_of_value (telegram_form c.args.telegram.now) sent.0 c.in-Ok.line.items sent.1 sent.2 (telegram_whole c.args.telegram.now) in
-    search rules
+    let text = text_of_sent ((object telegram).to c.args.telegram.now) c.args.room.items c.new-out.result c.send.new.out c.into_inner-line.result.items c.requires c.new-out.ensures.before c.new-out.ensures.tokens c.in_ok-send.ensures c.into_inner-line.ensures.items in
+    c.in_ok-push.ensures.items ∙ ap (λ s. s ++ codes "\n") text

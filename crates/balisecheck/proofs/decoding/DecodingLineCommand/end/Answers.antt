@@ -1,0 +1,9 @@
+use Rattle.std.proofs.Common.{[], refl}
+use Rattle.balisecheck.specs.Output.{answers}
+use Rattle.balisecheck.proofs.StreamLemmas.{Appends-none}
+use Rattle.balisecheck.proofs.decoding.DecodingLineCommand.end.Goals as goal
+
+-- nothing is written at the end
+pub returns-clause-writes : goal.returns-clause-writes
+unfolding answers
+returns-clause-writes g c number = record { text = []; appended = Appends-none _; says = refl }

@@ -1,0 +1,40 @@
+//! `LineCommand`: what a command does with an input, line by line.
+
+ghost use Rattle.std.specs.Prelude.{ℕ, List, []};
+ghost use Rattle.balisecheck.specs.Counted.{CanCount, inner_of};
+ghost use Rattle.balisecheck.specs.LineReading.{CountsDevice};
+ghost use Rattle.balisecheck.specs.Output.{Output};
+ghost use Rattle.balisecheck.specs.Ran.{TakesTurn, Writes};
+
+use crate::counted::Counted;
+use crate::error::RunError;
+use crate::status::Status;
+use crate::turn::Turn;
+use std::alloc::Global;
+use std::io::Write;
+
+/// A command that answers its input line by line. It may carry something from one line to the next.
+pub trait LineCommand: Drop {
+    /// What is written from a line with this number onwards, for the lines that are left.
+    ghost answers: { Self → ℕ → List (List ℕ) → Output };
+
+    /// Writes the answer to the line with this number.
+    fn answer<W: Write>(
+        &mut self,
+        alloc: Global,
+        number: u64,
+        line: &[u8],
+        writer: &mut Counted<W>,
+    ) -> Result<Turn, RunError>
+        requires { CanCount writer.old }
+        ensures turns { TakesTurn (W.contents (inner_of writer.old)) (W.contents (inner_of writer.new))
+            (answers self.old) (answers self.new) number line.now result }
+        ensures counts { CountsDevice result writer.old writer.new };
+
+    /// Writes the answer to the end of the input.
+    fn end<W: Write>(&mut self, alloc: Global, writer: &mut Counted<W>) -> Result<Status, RunError>
+        requires { CanCount writer.old }
+        ensures writes { (number : ℕ) → Writes (W.contents (inner_of writer.old))
+            (W.contents (inner_of writer.new)) (answers self.old number []) result }
+        ensures counts { CountsDevice result writer.old writer.new };
+}
