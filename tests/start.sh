@@ -1,8 +1,12 @@
 #!/usr/bin/env bash
-# Tests of the start script `balisecheck`: what it writes where, and when it builds. They run in a copy of
-# the tree with what earlier checks kept, so that only what changed since is proved again.
+# Tests of the start script `balisecheck`: what it writes where, and when it builds.
 #
-# The last line is 'N passed, M failed'. The exit status is 1 if a test failed.
+#     tests/start.sh            a stand-in for the toolchain's `rt` hands over a program that was built before
+#     tests/start.sh --build    the toolchain itself proves and builds, in a copy of the tree with what earlier
+#                               checks kept
+#
+# BALISECHECK names the program that was built before, else it is the one that `rt ci` has built. The last
+# line is 'N passed, M failed'. The exit status is 1 if a test failed.
 set -uo pipefail
 
 here=$(cd "$(dirname "${BASH_SOURCE[0]}")" && pwd)
@@ -41,12 +45,47 @@ says_nothing() {
     [ ! -s "$room/stderr" ] || { echo 'standard error:' && cat "$room/stderr"; }
 }
 
-# copy: copies the tree, but neither its history nor a program that was built before.
+# copy: copies the tree, but neither its history nor a program that was built before. Kept work is
+# copied for the toolchain alone.
 copy() {
     mkdir -p "$room/tree"
-    cp -a "$here/../balisecheck" "$here/../install.sh" "$here/../crates.txt" "$here/../crates" "$room/tree"
+    cp -a "$here/../balisecheck" "$here/../install.sh" "$here/../crates.txt" "$room/tree"
     [ ! -f "$here/../HANDLES" ] || cp -a "$here/../HANDLES" "$room/tree"
-    rm -f "$room/tree/crates/balisecheck/out/balisecheck"
+    if [ "$1" = --build ]; then
+        cp -a "$here/../crates" "$room/tree"
+        rm -f "$room/tree/crates/balisecheck/out/balisecheck"
+    else
+        tar -c -C "$here/.." --exclude='crates/*/out' crates | tar -x -C "$room/tree"
+    fi
+}
+
+# stand_in: puts a stand-in for `rt` on the path. It knows the two commands of a build, in this order and in
+# their folders, and no other.
+stand_in() {
+    built=$(readlink -f -- "${BALISECHECK:-$here/../crates/balisecheck/out/balisecheck}")
+    [ -x "$built" ] || { echo "no program was built: $built"; echo '0 passed, 1 failed'; exit 1; }
+    mkdir -p "$room/bin"
+    cat >"$room/bin/rt" <<END
+#!/bin/sh
+case "\$PWD \$*" in
+"$room/tree all check")
+    echo '== etcs_bits'
+    touch "$room/proved"
+    ;;
+"$room/tree/crates/balisecheck run -- decode")
+    [ -f "$room/proved" ] || exit 9
+    rm "$room/proved"
+    mkdir -p out
+    cp "$built" out/balisecheck
+    exec out/balisecheck decode
+    ;;
+*)
+    exit 9
+    ;;
+esac
+END
+    chmod +x "$room/bin/rt"
+    PATH=$room/bin:$PATH
 }
 
 needs_the_toolchain() {
@@ -95,7 +134,8 @@ builds_again() {
     changed 'a source is put back with its old time' cp -p crates/etcs_bits/src/lib.rt crates/etcs_bits/src/variables/flag.rt
 }
 
-copy
+copy "${1:-}"
+[ "${1:-}" = --build ] || stand_in
 if PATH=/usr/bin:/bin command -v rt >/dev/null; then
     count 'the tests that need a path without the toolchain' 'rt stands in /usr/bin or /bin'
 else
