@@ -1,6 +1,6 @@
 #!/usr/bin/env bash
-# Runs the recipes of docs/REFUSALS.md and docs/FORMATS.md as they stand there, on the examples and on
-# files made here: the functions (blocks marked `bash`), the commands with what they have to write
+# Runs the recipes of docs/REFUSALS.md, docs/FORMATS.md and docs/FINDINGS.md as they stand there, on the
+# examples and on files made here: the functions (blocks marked `bash`), the commands with what they have to write
 # (blocks marked `console`), and the commands of the table that mend files. Each file made here has to
 # be used there. The sums of L_PACKET in docs/FORMATS.md are compared with the examples, and the
 # functions are tried with what they have to refuse.
@@ -11,6 +11,7 @@ set -uo pipefail
 here=$(cd "$(dirname "${BASH_SOURCE[0]}")" && pwd)
 document=$here/../docs/REFUSALS.md
 formats=$here/../docs/FORMATS.md
+findings=$here/../docs/FINDINGS.md
 program=${BALISECHECK:-$here/../crates/balisecheck/out/balisecheck}
 [ -x "$program" ] || { echo "the recipes: no program at $program" >&2; exit 1; }
 program=$(readlink -f -- "$program")
@@ -72,12 +73,14 @@ makes_other_files() {
     printf '%s\n%s\n\r\n%s\n%s \n%s\n%s\n%s' "$telegram" "$spare" "$telegram" "$telegram" "$padded" \
         "$old" "${telegram^^}" >batch.txt
     printf '%s\n\n\r\n%s\r\n%s' "$telegram" "$marked" "$telegram" >numbered.txt
+    printf 'Signal A, km 12.300\nSignal B, km 13.850\n' >names.txt
+    { cat "$here/../examples/duplicated-pair.txt"; printf '\n%s\n' "${telegram/2000ff/2001ff}"; } >line.txt
 }
 
 # blocks LANGUAGE: what stands in the documents' blocks of this language.
 blocks() {
     awk -v opening="\`\`\`$1" '$0 == "```" { inside = 0 } inside { print } $0 == opening { inside = 1 }' \
-        "$document" "$formats"
+        "$document" "$formats" "$findings"
 }
 
 # recipe COMMAND: in a bash of its own, in the folder of the files.
@@ -160,7 +163,7 @@ mends_utf16() {
 # Each of the other files is in a command.
 uses_files() {
     local file
-    for file in faulty.txt lost.txt lengths.txt batch.txt numbered.txt; do
+    for file in faulty.txt lost.txt lengths.txt batch.txt numbered.txt names.txt line.txt; do
         count "$file is used" "$(grep -q "^\$ .* $file" "$commands" || echo 'it is not')"
     done
 }
