@@ -1,0 +1,91 @@
+//! Times `check` on lines of pairs: WAY COUNT CALLS. `bench/check.sh` proves, builds and runs it.
+#![tactic(auto)]
+
+use etcs_bits::{Country, GroupNumber, Identity};
+use etcs_check::{Line, check};
+use etcs_group::Group;
+use etcs_telegram::from_hex;
+use std::alloc::Global;
+use std::io;
+use std::time::Instant;
+
+/// The first digits of the telegrams of a pair, up to the identity.
+const PAIR: [&str; 2] = ["a102ff802000", "a1137f802000"];
+
+/// The digits after them: an authority of 1,000 m (packet 12) with its gradients (21) and speeds (27).
+const PACKETS: &str = "c31024a5007fe007d002a813a000105080647f8da0560000140029c43f81";
+
+// The texts of the telegrams of a pair, with all bits after the packets ones.
+fn pair_texts(alloc: Global) -> Option<Vec<String>> {
+    let mut texts = Vec::new(alloc);
+    'fronts: for front in PAIR {
+        texts
+            .push(format!(in alloc; "{front}{PACKETS:f<194}fc").ok()?)
+            .ok()?;
+    }
+    Some(texts)
+}
+
+// The identity of the group at this place: rising, spread over all countries, or always the same.
+fn identity(way: &str, place: u32) -> Option<Identity> {
+    let (country, group) = match way {
+        "rising" => (place / 16_384, place % 16_384),
+        "spread" => (place % 1024, place / 1024),
+        _ => (1, 1),
+    };
+    Some(Identity {
+        country: Country::new(country)?,
+        group: GroupNumber::new(group)?,
+    })
+}
+
+// A pair of this identity.
+fn pair(alloc: Global, texts: &[String], identity: Identity) -> Option<Group> {
+    let mut telegrams = Vec::new(alloc);
+    'texts: for text in texts.iter() {
+        let mut telegram = from_hex(alloc, text.as_bytes()).ok()?;
+        telegram.header.identity = identity;
+        telegrams.push(telegram).ok()?;
+    }
+    Group::new(telegrams).ok()
+}
+
+// A line of so many pairs.
+fn pairs(alloc: Global, way: &str, count: u32) -> Option<Line> {
+    let texts = pair_texts(alloc)?;
+    let mut groups = Vec::new(alloc);
+    'places: for place in 0..count {
+        groups
+            .push(pair(alloc, texts.as_slice(), identity(way, place)?)?)
+            .ok()?;
+    }
+    Some(Line {
+        groups,
+        messages: Vec::new(alloc),
+    })
+}
+
+fn main(rt: HostRuntime) -> io::Result<()> {
+    let alloc = rt.alloc();
+    let words: Vec<String> = std::env::args(&rt)?.collect(alloc)?;
+    let [_, way, count, calls] = words.as_slice() else {
+        return Ok(());
+    };
+    let count = count.parse::<u32>().unwrap_or(0);
+    let calls = calls.parse::<u32>().unwrap_or(0);
+    if let Some(line) = pairs(alloc, way.as_str(), count) {
+        let mut least = u128::MAX;
+        let mut findings = 0;
+        'calls: for _ in 0..calls {
+            let start = Instant::now(&rt)?;
+            let found = check(alloc, &line);
+            let spent = start.elapsed(&rt)?.as_micros();
+            if let Ok(found) = found {
+                findings = found.len();
+                least = least.min(spent);
+            }
+        }
+        println!(rt; "{way} {count} groups {findings} findings {least} us")?;
+    }
+    Ok(())
+}
