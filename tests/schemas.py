@@ -1,0 +1,213 @@
+#!/usr/bin/env python3
+"""Tests of examples/schemas: they say what a program may send to balisecheck, as far as a JSON schema can say it.
+
+All examples have to be valid. Then forms and documents are made of the examples, each with one thing changed. What the
+program accepts has to be valid, and what it refuses for a reason that a schema can tell must not be.
+
+BALISECHECK names the program; the second part is left out where it lacks the command, and all but the look at the
+files where python has no `jsonschema`. The last line is `the schemas: N passed, M failed`, and the exit status is 1 if
+a test failed.
+"""
+import copy
+import json
+import os
+import pathlib
+import re
+import subprocess
+import sys
+
+try:
+    import jsonschema
+except ImportError:
+    jsonschema = None
+
+TOP = pathlib.Path(__file__).resolve().parent.parent
+EXAMPLES = TOP / "examples"
+PROGRAM = os.environ.get("BALISECHECK", str(TOP / "crates" / "balisecheck" / "out" / "balisecheck"))
+SCHEMAS = {name: json.loads((EXAMPLES / "schemas" / f"{name}.schema.json").read_text())
+           for name in ("telegram", "message", "line")}
+VALIDATORS = {name: jsonschema and jsonschema.Draft202012Validator(schema) for name, schema in SCHEMAS.items()}
+# numbers that some variable allows and another does not, and what is no number at all
+NUMBERS = (-1, 0, 1, 2, 3, 4, 5, 7, 8, 15, 16, 22, 31, 32, 33, 63, 64, 120, 121, 126, 127, 128, 255, 256, 1023, 1024,
+           8191, 8192, 16383, 16384, 32767, 32768, 16777215, 16777216, 4294967295, 4294967296, 1.5, "1", None, True)
+# what no schema can tell: the digits and pad bits of a body, and the bits of a packet or a telegram
+UNTOLD_FORM = re.compile(r"refused: line 1: (?:form range at (?:.*/body|/packets/\d+)|too big)\n")
+# and in documents what stands in a telegram after its header, or in a message
+UNTOLD_TEXT = re.compile(r"refused: (?:group \d+ balise \d+|message \d+): (?:short|spare|length|no ).*\n")
+SPARE_MARK = "spare at 15 end 17\n"
+
+
+class Tests:
+    """How many tests passed and failed so far."""
+
+    def __init__(self):
+        self.passed, self.failed = 0, 0
+
+    def holds(self, fact, name):
+        """A test that passes where the fact holds."""
+        if fact:
+            self.passed += 1
+            return
+        self.failed += 1
+        print(f"failed: {name}", file=sys.stderr)
+
+
+def run(words, text):
+    """The status and the output of the program."""
+    done = subprocess.run([PROGRAM, *words], input=text.encode(), capture_output=True, check=False)
+    return done.returncode, done.stdout.decode()
+
+
+def has_command(*words):
+    """Whether the program has the command; says so where it has not."""
+    there = os.access(PROGRAM, os.X_OK) and not run(words, "")[1].startswith("refused: usage")
+    if not there:
+        print(f"not tried, since the program has no `{' '.join(words)}`", file=sys.stderr)
+    return there
+
+
+def is_valid(name, value):
+    """Whether the value is valid by the schema of this name."""
+    return VALIDATORS[name].is_valid(value)
+
+
+def telegrams():
+    """The forms of telegrams in the examples."""
+    return [json.loads(line) for path in sorted(EXAMPLES.glob("*.json")) for line in path.read_text().splitlines()]
+
+
+def messages():
+    """The forms of the radio messages in the examples."""
+    texts = [path.read_text() for path in sorted(EXAMPLES.glob("radio-*.txt"))]
+    texts += [text + "\n" for text in json.loads((EXAMPLES / "check" / "sound-line.json").read_text())["messages"]]
+    return [json.loads(run(["decode", "--radio"], text)[1]) for text in texts]
+
+
+def documents(names="*"):
+    """The documents of lines in the examples, or those of these names."""
+    return [json.loads(path.read_text()) for path in sorted((EXAMPLES / "check").glob(f"{names}.json"))]
+
+
+def places(value, path=()):
+    """The paths to all that stands in a value."""
+    yield path
+    items = value.items() if isinstance(value, dict) else enumerate(value) if isinstance(value, list) else ()
+    for step, item in items:
+        yield from places(item, (*path, step))
+
+
+def at(value, path):
+    """What stands there."""
+    for step in path:
+        value = value[step]
+    return value
+
+
+def put(value, path, item):
+    """A copy of the value in which the item stands there."""
+    if not path:
+        return item
+    changed = copy.deepcopy(value)
+    at(changed, path[:-1])[path[-1]] = item
+    return changed
+
+
+def without(value, path):
+    """A copy of the value without what stands there."""
+    changed = copy.deepcopy(value)
+    del at(changed, path[:-1])[path[-1]]
+    return changed
+
+
+def others(item):
+    """What else may stand in the place of an item."""
+    if isinstance(item, dict):
+        return [{**item, "x": 0}, {**item, "nid_ntc": 0}, {**item, "nid_c": 0}, [], 0]
+    if isinstance(item, list):
+        return [[], {}, 0, item * 9, (item * 33)[:32], (item * 33)[:33]]
+    if isinstance(item, str):
+        return [item + "0", item + "00", item[:-1], item[:-2], item.upper(), "g" + item[1:], item + "\n", "", 0,
+                *(turned(item, bit) for bit in (0, 1, 7, 8, 12, 15, 16, 4 * len(item) - 1, 4 * len(item) - 4))]
+    return NUMBERS
+
+
+def turned(text, bit):
+    """The hexadecimal digits with one bit turned, and `text` where there is no such bit."""
+    place = bit // 4
+    if not 0 <= place < len(text):
+        return text
+    return text[:place] + f"{int(text[place], 16) ^ 8 >> bit % 4:x}" + text[place + 1:]
+
+
+def kind(value, path):
+    """The path without places in lists, but with the numbers of packets: what stands there is of one kind."""
+    steps = []
+    for end, step in enumerate(path, 1):
+        item = at(value, path[:end])
+        steps.append(step if isinstance(step, str) else item.get("nid_packet") if isinstance(item, dict) else None)
+    return tuple(steps)
+
+
+def changed(values):
+    """The values, and each with one thing changed, where no thing of its kind was changed so before."""
+    tried = set()
+    for value in values:
+        yield value
+        for path in places(value):
+            here = kind(value, path)
+            for other in others(at(value, path)):
+                change = (here, json.dumps(other, sort_keys=True))
+                if change not in tried:
+                    tried.add(change)
+                    yield put(value, path, other)
+            if path and here not in tried:
+                tried.add(here)
+                yield without(value, path)
+
+
+def test_files(tests):
+    """What the schemas of telegrams and messages share is the same in both."""
+    shared = SCHEMAS["telegram"]["$defs"]
+    tests.holds(all(SCHEMAS["message"]["$defs"].get(name) == shared[name] for name in shared), "shared definitions")
+
+
+def test_examples(tests):
+    """The schemas are schemas, and each example is valid."""
+    for name, schema in SCHEMAS.items():
+        tests.holds(not list(jsonschema.Draft202012Validator(jsonschema.Draft202012Validator.META_SCHEMA)
+                             .iter_errors(schema)), f"{name} is a schema")
+    for name, values in (("telegram", telegrams()), ("line", documents())):
+        for value in values:
+            tests.holds(is_valid(name, value), f"valid: {json.dumps(value)}")
+
+
+def test_changed(tests, name, words, values, untold):
+    """What the program accepts is valid; what it refuses is not, but for what no schema can tell."""
+    for value in changed(values):
+        text = json.dumps(value)
+        status, said = run(words, text)
+        if status == 2 and untold.fullmatch(said) and not said.endswith(SPARE_MARK):
+            continue
+        tests.holds(is_valid(name, value) == (status < 2), f"{' '.join(words)} says {said.strip()[:90]} of {text}")
+
+
+def main():
+    """Runs all tests that can be run here."""
+    tests = Tests()
+    test_files(tests)
+    if jsonschema is None:
+        print("only the files were looked at, since python has no jsonschema", file=sys.stderr)
+    else:
+        test_examples(tests)
+        if has_command("encode"):
+            test_changed(tests, "telegram", ["encode"], telegrams(), UNTOLD_FORM)
+        if has_command("decode", "--radio") and has_command("encode", "--radio"):
+            test_changed(tests, "message", ["encode", "--radio"], messages(), UNTOLD_FORM)
+        if has_command("check"):
+            test_changed(tests, "line", ["check"], documents("sound-line"), UNTOLD_TEXT)
+    print(f"the schemas: {tests.passed} passed, {tests.failed} failed")
+    sys.exit(tests.failed > 0)
+
+
+if __name__ == "__main__":
+    main()
