@@ -13,7 +13,7 @@
 # finding they have to be as many.
 #
 # What the crates' own checks keep in out/ is copied too, so that a tree that is proved is not proved again.
-# The longest line takes 250 MB of memory.
+# The longest line takes 160 MB of memory.
 set -euo pipefail
 
 here=$(cd "$(dirname "${BASH_SOURCE[0]}")" && pwd)
@@ -79,5 +79,7 @@ if command -v valgrind >/dev/null; then
     often=$(requests rising 11)
     found=$(requests same 11)
     echo "$once requests for memory with one call of check, $often with eleven; $found where there are findings"
-    [ "$once" -gt 1000 ] && [ "$often" -eq "$once" ] && [ "$found" -gt "$often" ] || fail 'check asks for memory'
+    if [ "$once" -lt 1000 ] || [ "$often" -ne "$once" ] || [ "$found" -le "$often" ]; then
+        fail 'check asks for memory where there is no finding, or the count is wrong'
+    fi
 fi

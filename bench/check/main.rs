@@ -4,7 +4,7 @@
 use etcs_bits::{Country, GroupNumber, Identity};
 use etcs_check::{Line, check};
 use etcs_group::Group;
-use etcs_telegram::from_hex;
+use etcs_telegram::{Telegram, from_hex};
 use std::alloc::Global;
 use std::io;
 use std::time::Instant;
@@ -39,13 +39,20 @@ fn identity(way: &str, place: u32) -> Option<Identity> {
     })
 }
 
+// The telegram of this text, with another identity.
+fn telegram(alloc: Global, text: &str, identity: Identity) -> Option<Telegram> {
+    let mut telegram = from_hex(alloc, text.as_bytes()).ok()?;
+    telegram.header.identity = identity;
+    Some(telegram)
+}
+
 // A pair of this identity.
 fn pair(alloc: Global, texts: &[String], identity: Identity) -> Option<Group> {
     let mut telegrams = Vec::new(alloc);
     'texts: for text in texts.iter() {
-        let mut telegram = from_hex(alloc, text.as_bytes()).ok()?;
-        telegram.header.identity = identity;
-        telegrams.push(telegram).ok()?;
+        telegrams
+            .push(telegram(alloc, text.as_str(), identity)?)
+            .ok()?;
     }
     Group::new(telegrams).ok()
 }
