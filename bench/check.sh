@@ -2,10 +2,11 @@
 # Measures etcs_check: bench/check.sh
 #
 # In a copy of the tree the program of bench/check is proved and built. It makes lines of 10,000 and of
-# 100,000 groups, each a pair with packets 12, 21 and 27, and times `check` of them: the fastest of ten
-# calls. The time elapsed is at least the processor time. The identities of the groups rise, are spread
-# over all countries, or are all the same, which gives a finding for each group but the first. The stack
-# has 512 KiB.
+# 100,000 groups, each a pair with packets 12, 21 and 27, and calls `check` many times. The processor time
+# of a call is what the program takes more than without these calls, divided by their number; the load of
+# the machine changes it less than the time elapsed, of which the fastest call is shown. The identities of
+# the groups rise, are spread over all countries, or are all the same, which gives a finding for each group
+# but the first. The stack has 512 KiB.
 #
 # The status is 1 if there are other findings, if 100,000 groups take more than 13 times as long as 10,000,
 # or if 100,000 groups with rising identities take more than 0.3 seconds. Where valgrind is there, it counts
@@ -41,23 +42,39 @@ build() {
     (cd "$room/crates/check_bench" && rt run) >"$room/built" || fail "$(cat "$room/built")"
 }
 
-# checked WAY COUNT: the microseconds of `check` of a line of so many groups, whose identities go this way.
+# measure WAY COUNT CALLS: runs the program with a small stack; sets processor.
+measure() {
+    read -r status _ processor _ < \
+        <(python3 "$here/measure.py" /dev/null "$room/answer" \
+            bash -c 'ulimit -s 512; exec "$@"' _ "$program" "$@")
+    [ "$status" -eq 0 ] || fail "status $status"
+}
+
+# checked WAY COUNT CALLS: the processor time of `check` of a line of so many groups, whose identities go
+# this way, and that of the fastest of so many calls, elapsed; in microseconds.
 checked() {
-    local findings=0 answer
+    local findings=0 made
     [ "$1" != same ] || findings=$(($2 - 1))
-    answer=$(ulimit -s 512; "$program" "$1" "$2" 10)
-    [[ $answer =~ ^"$1 $2 groups $findings findings "([0-9]+)" us"$ ]] || fail "wrong answer: $answer"
-    echo "${BASH_REMATCH[1]}"
+    measure "$1" "$2" 0
+    made=$processor
+    measure "$1" "$2" "$3"
+    [[ $(cat "$room/answer") =~ ^"$1 $2 groups $findings findings "([0-9]+)" us"$ ]] ||
+        fail "wrong answer: $(cat "$room/answer")"
+    awk "BEGIN { printf \"%d\", ($processor - $made) / $3 * 1000000 }"
+    echo " ${BASH_REMATCH[1]}"
 }
 
 # compare WAY MOST: times lines of both lengths, the longer of which may take so many microseconds.
 compare() {
     local short long
-    short=$(checked "$1" 10000)
-    long=$(checked "$1" 100000)
+    short=$(checked "$1" 10000 100)
+    long=$(checked "$1" 100000 10)
     awk -v way="$1" -v short="$short" -v long="$long" -v most="$2" 'BEGIN {
-        printf "%-8s %12d %13d %6.1f\n", way, short, long, long / short
-        exit long > 13 * short || long > most
+        split(short, of_short)
+        split(long, of_long)
+        ratio = of_long[1] / (of_short[1] > 0 ? of_short[1] : 1)
+        printf "%-8s %12d %12d %6.1f %15d %15d\n", way, of_short[1], of_long[1], ratio, of_short[2], of_long[2]
+        exit ratio > 13 || of_long[1] > most
     }' || fail "$1 is slower than it has to be"
 }
 
@@ -70,7 +87,7 @@ requests() {
 
 build
 echo "$(uname -m), $(nproc) processors, load $(cut -d' ' -f1 /proc/loadavg)"
-printf '%-8s %12s %13s %6s\n' '' '10,000, us' '100,000, us' ratio
+printf '%-8s %12s %12s %6s %15s %15s\n' '' '10,000, us' '100,000, us' ratio '10,000 fastest' '100,000 fastest'
 compare rising 300000
 compare spread 10000000
 compare same 10000000
