@@ -1,8 +1,8 @@
 #!/usr/bin/env python3
-"""Tests of the documents in examples/check and of docs/FINDINGS.md.
+"""Tests of `balisecheck check` from outside, of the documents in examples/check, and of docs/FINDINGS.md.
 
-Each document has to be answered by `balisecheck check` as the report beside it says, and each mended one by yes. The
-page has to have a section for each rule, with an example and its report as they stand in the folder.
+Each document of tests/cases/documents.txt has to be answered as it says there. Each one of examples/check has to be
+answered as the report beside it says, and each mended one by yes. The page has to have a section for each rule, with an example and its report as they stand in the folder.
 
 BALISECHECK names the program. The last line is `the documents: N passed, M failed`, and the exit status is 1 if a
 test failed.
@@ -14,7 +14,11 @@ import re
 import subprocess
 import sys
 
-TOP = pathlib.Path(__file__).resolve().parent.parent
+sys.dont_write_bytecode = True  # so that no folder of it comes into being beside the tests
+from cases import blocks, filled  # noqa: E402
+
+HERE = pathlib.Path(__file__).resolve().parent
+TOP = HERE.parent
 FOLDER = TOP / "examples" / "check"
 PAGE = (TOP / "docs" / "FINDINGS.md").read_text()
 PROGRAM = os.environ.get("BALISECHECK", str(TOP / "crates" / "balisecheck" / "out" / "balisecheck"))
@@ -38,9 +42,30 @@ class Tests:
 
 
 def answer(document):
-    """The status and the report of `check`."""
-    run = subprocess.run([PROGRAM, "check"], input=document.read_bytes(), capture_output=True, check=False)
+    """The status and the report of `check` of these bytes."""
+    run = subprocess.run([PROGRAM, "check"], input=document, capture_output=True, check=False)
     return run.returncode, run.stdout.decode()
+
+
+def answered(report):
+    """The report, after the status that goes with it."""
+    return {"y": 0, "n": 1, "r": 2}[report[0]], report
+
+
+def spelled(line):
+    """The document of a line in tests/cases/documents.txt, without what stands there for longer texts."""
+    line = re.sub(r"<(.*?) (\d+)>", lambda found: found[1] * int(found[2]), line)
+    return re.sub(r"\w+\.{2,3}\w \w*", lambda found: filled(found[0]), line)
+
+
+def test_cases(tests):
+    """Each document is answered as it says; so are bytes that cannot stand in a line of text."""
+    for name, line, *report in blocks(HERE / "cases" / "documents.txt"):
+        document = spelled(line)
+        tests.equal(name, answer(document.encode()), answered("\n".join(report) + "\n"))
+        tests.equal(f"{name}, and a line end", answer(document.encode() + b"\r\n"), answered("\n".join(report) + "\n"))
+    for document in (b"", b" ", b"\xff", b'{"groups":[],"messages":[]}\xff', b'{"groups":["\xff"],"messages":[]}'):
+        tests.equal(f"{document} is no JSON", answer(document), answered("refused: not JSON\n"))
 
 
 def yes_of(document):
@@ -53,10 +78,10 @@ def test_answers(tests):
     """Each document has its report beside it; each mended one is answered by yes."""
     for document in sorted(FOLDER.glob("*.json")):
         if document.stem.endswith(MENDED):
-            tests.equal(document.name, answer(document), (0, yes_of(document)))
+            tests.equal(document.name, answer(document.read_bytes()), (0, yes_of(document)))
         else:
             report = document.with_suffix(".txt").read_text()
-            tests.equal(document.name, answer(document), (0 if report.startswith("yes") else 1, report))
+            tests.equal(document.name, answer(document.read_bytes()), answered(report))
 
 
 def examples():
@@ -100,6 +125,7 @@ def main():
     if not os.access(PROGRAM, os.X_OK):
         sys.exit(f"tests/documents.py: no program at {PROGRAM}: build it, or name one by BALISECHECK")
     tests = Tests()
+    test_cases(tests)
     test_answers(tests)
     test_sections(tests)
     test_page(tests)
