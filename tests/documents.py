@@ -2,7 +2,8 @@
 """Tests of `balisecheck check` from outside, of the documents in examples/check, and of docs/FINDINGS.md.
 
 Each document of tests/cases/documents.txt has to be answered as it says there. Each one of examples/check has to be
-answered as the report beside it says, and each mended one by yes. The page has to have a section for each rule, with an example and its report as they stand in the folder.
+answered as the report beside it says, and each mended one by yes. The page has to have a section for each rule, with
+an example and its report as they stand in the folder.
 
 BALISECHECK names the program. The last line is `the documents: N passed, M failed`, and the exit status is 1 if a
 test failed.
