@@ -8,6 +8,7 @@ pub mod PairLemmas
 pub mod SoundLemmas
 pub mod LineLemmas
 pub mod MeaningLemmas
+pub mod ListedLemmas
 pub mod CompareLemmas
 pub mod NoteLemmas
 pub mod GreatestLemmas

@@ -36,7 +36,7 @@ profiles_say rule short_rule at reach packets none_lack none_short run =
     profiles-held reach packets run (noted-false _ (finding_of rule at (Some run) None None) (for_directions-says (message_lack rule at reach packets) none_lack run))
     (short_says short_rule at reach packets none_short run)
 
-message_sound : (at : Site) (m : Message) → message_findings at m ≡ [] → IsSoundMessage m
+pub message_sound : (at : Site) (m : Message) → message_findings at m ≡ [] → IsSoundMessage m
 message_sound at (messages.Position m) h = tt
 message_sound at (messages.Movement m) h =
     let none = rules-say (message_facts at m.packets) h in (
@@ -55,7 +55,7 @@ short_empty : (rule : Rule) (at : Site) (reach : TrackPacket → Option Reach) (
 short_empty rule at reach packets h =
     for_directions-empty (message_short rule at reach packets) (λ run. for_each-empty packets (message_short_at rule at reach packets run) (λ k p at'. noted-empty _ (finding_of rule at (Some run) None (Some k)) (long-held reach packets run (h run) k p at')))
 
-sound_message : (at : Site) (m : Message) → IsSoundMessage m → message_findings at m ≡ []
+pub sound_message : (at : Site) (m : Message) → IsSoundMessage m → message_findings at m ≡ []
 sound_message at (messages.Position m) h = refl
 sound_message at (messages.Movement m) h = rules-empty (message_facts at m.packets) none
   where

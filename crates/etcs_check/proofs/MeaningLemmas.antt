@@ -14,8 +14,8 @@ use Rattle.etcs_telegram.specs.Record.{Telegram}
 use Rattle.etcs_group.specs.Places.{At}
 use Rattle.etcs_group.specs.Packets.{said_by}
 use Rattle.etcs_check.specs.Profiles.{gradient_reach, speed_reach}
-use Rattle.etcs_check.specs.Findings.{noted, finding_of, for_each, for_directions, balise_fact, balise_at, balise_facts, pair_differs, pair_at, pair_facts, is_unmodelled, unmodelled_at, unmodelled_by, unmodelled_facts, lacks, is_short_at, lack_facts, short_at, short_by, short_facts, facts_of, is_used, all_rules}
-use Rattle.etcs_check.specs.Line.{group_findings, group_at, group_list, message_at, message_list, message_findings, is_short_in, message_lack, message_short_at, message_short, message_facts, findings}
+use Rattle.etcs_check.specs.Findings.{noted, finding_of, for_each, for_directions, balise_fact, balise_at, balise_facts, pair_differs, pair_at, pair_facts, is_unmodelled, unmodelled_at, unmodelled_by, unmodelled_facts, lacks, is_short_at, lack_facts, short_at, short_by, short_facts, facts_of, group_facts, is_used, all_rules}
+use Rattle.etcs_check.specs.Line.{group_at, group_list, message_at, message_list, message_findings, is_short_in, message_lack, message_short_at, message_short, message_facts, findings}
 use Rattle.etcs_check.specs.Meaning.{GroupFact, PacketFact, MessageFact, StatesAt, States, HurtsGroup, HurtsSite, Hurts}
 use Rattle.etcs_check.specs.Laws.{FindingsAreFacts}
 use Rattle.etcs_check.specs.declared.finding.Finding.{Finding}
@@ -113,11 +113,11 @@ module _ (site : Site) (used : Bool) (group : List Telegram) (f : Finding) where
       let n = noted-at used (finding_of rules.IdentityUsed site None None None) i f h in
       subst Stands n.1 (refl, n.0)
 
-group_states : (site : Site) (earlier : List (List Telegram)) (group : List Telegram) (i : ℕ) (f : Finding) → At (group_findings site earlier group) i f → (f.site ≡ site) × GroupFact (is_used earlier group) group f.rule f.dir f.balise f.packet
+pub group_states : (site : Site) (used : Bool) (group : List Telegram) (i : ℕ) (f : Finding) → At (group_facts site (slice_get group 0) used group) i f → (f.site ≡ site) × GroupFact used group f.rule f.dir f.balise f.packet
 unfolding Stands
-group_states site earlier group i f h =
-    let r = flat_map-at (facts_of site (slice_get group 0) (is_used earlier group) group) all_rules i f h in
-    rule_stands site (is_used earlier group) group f r.1 r.2 r.4
+group_states site used group i f h =
+    let r = flat_map-at (facts_of site (slice_get group 0) used group) all_rules i f h in
+    rule_stands site used group f r.1 r.2 r.4
 
 -- ---- messages
 
@@ -152,7 +152,7 @@ module _ (site : Site) (packets : List TrackPacket) (f : Finding) where
   rule_noted rules.SpeedShort i h = short_noted rules.SpeedShort speed_reach (λ run k p at e. (refl, (p, at, e))) i h
   rule_noted rule i h = absurd (none-some f h)
 
-message_states : (site : Site) (m : Message) (i : ℕ) (f : Finding) → At (message_findings site m) i f → (f.site ≡ site) × MessageFact m f.rule f.dir f.balise f.packet
+pub message_states : (site : Site) (m : Message) (i : ℕ) (f : Finding) → At (message_findings site m) i f → (f.site ≡ site) × MessageFact m f.rule f.dir f.balise f.packet
 unfolding Noted
 message_states site (messages.Position m) i f h = absurd (none-some f h)
 message_states site (messages.Movement m) i f h =
@@ -165,7 +165,7 @@ findings_state : (groups : List (List Telegram)) (messages : List Message) (i : 
 findings_state groups messages i f h = elim (At-append_cases (group_list groups) (message_list messages) i f h) [
   | inl p ↦
       let r = each-at (group_at groups) groups i f p in
-      let s = group_states (sites.Group r.0) (take r.0 groups) r.1 r.2 f r.4 in
+      let s = group_states (sites.Group r.0) (is_used (take r.0 groups) r.1) r.1 r.2 f r.4 in
       subst (StatesAt groups messages f) (sym s.0) (r.1, r.3, s.1)
   | inr q ↦
       let r = each-at message_at messages q.0 f q.1 in
@@ -175,7 +175,7 @@ findings_state groups messages i f h = elim (At-append_cases (group_list groups)
 
 -- ---- what it means
 
-hurts : (group : List Telegram) (used : Bool) (rule : Rule) (run : Option Run) (b k : Option ℕ) → GroupFact used group rule run b k → HurtsGroup group rule run b
+pub hurts : (group : List Telegram) (used : Bool) (rule : Rule) (run : Option Run) (b k : Option ℕ) → GroupFact used group rule run b k → HurtsGroup group rule run b
 hurts group used rules.CounterUnfit None (Some b) None h = unfit-hurts group b h.0 h.1 h.2
 hurts group used rules.CountersDiffer None (Some b) None h = differs-hurts group b h.0 h.1 h.2
 hurts group used rules.DuplicatesDiffer (Some run) (Some b) None h = pair-hurts group b h.0 h.1 run h.2

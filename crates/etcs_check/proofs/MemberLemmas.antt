@@ -14,7 +14,7 @@ use Rattle.etcs_packet.specs.declared.track.TrackPacket.{TrackPacket}
 use Rattle.etcs_telegram.specs.Record.{Telegram}
 use Rattle.etcs_group.proofs.PlaceLemmas.{At-reverse}
 
-At-append_left : {X : Type 0} (xs ys : List X) (i : ℕ) (x : X) → At xs i x → At (xs ++ ys) i x
+pub At-append_left : {X : Type 0} (xs ys : List X) (i : ℕ) (x : X) → At xs i x → At (xs ++ ys) i x
 At-append_left [] ys i x h = absurd (none-some x h)
 At-append_left (y ∷ xs) ys zero x h = h
 At-append_left (y ∷ xs) ys (suc i) x h = At-append_left xs ys i x h

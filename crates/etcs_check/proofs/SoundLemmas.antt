@@ -1,5 +1,5 @@
 -- A group has no finding exactly where it is sound, and each finding hurts.
-use Rattle.std.proofs.Common.{◌≡◌, ◌≢◌, ℕ, suc, ◌+◌, ◌<◌, Bool, true, false, not, List, [], ◌∷◌, length, slice_get, Option, Some, None, refl, sym, ap, subst, ◌∙◌, arith}
+use Rattle.std.proofs.Common.{◌≡◌, ◌≢◌, ℕ, suc, ◌+◌, ◌<◌, ◌↔◌, Bool, true, false, not, List, [], ◌∷◌, length, slice_get, Option, Some, None, refl, sym, ap, subst, ◌∙◌, arith}
 use Rattle.std.specs.Option.{option_map_or}
 use Rattle.std.proofs.lemmas.Option.{none-some, same_Some, slice_get_within}
 use Rattle.std.proofs.lemmas.Bool.{both_ways, and_parts, eqb-true, not-true, not-false, false_from_ne_true}
@@ -24,10 +24,11 @@ use Rattle.etcs_group.proofs.BlockLemmas.{readings_say_the_same}
 use Rattle.etcs_group.proofs.SaidLemmas.{said-packets}
 use Rattle.etcs_check.specs.Profiles.{gradient_reach, speed_reach, AreReached}
 use Rattle.etcs_check.specs.Soundness.{IsSoundReading, IsSoundGroup, identity_of}
-use Rattle.etcs_check.specs.Findings.{same_identity, is_unfit, counter_differs, are_pair, pair_differs, lacks, is_used, is_short_at}
+use Rattle.etcs_check.specs.Findings.{same_identity, is_unfit, counter_differs, are_pair, pair_differs, lacks, is_used, is_short_at, group_facts}
 use Rattle.etcs_check.specs.Meaning.{only, passed_first, DependsOnMissed, IsNeverAccepted, IsNotReached}
 use Rattle.etcs_check.specs.Duplicates.{same_held}
 use Rattle.etcs_check.specs.Laws.{NoFindingMeansSoundGroup, SoundGroupsAreDecided}
+use Rattle.etcs_check.specs.declared.finding.Site.{Site}
 use Rattle.etcs_check.proofs.NumberLemmas.{Decides-same_packets}
 use Rattle.etcs_check.proofs.ProfileLemmas.{profiles-said, lacks-from_profiles, long-said}
 use Rattle.etcs_check.proofs.CleanLemmas.{IsClean, clean-from_facts, facts-from_clean}
@@ -221,13 +222,21 @@ unused-is earlier group distinct =
 
 -- ---- the law
 
-pub no_finding_means_sound_group : NoFindingMeansSoundGroup
-no_finding_means_sound_group at earlier group long = (
+-- with an identity of which it is said whether an earlier group has it
+pub no_fact_means_sound_group : (at : Site) (used : Bool) (group : List Telegram) → 0 < length group → (group_facts at (slice_get group 0) used group ≡ []) ↔ (IsSoundGroup group × (used ≡ false))
+no_fact_means_sound_group at used group long = (
   λ none.
-      let c = clean-from_facts at (slice_get group 0) (is_used earlier group) group none in
-      (sound-from_clean (is_used earlier group) group long c, unused-says earlier group long c.new_identity),
-  λ s. facts-from_clean at (slice_get group 0) (is_used earlier group) group (clean-from_sound group s.0 (is_used earlier group) (unused-is earlier group s.1)),
+      let c = clean-from_facts at (slice_get group 0) used group none in
+      (sound-from_clean used group long c, c.new_identity),
+  λ s. facts-from_clean at (slice_get group 0) used group (clean-from_sound group s.0 used s.1),
 )
+
+pub no_finding_means_sound_group : NoFindingMeansSoundGroup
+no_finding_means_sound_group at earlier group long =
+    let law = no_fact_means_sound_group at (is_used earlier group) group long in (
+      λ none. let s = law.0 none in (s.0, unused-says earlier group long s.1),
+      λ s. law.1 (s.0, unused-is earlier group s.1),
+    )
 
 pub sound_groups_are_decided : SoundGroupsAreDecided
 sound_groups_are_decided group run missed sound long set =

@@ -1,9 +1,13 @@
 //! All rules, looked for in one group and in one message.
 
-ghost use Rattle.std.specs.Prelude.{◌≡◌, ◌≢◌, ◌<◌, ◌≤◌, ◌++◌, [], length, flat_map, slice_get, Some, IfOk, OnOk, OnErr};
+ghost use Rattle.std.specs.Prelude.{◌≡◌, ◌≢◌, ◌↔◌, ◌<◌, ◌≤◌, ◌++◌, [], ℕ, false, length, flat_map, slice_get, Some, IfOk, OnOk, OnErr};
 ghost use Rattle.etcs_check.specs.Findings.{all_rules, facts_in, facts_of, for_directions, group_facts};
 ghost use Rattle.etcs_check.specs.Line.{message_facts, message_facts_in, message_findings};
+ghost use Rattle.etcs_check.specs.Meaning.{GroupFact, HurtsGroup, MessageFact};
+ghost use Rattle.etcs_check.specs.Soundness.{IsSoundGroup, IsSoundMessage};
+ghost use Rattle.etcs_check.specs.declared.finding.Finding.{Finding};
 ghost use Rattle.etcs_check.specs.declared.finding.Site.TheVariants as sites;
+ghost use Rattle.etcs_group.specs.Places.{At};
 
 use crate::balise_rules::{note_balises, note_group_unmodelled, note_pairs, note_unmodelled};
 use crate::finding::{Finding, Rule, Site, note};
@@ -233,6 +237,15 @@ pub fn check_group(
     ensures ok { IfOk result (λ found. found.items
         ≡ group_facts (sites.Group place) (slice_get group.now 0) used group.now) }
     ensures memory { OnErr result (group_facts (sites.Group place) (slice_get group.now 0) used group.now ≢ []) }
+
+    // No finding means sound, with an identity that no earlier group has.
+    ensures sound { IfOk result (λ found. (found.items ≡ []) ↔ (IsSoundGroup group.now × (used ≡ false))) }
+
+    // A finding is there exactly where its fact stands, and means what it says for the readings.
+    ensures facts { IfOk result (λ found. (f : Finding) → ((i : ℕ) × At found.items i f)
+        ↔ ((f.site ≡ sites.Group place) × GroupFact used group.now f.rule f.dir f.balise f.packet)) }
+    ensures hurts { IfOk result (λ found. (i : ℕ) (f : Finding) → At found.items i f
+        → HurtsGroup group.now f.rule f.dir f.balise) }
 {
     let mut found = Vec::new(alloc);
     note_group(&mut found, Site::Group(place), used, group.telegrams())?;
@@ -246,6 +259,13 @@ pub fn check_group(
 pub fn check_message(alloc: Global, place: usize, message: &Message) -> Result<Vec<Finding>, Memory>
     ensures ok { IfOk result (λ found. found.items ≡ message_findings (sites.Message place) message.now) }
     ensures memory { OnErr result (message_findings (sites.Message place) message.now ≢ []) }
+
+    // No finding means sound.
+    ensures sound { IfOk result (λ found. (found.items ≡ []) ↔ IsSoundMessage message.now) }
+
+    // A finding is there exactly where its fact stands.
+    ensures facts { IfOk result (λ found. (f : Finding) → ((i : ℕ) × At found.items i f)
+        ↔ ((f.site ≡ sites.Message place) × MessageFact message.now f.rule f.dir f.balise f.packet)) }
 {
     let mut found = Vec::new(alloc);
     note_message(&mut found, Site::Message(place), message)?;

@@ -109,6 +109,10 @@ pub fn check(alloc: Global, line: &Line) -> Result<Vec<Finding>, Memory>
     ensures facts { IfOk result (λ found. (i : ℕ) (f : Finding) → At found.items i f
         → States line.now.groups.items line.now.messages.items f × Hurts line.now.groups.items f) }
 
+    // Each fact has its finding: none hides another.
+    ensures all { IfOk result (λ found. (f : Finding)
+        → States line.now.groups.items line.now.messages.items f → (i : ℕ) × At found.items i f) }
+
     // In a sound line each reading is accepted or refused by what was missed alone.
     ensures decided { IfOk result (λ found. found.items ≡ [] → (g : ℕ) (group : List Telegram) (run : Run)
         (missed : ℕ → Bool) → At line.now.groups.items g group → IsSetOf group missed

@@ -4,6 +4,7 @@ use Rattle.etcs_check.specs.Laws.{HaveBalises}
 use Rattle.etcs_check.specs.Line.{group_list, message_list, findings}
 use Rattle.etcs_check.proofs.LineLemmas.{no_finding_means_sound_line}
 use Rattle.etcs_check.proofs.MeaningLemmas.{findings_are_facts}
+use Rattle.etcs_check.proofs.ListedLemmas.{each_fact_is_listed}
 use Rattle.etcs_check.proofs.SoundLemmas.{sound_groups_are_decided}
 use Rattle.etcs_check.proofs.line.check.Goals as goal
 
@@ -27,6 +28,17 @@ returns-clause-facts c = λ i f at.
     ∙ ap (λ l. group_list c.deref.result.now ++ message_list l) c.deref-2.ensures.value
     ∙ ap (λ l. group_list l ++ message_list c.args.line.now.messages.items) c.deref.ensures.value in
     findings_are_facts c.args.line.now.groups.items c.args.line.now.messages.items i f (subst (λ l. At l i f) eq at)
+
+-- Each fact has its finding in the list.
+pub returns-clause-all : goal.returns-clause-all
+returns-clause-all c = λ f fact.
+    let eq : c.note_messages.new.found.items ≡ findings c.args.line.now.groups.items c.args.line.now.messages.items =
+    c.in_ok-note_messages.ensures.ok
+    ∙ ap (λ l. l ++ message_list c.deref-2.result.now) (c.in_ok-note_groups.ensures.ok ∙ ap (λ l. l ++ group_list c.deref.result.now) c.new-found.ensures.items)
+    ∙ ap (λ l. group_list c.deref.result.now ++ message_list l) c.deref-2.ensures.value
+    ∙ ap (λ l. group_list l ++ message_list c.args.line.now.messages.items) c.deref.ensures.value in
+    let r = each_fact_is_listed c.args.line.now.groups.items c.args.line.now.messages.items f fact in
+    (r.0, subst (λ l. At l r.0 f) (sym eq) r.1)
 
 -- Each group of a sound line is sound.
 pub returns-clause-decided : goal.returns-clause-decided
