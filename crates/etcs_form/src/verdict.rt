@@ -1,0 +1,24 @@
+//! What is found about a line.
+
+ghost use Rattle.std.specs.Prelude.{◌≡◌, ◌↔◌, [], IsTrue};
+
+use etcs_check::{Finding, Line};
+
+/// What is found about a line: the line that was read, and all facts against it.
+#[derive(Debug, Drop)]
+pub struct Verdict {
+    /// The line.
+    pub line: Line,
+    /// All facts against it: by group, then by message; within each by rule, then by running
+    /// direction, nominal first, then by balise and packet.
+    pub findings: Vec<Finding>,
+}
+
+impl Verdict {
+    /// Whether there is no fact against the line.
+    pub fn is_yes(&self) -> bool
+        ensures { IsTrue result ↔ (self.now.findings.items ≡ []) }
+    {
+        self.findings.is_empty()
+    }
+}
