@@ -11,3 +11,4 @@ pub mod RawLemmas
 pub mod PathLemmas
 pub mod RunLemmas
 pub mod AnyList
+pub mod DocumentLemmas

@@ -28,3 +28,5 @@ pub mod Reports
 pub mod TrainPackets
 pub mod Telegrams
 pub mod AnyMessage
+pub mod DocumentFault
+pub mod Document

@@ -15,6 +15,10 @@ mod body_form;
 mod body_text;
 mod building;
 mod cover_form;
+mod document;
+mod document_groups;
+mod document_messages;
+mod document_values;
 mod error;
 mod form;
 mod gradient_form;
@@ -48,6 +52,7 @@ mod train_form;
 mod transition_form;
 mod verdict;
 
+pub use document::read_line;
 pub use error::{FormError, Step};
 pub use form::{Form, InPieces};
 pub use line_error::LineError;

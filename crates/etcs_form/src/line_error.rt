@@ -1,8 +1,15 @@
 //! Why bytes are no line document.
 
-use crate::error::FormError;
+ghost use Rattle.std.specs.Prelude.{◌≡◌, map};
+ghost use Rattle.etcs_form.specs.DocumentFault.{IsFault, IsOfForm, bad_form};
+ghost use Rattle.etcs_form.specs.Fault.{Kind, fault, step_of};
+ghost use Rattle.etcs_form.specs.declared.line_error.LineError.TheVariants as errors;
+
+use crate::error::{FormError, Step};
+use etcs_bits::Memory;
 use etcs_radio::RadioTextError;
 use etcs_telegram::TextError;
+use std::alloc::Global;
 
 /// Why bytes are not the document of a railway line: their first fault, depth first. Groups, balises
 /// and messages count from 0.
@@ -21,4 +28,33 @@ pub enum LineError {
     Telegram(usize, usize, TextError),
     /// The text of the message with this number is no radio message.
     Message(usize, RadioTextError),
+}
+
+impl From<Memory> for LineError {
+    ghost from_gives = { λ _ error. error ≡ errors.Memory };
+
+    fn from(_memory: Memory) -> LineError {
+        LineError::Memory
+    }
+}
+
+impl From<FormError> for LineError {
+    ghost from_gives = { λ form error. IsOfForm form error };
+
+    fn from(error: FormError) -> LineError {
+        match error {
+            FormError::Memory => LineError::Memory,
+            fault => LineError::Form(fault),
+        }
+    }
+}
+
+/// What stands at this path is of another kind.
+pub(crate) fn kind_at(alloc: Global, path: &[Step]) -> LineError
+    ensures { IsFault result (bad_form (fault Kind (map step_of path.now))) }
+{
+    match Vec::from_slice(alloc, path) {
+        Ok(path) => LineError::Form(FormError::Kind(path)),
+        Err(_) => LineError::Memory,
+    }
 }

@@ -1,0 +1,49 @@
+-- What is wrong with bytes that are no document of a railway line, and where. Groups, balises and
+-- messages count from 0.
+use Rattle.std.specs.Prelude.{◌≡◌, ℕ, Option, Some, None, Result, Ok, Err, IsSomeAnd}
+use Rattle.etcs_form.specs.Fault.{Fault, fault_of}
+use Rattle.etcs_form.specs.declared.error.FormError.{FormError}
+use Rattle.etcs_form.specs.declared.error.FormError.TheVariants as forms
+use Rattle.etcs_form.specs.declared.line_error.LineError.{LineError}
+use Rattle.etcs_form.specs.declared.line_error.LineError.TheVariants as errors
+use Rattle.etcs_radio.specs.declared.error.RadioTextError.{RadioTextError}
+use Rattle.etcs_radio.specs.declared.error.RadioTextError.TheVariants as radio
+use Rattle.etcs_telegram.specs.declared.error.TextError.{TextError}
+use Rattle.etcs_telegram.specs.declared.error.TextError.TheVariants as texts
+
+-- the bytes are no JSON, the value has not the form of a line, a group has no balise or too many, the
+-- text of a balise in a group is no telegram, or the text of a message is no message
+pub data DocumentFault : Type 0 where
+  no_json : DocumentFault
+  bad_form : Fault → DocumentFault
+  bad_count : ℕ → DocumentFault
+  bad_telegram : ℕ → ℕ → TextError → DocumentFault
+  bad_message : ℕ → RadioTextError → DocumentFault
+
+-- ---- the fault of an error
+
+-- reading gives the fault that the error tells; want of memory tells none, and stands inside no other
+-- error
+abbrev pub Fails : {Y : Type 0} → LineError → Result Y DocumentFault → Type 0
+Fails errors.Memory reading = Unit {0}
+Fails errors.NotJson reading = reading ≡ Err no_json
+Fails (errors.Form e) reading = IsSomeAnd (fault_of e) (λ f. reading ≡ Err (bad_form f))
+Fails (errors.Count g) reading = reading ≡ Err (bad_count g)
+Fails (errors.Telegram g b texts.Memory) reading = ⊥
+Fails (errors.Telegram g b e) reading = reading ≡ Err (bad_telegram g b e)
+Fails (errors.Message m radio.Memory) reading = ⊥
+Fails (errors.Message m e) reading = reading ≡ Err (bad_message m e)
+
+-- the error is this fault, unless memory ran out
+abbrev pub IsFault : LineError → DocumentFault → Type 0
+IsFault e f = Fails {Y = Unit {0}} e (Err f)
+
+-- the error of a document whose form has this error
+abbrev pub IsOfForm : FormError → LineError → Type 0
+IsOfForm forms.Memory e = e ≡ errors.Memory
+IsOfForm form e = e ≡ errors.Form form
+
+-- What a call returned, seen by `view`, is what reading gives, unless memory ran out.
+abbrev pub Gives : {X Y : Type 0} → (X → Y) → Result X LineError → Result Y DocumentFault → Type 0
+Gives view (Ok x) reading = reading ≡ Ok (view x)
+Gives view (Err e) reading = Fails e reading

@@ -1,0 +1,52 @@
+//! The document of a railway line, read.
+
+ghost use Rattle.std.specs.Prelude.{◌≡◌};
+ghost use Rattle.serde_json.specs.View.{view};
+ghost use Rattle.etcs_form.specs.Document.{json_of, line_of, line_of_text};
+ghost use Rattle.etcs_form.specs.DocumentFault.{Gives};
+
+use crate::document_groups::read_groups;
+use crate::document_messages::read_messages;
+use crate::known_keys::check_keys;
+use crate::line_error::LineError;
+use etcs_check::Line;
+use serde_json::Value;
+use std::alloc::Global;
+
+// Reads the bytes as one JSON value.
+#[tactic(auto, unfolding(crate::specs::Document::json_of))]
+fn read_json(alloc: Global, bytes: &[u8]) -> Result<Value, LineError>
+    ensures { Gives (λ v. view v) result (json_of bytes.now) }
+{
+    match Value::from_slice(alloc, bytes) {
+        Ok(value) => Ok(value),
+        Err(error) if error.is_memory() => Err(LineError::Memory),
+        Err(_) => Err(LineError::NotJson),
+    }
+}
+
+// Reads the line of a document: the groups, and then the messages.
+#[tactic(auto, unfolding(crate::specs::Document::line_of))]
+fn read_document(alloc: Global, value: &Value) -> Result<Line, LineError>
+    ensures { Gives (λ l. (l.groups.items, l.messages.items)) result (line_of (view value.now)) }
+{
+    check_keys(alloc, value, &["groups", "messages"])?;
+    let groups = read_groups(alloc, value)?;
+    let messages = read_messages(alloc, value)?;
+    Ok(Line { groups, messages })
+}
+
+/// Reads the document of a railway line: `{"groups":[{"balises":["TEXT"]}],"messages":["TEXT"]}`,
+/// where each text is the hexadecimal digits of a telegram or of a radio message (this project's
+/// form).
+///
+/// The error is the first fault, depth first: `NotJson`; then the document's own form; then each group
+/// whole before the next, which is its form, the count of its balises and each of these; and only
+/// then the messages. The one error besides is that memory ran out: a fault may then go unseen.
+#[tactic(auto, unfolding(crate::specs::Document::line_of_text))]
+pub fn read_line(alloc: Global, bytes: &[u8]) -> Result<Line, LineError>
+    ensures { Gives (λ l. (l.groups.items, l.messages.items)) result (line_of_text bytes.now) }
+{
+    let document = read_json(alloc, bytes)?;
+    read_document(alloc, &document)
+}
