@@ -12,3 +12,4 @@ pub mod PathLemmas
 pub mod RunLemmas
 pub mod AnyList
 pub mod DocumentLemmas
+pub mod VerdictLemmas

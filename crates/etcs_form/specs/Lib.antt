@@ -30,3 +30,4 @@ pub mod Telegrams
 pub mod AnyMessage
 pub mod DocumentFault
 pub mod Document
+pub mod Verdict

@@ -1,0 +1,98 @@
+-- What a yes says of bytes: they are the document of a line, and the line is sound.
+use Rattle.std.specs.Prelude.{◌≡◌, ◌↔◌, ℕ, Bool, List, [], Option, Result, Ok, Err, codes, filter, option_and_then, IsOkAnd, IsSomeAnd}
+use Rattle.serde_json.specs.Data.{Data}
+use Rattle.serde_json.specs.Find.{as_str, at, get}
+use Rattle.etcs_check.specs.Line.{findings}
+use Rattle.etcs_check.specs.Profiles.{AreReached}
+use Rattle.etcs_check.specs.Soundness.{IsSoundLine}
+use Rattle.etcs_check.specs.declared.finding.Finding.{Finding}
+use Rattle.etcs_form.specs.Document.{◌then◌, json_of, line_of_text}
+use Rattle.etcs_form.specs.DocumentFault.{DocumentFault}
+use Rattle.etcs_form.specs.declared.line_error.LineError.{LineError}
+use Rattle.etcs_form.specs.declared.line_error.LineError.TheVariants as errors
+use Rattle.etcs_form.specs.declared.verdict.Verdict.{Verdict}
+use Rattle.etcs_group.specs.Assembly.{IsAccepted}
+use Rattle.etcs_group.specs.Missed.{IsCovered, IsSetOf, none_missed}
+use Rattle.etcs_group.specs.Packets.{packets_of}
+use Rattle.etcs_group.specs.Places.{At}
+use Rattle.etcs_group.specs.Reading.{reading_of}
+use Rattle.etcs_packet.specs.Track.{holds}
+use Rattle.etcs_packet.specs.declared.run.Run.{Run}
+use Rattle.etcs_radio.specs.Text.{IsMessageText}
+use Rattle.etcs_radio.specs.declared.message.Message.{Message}
+use Rattle.etcs_radio.specs.declared.message.Message.TheVariants as messages
+use Rattle.etcs_telegram.specs.Record.{Telegram}
+use Rattle.etcs_telegram.specs.Text.{IsTelegramText}
+
+-- ---- the verdict
+
+-- a line, and all its findings
+abbrev pub Judged : Type 0
+Judged = (List (List Telegram) × List Message) × List Finding
+
+-- the line, with all facts against it
+abbrev pub judged : List (List Telegram) × List Message → Judged
+judged line = (line, findings line.0 line.1)
+
+-- the line of bytes with all facts against it, or the first fault of the bytes
+abbrev pub verdict_of_text : List ℕ → Result Judged DocumentFault
+verdict_of_text bytes = line_of_text bytes then λ line. Ok (judged line)
+
+-- the answer is yes: there is a verdict, and no fact stands against the line
+abbrev pub IsYes : Result Verdict LineError → Type 0
+IsYes answer = IsOkAnd answer (λ verdict. verdict.findings.items ≡ [])
+
+-- the bytes are a line, and that line is sound
+abbrev pub IsSoundText : List ℕ → Type 0
+IsSoundText bytes = IsOkAnd (line_of_text bytes) (λ line. IsSoundLine line.0 line.1)
+
+-- ---- each telegram and each message has one record
+
+-- the text of balise b of group g in a document, if there is one
+abbrev pub balise_text : Data → ℕ → ℕ → Option (List ℕ)
+balise_text d g b =
+    option_and_then as_str (option_and_then (at b) (option_and_then (get (codes "balises"))
+    (option_and_then (at g) (get (codes "groups") d))))
+
+-- the text of message m in a document, if there is one
+abbrev pub message_text : Data → ℕ → Option (List ℕ)
+message_text d m = option_and_then as_str (option_and_then (at m) (get (codes "messages") d))
+
+-- the text is this telegram, and no other
+pub record IsOnlyTelegram (text : List ℕ) (t : Telegram) : Type 0 where
+  pub is : IsTelegramText t text
+  pub only : (u : Telegram) → IsTelegramText u text → u ≡ t
+
+-- the text is this message, and no other
+pub record IsOnlyMessage (text : List ℕ) (m : Message) : Type 0 where
+  pub is : IsMessageText m text
+  pub only : (u : Message) → IsMessageText u text → u ≡ m
+
+-- ---- what a yes says
+
+-- In each running direction each movement authority among the packets of message 3 that hold has
+-- gradient and speed profiles, all up to its supervised location.
+abbrev pub IsReachedMessage : Message → Type 0
+IsReachedMessage (messages.Movement m) = (run : Run) → AreReached (filter (holds run) m.packets)
+IsReachedMessage (messages.Position m) = Unit {0}
+
+-- Every telegram and message of the line has exactly one record. For every group, running direction
+-- and set of missed balises whose declared duplicates are read, the assembled message is accepted and
+-- equals that with nothing missed, every other set being refused. There, as in each radio message,
+-- every movement authority has gradient and speed profiles, all reaching at least its supervised
+-- location.
+pub record SaysYes (bytes : List ℕ) (groups : List (List Telegram)) (messages : List Message) : Type 0 where
+  pub document : Data
+  pub json : json_of bytes ≡ Ok document
+  pub telegrams : (g b : ℕ) (group : List Telegram) (t : Telegram) → At groups g group → At group b t
+      → IsSomeAnd (balise_text document g b) (λ text. IsOnlyTelegram text t)
+  pub messages_read : (i : ℕ) (m : Message) → At messages i m
+      → IsSomeAnd (message_text document i) (λ text. IsOnlyMessage text m)
+  pub accepted : (g : ℕ) (group : List Telegram) (run : Run) (missed : ℕ → Bool) → At groups g group
+      → IsSetOf group missed → IsCovered group missed ↔ IsAccepted run (reading_of run missed group)
+  pub same : (g : ℕ) (group : List Telegram) (run : Run) (missed : ℕ → Bool) → At groups g group
+      → IsSetOf group missed → IsCovered group missed
+      → packets_of run (reading_of run missed group) ≡ packets_of run (reading_of run none_missed group)
+  pub reached : (g : ℕ) (group : List Telegram) (run : Run) (missed : ℕ → Bool) → At groups g group
+      → IsSetOf group missed → IsCovered group missed → AreReached (packets_of run (reading_of run missed group))
+  pub messages_reached : (i : ℕ) (m : Message) → At messages i m → IsReachedMessage m

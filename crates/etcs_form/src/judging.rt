@@ -1,0 +1,33 @@
+//! The document of a railway line, checked.
+
+ghost use Rattle.std.specs.Prelude.{◌≡◌, ◌≢◌, ◌↔◌, [], IfOk};
+ghost use Rattle.etcs_form.specs.DocumentFault.{Gives};
+ghost use Rattle.etcs_form.specs.Verdict.{IsSoundText, IsYes, SaysYes, verdict_of_text};
+
+use crate::document::read_line;
+use crate::line_error::LineError;
+use crate::verdict::Verdict;
+use etcs_check::check;
+use std::alloc::Global;
+
+/// Reads the document of a railway line, and finds all facts against the line. Where none is found,
+/// the answer is yes: every telegram and message of the line has exactly one record, and for every
+/// group, running direction and set of missed balises whose declared duplicates are read, the
+/// assembled message is accepted and equals that with nothing missed, every other set being refused;
+/// there, as in each radio message, every movement authority has gradient and speed profiles, all
+/// reaching at least its supervised location.
+///
+/// The error is that of [`read_line`]. Findings take memory too.
+pub fn check_text(alloc: Global, bytes: &[u8]) -> Result<Verdict, LineError>
+    ensures exact { Gives (λ v. ((v.line.groups.items, v.line.messages.items), v.findings.items)) result
+        (verdict_of_text bytes.now) }
+
+    // Yes means a sound line, and a sound line means yes.
+    ensures yes { result ≢ Err LineError.Memory → IsYes result ↔ IsSoundText bytes.now }
+    ensures says { IfOk result (λ v. v.findings.items ≡ []
+        → SaysYes bytes.now v.line.groups.items v.line.messages.items) }
+{
+    let line = read_line(alloc, bytes)?;
+    let findings = check(alloc, &line)?;
+    Ok(Verdict { line, findings })
+}
