@@ -13,3 +13,4 @@ pub mod RunLemmas
 pub mod AnyList
 pub mod DocumentLemmas
 pub mod VerdictLemmas
+pub mod ReportLemmas

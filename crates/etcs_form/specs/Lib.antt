@@ -31,3 +31,4 @@ pub mod AnyMessage
 pub mod DocumentFault
 pub mod Document
 pub mod Verdict
+pub mod ReportText

@@ -6,7 +6,7 @@
 //! undoes the other (`specs/Shape.antt`). A writer of lines sends a form member by member. So far
 //! variables and packets have forms. Read `form.rt` and `record.rt` first, with `specs/Shape.antt`
 //! and `specs/Profiles.antt`, then `linking_form.rt`. [`refusal_text`] tells why an input is
-//! refused. The crate leaves out telegrams and messages.
+//! refused, and [`report`] what is found about a line. The crate leaves out telegrams and messages.
 #![tactic(auto)]
 
 mod authority_form;
@@ -41,6 +41,7 @@ mod reading;
 mod record;
 mod refusal;
 mod report_form;
+mod report_text;
 mod reports_form;
 mod sending;
 mod speed_form;
@@ -60,4 +61,5 @@ pub use judging::check_text;
 pub use line_error::LineError;
 pub use record::Record;
 pub use refusal::{LineFault, Refusal, StreamFault, refusal_text};
+pub use report_text::report;
 pub use verdict::Verdict;

@@ -8,6 +8,7 @@ mod packets;
 mod positions;
 mod raw;
 mod refusals;
+mod report_lines;
 mod reports;
 mod telegrams;
 

@@ -1,0 +1,154 @@
+//! `report`: what a check of a line found, as text.
+
+ghost use Rattle.std.specs.Prelude.{◌≡◌, ◌++◌, length, string_bytes, IfOk, OnOk};
+ghost use Rattle.etcs_form.specs.ReportText.{balise_words, direction_words, finding_words, findings_words, packet_words, place_words, report_words, rule_name, rule_number, site_words};
+
+use etcs_bits::Memory;
+use etcs_check::{Finding, Line, Rule, Site};
+use etcs_packet::Run;
+use std::alloc::{AllocError, Global};
+
+// The number of a rule.
+#[tactic(auto, unfolding(crate::specs::ReportText::rule_number))]
+fn number_of(rule: Rule) -> &'static str
+    ensures { result.now ≡ rule_number rule }
+{
+    match rule {
+        Rule::PositionWrong => "F1",
+        Rule::TotalWrong => "F2",
+        Rule::HeaderDiffers => "F3",
+        Rule::MarkOutside => "F4",
+        Rule::MarkUnanswered => "F5",
+        Rule::CounterUnfit => "F6",
+        Rule::CountersDiffer => "F7",
+        Rule::DuplicatesDiffer => "F8",
+        Rule::NotModelled => "F9",
+        Rule::NoGradient => "F10",
+        Rule::GradientShort => "F11",
+        Rule::NoSpeed => "F12",
+        Rule::SpeedShort => "F13",
+        Rule::IdentityUsed => "F14",
+    }
+}
+
+// The name of what a rule finds.
+#[tactic(auto, unfolding(crate::specs::ReportText::rule_name))]
+fn name_of(rule: Rule) -> &'static str
+    ensures { result.now ≡ rule_name rule }
+{
+    match rule {
+        Rule::PositionWrong => "position wrong",
+        Rule::TotalWrong => "total wrong",
+        Rule::HeaderDiffers => "version, identity or link flag differs",
+        Rule::MarkOutside => "mark points outside",
+        Rule::MarkUnanswered => "mark not answered",
+        Rule::CounterUnfit => "counter 254",
+        Rule::CountersDiffer => "counters differ",
+        Rule::DuplicatesDiffer => "packets of duplicates differ",
+        Rule::NotModelled => "packet not modelled",
+        Rule::NoGradient => "no gradient",
+        Rule::GradientShort => "gradient short",
+        Rule::NoSpeed => "no speed profile",
+        Rule::SpeedShort => "speed profile short",
+        Rule::IdentityUsed => "identity used before",
+    }
+}
+
+// The group or the message.
+#[tactic(auto, unfolding(crate::specs::ReportText::site_words))]
+fn site_text(alloc: Global, site: Site) -> Result<String, AllocError>
+    ensures { IfOk result (λ s. string_bytes s ≡ site_words site) }
+{
+    match site {
+        Site::Group(place) => format!(in alloc; " group {place}"),
+        Site::Message(place) => format!(in alloc; " message {place}"),
+    }
+}
+
+// The balise, where there is one.
+#[tactic(auto, unfolding(crate::specs::ReportText::balise_words))]
+fn balise_text(alloc: Global, balise: Option<usize>) -> Result<String, AllocError>
+    ensures { IfOk result (λ s. string_bytes s ≡ balise_words balise) }
+{
+    match balise {
+        None => format!(in alloc; ""),
+        Some(place) => format!(in alloc; " balise {place}"),
+    }
+}
+
+// The packet, where there is one.
+#[tactic(auto, unfolding(crate::specs::ReportText::packet_words))]
+fn packet_text(alloc: Global, packet: Option<usize>) -> Result<String, AllocError>
+    ensures { IfOk result (λ s. string_bytes s ≡ packet_words packet) }
+{
+    match packet {
+        None => format!(in alloc; ""),
+        Some(place) => format!(in alloc; " packet {place}"),
+    }
+}
+
+// The running direction, where there is one.
+#[tactic(auto, unfolding(crate::specs::ReportText::direction_words))]
+fn direction_text(dir: Option<Run>) -> &'static str
+    ensures { result.now ≡ direction_words dir }
+{
+    match dir {
+        None => "",
+        Some(Run::Nominal) => " nominal",
+        Some(Run::Reverse) => " reverse",
+    }
+}
+
+// The way from the line to what is at fault, and the running direction.
+#[tactic(auto, unfolding(crate::specs::ReportText::place_words))]
+fn place_text(alloc: Global, finding: &Finding) -> Result<String, AllocError>
+    ensures { IfOk result (λ s. string_bytes s ≡ place_words finding.now) }
+{
+    let site = site_text(alloc, finding.site)?;
+    let balise = balise_text(alloc, finding.balise)?;
+    let packet = packet_text(alloc, finding.packet)?;
+    let direction = direction_text(finding.dir);
+    format!(in alloc; "{site}{balise}{packet}{direction}")
+}
+
+// Appends the line that tells a finding.
+#[tactic(auto, unfolding(crate::specs::ReportText::finding_words))]
+fn push_finding(alloc: Global, text: &mut String, finding: &Finding) -> Result<(), AllocError>
+    ensures { OnOk result (string_bytes text.new
+        ≡ string_bytes text.old ++ finding_words finding.now) }
+{
+    let number = number_of(finding.rule);
+    let place = place_text(alloc, finding)?;
+    let name = name_of(finding.rule);
+    let line = format!(in alloc; "{number}{place}: {name}\n")?;
+    text.push_str(line.as_str())
+}
+
+// The lines that tell findings, one after the other.
+fn findings_text(alloc: Global, findings: &[Finding]) -> Result<String, AllocError>
+    ensures { IfOk result (λ s. string_bytes s ≡ findings_words findings.now) }
+{
+    let mut text = String::new(alloc);
+    'findings: for finding in findings {
+        push_finding(alloc, &mut text, finding)?;
+    }
+    Ok(text)
+}
+
+/// The report on a line, given what a check found: `yes` and how many groups and messages the line
+/// has, or `no`, how many findings there are, and then a line for each finding. Each line ends with
+/// `\n`. The only error is that memory runs out.
+#[tactic(auto, unfolding(crate::specs::ReportText::report_words))]
+pub fn report(alloc: Global, line: &Line, findings: &[Finding]) -> Result<String, Memory>
+    ensures { IfOk result (λ s. string_bytes s
+        ≡ report_words (length line.now.groups.items) (length line.now.messages.items) findings.now) }
+{
+    if findings.is_empty() {
+        let groups = line.groups.len();
+        let messages = line.messages.len();
+        return Ok(format!(in alloc; "yes: groups {groups}, messages {messages}\n")?);
+    }
+    let count = findings.len();
+    let lines = findings_text(alloc, findings)?;
+    Ok(format!(in alloc; "no: findings {count}\n{lines}")?)
+}
