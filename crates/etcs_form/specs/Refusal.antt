@@ -1,12 +1,16 @@
 -- The lines that tell why an input is refused. The words are this project's.
-use Rattle.std.specs.Prelude.{◌++◌, ℕ, List, [], ◌∷◌, codes, decimal, map}
+use Rattle.std.specs.Prelude.{◌++◌, ℕ, List, [], ◌∷◌, codes, decimal, map, Option, Some, None}
 use Rattle.etcs_bits.specs.layout.FaultWords.{fault_words}
 use Rattle.etcs_telegram.specs.declared.error.TextError.{TextError}
 use Rattle.etcs_telegram.specs.declared.error.TextError.TheVariants as texts
-use Rattle.etcs_form.specs.Fault.{Step, key, place, step_of}
+use Rattle.etcs_radio.specs.declared.error.RadioTextError.{RadioTextError}
+use Rattle.etcs_radio.specs.declared.error.RadioTextError.TheVariants as radio
+use Rattle.etcs_form.specs.Fault.{Fault, Reason, Missing, Unknown, Kind, Range, Step, fault_of, key, place, step_of}
 use Rattle.etcs_form.specs.declared.error.Step.{Step as CodeStep}
 use Rattle.etcs_form.specs.declared.error.FormError.{FormError}
 use Rattle.etcs_form.specs.declared.error.FormError.TheVariants as forms
+use Rattle.etcs_form.specs.declared.line_error.LineError.{LineError}
+use Rattle.etcs_form.specs.declared.line_error.LineError.TheVariants as documents
 use Rattle.etcs_form.specs.declared.refusal.LineFault.{LineFault}
 use Rattle.etcs_form.specs.declared.refusal.LineFault.TheVariants as lines
 use Rattle.etcs_form.specs.declared.refusal.StreamFault.{StreamFault}
@@ -24,6 +28,12 @@ text_words texts.WrongSize = codes "wrong size"
 text_words texts.PadBits = codes "pad bits set"
 text_words (texts.Fault fault) = fault_words fault
 
+-- the same for a radio message
+abbrev pub radio_words : RadioTextError → List ℕ
+radio_words radio.Memory = []
+radio_words radio.NotHex = codes "not hexadecimal"
+radio_words (radio.Fault fault) = fault_words fault
+
 -- ---- why a value is no form
 
 -- a slash, and then the key or the place
@@ -40,17 +50,29 @@ abbrev pub path_words : List Step → List ℕ
 path_words [] = codes "/"
 path_words (step ∷ steps) = steps_words (step ∷ steps)
 
+-- what is wrong
+abbrev pub reason_words : Reason → List ℕ
+reason_words Missing = codes "missing key"
+reason_words Unknown = codes "unknown key"
+reason_words Kind = codes "kind"
+reason_words Range = codes "range"
+
 -- what is wrong, and where
+abbrev pub fault_told : Fault → List ℕ
+fault_told f = codes "form " ++ (reason_words f.reason ++ (codes " at " ++ path_words f.path))
+
+-- the same of these words and this path
 abbrev pub form_fault : List ℕ → List CodeStep → List ℕ
 form_fault reason path = codes "form " ++ (reason ++ (codes " at " ++ path_words (map step_of path)))
 
+-- the words of the fault, if there is one
+abbrev pub told_if : Option Fault → List ℕ
+told_if None = []
+told_if (Some f) = fault_told f
+
 -- want of memory is no reason
 abbrev pub form_words : FormError → List ℕ
-form_words forms.Memory = []
-form_words (forms.Missing path) = form_fault (codes "missing key") path.items
-form_words (forms.Unknown path) = form_fault (codes "unknown key") path.items
-form_words (forms.Kind path) = form_fault (codes "kind") path.items
-form_words (forms.Range path) = form_fault (codes "range") path.items
+form_words e = told_if (fault_of e)
 
 -- ---- the lines
 
@@ -67,17 +89,33 @@ stream_words (streams.Fault fault) = fault_words fault
 stream_words streams.BelowThree = codes "length below 3"
 stream_words streams.CutOff = codes "cut off"
 
+-- Why bytes are no document of a line: a group, a balise and a message are told by their places. Want
+-- of memory is no reason.
+unfoldable pub document_words : LineError → List ℕ
+document_words documents.Memory = []
+document_words documents.NotJson = codes "not JSON"
+document_words (documents.Form why) = form_words why
+document_words (documents.Count g) = codes "group " ++ (decimal g ++ codes ": count")
+document_words (documents.Telegram g b why) =
+    codes "group " ++ (decimal g ++ (codes " balise " ++ (decimal b ++ (codes ": " ++ text_words why))))
+document_words (documents.Message m why) = codes "message " ++ (decimal m ++ (codes ": " ++ radio_words why))
+
 -- the line that tells a refusal
 unfoldable pub refusal_words : Refusal → List ℕ
 refusal_words refusals.Usage = codes "refused: usage is balisecheck check, decode [--radio] or encode [--radio]\n"
 refusal_words (refusals.Line n why) = codes "refused: line " ++ (decimal n ++ (codes ": " ++ (line_words why ++ codes "\n")))
 refusal_words (refusals.Message n why) = codes "refused: message " ++ (decimal n ++ (codes ": " ++ (stream_words why ++ codes "\n")))
+refusal_words (refusals.Document why) = codes "refused: " ++ (document_words why ++ codes "\n")
 
 -- ---- what is told: each reason but want of memory
 
 abbrev pub IsTextTold : TextError → Type 0
 IsTextTold texts.Memory = ⊥
 IsTextTold _ = Unit {0}
+
+abbrev pub IsRadioTextTold : RadioTextError → Type 0
+IsRadioTextTold radio.Memory = ⊥
+IsRadioTextTold _ = Unit {0}
 
 abbrev pub IsFormTold : FormError → Type 0
 IsFormTold forms.Memory = ⊥
@@ -88,6 +126,14 @@ IsLineTold (lines.Text why) = IsTextTold why
 IsLineTold (lines.Form why) = IsFormTold why
 IsLineTold _ = Unit {0}
 
+abbrev pub IsDocumentTold : LineError → Type 0
+IsDocumentTold documents.Memory = ⊥
+IsDocumentTold (documents.Form why) = IsFormTold why
+IsDocumentTold (documents.Telegram g b why) = IsTextTold why
+IsDocumentTold (documents.Message m why) = IsRadioTextTold why
+IsDocumentTold _ = Unit {0}
+
 abbrev pub IsTold : Refusal → Type 0
 IsTold (refusals.Line n why) = IsLineTold why
+IsTold (refusals.Document why) = IsDocumentTold why
 IsTold _ = Unit {0}

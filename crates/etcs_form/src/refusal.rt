@@ -2,10 +2,12 @@
 
 ghost use Rattle.std.specs.Prelude.{◌≡◌, ◌++◌, map, string_bytes, IfOk, OnOk};
 ghost use Rattle.etcs_form.specs.Fault.{step_of};
-ghost use Rattle.etcs_form.specs.Refusal.{IsFormTold, IsLineTold, IsTextTold, IsTold, form_fault, form_words, line_words, path_words, refusal_words, step_words, steps_words, stream_words, text_words};
+ghost use Rattle.etcs_form.specs.Refusal.{IsDocumentTold, IsFormTold, IsLineTold, IsRadioTextTold, IsTextTold, IsTold, document_words, form_fault, form_words, line_words, path_words, radio_words, refusal_words, step_words, steps_words, stream_words, text_words};
 
 use crate::error::{FormError, Step};
+use crate::line_error::LineError;
 use etcs_bits::{Fault, Memory};
+use etcs_radio::RadioTextError;
 use etcs_telegram::TextError;
 use std::alloc::{AllocError, Global};
 
@@ -42,6 +44,8 @@ pub enum Refusal {
     Line(u64, LineFault),
     /// The message with this number is refused. Messages count from 0.
     Message(u64, StreamFault),
+    /// The bytes are not the document of a railway line.
+    Document(LineError),
 }
 
 // Why a text is no telegram, in words.
@@ -55,6 +59,18 @@ fn text_reason(alloc: Global, why: &TextError) -> Result<String, AllocError>
         TextError::WrongSize => format!(in alloc; "wrong size"),
         TextError::PadBits => format!(in alloc; "pad bits set"),
         TextError::Fault(fault) => format!(in alloc; "{fault}"),
+    }
+}
+
+// Why a text is no radio message, in words.
+fn radio_reason(alloc: Global, why: &RadioTextError) -> Result<String, AllocError>
+    requires { IsRadioTextTold why.now }
+    ensures { IfOk result (λ s. string_bytes s ≡ radio_words why.now) }
+{
+    match why {
+        RadioTextError::Memory => unreachable!("want of memory is no reason"),
+        RadioTextError::NotHex => format!(in alloc; "not hexadecimal"),
+        RadioTextError::Fault(fault) => format!(in alloc; "{fault}"),
     }
 }
 
@@ -139,6 +155,28 @@ fn stream_reason(alloc: Global, why: &StreamFault) -> Result<String, AllocError>
     }
 }
 
+// Why bytes are not the document of a line, in words.
+#[tactic(auto, unfolding(crate::specs::Refusal::document_words))]
+fn document_reason(alloc: Global, why: &LineError) -> Result<String, AllocError>
+    requires { IsDocumentTold why.now }
+    ensures { IfOk result (λ s. string_bytes s ≡ document_words why.now) }
+{
+    match why {
+        LineError::Memory => unreachable!("want of memory is no reason"),
+        LineError::NotJson => format!(in alloc; "not JSON"),
+        LineError::Form(why) => form_reason(alloc, why),
+        LineError::Count(group) => format!(in alloc; "group {group}: count"),
+        LineError::Telegram(group, balise, why) => {
+            let reason = text_reason(alloc, why)?;
+            format!(in alloc; "group {group} balise {balise}: {reason}")
+        }
+        LineError::Message(message, why) => {
+            let reason = radio_reason(alloc, why)?;
+            format!(in alloc; "message {message}: {reason}")
+        }
+    }
+}
+
 /// The line that tells a refusal, with its `\n`. Want of memory is no reason to refuse an input. The
 /// only error is that memory runs out.
 #[tactic(auto, unfolding(crate::specs::Refusal::refusal_words))]
@@ -157,6 +195,10 @@ pub fn refusal_text(alloc: Global, refusal: &Refusal) -> Result<String, Memory>
         Refusal::Message(number, why) => {
             let reason = stream_reason(alloc, why)?;
             format!(in alloc; "refused: message {number}: {reason}\n")?
+        }
+        Refusal::Document(why) => {
+            let reason = document_reason(alloc, why)?;
+            format!(in alloc; "refused: {reason}\n")?
         }
     };
     Ok(line)

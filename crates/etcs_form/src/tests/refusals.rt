@@ -1,9 +1,10 @@
 //! The lines that tell refusals.
 
-ghost use Rattle.etcs_form.specs.Refusal.{IsLineTold};
+ghost use Rattle.etcs_form.specs.Refusal.{IsDocumentTold, IsLineTold};
 
-use crate::{FormError, LineFault, Refusal, Step, StreamFault, refusal_text};
+use crate::{FormError, LineError, LineFault, Refusal, Step, StreamFault, refusal_text};
 use etcs_bits::{Fault, FaultKind};
+use etcs_radio::RadioTextError;
 use etcs_telegram::TextError;
 use std::alloc::Global;
 use std::test::Fail;
@@ -12,6 +13,12 @@ const SPARE: Fault = Fault {
     at: 15,
     end: 17,
     why: FaultKind::Spare,
+};
+
+const SHORT: Fault = Fault {
+    at: 8,
+    end: 8,
+    why: FaultKind::Short,
 };
 
 // The line of a line's fault.
@@ -24,6 +31,13 @@ fn line(alloc: Global, number: u64, why: LineFault) -> Result<String, Fail>
 // The line of a message's fault.
 fn message(alloc: Global, number: u64, why: StreamFault) -> Result<String, Fail> {
     Ok(refusal_text(alloc, &Refusal::Message(number, why))?)
+}
+
+// The line of a document's fault.
+fn document(alloc: Global, why: LineError) -> Result<String, Fail>
+    requires { IsDocumentTold why }
+{
+    Ok(refusal_text(alloc, &Refusal::Document(why))?)
 }
 
 #[test]
@@ -88,6 +102,47 @@ fn the_usage_is_told(rt: HostRuntime) -> Result<(), Fail> {
     assert_eq!(rt;
         refusal_text(alloc, &Refusal::Usage)?.as_str(),
         "refused: usage is balisecheck check, decode [--radio] or encode [--radio]\n"
+    );
+    Ok(())
+}
+
+#[test]
+fn documents_are_refused_without_a_place(rt: HostRuntime) -> Result<(), Fail> {
+    let alloc = rt.alloc();
+    assert_eq!(rt;
+        document(alloc, LineError::NotJson)?.as_str(),
+        "refused: not JSON\n"
+    );
+    let whole = FormError::Kind(Vec::new(alloc));
+    assert_eq!(rt;
+        document(alloc, LineError::Form(whole))?.as_str(),
+        "refused: form kind at /\n"
+    );
+    Ok(())
+}
+
+#[test]
+fn groups_and_messages_are_refused_with_their_place(rt: HostRuntime) -> Result<(), Fail> {
+    let alloc = rt.alloc();
+    assert_eq!(rt;
+        document(alloc, LineError::Count(0))?.as_str(),
+        "refused: group 0: count\n"
+    );
+    assert_eq!(rt;
+        document(alloc, LineError::Telegram(0, 0, TextError::PadBits))?.as_str(),
+        "refused: group 0 balise 0: pad bits set\n"
+    );
+    assert_eq!(rt;
+        document(alloc, LineError::Telegram(12, 1, TextError::Fault(SPARE)))?.as_str(),
+        "refused: group 12 balise 1: spare at 15 end 17\n"
+    );
+    assert_eq!(rt;
+        document(alloc, LineError::Message(0, RadioTextError::Fault(SHORT)))?.as_str(),
+        "refused: message 0: short at 8 end 8\n"
+    );
+    assert_eq!(rt;
+        document(alloc, LineError::Message(3, RadioTextError::NotHex))?.as_str(),
+        "refused: message 3: not hexadecimal\n"
     );
     Ok(())
 }
