@@ -14,3 +14,7 @@ pub mod AnyList
 pub mod DocumentLemmas
 pub mod VerdictLemmas
 pub mod ReportLemmas
+pub mod RangeLemmas
+pub mod TrackRanges
+pub mod PacketRanges
+pub mod RadioRanges

@@ -32,3 +32,4 @@ pub mod DocumentFault
 pub mod Document
 pub mod Verdict
 pub mod ReportText
+pub mod Laws

@@ -26,6 +26,7 @@ mod head_form;
 mod integrity_form;
 mod judging;
 mod known_keys;
+pub mod laws;
 mod level_form;
 mod line_error;
 mod linking_form;
