@@ -68,6 +68,6 @@ pub read_again : {X : Type 0} (s : Shape X) (x : X) (d : Data) → d ≡ s.to x 
 read_again s x d is fits = ap s.of is ∙ s.again x fits
 
 -- the same for what a call returned, unless it failed
-pub written_again : {X E : Type 0} → (s : Shape X) (x : X) (result : Result Value E) → IfOk result (λ v. view v ≡ s.to x) → IfOk result (λ v. s.fits x ≡ true → s.of (view v) ≡ Ok x)
-written_again s x (Ok v) is = read_again s x (view v) is
-written_again s x (Err e) is = tt
+pub written_again : {X E : Type 0} → (s : Shape X) (x : X) (result : Result Value E) → s.fits x ≡ true → IfOk result (λ v. view v ≡ s.to x) → IfOk result (λ v. Unit {0} → s.of (view v) ≡ Ok x)
+written_again s x (Ok v) fits is = λ _. read_again s x (view v) is fits
+written_again s x (Err e) fits is = tt

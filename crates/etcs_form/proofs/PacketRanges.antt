@@ -3,14 +3,15 @@ use Rattle.std.proofs.Common.{◌≡◌, ◌++◌, ◌&&◌, ℕ, true, Option, 
 use Rattle.std.proofs.lemmas.Bool.{and_from}
 use Rattle.etcs_bits.specs.layout.Rows.{AreAllowed, alone}
 use Rattle.etcs_bits.specs.variables.Variables.{plain, ranged}
-use Rattle.etcs_profile.specs.Authority.{Permission, numbered, numbered_by}
+use Rattle.etcs_profile.specs.Authority.{Permission, authority as authority_layout, authority_variable, numbered, numbered_by}
+use Rattle.etcs_packet.specs.Cover.{cover_marker as cover_layout}
 use Rattle.etcs_packet.specs.PacketNumbers.{nid_track}
 use Rattle.etcs_packet.specs.Track.{authority_in, track_numbered, track_packet as track_layout}
 use Rattle.etcs_packet.specs.declared.track.TrackPacket.{TrackPacket}
 use Rattle.etcs_packet.specs.declared.track.TrackPacket.TheVariants as packets
 use Rattle.etcs_telegram.specs.Header.{header as header_layout}
 use Rattle.etcs_telegram.specs.Record.{Telegram}
-use Rattle.etcs_form.specs.Authority.{authority_fits}
+use Rattle.etcs_form.specs.Authority.{authority, authority_fits}
 use Rattle.etcs_form.specs.Cover.{cover_marker}
 use Rattle.etcs_form.specs.Laws.{IsTelegramInRange}
 use Rattle.etcs_form.specs.Telegrams.{header, telegram}
@@ -57,3 +58,20 @@ header_keeps = record {
 pub telegram_range : (t : Telegram) → IsTelegramInRange t → telegram.part.fits t ≡ true
 unfolding telegram
 telegram_range t allowed = and_from _ _ (header_keeps.range t.header allowed.header) (all_in_range track_keeps t.packets allowed.packets)
+
+-- ---- packets by themselves
+
+pub cover_keeps : Keeps cover_layout.rows cover_marker.part.fits
+unfolding alone cover_marker
+cover_keeps = record { range = λ p allowed. number_range (plain 6) p.marker allowed.1.0 }
+
+own_authority_range : (main : Option ℕ) (a : Permission)
+    → AreAllowed (alone authority_variable (numbered.number (numbered_by main a)) ++ numbered.rows (numbered_by main a))
+    → (is_allowed (ranged 8 254 256) (numbered.number (numbered_by main a)) && authority_fits (numbered_by main a)) ≡ true
+unfolding alone
+own_authority_range None a allowed = without_main_keeps.range (a.dir, (a.scale, a.terms)) allowed.1
+own_authority_range (Some v) a allowed = with_main_keeps.range (a.dir, (a.scale, (v, a.terms))) allowed.1
+
+pub authority_keeps : Keeps authority_layout.rows authority.fits
+unfolding authority
+authority_keeps = record { range = λ a allowed. own_authority_range a.main a allowed }

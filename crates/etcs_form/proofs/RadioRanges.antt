@@ -9,10 +9,14 @@ use Rattle.etcs_bits.specs.layout.RowLemmas.{allowed_first, allowed_second}
 use Rattle.etcs_bits.specs.layout.Rows.{AreAllowed, Row, alone}
 use Rattle.etcs_bits.specs.variables.Level.{m_level}
 use Rattle.etcs_bits.specs.variables.Variables.{plain, ranged}
+use Rattle.std.specs.List.{flat_map}
+use Rattle.etcs_bits.specs.variables.Identity.{identity as identity_layout}
+use Rattle.etcs_packet.specs.Track.{track_packet as track_layout}
 use Rattle.etcs_radio.specs.Integrity.{q_length}
 use Rattle.etcs_radio.specs.Lrbg.{lrbg_rows}
 use Rattle.etcs_radio.specs.Record.{Movement, Position}
-use Rattle.etcs_radio.specs.Report.{m_mode, numbered_by, situation, situation_of, v_train, with_one as with_one_layout, with_two as with_two_layout}
+use Rattle.etcs_radio.specs.Report.{m_mode, numbered, numbered_by, report as report_layout, report_variable, situation, situation_of, v_train, with_one as with_one_layout, with_two as with_two_layout}
+use Rattle.etcs_radio.specs.Required.{has_authority, has_report}
 use Rattle.etcs_radio.specs.TrainNumbers.{nid_train}
 use Rattle.etcs_radio.specs.TrainPacket.{report_in, train_numbered, train_packet as train_layout}
 use Rattle.etcs_radio.specs.Train3.{q_dirtrain}
@@ -27,7 +31,7 @@ use Rattle.etcs_form.specs.AnyMessage.{message}
 use Rattle.etcs_form.specs.Laws.{IsMessageInRange}
 use Rattle.etcs_form.specs.Messages.{movement, position}
 use Rattle.etcs_form.specs.Report.{integrity, place, state, with_one, with_two}
-use Rattle.etcs_form.specs.Reports.{fits_by, number_by, one_of, place_of, state_of, two_of}
+use Rattle.etcs_form.specs.Reports.{fits_by, number_by, one_of, place_of, report, state_of, two_of}
 use Rattle.etcs_form.specs.TrackPackets.{track_packet}
 use Rattle.etcs_form.specs.TrainPackets.{number_of_train, train_fits, train_packet}
 use Rattle.etcs_form.specs.Variables.{is_allowed}
@@ -117,3 +121,30 @@ position_range m allowed =
 pub message_range : (m : Message) → IsMessageInRange m → message.fits m ≡ true
 message_range (messages.Movement m) allowed = movement_range m allowed
 message_range (messages.Position m) allowed = position_range m allowed
+
+-- ---- packets and messages by themselves
+
+own_report_range : (previous : Option Identity) (r : Report)
+    → AreAllowed (alone report_variable (numbered.number (numbered_by previous r)) ++ numbered.rows (numbered_by previous r))
+    → (is_allowed (plain 1) (number_by previous) && fits_by previous r) ≡ true
+unfolding alone
+own_report_range None r allowed = one_range r allowed.1
+own_report_range (Some previous) r allowed = two_range r previous allowed.1
+
+pub report_keeps : Keeps report_layout.rows report.fits
+report_keeps = record { range = λ r allowed. own_report_range r.previous r allowed }
+
+-- a message whose group is two numbers
+pub movement_keeps : (m : Movement) → AreAllowed (alone (plain 32) m.time) → AreAllowed (identity_layout.rows m.lrbg) → AreAllowed (flat_map track_layout.rows m.packets)
+    → has_authority m.packets ≡ true → (movement track_packet).part.fits m ≡ true
+unfolding alone movement
+movement_keeps m time group packets there =
+    and_from _ _ (number_range (plain 32) m.time time.0) (and_from _ _ (and_from _ _ (number_range (plain 10) m.lrbg.country group.0) (number_range (plain 14) m.lrbg.group group.1.0))
+    (and_from _ _ (all_in_range track_keeps m.packets packets) there))
+
+pub position_keeps : (m : Position) → AreAllowed (alone (plain 32) m.time) → AreAllowed (alone (plain 24) m.engine) → AreAllowed (flat_map train_layout.rows m.packets)
+    → has_report m.packets ≡ true → (position train_packet).part.fits m ≡ true
+unfolding alone position
+position_keeps m time engine packets there =
+    and_from _ _ (number_range (plain 32) m.time time.0) (and_from _ _ (number_range (plain 24) m.engine engine.0)
+    (and_from _ _ (all_in_range train_keeps m.packets packets) there))

@@ -16,6 +16,7 @@ use crate::form::{Form, InPieces};
 use crate::head_form::{put_head, read_head};
 use crate::known_keys::check_keys;
 use crate::reading::{read_first, read_key};
+use crate::record::stay_allowed;
 use crate::sending::{send_key, send_key_if, send_list_at, send_number};
 use crate::terms_form::{authority_of, put_terms, read_terms};
 use etcs_bits::{Memory, Ranged};
@@ -162,6 +163,8 @@ impl Form for Authority {
     ghost shape = { authority };
 
     fn to_form(&self, alloc: Global) -> Result<Value, Memory> {
+        // For the proof alone: what is written is read again.
+        stay_allowed(self);
         let mut members = Map::new(alloc);
         put_members(&mut members, alloc, self)?;
         Ok(Value::Object(members))

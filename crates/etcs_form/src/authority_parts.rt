@@ -5,7 +5,7 @@ ghost use Rattle.std.specs.Prelude.{◌≡◌, IfOk, OnOk};
 use crate::building::{put_key, put_key_if};
 use crate::error::FormError;
 use crate::reading::{read_key, read_key_if};
-use crate::record::{Members, Record, is_one_of};
+use crate::record::{Members, Record, is_one_of, stay_allowed};
 use crate::sending::{send_key, send_key_if};
 use etcs_bits::Memory;
 use etcs_profile::{DangerPoint, EndTimer, Overlap, Section, SectionTimer};
@@ -43,6 +43,10 @@ impl Members for SectionTimer {
             stop: read_key(alloc, value, "d_sectiontimerstoploc")?,
         })
     }
+
+    fn stay_in_range(&self) {
+        stay_allowed(self);
+    }
 }
 
 impl Record for Section {
@@ -74,6 +78,10 @@ impl Members for Section {
             length: read_key(alloc, value, "l_section")?,
             timer: read_key_if(alloc, value, "section_timer")?,
         })
+    }
+
+    fn stay_in_range(&self) {
+        stay_allowed(self);
     }
 }
 
@@ -107,6 +115,10 @@ impl Members for EndTimer {
             start: read_key(alloc, value, "d_endtimerstartloc")?,
         })
     }
+
+    fn stay_in_range(&self) {
+        stay_allowed(self);
+    }
 }
 
 impl Record for DangerPoint {
@@ -138,6 +150,10 @@ impl Members for DangerPoint {
             distance: read_key(alloc, value, "d_dp")?,
             release_speed: read_key(alloc, value, "v_releasedp")?,
         })
+    }
+
+    fn stay_in_range(&self) {
+        stay_allowed(self);
     }
 }
 
@@ -176,5 +192,9 @@ impl Members for Overlap {
             length: read_key(alloc, value, "d_ol")?,
             release_speed: read_key(alloc, value, "v_releaseol")?,
         })
+    }
+
+    fn stay_in_range(&self) {
+        stay_allowed(self);
     }
 }

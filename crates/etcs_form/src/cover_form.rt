@@ -5,7 +5,7 @@ ghost use Rattle.std.specs.Prelude.{◌≡◌, IfOk, OnOk};
 use crate::building::{put_key, put_number};
 use crate::error::FormError;
 use crate::reading::{read_fixed, read_key};
-use crate::record::{Members, Record, is_one_of};
+use crate::record::{Members, Record, is_one_of, stay_allowed};
 use crate::sending::{send_key, send_number};
 use etcs_bits::Memory;
 use etcs_packet::CoverMarker;
@@ -41,5 +41,9 @@ impl Members for CoverMarker {
         read_fixed(alloc, value, "nid_packet", 0)?;
         let marker = read_key(alloc, value, "nid_vbcmk")?;
         Ok(CoverMarker { marker })
+    }
+
+    fn stay_in_range(&self) {
+        stay_allowed(self);
     }
 }

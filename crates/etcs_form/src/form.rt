@@ -1,6 +1,6 @@
 //! What has a JSON form.
 
-ghost use Rattle.std.specs.Prelude.{◌≡◌, true, Ok, IfOk, OnOk};
+ghost use Rattle.std.specs.Prelude.{◌≡◌, Ok, IfOk, OnOk};
 ghost use Rattle.serde_json.specs.View.{view};
 ghost use Rattle.etcs_form.specs.Fault.{Gives};
 ghost use Rattle.etcs_form.specs.Sending.{SendsValue};
@@ -18,12 +18,16 @@ pub trait Form: Drop {
     /// other for each value in range.
     ghost shape: { Shape Self };
 
-    /// The form as a JSON value, which is read as this value again. The only error is that memory
-    /// runs out.
+    /// The condition, in the value's own terms, that it is in the range of its form. It always holds
+    /// if the value's type keeps its numbers and lists in range.
+    ghost in_range: { Self → Type 0 } = { λ _. Unit {0} };
+
+    /// The form as a JSON value, which is read as this value again if the value is in range. The
+    /// only error is that memory runs out.
     fn to_form(&self, alloc: Global) -> Result<Value, Memory>
         ensures form { IfOk result (λ v. view v ≡ shape.to self.now) }
         ensures again { IfOk result
-            (λ v. shape.fits self.now ≡ true → shape.of (view v) ≡ Ok self.now) };
+            (λ v. in_range self.now → shape.of (view v) ≡ Ok self.now) };
 
     /// Reads a form. The error is its first fault, in the order in which the form is read, with the
     /// way to it.

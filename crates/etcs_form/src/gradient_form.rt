@@ -6,7 +6,7 @@ use crate::building::put_key;
 use crate::error::FormError;
 use crate::profile_form::{put_profile, read_profile, send_profile};
 use crate::reading::read_key;
-use crate::record::{Members, Record, is_one_of};
+use crate::record::{Members, Record, is_one_of, stay_allowed};
 use crate::sending::send_key;
 use etcs_bits::Memory;
 use etcs_profile::{Gradient, GradientElement};
@@ -47,6 +47,10 @@ impl Members for GradientElement {
             gradient: read_key(alloc, value, "g_a")?,
         })
     }
+
+    fn stay_in_range(&self) {
+        stay_allowed(self);
+    }
 }
 
 impl Record for Gradient {
@@ -71,5 +75,9 @@ impl Members for Gradient {
 
     fn of_members(alloc: Global, value: &Value) -> Result<Self, FormError> {
         read_profile(alloc, value, "elements")
+    }
+
+    fn stay_in_range(&self) {
+        stay_allowed(self);
     }
 }

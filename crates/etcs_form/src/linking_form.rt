@@ -6,7 +6,7 @@ use crate::building::{put_key, put_key_if};
 use crate::error::FormError;
 use crate::profile_form::{put_profile, read_profile, send_profile};
 use crate::reading::{read_key, read_key_if};
-use crate::record::{Members, Record, is_one_of};
+use crate::record::{Members, Record, is_one_of, stay_allowed};
 use crate::sending::{send_key, send_key_if};
 use etcs_bits::Memory;
 use etcs_profile::{Link, Linking};
@@ -66,6 +66,10 @@ impl Members for Link {
             accuracy: read_key(alloc, value, "q_locacc")?,
         })
     }
+
+    fn stay_in_range(&self) {
+        stay_allowed(self);
+    }
 }
 
 impl Record for Linking {
@@ -90,5 +94,9 @@ impl Members for Linking {
 
     fn of_members(alloc: Global, value: &Value) -> Result<Self, FormError> {
         read_profile(alloc, value, "links")
+    }
+
+    fn stay_in_range(&self) {
+        stay_allowed(self);
     }
 }

@@ -10,6 +10,7 @@ ghost use Rattle.etcs_form.specs.Reading.{at_key, number_of};
 use crate::error::{FormError, Step};
 use crate::form::{Form, InPieces};
 use crate::reading::check_object;
+use crate::record::Members;
 use etcs_bits::Memory;
 use etcs_radio::Message;
 use json::Writer;
@@ -63,9 +64,16 @@ impl Form for Message {
     ghost shape = { message };
 
     fn to_form(&self, alloc: Global) -> Result<Value, Memory> {
+        // Each kind is in range. That is for the proof alone: what is written is read again.
         match self {
-            Message::Movement(message) => message.to_form(alloc),
-            Message::Position(message) => message.to_form(alloc),
+            Message::Movement(message) => {
+                message.stay_in_range();
+                message.to_form(alloc)
+            }
+            Message::Position(message) => {
+                message.stay_in_range();
+                message.to_form(alloc)
+            }
         }
     }
 

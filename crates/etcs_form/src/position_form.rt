@@ -6,9 +6,9 @@ use crate::building::{put_key, put_list_at, put_number};
 use crate::error::FormError;
 use crate::packets_form::read_all_at;
 use crate::reading::{read_fixed, read_key};
-use crate::record::{Members, Record, is_one_of};
+use crate::record::{Members, Record, is_one_of, stay_allowed};
 use crate::sending::{send_key, send_list_at, send_number};
-use etcs_bits::Memory;
+use etcs_bits::{Memory, are_allowed};
 use etcs_radio::PositionMessage;
 use json::Writer;
 use serde_json::{Map, Value};
@@ -52,5 +52,11 @@ impl Members for PositionMessage {
             Ok(message) => Ok(message),
             Err(_) => Err(FormError::range_at(alloc, "packets")),
         }
+    }
+
+    fn stay_in_range(&self) {
+        stay_allowed(&self.time());
+        stay_allowed(&self.engine());
+        let _allowed = are_allowed(self.packets());
     }
 }

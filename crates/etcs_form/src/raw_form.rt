@@ -93,4 +93,8 @@ impl Members for RawPacket {
             Err(_) => unreachable!("the number and the length were read"),
         }
     }
+
+    fn stay_in_range(&self) {
+        let _number = self.number();
+    }
 }

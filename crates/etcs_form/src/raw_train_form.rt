@@ -89,4 +89,8 @@ impl Members for RawTrainPacket {
             Err(_) => unreachable!("the number and the length were read"),
         }
     }
+
+    fn stay_in_range(&self) {
+        let _number = self.number();
+    }
 }

@@ -1,8 +1,9 @@
 //! Records whose forms are objects.
 
-ghost use Rattle.std.specs.Prelude.{◌≡◌, IfOk, OnOk};
+ghost use Rattle.std.specs.Prelude.{◌≡◌, true, IfOk, OnOk};
 ghost use Rattle.std.specs.List.{list_any};
 ghost use Rattle.std.specs.Str.{bytes_eq};
+ghost use Rattle.etcs_bits.specs.layout.Rows.{AreAllowed};
 ghost use Rattle.serde_json.specs.View.{members_view, view};
 ghost use Rattle.etcs_form.specs.Entries.{are_known, is_among, members_onto};
 ghost use Rattle.etcs_form.specs.Fault.{Gives};
@@ -12,7 +13,7 @@ ghost use Rattle.etcs_form.specs.Sending.{SendsMembers, sorted};
 
 use crate::error::FormError;
 use crate::form::{Form, InPieces};
-use etcs_bits::Memory;
+use etcs_bits::{Layout, Memory};
 use json::Writer;
 use serde_json::{Map, Value};
 use std::alloc::Global;
@@ -21,6 +22,10 @@ use std::alloc::Global;
 pub trait Record: Drop {
     /// Its members, in the order in which they are looked for.
     ghost object: { Object Self };
+
+    /// The condition, in the record's own terms, that its members are in range. It always holds if
+    /// the record's types keep their numbers and lists in range.
+    ghost bounded: { Self → Type 0 } = { λ _. Unit {0} };
 }
 
 /// How the members of a record are sent, put into an object and read.
@@ -41,6 +46,17 @@ pub(crate) trait Members: Record {
     /// Reads the members of an object that has no other keys.
     fn of_members(alloc: Global, value: &Value) -> Result<Self, FormError>
         ensures { Gives (λ x. x) result (Self.object.part.of (view value.now)) };
+
+    /// For proofs alone: the members are in range.
+    fn stay_in_range(&self)
+        ensures { Self.bounded self.now → Self.object.part.fits self.now ≡ true };
+}
+
+/// For proofs alone: each number of a record is allowed, as far as the record's types say so.
+pub(crate) fn stay_allowed<T: Layout>(value: &T)
+    ensures { T.fit value.now → AreAllowed (T.format.rows value.now) }
+{
+    let _allowed = value.is_allowed();
 }
 
 /// Whether a key is one of these.
@@ -81,7 +97,11 @@ fn check_keys<T: Members>(alloc: Global, value: &Value) -> Result<(), FormError>
 impl<T: Members> Form for T {
     ghost shape = { shape_of T.object };
 
+    ghost in_range = { T.bounded };
+
     fn to_form(&self, alloc: Global) -> Result<Value, Memory> {
+        // For the proof alone: what is written is read again.
+        self.stay_in_range();
         let mut members = Map::new(alloc);
         self.put_members(alloc, &mut members)?;
         Ok(Value::Object(members))

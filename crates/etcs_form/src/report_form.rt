@@ -232,8 +232,12 @@ fn send_third_run(
 
 impl Record for WithOne {
     ghost use Rattle.etcs_form.specs.Report.{with_one};
+    ghost use Rattle.std.specs.Prelude.{◌≡◌, true};
 
     ghost object = { with_one };
+
+    // A report says that it is in range, and its parts follow it.
+    ghost bounded = { λ p. with_one.part.fits p ≡ true };
 }
 
 #[tactic(auto, unfolding(crate::specs::Report::with_one))]
@@ -288,12 +292,18 @@ impl Members for WithOne {
             state: read_state(alloc, value)?,
         })
     }
+
+    fn stay_in_range(&self) {}
 }
 
 impl Record for WithTwo {
     ghost use Rattle.etcs_form.specs.Report.{with_two};
+    ghost use Rattle.std.specs.Prelude.{◌≡◌, true};
 
     ghost object = { with_two };
+
+    // A report says that it is in range, and its parts follow it.
+    ghost bounded = { λ p. with_two.part.fits p ≡ true };
 }
 
 #[tactic(auto, unfolding(crate::specs::Report::with_two))]
@@ -353,4 +363,6 @@ impl Members for WithTwo {
             state: read_state(alloc, value)?,
         })
     }
+
+    fn stay_in_range(&self) {}
 }

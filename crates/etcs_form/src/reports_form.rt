@@ -8,6 +8,7 @@ ghost use Rattle.etcs_form.specs.Reports.{one_of, place_of, read_one as what_is_
 use crate::error::FormError;
 use crate::form::{Form, InPieces};
 use crate::reading::read_first;
+use crate::record::stay_allowed;
 use crate::report_form::{Place, State, WithOne, WithTwo};
 use etcs_bits::{Identity, Memory, Plain, Scale};
 use etcs_radio::Report;
@@ -128,6 +129,8 @@ impl Form for Report {
     ghost shape = { report };
 
     fn to_form(&self, alloc: Global) -> Result<Value, Memory> {
+        // For the proof alone: what is written is read again.
+        stay_allowed(self);
         match self.previous {
             None => with_one(self).to_form(alloc),
             Some(previous) => with_two(self, previous).to_form(alloc),

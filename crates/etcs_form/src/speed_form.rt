@@ -6,7 +6,7 @@ use crate::building::{put_key, put_list_at};
 use crate::error::FormError;
 use crate::profile_form::{put_profile, read_profile, send_profile};
 use crate::reading::{read_items_at, read_key};
-use crate::record::{Members, Record, is_one_of};
+use crate::record::{Members, Record, is_one_of, stay_allowed};
 use crate::sending::{send_key, send_list_at};
 use etcs_bits::Memory;
 use etcs_profile::{Difference, SpeedElement, SpeedProfile};
@@ -47,12 +47,20 @@ impl Members for Difference {
             speed: read_key(alloc, value, "v_diff")?,
         })
     }
+
+    fn stay_in_range(&self) {
+        stay_allowed(self);
+    }
 }
 
 impl Record for SpeedElement {
     ghost use Rattle.etcs_form.specs.Profiles.{speed_element};
+    ghost use Rattle.std.specs.Prelude.{◌≤◌, length};
 
     ghost object = { speed_element };
+
+    // The types keep the numbers in range, except the count of differences.
+    ghost bounded = { λ e. length e.differences ≤ 31 };
 }
 
 #[tactic(auto, using(crate::proofs::SendingLemmas::then), unfolding(crate::specs::Profiles::speed_element))]
@@ -85,6 +93,10 @@ impl Members for SpeedElement {
             differences: read_items_at(alloc, value, "differences")?,
         })
     }
+
+    fn stay_in_range(&self) {
+        stay_allowed(self);
+    }
 }
 
 impl Record for SpeedProfile {
@@ -109,5 +121,9 @@ impl Members for SpeedProfile {
 
     fn of_members(alloc: Global, value: &Value) -> Result<Self, FormError> {
         read_profile(alloc, value, "elements")
+    }
+
+    fn stay_in_range(&self) {
+        stay_allowed(self);
     }
 }

@@ -12,10 +12,10 @@ use crate::error::FormError;
 use crate::form::{Form, InPieces};
 use crate::packets_form::read_all_at;
 use crate::reading::read_key;
-use crate::record::{Members, Record, is_one_of};
+use crate::record::{Members, Record, is_one_of, stay_allowed};
 use crate::report_form::{put_identity, read_identity};
 use crate::sending::{send_key, send_list_at};
-use etcs_bits::Memory;
+use etcs_bits::{Memory, are_allowed};
 use etcs_telegram::{Header, Size, Telegram};
 use json::Writer;
 use serde_json::{Map, Value};
@@ -148,5 +148,10 @@ impl Members for Telegram {
             header,
             packets,
         })
+    }
+
+    fn stay_in_range(&self) {
+        stay_allowed(&self.header);
+        let _allowed = are_allowed(self.packets.as_slice());
     }
 }

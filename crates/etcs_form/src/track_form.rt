@@ -6,6 +6,7 @@ use crate::authority_form::{read_with_main, read_without_main};
 use crate::error::FormError;
 use crate::form::{Form, InPieces};
 use crate::reading::read_first;
+use crate::record::stay_allowed;
 use etcs_bits::{Memory, Ranged};
 use etcs_packet::TrackPacket;
 use json::Writer;
@@ -19,6 +20,8 @@ impl Form for TrackPacket {
     ghost shape = { track_packet };
 
     fn to_form(&self, alloc: Global) -> Result<Value, Memory> {
+        // For the proof alone: what is written is read again.
+        stay_allowed(self);
         match self {
             TrackPacket::Cover(packet) => packet.to_form(alloc),
             TrackPacket::Linking(packet) => packet.to_form(alloc),

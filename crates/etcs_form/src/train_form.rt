@@ -5,6 +5,7 @@ ghost use Rattle.std.specs.Prelude.{◌≡◌, IfOk, OnOk};
 use crate::error::FormError;
 use crate::form::{Form, InPieces};
 use crate::reading::read_first;
+use crate::record::stay_allowed;
 use crate::reports_form::{read_one, read_two};
 use etcs_bits::{Memory, Ranged};
 use etcs_radio::TrainPacket;
@@ -18,6 +19,8 @@ impl Form for TrainPacket {
     ghost shape = { train_packet };
 
     fn to_form(&self, alloc: Global) -> Result<Value, Memory> {
+        // For the proof alone: what is written is read again.
+        stay_allowed(self);
         match self {
             TrainPacket::Report(report) => report.to_form(alloc),
             TrainPacket::Raw(packet) => packet.to_form(alloc),

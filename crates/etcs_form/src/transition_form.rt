@@ -6,7 +6,7 @@ use crate::building::{put_first_and, put_key, put_key_if, put_number};
 use crate::error::FormError;
 use crate::level_form::{national_system_of, read_level};
 use crate::reading::{read_first_and_at, read_fixed, read_key};
-use crate::record::{Members, Record, is_one_of};
+use crate::record::{Members, Record, is_one_of, stay_allowed};
 use crate::sending::{send_first_and, send_key, send_key_if, send_number};
 use etcs_bits::Memory;
 use etcs_profile::{LevelOrder, Transition};
@@ -47,6 +47,10 @@ impl Members for LevelOrder {
             level: read_level(alloc, value, "m_leveltr")?,
             acknowledge: read_key(alloc, value, "l_ackleveltr")?,
         })
+    }
+
+    fn stay_in_range(&self) {
+        stay_allowed(self);
     }
 }
 
@@ -93,5 +97,9 @@ impl Members for Transition {
             Ok(packet) => Ok(packet),
             Err(_) => Err(FormError::range(alloc)),
         }
+    }
+
+    fn stay_in_range(&self) {
+        stay_allowed(self);
     }
 }
