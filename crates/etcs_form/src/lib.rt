@@ -3,10 +3,12 @@
 //! [`Form`] is what has a JSON form: `to_form` writes a value, and `of_form` reads one or answers a
 //! [`FormError`], the first fault with the way to it. A [`Record`] is a record whose form is an
 //! object. Each form is stated once, as a `Shape`: what is written, what is read, and that the one
-//! undoes the other (`specs/Shape.antt`). A writer of lines sends a form member by member. So far
-//! variables and packets have forms. Read `form.rt` and `record.rt` first, with `specs/Shape.antt`
-//! and `specs/Profiles.antt`, then `linking_form.rt`. [`refusal_text`] tells why an input is
-//! refused, and [`report`] what is found about a line. The crate leaves out telegrams and messages.
+//! undoes the other (`specs/Shape.antt`). A writer of lines sends a form member by member. Read
+//! `form.rt` and `record.rt` first, with `specs/Shape.antt` and `specs/Profiles.antt`, then
+//! `linking_form.rt`. [`read_line`] reads the document of a railway line, and [`check_text`] finds all
+//! facts against that line: of these read `document.rt` first, with `specs/Document.antt`, and then
+//! `specs/Verdict.antt`, which states what a yes says. [`report`] tells what is found about a line,
+//! and [`refusal_text`] why an input is refused.
 #![tactic(auto)]
 
 mod authority_form;

@@ -2,6 +2,7 @@
 //! fault is told of a text that is no form.
 
 mod authorities;
+mod documents;
 mod faults;
 mod messages;
 mod packets;
