@@ -129,6 +129,97 @@ decodes_examples() {
     done
 }
 
+# Each example, and each telegram of the cases, encodes to a text that decodes to the same line. Examples
+# are in canonical text, so it is theirs.
+encodes_forms() {
+    local wanted name got
+    for wanted in "$here"/../examples/*.json; do
+        name=$(basename "$wanted" .json)
+        "$program" encode <"$wanted" >"$room/stdout" 2>"$room/stderr"
+        got=$?
+        count "the form of the example $name" "$(
+            [ "$got" -eq 0 ] || echo "status $got in place of 0"
+            cmp "${wanted%.json}.txt" "$room/stdout" 2>&1
+            cat "$room/stderr"
+        )"
+    done
+    cut -f 3 "$room/accepted" >"$room/forms"
+    "$program" encode <"$room/forms" 2>&1 | "$program" decode >"$room/stdout" 2>"$room/stderr"
+    count 'the forms of the cases' "$(cmp "$room/forms" "$room/stdout" 2>&1; cat "$room/stderr")"
+}
+
+# refuses_form WHY LINE
+refuses_form() {
+    answers "the form $2" 2 "refused: line 1: $1"$'\n' '' encode <<<"$2"
+}
+
+# refuses_message WHY LINE
+refuses_message() {
+    answers "the message $2" 2 "refused: line 1: $1"$'\n' '' encode --radio <<<"$2"
+}
+
+encodes_lines() {
+    local blank='{ "user_bits" : 210 , "m_version":33,"n_pig":5,"n_pig":0,"n_total":0,"m_dup":0,"m_mcount":255,
+"nid_c":1,"nid_bg":1,"q_link":1,"packets":[ ] }'
+    answers 'a form with blanks, keys in another order and one twice' 0 "$telegram"$'\n' '' \
+        encode <<<"${blank//$'\n'/}"
+    answers 'forms up to a refused one' 2 \
+        "$telegram"$'\nrefused: line 3: form missing key at /user_bits\n' '' \
+        encode <<<$'\n'"$json"'{}'$'\n'"$json"
+    refuses_form 'form missing key at /user_bits' '{}'
+    refuses_form 'form kind at /' '[]'
+    refuses_form 'form unknown key at /' '{"x":1}'
+    refuses_form 'not JSON' '{} {}'
+    refuses_form 'not JSON' $'"\xff"'
+    refuses_form 'not JSON' "$(printf '[%.0s' {1..128})$(printf ']%.0s' {1..128})"
+    refuses_form 'form kind at /' "$(printf '[%.0s' {1..127})$(printf ']%.0s' {1..127})"
+    local number
+    for number in 8 18446744073709551615; do
+        refuses_form 'form range at /n_pig' "${json/'"n_pig":0'/'"n_pig":'$number}"
+    done
+    for number in -1 -0 1e2 18446744073709551616; do
+        refuses_form 'form kind at /n_pig' "${json/'"n_pig":0'/'"n_pig":'$number}"
+    done
+    refuses_form 'not JSON' "${json/'"n_pig":0'/'"n_pig":1e400'}"
+    refuses_message 'form missing key at /nid_message' '{"x":1}'
+    refuses_message 'form range at /nid_message' '{"nid_message":4}'
+}
+
+# Packets that no telegram holds, and a telegram that has no room for one.
+refuses_packets() {
+    local why packet
+    while IFS=$'\t' read -r why packet; do
+        refuses_form "$why" "${json/'"packets":[]'/"\"packets\":[$packet]"}"
+    done <<'END'
+form range at /packets/0/nid_packet	{"nid_packet":255}
+form range at /packets/0/body	{"nid_packet":44,"q_dir":2,"l_packet":24,"body":"40"}
+form missing key at /packets/0/transitions/0/nid_ntc	{"nid_packet":41,"q_dir":1,"q_scale":1,"d_leveltr":0,"transitions":[{"m_leveltr":1,"l_ackleveltr":0}]}
+form range at /packets/0/transitions/0/nid_ntc	{"nid_packet":41,"q_dir":1,"q_scale":1,"d_leveltr":0,"transitions":[{"m_leveltr":2,"nid_ntc":"x","l_ackleveltr":0}]}
+form range at /packets/0/transitions	{"nid_packet":41,"q_dir":1,"q_scale":1,"d_leveltr":0,"transitions":[]}
+too big	{"nid_packet":44,"q_dir":2,"l_packet":159,"body":"0000000000000000000000000000000000"}
+END
+}
+
+# A message 3 with an authority of 1,000 m, alone, and with a raw packet of so many bits besides.
+message=03048000001900080021e810901ff801f400
+message_json='{"m_ack":0,"nid_bg":1,"nid_c":1,"nid_message":3,"packets":[{"end_speed":0,"end_timeout":1023,"l_endsection":1000,"nid_packet":15,"q_dir":1,"q_scale":1,"sections":[]}],"t_train":100}'
+
+# message_with BITS: the message with a packet 44 that has a body of so many bits.
+message_with() {
+    local digits raw
+    digits=$(printf '0%.0s' $(seq $((($1 + 7) / 8 * 2))))
+    raw="{\"nid_packet\":44,\"q_dir\":2,\"l_packet\":$(($1 + 23)),\"body\":\"$digits\"}"
+    printf '%s' "${message_json%%]\}],*}]},$raw],\"t_train\":100}"
+}
+
+encodes_messages() {
+    answers 'a message' 0 "$message"$'\n' '' encode --radio <<<"$message_json"
+    refuses_message 'form range at /packets' "$(sed 's/"packets":.*,"t_train"/"packets":[],"t_train"/' <<<"$message_json")"
+    refuses_message 'too big' "$(message_with 8021)"
+    count 'the greatest message has 1,023 bytes' \
+        "$("$program" encode --radio <<<"$(message_with 8020)" | awk '{ if (length != 2046) print length }')"
+}
+
 refuses_examples() {
     local examples=$here/../examples
     answers 'the example pad-bits-set' 2 "${json}refused: line 3: pad bits set"$'\n' '' \
@@ -182,9 +273,11 @@ reads_over_blocks() {
 }
 
 # What is said on standard error to a person whose words are a usual mistake.
-alone='balisecheck: this version has the command decode alone, without --radio
+alone='balisecheck: this version has the commands decode and encode alone, and --radio with encode
 '
 from_file='balisecheck: the input is standard input: balisecheck decode < FILE
+'
+encode_from_file='balisecheck: the input is standard input: balisecheck encode < FILE
 '
 
 # misunderstands STDERR: the words of each line of the standard input are no command.
@@ -198,9 +291,10 @@ misunderstands() {
 understands_words() {
     answers 'words that end with two dashes' 0 "$json" '' decode -- <<<"$telegram"
     answers 'no word' 2 "$usage" '' <<<"$telegram"
-    misunderstands "$alone" < <(printf '%s\n' check encode 'decode --radio' 'check --radio')
+    misunderstands "$alone" < <(printf '%s\n' check 'decode --radio' 'check --radio')
     misunderstands "$from_file" < <(printf '%s\n' 'decode decode' 'decode more' 'decode telegrams.txt')
-    misunderstands '' < <(printf '%s\n' 'decode --help' 'decode --radio=' 'decode -- --radio' help \
+    misunderstands "$encode_from_file" < <(printf '%s\n' 'encode more' 'encode telegrams.json')
+    misunderstands '' < <(printf '%s\n' 'encode --radio --radio' 'encode --radio=' 'decode --help' 'decode --radio=' 'decode -- --radio' help \
         --help --version --radio --radio= '-- decode')
 }
 
@@ -219,6 +313,8 @@ devices_fail() {
     fails 'a telegram and a full device' "$device" decode <<<"$telegram"
     fails 'a refused line and a full device' "$device" decode <<<zz
     fails 'a telegram, a refused line and a full device' "$device" decode <<<"$telegram"$'\nzz'
+    fails 'a form and a full device' "$device" encode <<<"$json"
+    fails 'a form of a message and a full device' "$device" encode --radio <<<"$message_json"
     fails 'the usage line and a full device' "$device" help </dev/null
 }
 
@@ -238,6 +334,10 @@ makes_cases
 decodes_cases
 refuses_cases
 decodes_examples
+encodes_forms
+encodes_lines
+refuses_packets
+encodes_messages
 refuses_examples
 reads_lines
 reads_long_lines
