@@ -1,10 +1,9 @@
 -- What was written for a line when a write failed.
 use Rattle.std.proofs.Common.{◌≡◌, ◌+◌, ◌++◌, ℕ, List, [], take, drop, Option, Result, Ok, Err, sym, ap, ◌∙◌, append_assoc, refl}
 use Rattle.std.proofs.lemmas.List.{append-nil, take-append-drop}
-use Rattle.etcs_telegram.specs.declared.error.TextError.{TextError}
+use Rattle.balisecheck.specs.LineMeaning.{Meaning, refusal_of}
 use Rattle.balisecheck.specs.Output.{Output, after_line, answered, answers}
 use Rattle.balisecheck.specs.Ran.{TakesTurn, Turns, WritesBytes}
-use Rattle.balisecheck.specs.TelegramLines.{refusal_of}
 use Rattle.balisecheck.specs.TextLines.{trimmed}
 use Rattle.balisecheck.specs.declared.error.RunError.{RunError}
 use Rattle.balisecheck.specs.declared.turn.Turn.{Turn}
@@ -27,21 +26,21 @@ put_failed {bytes} e written begins = record {
 }
 
 -- the text of a line is a beginning of the answer to the line
-pub begins_answered : (n : ℕ) {meaning : Result (List ℕ) TextError} {bytes : List ℕ}
+pub begins_answered : (n : ℕ) {meaning : Result (List ℕ) (List ℕ)} {bytes : List ℕ}
     → meaning ≡ Ok bytes → (rest : Output)
     → (more : List ℕ) × ((answered n meaning rest).0 ≡ bytes ++ more)
 begins_answered n is rest = (rest.0, rw is refl)
 
 -- and so is its refusal
-pub begins_refused : (n : ℕ) (why : TextError) {bytes : List ℕ} → bytes ≡ refusal_of n why
-    → (rest : Output) → (more : List ℕ) × ((answered n (Err why) rest).0 ≡ bytes ++ more)
-begins_refused n why {bytes} is rest = ([], sym is ∙ sym (append-nil bytes))
+pub begins_refused : (n : ℕ) (words : List ℕ) {bytes : List ℕ} → bytes ≡ refusal_of n words
+    → (rest : Output) → (more : List ℕ) × ((answered n (Err words) rest).0 ≡ bytes ++ more)
+begins_refused n words {bytes} is rest = ([], sym is ∙ sym (append-nil bytes))
 
 -- the turn of a command that carries nothing from line to line
-pub turn_taken : {old new : Option (List ℕ)} (number : ℕ) (line : List ℕ) (result : Result Turn RunError)
-    → Turns old new (after_line number (trimmed line)) result
-    → TakesTurn old new answers answers number line result
+pub turn_taken : {old new : Option (List ℕ)} (meaning : Meaning) (number : ℕ) (line : List ℕ) (result : Result Turn RunError)
+    → Turns old new (after_line meaning number (trimmed line)) result
+    → TakesTurn old new (answers meaning) (answers meaning) number line result
 unfolding answers
-turn_taken number line (Ok Next) turn = record { text = turn.text; appended = turn.appended; says = λ lines. turn.says (answers (number + 1) lines) }
-turn_taken number line (Ok (Stop status)) turn = record { text = turn.text; appended = turn.appended; says = λ lines. turn.says (answers (number + 1) lines) }
-turn_taken number line (Err e) turn = record { text = turn.text; appended = turn.appended; says = λ lines. turn.says (answers (number + 1) lines) }
+turn_taken meaning number line (Ok Next) turn = record { text = turn.text; appended = turn.appended; says = λ lines. turn.says (answers meaning (number + 1) lines) }
+turn_taken meaning number line (Ok (Stop status)) turn = record { text = turn.text; appended = turn.appended; says = λ lines. turn.says (answers meaning (number + 1) lines) }
+turn_taken meaning number line (Err e) turn = record { text = turn.text; appended = turn.appended; says = λ lines. turn.says (answers meaning (number + 1) lines) }

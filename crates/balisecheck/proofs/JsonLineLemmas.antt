@@ -1,5 +1,5 @@
 -- The text of what was written.
-use Rattle.std.proofs.Common.{◌≡◌, ◌++◌, ◌∙◌, ℕ, List, [], ap, sym}
+use Rattle.std.proofs.Common.{◌≡◌, ◌++◌, ◌∙◌, ℕ, List, [], ap}
 use Rattle.json.specs.Print.{print}
 use Rattle.json.specs.Written.{Written}
 use Rattle.serde_json.proofs.Texts.{print-outline}

@@ -5,3 +5,5 @@ pub mod AnswerLemmas
 pub mod RunLemmas
 pub mod CommandLemmas
 pub mod JsonLineLemmas
+pub mod HexTextLemmas
+pub mod FormLemmas

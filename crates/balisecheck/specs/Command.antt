@@ -1,25 +1,45 @@
 -- The command that the words of a command line give. The library `clap` defines which faults the
--- words have and which subcommand it finds. Words with a fault are no command. A request for help
--- is one of the faults.
-use Rattle.std.specs.Prelude.{List, [], ◌∷◌, codes, Option, Some, None, if◌then◌else◌}
+-- words have, which subcommand it finds and which flags it has. Words with a fault are no command. A
+-- request for help is one of the faults.
+use Rattle.std.specs.Prelude.{List, [], ◌∷◌, codes, Bool, false, Option, Some, None, if◌then◌else◌}
+use Rattle.std.specs.Option.{option_map_or}
 use Rattle.std.specs.Str.{bytes_eq}
-use Rattle.clap.specs.Words.{App, Row, Text, fault_of, new_app, subcommand_of, with_subcommand}
+use Rattle.clap.specs.Words.{App, Row, Rule, Text, fault_of, first_of, new_app, new_rule, subcommand_of, with_rule, with_subcommand}
 use Rattle.clap.specs.Kinds.{Kinds}
+use Rattle.clap.specs.declared.builder.ArgAction.TheVariants.{SetTrue}
 use Rattle.balisecheck.specs.declared.command.Command.{Command}
-use Rattle.balisecheck.specs.declared.command.Command.TheVariants.{Decode}
+use Rattle.balisecheck.specs.declared.command.Command.TheVariants.{Decode, Encode, EncodeRadio}
+
+-- the flag `--radio`
+abbrev pub radio : Rule
+radio = record (new_rule (codes "radio")) { long = Some (codes "radio"); action = Some SetTrue }
 
 -- `balisecheck decode`
-abbrev pub command_line : App
-command_line = with_subcommand (new_app (codes "balisecheck")) (new_app (codes "decode")).top
+abbrev pub decode_line : App
+decode_line = with_subcommand (new_app (codes "balisecheck")) (new_app (codes "decode")).top
 
--- the command of this name
-abbrev pub named : Text → Option Command
-named name = if bytes_eq name (codes "decode") then Some Decode else None
+-- `balisecheck decode` and `balisecheck encode [--radio]`
+abbrev pub command_line : App
+command_line = with_subcommand decode_line (with_rule (new_app (codes "encode")) radio).top
+
+-- whether the flag was given
+abbrev pub has_radio : List Row → Bool
+has_radio rows = option_map_or (λ v. bytes_eq v (codes "true")) (first_of (codes "radio") rows) false
+
+-- the command `encode`, of telegrams or of radio messages
+abbrev pub encode_of : Bool → Command
+encode_of radio = if radio then EncodeRadio else Encode
+
+-- the command of this name, with or without the flag
+abbrev pub named : Text → Bool → Option Command
+named name radio =
+    if bytes_eq name (codes "decode") then Some Decode
+    else (if bytes_eq name (codes "encode") then Some (encode_of radio) else None)
 
 -- the command of the subcommand that was found
 abbrev pub entered : Option (Text × List Row) → Option Command
 entered None = None
-entered (Some found) = named found.0
+entered (Some found) = named found.0 (has_radio found.1)
 
 -- the command, but only if the words have no fault
 abbrev pub unless_fault : Kinds → Option Command → Option Command

@@ -1,7 +1,10 @@
 pub mod Counted
 pub mod Command
 pub mod TextLines
+pub mod LineMeaning
 pub mod TelegramLines
+pub mod HexText
+pub mod FormLines
 pub mod Output
 pub mod Ran
 pub mod LineReading

@@ -2,12 +2,13 @@
 -- first that is refused. The answer to that line is its refusal, which ends the run. Lines count
 -- from 1. An empty line is skipped, but counted.
 use Rattle.std.specs.Prelude.{◌+◌, ◌++◌, ℕ, List, [], ◌∷◌, codes, Option, Some, None, Result, Ok, Err}
-use Rattle.etcs_telegram.specs.declared.error.TextError.{TextError}
 use Rattle.balisecheck.specs.Command.{command_of}
 use Rattle.balisecheck.specs.TextLines.{lines_of, trimmed}
-use Rattle.balisecheck.specs.TelegramLines.{meaning_of, refusal_of}
+use Rattle.balisecheck.specs.FormLines.{message_encoded, telegram_encoded}
+use Rattle.balisecheck.specs.LineMeaning.{Meaning, refusal_of}
+use Rattle.balisecheck.specs.TelegramLines.{decoded_of}
 use Rattle.balisecheck.specs.declared.command.Command.{Command}
-use Rattle.balisecheck.specs.declared.command.Command.TheVariants.{Decode}
+use Rattle.balisecheck.specs.declared.command.Command.TheVariants.{Decode, Encode, EncodeRadio}
 use Rattle.balisecheck.specs.declared.status.Status.{Status}
 use Rattle.balisecheck.specs.declared.status.Status.TheVariants.{Done, Refused}
 
@@ -20,27 +21,28 @@ abbrev pub prepend : List ℕ → Output → Output
 prepend text rest = (text ++ rest.0, rest.1)
 
 -- the text that a line means, and then the rest; or the line's refusal, and nothing after it
-abbrev pub answered : ℕ → Result (List ℕ) TextError → Output → Output
+abbrev pub answered : ℕ → Result (List ℕ) (List ℕ) → Output → Output
 answered number (Ok text) rest = prepend text rest
-answered number (Err why) rest = (refusal_of number why, Refused)
+answered number (Err words) rest = (refusal_of number words, Refused)
 
 -- a line, and then the rest; an empty line is skipped
-abbrev pub after_line : ℕ → List ℕ → Output → Output
-after_line number [] rest = rest
-after_line number (byte ∷ line) rest = answered number (meaning_of (byte ∷ line)) rest
+abbrev pub after_line : Meaning → ℕ → List ℕ → Output → Output
+after_line meaning number [] rest = rest
+after_line meaning number (byte ∷ line) rest = answered number (meaning (byte ∷ line)) rest
 
 -- the answers to the lines, the first of which has this number
-unfoldable pub answers : ℕ → List (List ℕ) → Output
-answers number [] = ([], Done)
-answers number (line ∷ lines) = after_line number (trimmed line) (answers (number + 1) lines)
+unfoldable pub answers : Meaning → ℕ → List (List ℕ) → Output
+answers meaning number [] = ([], Done)
+answers meaning number (line ∷ lines) =
+    after_line meaning number (trimmed line) (answers meaning (number + 1) lines)
 
 -- what is written for an input that is answered line by line
 abbrev pub line_by_line : (ℕ → List (List ℕ) → Output) → List ℕ → Output
 line_by_line answers input = answers 1 (lines_of input)
 
--- what `decode` writes for an input
-abbrev pub decode_output : List ℕ → Output
-decode_output = line_by_line answers
+-- what is written for an input of which each line is answered by itself
+abbrev pub each_line : Meaning → List ℕ → Output
+each_line meaning = line_by_line (answers meaning)
 
 -- the line that is written if the words are no command
 unfoldable pub usage_line : List ℕ
@@ -48,7 +50,9 @@ usage_line = codes "refused: usage is balisecheck check, decode [--radio] or enc
 
 -- what is written for a command and an input, or for no command
 abbrev pub of_command : Option Command → List ℕ → Output
-of_command (Some Decode) input = decode_output input
+of_command (Some Decode) input = each_line decoded_of input
+of_command (Some Encode) input = each_line telegram_encoded input
+of_command (Some EncodeRadio) input = each_line message_encoded input
 of_command None input = (usage_line, Refused)
 
 -- what the words write for an input

@@ -6,11 +6,14 @@
 /// It goes to standard error, so that standard output stays as the contract of `run` states it.
 pub fn advice_for(words: &[&str]) -> Option<&'static str> {
     match words {
-        [_, "check" | "encode", ..] | [_, _, "--radio", ..] => {
-            Some("this version has the command decode alone, without --radio")
+        [_, "check", ..] | [_, "decode", "--radio", ..] => {
+            Some("this version has the commands decode and encode alone, and --radio with encode")
         }
         [_, "decode", name, ..] if !name.starts_with("-") => {
             Some("the input is standard input: balisecheck decode < FILE")
+        }
+        [_, "encode", name, ..] if !name.starts_with("-") => {
+            Some("the input is standard input: balisecheck encode < FILE")
         }
         _ => None,
     }

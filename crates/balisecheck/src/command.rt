@@ -1,11 +1,12 @@
 //! `Command`: what the words of a command line ask for.
 
-ghost use Rattle.std.specs.Prelude.{◌≡◌, IfOk, map};
-ghost use Rattle.clap.specs.Words.{app_of, subcommand_rows_of};
-ghost use Rattle.balisecheck.specs.Command.{command_line, command_of, entered};
+ghost use Rattle.std.specs.Prelude.{◌≡◌, false, IfOk, map};
+ghost use Rattle.clap.specs.declared.builder.command.Command.TheViews.{out-Command};
+ghost use Rattle.clap.specs.Words.{app_of, found_of, new_app, rows_of, subcommand_rows_of, with_rule};
+ghost use Rattle.balisecheck.specs.Command.{command_line, command_of, encode_of, entered, has_radio, radio};
 
 use clap::error::ErrorKind;
-use clap::{ArgMatches, Command as CommandLine};
+use clap::{Arg, ArgAction, ArgMatches, Command as CommandLine};
 use std::alloc::{AllocError, Global};
 
 /// What the program is asked to do.
@@ -13,25 +14,67 @@ use std::alloc::{AllocError, Global};
 pub enum Command {
     /// Decode lines of hexadecimal text, each a telegram, to JSON lines.
     Decode,
+    /// Encode JSON lines, each the form of a telegram, to lines of hexadecimal text.
+    Encode,
+    /// Encode JSON lines, each the form of a radio message, to lines of hexadecimal text.
+    EncodeRadio,
 }
 
-// The command line that the program understands: `balisecheck decode`.
+// The subcommand of this name with the flag `--radio`.
+fn with_radio<'a>(alloc: Global, name: &'a str) -> Result<CommandLine<'a>, AllocError>
+    ensures app { IfOk result (λ p. app_of p ≡ with_rule (new_app name.entry.now) radio) }
+    ensures local { IfOk result (λ p. (out-Command p).has_globals ≡ false) }
+{
+    let flag = Arg::new(alloc, "radio")
+        .long("radio")
+        .action(ArgAction::SetTrue);
+    let start = CommandLine::new(alloc, name);
+    let whole = start.arg(flag)?;
+    Ok(whole)
+}
+
+// The command line that the program understands: `balisecheck decode` and `balisecheck encode
+// [--radio]`.
 fn grammar<'a>(alloc: Global) -> Result<CommandLine<'a>, AllocError>
     ensures { IfOk result (λ p. app_of p ≡ command_line) }
 {
     let decode = CommandLine::new(alloc, "decode");
+    let encode = with_radio(alloc, "encode")?;
     let program = CommandLine::new(alloc, "balisecheck");
-    let whole = program.subcommand(decode)?;
-    Ok(whole)
+    let one = program.subcommand(decode)?;
+    let both = one.subcommand(encode)?;
+    Ok(both)
+}
+
+// Whether the flag `--radio` was given.
+fn is_radio(matches: &ArgMatches<'_>) -> bool
+    ensures { result ≡ has_radio (rows_of (found_of matches.now)) }
+{
+    match matches.get_str("radio") {
+        Some(value) => value == "true",
+        None => false,
+    }
+}
+
+// The command `encode`, of telegrams or of radio messages.
+fn encoding(radio: bool) -> Command
+    ensures { result ≡ encode_of radio }
+{
+    if radio {
+        Command::EncodeRadio
+    } else {
+        Command::Encode
+    }
 }
 
 // The command that `clap` found among the words.
 fn entered_command(matches: &ArgMatches<'_>) -> Option<Command>
     ensures { result ≡ entered (subcommand_rows_of matches.now) }
 {
-    let (name, _) = matches.subcommand()?;
+    let (name, inner) = matches.subcommand()?;
     match name {
         "decode" => Some(Command::Decode),
+        "encode" => Some(encoding(is_radio(inner))),
         _ => None,
     }
 }

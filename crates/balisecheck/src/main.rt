@@ -1,20 +1,24 @@
-//! `balisecheck decode`: lines of hexadecimal text, each a Eurobalise telegram, to lines of JSON.
+//! `balisecheck`: lines of hexadecimal text, each a Eurobalise telegram, to lines of JSON, and back;
+//! and lines of JSON, each a radio message, to lines of hexadecimal text.
 //!
 //! `program::run` is the whole program, from words and a counted reader to a counted writer and a
 //! status. Its contract says what is written for every input. `specs/Output.antt` defines that
 //! text, and `specs/Ran.antt` defines what is promised of it. `main` adds the arguments, standard
 //! input and standard output, which no contract can describe. Read `program.rt` first, then
-//! `answering.rt`, `line_command.rt`, `decoding.rt`, `text_lines.rt` and `telegram_lines.rt`. The
-//! commands `check` and `encode` do not exist yet.
+//! `answering.rt`, `line_command.rt`, `line_meaning.rt`, `each_line.rt` and `text_lines.rt`. What a
+//! line means is in `telegram_lines.rt` and `form_lines.rt`. The commands `check` and `decode
+//! --radio` do not exist yet.
 #![tactic(auto)]
 
 mod advice;
 mod answering;
 mod command;
 mod counted;
-mod decoding;
+mod each_line;
 mod error;
+mod form_lines;
 mod line_command;
+mod line_meaning;
 mod output;
 mod program;
 mod status;

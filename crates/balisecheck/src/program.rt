@@ -4,16 +4,19 @@ ghost use Rattle.std.specs.Prelude.{◌≡◌, None, IfErr, map};
 ghost use Rattle.balisecheck.specs.Command.{command_of};
 ghost use Rattle.balisecheck.specs.Counted.{CanCount, inner_of};
 ghost use Rattle.balisecheck.specs.LineReading.{CountsDevice};
-ghost use Rattle.balisecheck.specs.Output.{of_command, output_of, usage_line};
+ghost use Rattle.balisecheck.specs.Output.{each_line, of_command, output_of, usage_line};
 ghost use Rattle.balisecheck.specs.Ran.{Answers, CountsOneDevice, EndsFlushed, Runs, Writes};
 
 use crate::answering::answer_input;
 use crate::command::{Command, read_command};
 use crate::counted::Counted;
-use crate::decoding::Decoding;
+use crate::each_line::EachLine;
 use crate::error::RunError;
+use crate::form_lines::{EncodingMessages, EncodingTelegrams};
+use crate::line_meaning::LineMeaning;
 use crate::output::{finish, put};
 use crate::status::Status;
+use crate::telegram_lines::DecodingTelegrams;
 use std::alloc::Global;
 use std::io::{Read, Write};
 
@@ -33,6 +36,23 @@ fn refuse_words<W: Write>(writer: &mut Counted<W>) -> Result<Status, RunError>
     Ok(Status::Refused)
 }
 
+// Answers each line by what it means.
+fn answer_each<M: LineMeaning, R: Read, W: Write>(
+    alloc: Global,
+    meaning: M,
+    reader: &mut Counted<R>,
+    writer: &mut Counted<W>,
+) -> Result<Status, RunError>
+    requires reads { CanCount reader.old }
+    requires writes { CanCount writer.old }
+    ensures ran { Runs R.remaining W.contents reader.old reader.new writer.old writer.new
+        (each_line M.meaning) result }
+    ensures flushed { EndsFlushed result writer.new }
+    ensures counts { CountsOneDevice result reader.old reader.new writer.old writer.new }
+{
+    answer_input(alloc, EachLine::new(alloc, meaning), reader, writer)
+}
+
 // Runs the command, or writes the usage line if there is none.
 fn obey<R: Read, W: Write>(
     alloc: Global,
@@ -49,7 +69,9 @@ fn obey<R: Read, W: Write>(
     ensures counts { CountsOneDevice result reader.old reader.new writer.old writer.new }
 {
     match command {
-        Some(Command::Decode) => answer_input(alloc, Decoding::new(alloc), reader, writer),
+        Some(Command::Decode) => answer_each(alloc, DecodingTelegrams, reader, writer),
+        Some(Command::Encode) => answer_each(alloc, EncodingTelegrams, reader, writer),
+        Some(Command::EncodeRadio) => answer_each(alloc, EncodingMessages, reader, writer),
         None => refuse_words(writer),
     }
 }

@@ -1,10 +1,11 @@
-//! A telegram as a line of JSON, and the refusal of a line that is no telegram.
+//! `DecodingTelegrams`: a line of hexadecimal text, a telegram, becomes a line of JSON.
 
-ghost use Rattle.std.specs.Prelude.{◌≡◌, ◌≢◌, [], Ok, IfOk, MatchResult, string_bytes};
-ghost use Rattle.balisecheck.specs.TelegramLines.{json_line_of, meaning_of, refusal_of, Refuses};
+ghost use Rattle.std.specs.Prelude.{◌≡◌, [], IfOk};
+ghost use Rattle.balisecheck.specs.TelegramLines.{json_line_of};
 
+use crate::line_meaning::{LineMeaning, Unwritten};
 use etcs_bits::Memory;
-use etcs_form::{InPieces, LineFault, Refusal, refusal_text};
+use etcs_form::{InPieces, LineFault};
 use etcs_telegram::{Telegram, TextError, from_hex};
 use json::Writer;
 use std::alloc::Global;
@@ -21,29 +22,24 @@ fn json_line(room: Vec<u8>, telegram: &Telegram) -> Result<Vec<u8>, Memory>
     Ok(line)
 }
 
-/// The JSON line of the telegram that the hexadecimal text is, with its `\n`. It is made in the
-/// room of an earlier line, which has to be empty.
-///
-/// `Memory`: a request for memory was refused. Each other error is the reason why the text is no
-/// telegram, and `refusal` puts it into words.
-#[tactic(auto, unfolding(crate::specs::TelegramLines::meaning_of))]
-pub fn answer(alloc: Global, room: Vec<u8>, text: &[u8]) -> Result<Vec<u8>, TextError>
-    requires { room.items ≡ [] }
-    ensures { MatchResult result (λ line. meaning_of text.now ≡ Ok line.items)
-        (λ e. Refuses e (meaning_of text.now)) }
-{
-    let telegram = from_hex(alloc, text)?;
-    match json_line(room, &telegram) {
-        Ok(line) => Ok(line),
-        Err(Memory) => Err(TextError::Memory),
-    }
-}
+/// A line is the hexadecimal text of a telegram, and becomes its JSON line. A line that is no
+/// telegram is refused for the first reason.
+#[derive(Drop)]
+pub struct DecodingTelegrams;
 
-/// The refusal of the line with this number, with its `\n`. Lines count from 1. Want of memory is
-/// no reason to refuse a line.
-pub fn refusal(alloc: Global, number: u64, why: TextError) -> Result<String, Memory>
-    requires { why ≢ TextError.Memory }
-    ensures { IfOk result (λ s. string_bytes s ≡ refusal_of number why) }
-{
-    refusal_text(alloc, &Refusal::Line(number, LineFault::Text(why)))
+#[tactic(auto, unfolding(crate::specs::TelegramLines::decoded_of))]
+impl LineMeaning for DecodingTelegrams {
+    ghost use Rattle.balisecheck.specs.TelegramLines.{decoded_of};
+
+    ghost meaning = { decoded_of };
+
+    fn text(&self, alloc: Global, room: Vec<u8>, line: &[u8]) -> Result<Vec<u8>, Unwritten> {
+        match from_hex(alloc, line) {
+            Ok(telegram) => Ok(json_line(room, &telegram)?),
+            Err(why) => match why {
+                TextError::Memory => Err(Unwritten::Memory),
+                _ => Err(Unwritten::Refused(LineFault::Text(why))),
+            },
+        }
+    }
 }

@@ -2,6 +2,7 @@
 //! and what is written for them are cases of `tests/` at the top.
 
 mod devices;
+mod forms;
 
 use crate::counted::Counted;
 use crate::error::RunError;
@@ -28,14 +29,10 @@ const ANSWERS: &str = "{\"m_dup\":0,\"m_mcount\":255,\"m_version\":33,\"n_pig\":
 \"nid_bg\":1,\"nid_c\":1,\"packets\":[],\"q_link\":1,\"user_bits\":210}\n\
 refused: line 3: pad bits set\n";
 
+const DECODE: &[&str] = &["balisecheck", "decode"];
+
 fn decode_between(alloc: Global, input: &str, from: Device, to: Device) -> Outcome {
-    run_between(
-        alloc,
-        &["balisecheck", "decode"],
-        input.as_bytes(),
-        from,
-        to,
-    )
+    run_between(alloc, DECODE, input.as_bytes(), from, to)
 }
 
 fn decode(alloc: Global, input: &str) -> Outcome {
@@ -69,10 +66,12 @@ fn empty_lines_are_counted(rt: HostRuntime) {
 
 #[test]
 fn words_that_are_no_command_read_nothing(rt: HostRuntime) {
-    let others: [&[&str]; 3] = [
+    let others: [&[&str]; 5] = [
         &[],
         &["balisecheck", "check"],
         &["balisecheck", "decode", "more"],
+        &["balisecheck", "decode", "--radio"],
+        &["balisecheck", "encode", "--radio", "--radio"],
     ];
     for words in others {
         let from = Device::sound();
@@ -99,20 +98,21 @@ fn expect_device(rt: &impl Abort, outcome: &Outcome, text: &str, failed: (u64, u
 }
 
 // Runs on the input as often as a run of it calls the devices; each time another call fails.
-fn expect_each_failure(alloc: Global, rt: &impl Abort, input: &str, text: &str) {
+fn expect_each_failure(alloc: Global, rt: &impl Abort, words: &[&str], input: &str, text: &str) {
+    let input = input.as_bytes();
     let from = Device::new(20, Failure::Never);
-    let whole = decode_between(alloc, input, from, Device::new(9, Failure::Never));
+    let whole = run_between(alloc, words, input, from, Device::new(9, Failure::Never));
     assert!(rt; 1 < whole.reads && 1 < whole.writes);
     for call in 0..whole.reads {
         let from = Device::new(20, Failure::Error(call));
-        let outcome = decode_between(alloc, input, from, Device::sound());
+        let outcome = run_between(alloc, words, input, from, Device::sound());
         expect_device(rt, &outcome, text, (1, 0));
         assert_eq!(rt; outcome.reads, call.saturating_add(1));
         assert_eq!(rt; outcome.flushes, 0);
     }
     for call in 0..whole.writes {
         let to = Device::new(9, Failure::Error(call));
-        let outcome = decode_between(alloc, input, Device::sound(), to);
+        let outcome = run_between(alloc, words, input, Device::sound(), to);
         expect_device(rt, &outcome, text, (0, 1));
         assert_eq!(rt; outcome.writes, call.saturating_add(1));
     }
@@ -120,8 +120,8 @@ fn expect_each_failure(alloc: Global, rt: &impl Abort, input: &str, text: &str) 
 
 #[test]
 fn each_call_that_fails_ends_the_run(rt: HostRuntime) {
-    expect_each_failure(rt.alloc(), &rt, LINES, ANSWERS);
-    expect_each_failure(rt.alloc(), &rt, TELEGRAM, JSON);
+    expect_each_failure(rt.alloc(), &rt, DECODE, LINES, ANSWERS);
+    expect_each_failure(rt.alloc(), &rt, DECODE, TELEGRAM, JSON);
 }
 
 #[test]

@@ -1,7 +1,7 @@
 use Rattle.std.proofs.Common.{[], refl}
 use Rattle.balisecheck.specs.Output.{answers}
 use Rattle.balisecheck.proofs.StreamLemmas.{Appends-none}
-use Rattle.balisecheck.proofs.decoding.DecodingLineCommand.end.Goals as goal
+use Rattle.balisecheck.proofs.each_line.EachLineLineCommand.end.Goals as goal
 
 -- nothing is written at the end
 pub returns-clause-writes : goal.returns-clause-writes

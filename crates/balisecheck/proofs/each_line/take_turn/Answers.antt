@@ -3,7 +3,7 @@ use Rattle.std.proofs.lemmas.Grind.{common_steps}
 use Rattle.std.proofs.lemmas.List.{nil_from_length}
 use Rattle.balisecheck.specs.TextLines.{trimmed}
 use Rattle.balisecheck.proofs.StreamLemmas.{Appends-none}
-use Rattle.balisecheck.proofs.decoding.take_turn.Goals as goal
+use Rattle.balisecheck.proofs.each_line.take_turn.Goals as goal
 
 -- nothing is written for an empty line
 pub returns-then-is_empty-clause-turns : goal.returns-then-is_empty-clause-turns

@@ -1,21 +1,23 @@
-//! `decode`: lines of hexadecimal text, each a telegram, to JSON lines.
+//! `EachLine`: a command that answers each line by what the line means.
 
-ghost use Rattle.std.specs.Prelude.{◌≡◌, ◌≢◌};
+ghost use Rattle.std.specs.Prelude.{◌≡◌, Err, IfOk, string_bytes};
+ghost use Rattle.etcs_form.specs.Refusal.{IsLineTold, line_words};
 ghost use Rattle.balisecheck.specs.Counted.{CanCount, inner_of};
+ghost use Rattle.balisecheck.specs.LineMeaning.{refusal_of};
 ghost use Rattle.balisecheck.specs.LineReading.{CountsDevice};
 ghost use Rattle.balisecheck.specs.TextLines.{trimmed};
 ghost use Rattle.balisecheck.specs.Output.{after_line, answered};
 ghost use Rattle.balisecheck.specs.Ran.{Turns};
-ghost use Rattle.balisecheck.specs.TelegramLines.{meaning_of};
 
 use crate::counted::Counted;
 use crate::error::RunError;
 use crate::line_command::LineCommand;
+use crate::line_meaning::{LineMeaning, Unwritten};
 use crate::output::put;
 use crate::status::Status;
-use crate::telegram_lines::{answer, refusal};
 use crate::turn::Turn;
-use etcs_telegram::TextError;
+use etcs_bits::Memory;
+use etcs_form::{LineFault, Refusal, refusal_text};
 use std::alloc::Global;
 use std::io::Write;
 use std::mem;
@@ -31,17 +33,27 @@ fn trim(line: &[u8]) -> &[u8]
     }
 }
 
+// The refusal of the line with this number, with its `\n`. Lines count from 1. Want of memory is no
+// reason to refuse a line.
+#[tactic(auto, unfolding(crate::specs::LineMeaning::refusal_of, etcs_form::specs::Refusal::refusal_words))]
+fn refusal(alloc: Global, number: u64, why: LineFault) -> Result<String, Memory>
+    requires { IsLineTold why }
+    ensures { IfOk result (λ s. string_bytes s ≡ refusal_of number (line_words why)) }
+{
+    refusal_text(alloc, &Refusal::Line(number, why))
+}
+
 // Writes the refusal of the line with this number.
 fn refuse_line<W: Write>(
     alloc: Global,
     number: u64,
-    why: TextError,
+    why: LineFault,
     writer: &mut Counted<W>,
 ) -> Result<Turn, RunError>
-    requires own { why ≢ TextError.Memory }
+    requires told { IsLineTold why }
     requires writes { CanCount writer.old }
     ensures turns { Turns (W.contents (inner_of writer.old)) (W.contents (inner_of writer.new))
-        (answered number (Err why)) result }
+        (answered number (Err (line_words why))) result }
     ensures counts { CountsDevice result writer.old writer.new }
 {
     match refusal(alloc, number, why) {
@@ -53,10 +65,10 @@ fn refuse_line<W: Write>(
     }
 }
 
-// Writes the JSON line of a line of hexadecimal text, or its refusal. The room is that of an earlier
-// JSON line.
-fn answer_line<W: Write>(
+// Writes the text of a line, or its refusal. The room is that of an earlier text.
+fn answer_line<M: LineMeaning, W: Write>(
     alloc: Global,
+    meaning: &M,
     number: u64,
     line: &[u8],
     room: &mut Vec<u8>,
@@ -64,27 +76,26 @@ fn answer_line<W: Write>(
 ) -> Result<Turn, RunError>
     requires { CanCount writer.old }
     ensures turns { Turns (W.contents (inner_of writer.old)) (W.contents (inner_of writer.new))
-        (answered number (meaning_of line.now)) result }
+        (answered number (M.meaning line.now)) result }
     ensures counts { CountsDevice result writer.old writer.new }
 {
     let mut earlier = mem::replace(room, Vec::new(alloc));
     earlier.clear();
-    match answer(alloc, earlier, line) {
-        Ok(line) => {
-            put(writer, line.as_slice())?;
-            *room = line;
+    match meaning.text(alloc, earlier, line) {
+        Ok(text) => {
+            put(writer, text.as_slice())?;
+            *room = text;
             Ok(Turn::Next)
         }
-        Err(why) => match why {
-            TextError::Memory => Err(RunError::Memory),
-            _ => refuse_line(alloc, number, why, writer),
-        },
+        Err(Unwritten::Memory) => Err(RunError::Memory),
+        Err(Unwritten::Refused(why)) => refuse_line(alloc, number, why, writer),
     }
 }
 
 // Writes the answer to a line. An empty line is skipped.
-fn take_turn<W: Write>(
+fn take_turn<M: LineMeaning, W: Write>(
     alloc: Global,
+    meaning: &M,
     number: u64,
     line: &[u8],
     room: &mut Vec<u8>,
@@ -92,38 +103,40 @@ fn take_turn<W: Write>(
 ) -> Result<Turn, RunError>
     requires { CanCount writer.old }
     ensures turns { Turns (W.contents (inner_of writer.old)) (W.contents (inner_of writer.new))
-        (after_line number (trimmed line.now)) result }
+        (after_line M.meaning number (trimmed line.now)) result }
     ensures counts { CountsDevice result writer.old writer.new }
 {
     let line = trim(line);
     if line.is_empty() {
         Ok(Turn::Next)
     } else {
-        answer_line(alloc, number, line, room, writer)
+        answer_line(alloc, meaning, number, line, room, writer)
     }
 }
 
-/// The command `decode`. Each line of hexadecimal text becomes a JSON line, up to the first that is
-/// no telegram. That one becomes its refusal, which ends the run.
+/// A command that answers each line by itself. Each line becomes its text, up to the first that has
+/// none. That one becomes its refusal, which ends the run.
 #[derive(Drop)]
-pub struct Decoding {
-    // The last JSON line. The next one is made in its room.
+pub struct EachLine<M> {
+    meaning: M,
+    // The last text. The next one is made in its room.
     room: Vec<u8>,
 }
 
-impl Decoding {
+impl<M: LineMeaning> EachLine<M> {
     /// The command, before its first line. It takes no memory yet.
-    pub fn new(alloc: Global) -> Decoding {
-        Decoding {
+    pub fn new(alloc: Global, meaning: M) -> EachLine<M> {
+        EachLine {
+            meaning,
             room: Vec::new(alloc),
         }
     }
 }
 
-impl LineCommand for Decoding {
+impl<M: LineMeaning> LineCommand for EachLine<M> {
     ghost use Rattle.balisecheck.specs.Output.{answers};
 
-    ghost answers = { λ _. answers };
+    ghost answers = { λ _. answers M.meaning };
 
     fn answer<W: Write>(
         &mut self,
@@ -132,7 +145,7 @@ impl LineCommand for Decoding {
         line: &[u8],
         writer: &mut Counted<W>,
     ) -> Result<Turn, RunError> {
-        take_turn(alloc, number, line, &mut self.room, writer)
+        take_turn(alloc, &self.meaning, number, line, &mut self.room, writer)
     }
 
     fn end<W: Write>(
