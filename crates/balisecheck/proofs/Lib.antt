@@ -7,3 +7,5 @@ pub mod CommandLemmas
 pub mod JsonLineLemmas
 pub mod HexTextLemmas
 pub mod FormLemmas
+pub mod WholeLemmas
+pub mod CheckLemmas

@@ -8,7 +8,7 @@ use Rattle.clap.specs.Words.{App, Row, Rule, Text, fault_of, first_of, new_app, 
 use Rattle.clap.specs.Kinds.{Kinds}
 use Rattle.clap.specs.declared.builder.ArgAction.TheVariants.{SetTrue}
 use Rattle.balisecheck.specs.declared.command.Command.{Command}
-use Rattle.balisecheck.specs.declared.command.Command.TheVariants.{Decode, Encode, EncodeRadio}
+use Rattle.balisecheck.specs.declared.command.Command.TheVariants.{Check, Decode, Encode, EncodeRadio}
 
 -- the flag `--radio`
 abbrev pub radio : Rule
@@ -19,8 +19,12 @@ abbrev pub decode_line : App
 decode_line = with_subcommand (new_app (codes "balisecheck")) (new_app (codes "decode")).top
 
 -- `balisecheck decode` and `balisecheck encode [--radio]`
+abbrev pub coding_line : App
+coding_line = with_subcommand decode_line (with_rule (new_app (codes "encode")) radio).top
+
+-- those and `balisecheck check`
 abbrev pub command_line : App
-command_line = with_subcommand decode_line (with_rule (new_app (codes "encode")) radio).top
+command_line = with_subcommand coding_line (new_app (codes "check")).top
 
 -- whether the flag was given
 abbrev pub has_radio : List Row → Bool
@@ -33,8 +37,9 @@ encode_of radio = if radio then EncodeRadio else Encode
 -- the command of this name, with or without the flag
 abbrev pub named : Text → Bool → Option Command
 named name radio =
-    if bytes_eq name (codes "decode") then Some Decode
-    else (if bytes_eq name (codes "encode") then Some (encode_of radio) else None)
+    if bytes_eq name (codes "check") then Some Check
+    else (if bytes_eq name (codes "decode") then Some Decode
+    else (if bytes_eq name (codes "encode") then Some (encode_of radio) else None))
 
 -- the command of the subcommand that was found
 abbrev pub entered : Option (Text × List Row) → Option Command

@@ -8,3 +8,5 @@ pub mod FormLines
 pub mod Output
 pub mod Ran
 pub mod LineReading
+pub mod WholeInput
+pub mod Checking

@@ -2,13 +2,14 @@
 -- first that is refused. The answer to that line is its refusal, which ends the run. Lines count
 -- from 1. An empty line is skipped, but counted.
 use Rattle.std.specs.Prelude.{◌+◌, ◌++◌, ℕ, List, [], ◌∷◌, codes, Option, Some, None, Result, Ok, Err}
+use Rattle.balisecheck.specs.Checking.{check_output}
 use Rattle.balisecheck.specs.Command.{command_of}
 use Rattle.balisecheck.specs.TextLines.{lines_of, trimmed}
 use Rattle.balisecheck.specs.FormLines.{message_encoded, telegram_encoded}
 use Rattle.balisecheck.specs.LineMeaning.{Meaning, refusal_of}
 use Rattle.balisecheck.specs.TelegramLines.{decoded_of}
 use Rattle.balisecheck.specs.declared.command.Command.{Command}
-use Rattle.balisecheck.specs.declared.command.Command.TheVariants.{Decode, Encode, EncodeRadio}
+use Rattle.balisecheck.specs.declared.command.Command.TheVariants.{Check, Decode, Encode, EncodeRadio}
 use Rattle.balisecheck.specs.declared.status.Status.{Status}
 use Rattle.balisecheck.specs.declared.status.Status.TheVariants.{Done, Refused}
 
@@ -50,6 +51,7 @@ usage_line = codes "refused: usage is balisecheck check, decode [--radio] or enc
 
 -- what is written for a command and an input, or for no command
 abbrev pub of_command : Option Command → List ℕ → Output
+of_command (Some Check) input = check_output input
 of_command (Some Decode) input = each_line decoded_of input
 of_command (Some Encode) input = each_line telegram_encoded input
 of_command (Some EncodeRadio) input = each_line message_encoded input

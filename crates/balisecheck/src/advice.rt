@@ -6,8 +6,11 @@
 /// It goes to standard error, so that standard output stays as the contract of `run` states it.
 pub fn advice_for(words: &[&str]) -> Option<&'static str> {
     match words {
-        [_, "check", ..] | [_, "decode", "--radio", ..] => {
-            Some("this version has the commands decode and encode alone, and --radio with encode")
+        [_, "check" | "decode", "--radio", ..] => Some(
+            "this version has --radio with encode alone",
+        ),
+        [_, "check", name, ..] if !name.starts_with("-") => {
+            Some("the input is standard input: balisecheck check < FILE")
         }
         [_, "decode", name, ..] if !name.starts_with("-") => {
             Some("the input is standard input: balisecheck decode < FILE")

@@ -12,6 +12,8 @@ use std::alloc::{AllocError, Global};
 /// What the program is asked to do.
 #[derive(Clone, Copy, Debug, PartialEq, Eq)]
 pub enum Command {
+    /// Check the document of a railway line.
+    Check,
     /// Decode lines of hexadecimal text, each a telegram, to JSON lines.
     Decode,
     /// Encode JSON lines, each the form of a telegram, to lines of hexadecimal text.
@@ -33,17 +35,19 @@ fn with_radio<'a>(alloc: Global, name: &'a str) -> Result<CommandLine<'a>, Alloc
     Ok(whole)
 }
 
-// The command line that the program understands: `balisecheck decode` and `balisecheck encode
-// [--radio]`.
+// The command line that the program understands: `balisecheck decode`, `balisecheck encode
+// [--radio]` and `balisecheck check`.
 fn grammar<'a>(alloc: Global) -> Result<CommandLine<'a>, AllocError>
     ensures { IfOk result (λ p. app_of p ≡ command_line) }
 {
     let decode = CommandLine::new(alloc, "decode");
     let encode = with_radio(alloc, "encode")?;
+    let check = CommandLine::new(alloc, "check");
     let program = CommandLine::new(alloc, "balisecheck");
     let one = program.subcommand(decode)?;
     let both = one.subcommand(encode)?;
-    Ok(both)
+    let all = both.subcommand(check)?;
+    Ok(all)
 }
 
 // Whether the flag `--radio` was given.
@@ -73,6 +77,7 @@ fn entered_command(matches: &ArgMatches<'_>) -> Option<Command>
 {
     let (name, inner) = matches.subcommand()?;
     match name {
+        "check" => Some(Command::Check),
         "decode" => Some(Command::Decode),
         "encode" => Some(encoding(is_radio(inner))),
         _ => None,

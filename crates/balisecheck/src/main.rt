@@ -1,17 +1,19 @@
-//! `balisecheck`: lines of hexadecimal text, each a Eurobalise telegram, to lines of JSON, and back;
-//! and lines of JSON, each a radio message, to lines of hexadecimal text.
+//! `balisecheck`: the document of a railway line, to what is found about the line; lines of
+//! hexadecimal text, each a Eurobalise telegram, to lines of JSON, and back; and lines of JSON, each a
+//! radio message, to lines of hexadecimal text.
 //!
 //! `program::run` is the whole program, from words and a counted reader to a counted writer and a
 //! status. Its contract says what is written for every input. `specs/Output.antt` defines that
 //! text, and `specs/Ran.antt` defines what is promised of it. `main` adds the arguments, standard
 //! input and standard output, which no contract can describe. Read `program.rt` first, then
 //! `answering.rt`, `line_command.rt`, `line_meaning.rt`, `each_line.rt` and `text_lines.rt`. What a
-//! line means is in `telegram_lines.rt` and `form_lines.rt`. The commands `check` and `decode
-//! --radio` do not exist yet.
+//! line means is in `telegram_lines.rt` and `form_lines.rt`. A document is answered as a whole, in
+//! `checking.rt`. The command `decode --radio` does not exist yet.
 #![tactic(auto)]
 
 mod advice;
 mod answering;
+mod checking;
 mod command;
 mod counted;
 mod each_line;
@@ -27,6 +29,7 @@ mod telegram_lines;
 mod tests;
 mod text_lines;
 mod turn;
+mod whole_input;
 
 use crate::advice::advice_for;
 use crate::counted::Counted;

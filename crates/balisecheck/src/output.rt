@@ -4,10 +4,11 @@ ghost use Rattle.std.specs.Prelude.{◌≡◌, IfErr};
 ghost use Rattle.std.specs.Io.KnownBytes.{Keeps};
 ghost use Rattle.balisecheck.specs.Counted.{CanCount, inner_of};
 ghost use Rattle.balisecheck.specs.LineReading.{CountsDevice};
-ghost use Rattle.balisecheck.specs.Ran.{EndsFlushed, WritesBytes};
+ghost use Rattle.balisecheck.specs.Ran.{EndsFlushed, Writes, WritesBytes};
 
 use crate::counted::Counted;
 use crate::error::RunError;
+use crate::status::Status;
 use std::io::Write;
 
 /// Writes the text.
@@ -43,4 +44,22 @@ pub fn finish<W: Write>(writer: &mut Counted<W>) -> Result<(), RunError>
         Ok(()) => Ok(()),
         Err(_) => Err(RunError::Device),
     }
+}
+
+/// Writes the text that is the whole output of a run, and flushes the writer. Returns the status.
+pub fn write_out<W: Write>(
+    writer: &mut Counted<W>,
+    text: &[u8],
+    status: Status,
+) -> Result<Status, RunError>
+    requires { CanCount writer.old }
+    ensures writes { Writes (W.contents (inner_of writer.old)) (W.contents (inner_of writer.new))
+        (text.now, status) result }
+    ensures flushed { EndsFlushed result writer.new }
+    ensures counts { CountsDevice result writer.old writer.new }
+    ensures device { IfErr result (λ e. e ≡ RunError.Device) }
+{
+    put(writer, text)?;
+    finish(writer)?;
+    Ok(status)
 }

@@ -8,6 +8,7 @@ ghost use Rattle.balisecheck.specs.Output.{each_line, of_command, output_of, usa
 ghost use Rattle.balisecheck.specs.Ran.{Answers, CountsOneDevice, EndsFlushed, Runs, Writes};
 
 use crate::answering::answer_input;
+use crate::checking::check_input;
 use crate::command::{Command, read_command};
 use crate::counted::Counted;
 use crate::each_line::EachLine;
@@ -69,6 +70,7 @@ fn obey<R: Read, W: Write>(
     ensures counts { CountsOneDevice result reader.old reader.new writer.old writer.new }
 {
     match command {
+        Some(Command::Check) => check_input(alloc, reader, writer),
         Some(Command::Decode) => answer_each(alloc, DecodingTelegrams, reader, writer),
         Some(Command::Encode) => answer_each(alloc, EncodingTelegrams, reader, writer),
         Some(Command::EncodeRadio) => answer_each(alloc, EncodingMessages, reader, writer),

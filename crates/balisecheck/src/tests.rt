@@ -2,6 +2,7 @@
 //! and what is written for them are cases of `tests/` at the top.
 
 mod devices;
+mod documents;
 mod forms;
 
 use crate::counted::Counted;
@@ -68,7 +69,7 @@ fn empty_lines_are_counted(rt: HostRuntime) {
 fn words_that_are_no_command_read_nothing(rt: HostRuntime) {
     let others: [&[&str]; 5] = [
         &[],
-        &["balisecheck", "check"],
+        &["balisecheck", "check", "more"],
         &["balisecheck", "decode", "more"],
         &["balisecheck", "decode", "--radio"],
         &["balisecheck", "encode", "--radio", "--radio"],

@@ -1,0 +1,51 @@
+-- How an input is read to its end, and what is written for it then.
+use Rattle.std.proofs.Common.{◌≡◌, ◌∙◌, ◌++◌, ℕ, true, false, List, [], Option, Result, Ok, Err, refl, sym, ap, subst}
+use Rattle.std.proofs.lemmas.List.{append-nil}
+use Rattle.std.specs.Io.KnownBytes.{Consumes}
+use Rattle.balisecheck.specs.Output.{Output}
+use Rattle.balisecheck.specs.Ran.{IsOutputSoFar, Ran, Writes}
+use Rattle.balisecheck.specs.WholeInput.{ReadsMore, ReadsWhole}
+use Rattle.balisecheck.specs.declared.error.RunError.{RunError}
+use Rattle.balisecheck.specs.declared.status.Status.{Status}
+use Rattle.balisecheck.proofs.StreamLemmas.{Appends-none, Consumes-then}
+
+-- a read failed, or the input was longer than memory
+pub Whole-failed : {X : Type 0} {items : X → List ℕ} {r0 r r1 : Option (List ℕ)} {input now : List ℕ}
+    {e : RunError} (x : RunError) → Consumes r0 r input → ReadsMore r r1 input now (Err e)
+    → ReadsWhole items r0 r1 (Err x)
+Whole-failed {r0} {r} {r1} {input} x first more = record {
+  bytes = input ++ more.bytes;
+  consumed = Consumes-then r0 r r1 input more.bytes first more.consumed;
+  whole = tt;
+}
+
+-- the run stopped before anything was written
+pub Ran-unwritten : {X : Type 0} {items : X → List ℕ} {r0 r1 c : Option (List ℕ)} {output : List ℕ → Output}
+    {input : Result X RunError} (e : RunError) → ReadsWhole items r0 r1 input → Ran r0 r1 c c output (Err e)
+Ran-unwritten {c} {output} e read = record {
+  bytes = read.bytes;
+  consumed = read.consumed;
+  ended = false;
+  met = λ h. cc;
+  text = [];
+  appended = Appends-none c;
+  says = λ rest may. ((output (read.bytes ++ rest)).0, refl);
+}
+
+-- the whole input was read, and its output was written, or a beginning of it
+pub Ran-whole : {X : Type 0} {items : X → List ℕ} {r0 r1 c c1 : Option (List ℕ)} {output : List ℕ → Output}
+    {input : X} {given : Output} {result : Result Status RunError} → ReadsWhole items r0 r1 (Ok input)
+    → given ≡ output (items input) → Writes c c1 given result → Ran r0 r1 c c1 output result
+Ran-whole {output} {result} read is writes = record {
+  bytes = read.bytes;
+  consumed = read.consumed;
+  ended = true;
+  met = λ h. read.whole.1;
+  text = writes.text;
+  appended = writes.appended;
+  says = λ rest may.
+      let same : output (read.bytes ++ rest) ≡ output read.bytes =
+      ap (λ s. output (read.bytes ++ s)) (may refl) ∙ ap output (append-nil read.bytes) in
+      let P : Output → Type 0 = IsOutputSoFar result writes.text in
+      subst P (is ∙ ap output read.whole.0 ∙ sym same) writes.says;
+}

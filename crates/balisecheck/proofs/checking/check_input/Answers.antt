@@ -1,0 +1,23 @@
+use Rattle.std.proofs.Common.{◌∙◌, ap}
+use Rattle.std.proofs.lemmas.Result.{err_from_is_err_and}
+use Rattle.balisecheck.specs.Checking.{check_output}
+use Rattle.balisecheck.proofs.WholeLemmas.{Ran-unwritten, Ran-whole}
+use Rattle.balisecheck.proofs.checking.check_input.Goals as goal
+
+-- the input was not read to its end
+pub returns-in_err-document-clause-ran : goal.returns-in_err-document-clause-ran
+returns-in_err-document-clause-ran g c =
+    let passed_on = err_from_is_err_and c.from_residual.result c.from_residual.ensures.1 in
+    rw passed_on.1 (Ran-unwritten passed_on.0 c.in_err-document.ensures.read)
+
+-- memory ran out before the answer was whole
+pub returns-in_default-clause-ran : goal.returns-in_default-clause-ran
+returns-in_default-clause-ran g c = Ran-unwritten _ c.in_ok-document.ensures.read
+
+-- the answer was written, or a beginning of it
+pub returns-clause-ran : goal.returns-clause-ran
+returns-clause-ran g c =
+    let is =
+    ap (λ s. (s, c.in-Ok.status)) c.as_bytes.ensures.value ∙ c.in-Ok.ensures
+    ∙ ap check_output c.as_slice.ensures.value in
+    Ran-whole c.in_ok-document.ensures.read is c.write_out.ensures.writes
