@@ -273,11 +273,13 @@ reads_over_blocks() {
 }
 
 # What is said on standard error to a person whose words are a usual mistake.
-alone='balisecheck: this version has the commands decode and encode alone, and --radio with encode
+alone='balisecheck: this version has --radio with encode alone
 '
 from_file='balisecheck: the input is standard input: balisecheck decode < FILE
 '
 encode_from_file='balisecheck: the input is standard input: balisecheck encode < FILE
+'
+check_from_file='balisecheck: the input is standard input: balisecheck check < FILE
 '
 
 # misunderstands STDERR: the words of each line of the standard input are no command.
@@ -291,7 +293,8 @@ misunderstands() {
 understands_words() {
     answers 'words that end with two dashes' 0 "$json" '' decode -- <<<"$telegram"
     answers 'no word' 2 "$usage" '' <<<"$telegram"
-    misunderstands "$alone" < <(printf '%s\n' check 'decode --radio' 'check --radio')
+    misunderstands "$alone" < <(printf '%s\n' 'decode --radio' 'check --radio')
+    misunderstands "$check_from_file" < <(printf '%s\n' 'check more' 'check line.json')
     misunderstands "$from_file" < <(printf '%s\n' 'decode decode' 'decode more' 'decode telegrams.txt')
     misunderstands "$encode_from_file" < <(printf '%s\n' 'encode more' 'encode telegrams.json')
     misunderstands '' < <(printf '%s\n' 'encode --radio --radio' 'encode --radio=' 'decode --help' 'decode --radio=' 'decode -- --radio' help \
