@@ -7,8 +7,8 @@ use crate::same_packets;
 use etcs_packet::Run;
 use std::test::Fail;
 
-/// The first balise of the pair with counter 7, and each of the pair with packets: one packet 21 for
-/// the reverse direction, and packets 21 and 27 in one order and in the other one.
+/// The first balise of the pair with counter 7, and each of the pair with packets: one packet 21
+/// for the reverse direction, and packets 21 and 27 in one order and in the other one.
 const COUNTER_7: &str = "a10283802000";
 
 const WITH_GRADIENT: &str = "a102ff802000c5401b40001fe0";

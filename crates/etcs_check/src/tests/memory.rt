@@ -1,5 +1,6 @@
-//! Requests for memory that are refused. `rt try --test --fail-alloc 1..` refuses each in turn. A line
-//! without findings is checked as ever, since none is asked for. Any other is too, or memory ran out.
+//! Requests for memory that are refused. `rt try --test --fail-alloc N` refuses the Nth of each
+//! test. A line without findings is checked as ever, since none is asked for. Any other is too, or
+//! memory ran out.
 
 use super::MOVEMENT;
 use crate::{Finding, Line, check, check_group, check_message};

@@ -3,8 +3,8 @@
 use super::{findings, group_of, line_of, long_telegram};
 use std::test::Fail;
 
-/// The first digits of long telegrams with an authority for 1,000 m and profiles of both kinds, and the
-/// findings about the group of one.
+/// The first digits of long telegrams with an authority for 1,000 m and profiles of both kinds, and
+/// the findings about the group of one.
 const ROWS: [(&str, &str); 9] = [
     // Both profiles reach 1,000 m.
     (

@@ -67,8 +67,8 @@ fn are_equal(these: &[&TrackPacket], those: &[&TrackPacket]) -> bool {
     these.len() == those.len()
 }
 
-// Holds the reading with these balises missed against the packets of the full one. `all` is the set of
-// all balises.
+// Holds the reading with these balises missed against the packets of the full one. `all` is the set
+// of all balises.
 fn outcome_of(
     alloc: Global,
     group: &Group,
@@ -87,7 +87,8 @@ fn outcome_of(
     }
 }
 
-// How many sets of balises can be missed with the packets of the full reading, and how many are refused.
+// How many sets of balises can be missed with the packets of the full reading, and how many are
+// refused.
 fn counts(alloc: Global, group: &Group, run: Run, all: u8) -> Result<(u32, u32), Fail> {
     let full = message(alloc, group, run, 0)?;
     let mut same = 0u32;
