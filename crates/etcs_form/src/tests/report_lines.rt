@@ -6,6 +6,7 @@ use etcs_group::Group;
 use etcs_packet::Run;
 use etcs_telegram::from_hex;
 use std::alloc::Global;
+use std::process::Abort;
 use std::test::Fail;
 
 /// A lone linked balise without packets.
@@ -47,8 +48,7 @@ fn of_message(rule: Rule, place: usize, dir: Option<Run>, packet: Option<usize>)
 }
 
 // The report on this finding alone has this line.
-fn expect_line(rt: &HostRuntime, finding: Finding, line: &str) -> Result<(), Fail> {
-    let alloc = rt.alloc();
+fn expect_line(alloc: Global, rt: &impl Abort, finding: Finding, line: &str) -> Result<(), Fail> {
     let expected = format!(in alloc; "no: findings 1\n{line}\n")?;
     let text = report(alloc, &line_of(alloc, 1)?, &[finding])?;
     assert_eq!(rt; text.as_str(), expected.as_str());
@@ -88,7 +88,7 @@ fn findings_about_a_balise_name_it(rt: HostRuntime) -> Result<(), Fail> {
         (Rule::CounterUnfit, "F6 group 0 balise 1: counter 254"),
         (Rule::CountersDiffer, "F7 group 0 balise 1: counters differ"),
     ] {
-        expect_line(&rt, of_group(rule, None, Some(1), None), line)?;
+        expect_line(rt.alloc(), &rt, of_group(rule, None, Some(1), None), line)?;
     }
     Ok(())
 }
@@ -134,7 +134,7 @@ fn the_direction_stands_last(rt: HostRuntime) -> Result<(), Fail> {
             "F14 group 0: identity used before",
         ),
     ] {
-        expect_line(&rt, of_group(rule, dir, balise, packet), line)?;
+        expect_line(rt.alloc(), &rt, of_group(rule, dir, balise, packet), line)?;
     }
     Ok(())
 }
@@ -162,7 +162,7 @@ fn findings_about_a_message_have_no_balise(rt: HostRuntime) -> Result<(), Fail> 
             "F12 message 2 nominal: no speed profile",
         ),
     ] {
-        expect_line(&rt, of_message(rule, 2, dir, packet), line)?;
+        expect_line(rt.alloc(), &rt, of_message(rule, 2, dir, packet), line)?;
     }
     Ok(())
 }
