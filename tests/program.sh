@@ -198,6 +198,26 @@ form range at /packets/0/transitions/0/nid_ntc	{"nid_packet":41,"q_dir":1,"q_sca
 form range at /packets/0/transitions	{"nid_packet":41,"q_dir":1,"q_scale":1,"d_leveltr":0,"transitions":[]}
 too big	{"nid_packet":44,"q_dir":2,"l_packet":159,"body":"0000000000000000000000000000000000"}
 END
+    local differences element elements
+    differences=$(printf ',{"nc_diff":0,"v_diff":0}%.0s' {1..31})
+    element="{\"d_static\":0,\"v_static\":0,\"q_front\":0,\"differences\":[${differences:1}]}"
+    elements=$(printf ",$element%.0s" {1..31})
+    refuses_form 'form range at /packets/0' \
+        "${json/'"packets":[]'/"\"packets\":[{\"nid_packet\":27,\"q_dir\":2,\"q_scale\":0,\"elements\":[${elements:1}]},{\"x\":1}]"}"
+}
+
+# Forms of a telegram with packets: its keys in another order, with blanks, and with too small a size.
+encodes_packets() {
+    local example=$here/../examples/authority-with-profiles
+    answers 'a form with packets, its keys turned round and with blanks' 0 "$(cat "$example.txt")"$'\n' '' \
+        encode < <(python3 -c '
+import json, sys
+def turned(value):
+    if isinstance(value, dict):
+        return {key: turned(value[key]) for key in reversed(value)}
+    return [turned(item) for item in value] if isinstance(value, list) else value
+print(json.dumps(turned(json.load(sys.stdin)), separators=(" ,\t", " : ")))' <"$example.json")
+    refuses_form 'too big' "$(sed 's/"user_bits":830/"user_bits":210/' "$example.json")"
 }
 
 # A message 3 with an authority of 1,000 m, alone, and with a raw packet of so many bits besides.
@@ -318,6 +338,8 @@ devices_fail() {
     fails 'a telegram, a refused line and a full device' "$device" decode <<<"$telegram"$'\nzz'
     fails 'a form and a full device' "$device" encode <<<"$json"
     fails 'a form of a message and a full device' "$device" encode --radio <<<"$message_json"
+    fails 'the report on a line and a full device' "$device" check <<<'{"groups":[],"messages":[]}'
+    fails 'the refusal of a document and a full device' "$device" check </dev/null
     fails 'the usage line and a full device' "$device" help </dev/null
 }
 
@@ -331,6 +353,13 @@ memory_is_refused() {
     )
     got=$?
     count 'memory is refused' "$(differs 3 "$json" "$memory")"
+    (
+        ulimit -v 100000
+        yes ' ' | tr -d '\n' | "$program" check >"$room/stdout" 2>"$room/stderr"
+        exit "${PIPESTATUS[2]}"
+    )
+    got=$?
+    count 'a document finds no memory' "$(differs 3 '' "$memory")"
 }
 
 makes_cases
@@ -340,6 +369,7 @@ decodes_examples
 encodes_forms
 encodes_lines
 refuses_packets
+encodes_packets
 encodes_messages
 refuses_examples
 reads_lines

@@ -2,7 +2,7 @@
 
 use crate::status::Status;
 use crate::tests::devices::{Device, Failure, Outcome, run_between};
-use crate::tests::{TELEGRAM, expect, expect_each_failure};
+use crate::tests::{TELEGRAM, expect, expect_device, expect_each_failure};
 use std::alloc::Global;
 use std::test::Fail;
 
@@ -80,6 +80,15 @@ fn a_document_is_read_to_its_end_before_it_is_answered(rt: HostRuntime) {
     let outcome = run_between(rt.alloc(), CHECK, b"]]", from, Device::sound());
     expect(&rt, &outcome, Status::Refused, "refused: not JSON\n");
     assert_eq!(rt; outcome.reads, 3);
+}
+
+#[test]
+fn nothing_is_written_before_the_end(rt: HostRuntime) {
+    // The two bytes are no JSON, whatever follows them. The third read fails.
+    let from = Device::new(1, Failure::Error(2));
+    let outcome = run_between(rt.alloc(), CHECK, b"]]", from, Device::sound());
+    expect_device(&rt, &outcome, "", (1, 0));
+    assert_eq!(rt; outcome.writes, 0);
 }
 
 #[test]
