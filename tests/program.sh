@@ -199,11 +199,11 @@ form range at /packets/0/transitions	{"nid_packet":41,"q_dir":1,"q_scale":1,"d_l
 too big	{"nid_packet":44,"q_dir":2,"l_packet":159,"body":"0000000000000000000000000000000000"}
 END
     local differences element elements
-    differences=$(printf ',{"nc_diff":0,"v_diff":0}%.0s' {1..31})
+    differences=$(printf ',{"q_diff":0,"nc":0,"v_diff":0}%.0s' {1..31})
     element="{\"d_static\":0,\"v_static\":0,\"q_front\":0,\"differences\":[${differences:1}]}"
     elements=$(printf ",$element%.0s" {1..31})
-    refuses_form 'form range at /packets/0' \
-        "${json/'"packets":[]'/"\"packets\":[{\"nid_packet\":27,\"q_dir\":2,\"q_scale\":0,\"elements\":[${elements:1}]},{\"x\":1}]"}"
+    packet="{\"nid_packet\":27,\"q_dir\":2,\"q_scale\":0,\"elements\":[${elements:1}]},{\"x\":1}"
+    refuses_form 'form range at /packets/0' "${json/'"packets":[]'/"\"packets\":[$packet]"}"
 }
 
 # Forms of a telegram with packets: its keys in another order, with blanks, and with too small a size.
