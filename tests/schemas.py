@@ -1,5 +1,5 @@
 #!/usr/bin/env python3
-"""Tests of examples/schemas: they say what a program may send to balisecheck, as far as a JSON schema can say it.
+"""Tests of the folder schemas: they say what a program may send to balisecheck, as far as a JSON schema can say it.
 
 All examples have to be valid. Then forms and documents are made of the examples, each with one thing changed. What the
 program accepts has to be valid, and what it refuses for a reason that a schema can tell must not be.
@@ -24,7 +24,7 @@ except ImportError:
 TOP = pathlib.Path(__file__).resolve().parent.parent
 EXAMPLES = TOP / "examples"
 PROGRAM = os.environ.get("BALISECHECK", str(TOP / "crates" / "balisecheck" / "out" / "balisecheck"))
-SCHEMAS = {name: json.loads((EXAMPLES / "schemas" / f"{name}.schema.json").read_text())
+SCHEMAS = {name: json.loads((TOP / "schemas" / f"{name}.json").read_text())
            for name in ("telegram", "message", "line")}
 VALIDATORS = {name: jsonschema and jsonschema.Draft202012Validator(schema) for name, schema in SCHEMAS.items()}
 # numbers that some variable allows and another does not, and what is no number at all
