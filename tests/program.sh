@@ -321,6 +321,35 @@ understands_words() {
         --help --version --radio --radio= '-- decode')
 }
 
+# manual SECTION: the lines of this section of the manual page.
+manual() {
+    sed -n "/^\.SH $1\$/,/^\.SH/{ /^\.SH/d; p; }" "$here/../balisecheck.1"
+}
+
+# The page has each command of the program and no other, each status, and an example that writes what it says.
+manual_holds() {
+    local words text commands=0 statuses
+    if command -v groff >/dev/null; then
+        count 'the manual page is laid out' "$(groff -man -ww -z "$here/../balisecheck.1" 2>&1)"
+    else
+        echo 'the layout of the manual page is not tried, since groff is not there' >&2
+    fi
+    while read -r -a words; do
+        commands=$((commands + 1))
+        text=$("$program" "${words[@]}" </dev/null 2>&1)
+        count "the manual page has ${words[*]}" "$(grep '^refused: usage' <<<"$text")"
+    done < <(manual DESCRIPTION | sed -n 's/\\//g; s/^\.B \([a-z].*\)/\1/p' | grep -v '^balisecheck')
+    count 'the manual page has all commands' "$([ "$commands" -eq 4 ] || echo "$commands commands")"
+    statuses=$(manual 'EXIT STATUS' | sed -n 's/^\.B \([0-9]\)$/\1/p' | tr -d '\n')
+    count 'the manual page has all statuses' "$([ "$statuses" = 0123 ] || echo "$statuses")"
+    manual EXAMPLE | sed '/^\./d; '"s/\\\\(aq/'/g" >"$room/wanted"
+    while IFS= read -r text; do
+        printf '%s\n' "$text"
+        (balisecheck() { "$program" "$@"; }; eval "${text#'$ '}")
+    done < <(grep '^\$ ' "$room/wanted") >"$room/written" 2>&1
+    count 'the example of the manual page' "$(diff "$room/wanted" "$room/written")"
+}
+
 # More than the buffer before standard output holds, and a pipe that takes only what it has room for.
 writes_all() {
     yes "$telegram" | head -n 2000 >"$room/lines"
@@ -376,6 +405,7 @@ reads_lines
 reads_long_lines
 reads_over_blocks
 understands_words
+manual_holds
 writes_all
 devices_fail
 memory_is_refused

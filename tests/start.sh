@@ -49,7 +49,7 @@ says_nothing() {
 # copied for the toolchain alone.
 copy() {
     mkdir -p "$room/tree"
-    cp -a "$here/../balisecheck" "$here/../install.sh" "$here/../crates.txt" "$room/tree"
+    cp -a "$here/../balisecheck" "$here/../install.sh" "$here/../balisecheck.1" "$here/../crates.txt" "$room/tree"
     [ ! -f "$here/../HANDLES" ] || cp -a "$here/../HANDLES" "$room/tree"
     if [ "$1" = --build ]; then
         cp -a "$here/../crates" "$room/tree"
@@ -108,9 +108,11 @@ builds_once() {
 
 installs() {
     "$room/tree/install.sh" "$room/prefix" 2>"$room/stderr"
-    count 'the program is put where it is wanted' "$(
+    local manual=share/man/man1/balisecheck.1
+    count 'the program and its manual page are put where they are wanted' "$(
         "$room/prefix/bin/balisecheck" decode <<<"$telegram" | diff - <(echo "$json")
-        printf 'installed: %s\n' "$room/prefix/bin/balisecheck" | diff - "$room/stderr"
+        cmp "$here/../balisecheck.1" "$room/prefix/$manual" 2>&1
+        printf 'installed: %s\n' "$room/prefix/bin/balisecheck" "$room/prefix/$manual" | diff - "$room/stderr"
     )"
 }
 
