@@ -113,12 +113,18 @@ refuses_cases() {
     done <"$room/refused"
 }
 
+# flag_of EXAMPLE: the flag of the command that reads it.
+flag_of() {
+    [[ $1 != radio-* ]] || echo --radio
+}
+
 # Each example with the lines beside it that have to be written. Without any the pattern itself is the
-# name, which fails.
+# name, which fails. No command decodes radio messages yet.
 decodes_examples() {
     local wanted name got
     for wanted in "$here"/../examples/*.json; do
         name=$(basename "$wanted" .json)
+        [ -z "$(flag_of "$name")" ] || continue
         "$program" decode <"${wanted%.json}.txt" >"$room/stdout" 2>"$room/stderr"
         got=$?
         count "the example $name" "$(
@@ -135,7 +141,8 @@ encodes_forms() {
     local wanted name got
     for wanted in "$here"/../examples/*.json; do
         name=$(basename "$wanted" .json)
-        "$program" encode <"$wanted" >"$room/stdout" 2>"$room/stderr"
+        # shellcheck disable=SC2046 # no flag is no word
+        "$program" encode $(flag_of "$name") <"$wanted" >"$room/stdout" 2>"$room/stderr"
         got=$?
         count "the form of the example $name" "$(
             [ "$got" -eq 0 ] || echo "status $got in place of 0"

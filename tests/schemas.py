@@ -71,16 +71,23 @@ def is_valid(name, value):
     return VALIDATORS[name].is_valid(value)
 
 
+def forms(names):
+    """The forms in the examples of these names."""
+    return [json.loads(line) for path in sorted(EXAMPLES.glob(f"{names}.json")) for line in path.read_text().splitlines()]
+
+
 def telegrams():
     """The forms of telegrams in the examples."""
-    return [json.loads(line) for path in sorted(EXAMPLES.glob("*.json")) for line in path.read_text().splitlines()]
+    return [form for form in forms("*") if "nid_message" not in form]
 
 
 def messages():
-    """The forms of the radio messages in the examples."""
-    texts = [path.read_text() for path in sorted(EXAMPLES.glob("radio-*.txt"))]
-    texts += [text + "\n" for text in json.loads((EXAMPLES / "check" / "sound-line.json").read_text())["messages"]]
-    return [json.loads(run(["decode", "--radio"], text)[1]) for text in texts]
+    """The forms of radio messages in the examples, one with all their packets, and a report with all its parts."""
+    authority, report = forms("radio-movement-authority")[0], forms("radio-position-report")[0]
+    packets = [packet for telegram in telegrams() for packet in telegram["packets"]]
+    parts = {"q_length": 1, "l_trainint": 200, "m_level": 1, "nid_ntc": 9}
+    return [*forms("radio-*"), {**authority, "packets": packets},
+            {**report, "packets": [{**report["packets"][0], **parts}]}]
 
 
 def documents(names="*"):
@@ -176,7 +183,7 @@ def test_examples(tests):
     for name, schema in SCHEMAS.items():
         tests.holds(not list(jsonschema.Draft202012Validator(jsonschema.Draft202012Validator.META_SCHEMA)
                              .iter_errors(schema)), f"{name} is a schema")
-    for name, values in (("telegram", telegrams()), ("line", documents())):
+    for name, values in (("telegram", telegrams()), ("message", messages()), ("line", documents())):
         for value in values:
             tests.holds(is_valid(name, value), f"valid: {json.dumps(value)}")
 
@@ -201,7 +208,7 @@ def main():
         test_examples(tests)
         if has_command("encode"):
             test_changed(tests, "telegram", ["encode"], telegrams(), UNTOLD_FORM)
-        if has_command("decode", "--radio") and has_command("encode", "--radio"):
+        if has_command("encode", "--radio"):
             test_changed(tests, "message", ["encode", "--radio"], messages(), UNTOLD_FORM)
         if has_command("check"):
             test_changed(tests, "line", ["check"], documents("sound-line"), UNTOLD_TEXT)
