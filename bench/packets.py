@@ -148,12 +148,17 @@ def level_transition(out, end):
 LAYOUTS = {5: linking, 12: authority_of_level_1, 15: authority, 21: gradients, 27: speeds, 41: level_transition}
 
 
+def any_body(out, bits):
+    """So many bits without a layout, and zeros up to a whole byte in their text."""
+    pad = -bits % 8
+    value = out.any(bits) << pad
+    return f"{value:0{(bits + pad) // 4}x}" if bits else ""
+
+
 def kept_as_bits(out, end):
     """A body without a layout: half of them take all bits up to the end."""
     bits = numbers.choice((end, numbers.randrange(end + 1)))
-    pad = -bits % 8
-    value = out.any(bits) << pad
-    return {"l_packet": HEAD_BITS + bits, "body": f"{value:0{(bits + pad) // 4}x}" if bits else ""}
+    return {"l_packet": HEAD_BITS + bits, "body": any_body(out, bits)}
 
 
 def packet(out, number, room):
