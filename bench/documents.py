@@ -1,0 +1,94 @@
+"""Writes the document of a line of COUNT sound groups, the same one each time: documents.py COUNT
+
+Each group is a pair of duplicates with the same packets: an authority (12) that a gradient profile (21) and a speed
+profile (27) reach. All identities are different. There are no messages.
+"""
+import sys
+
+from packets import END_BITS, HEAD_BITS, ITER_BITS, SPEEDS, USER_BITS, Spelling, numbers
+
+BOTH, METRES = 2, 1  # Q_DIR, Q_SCALE
+NONE_OF_FOUR = 0  # of the parts after the end section of an authority
+NO_TIMEOUT = 1023
+GRADIENT_END, SPEED_END = 255, 127
+MARKS = (1, 2)  # M_DUP: of the next balise, of the previous one
+GROUPS_OF_COUNTRY = 1 << 14
+
+
+def put_packet(out, number, body):
+    """A packet for both directions with this body, in metres."""
+    out.put(number, 8)
+    out.put(BOTH, 2)
+    out.put(HEAD_BITS + 2 + body.bits, 13)
+    out.put(METRES, 2)
+    out.put(body.value, body.bits)
+
+
+def authority(limit):
+    """An authority to stop there, of a single section."""
+    body = Spelling()
+    body.one_of(SPEEDS, 7)  # V_MAIN
+    body.put(0, 7)  # V_LOA
+    body.put(NO_TIMEOUT, 10)  # T_LOA
+    body.put(0, ITER_BITS)
+    body.put(limit, 15)  # L_ENDSECTION
+    body.put(NONE_OF_FOUR, 4)
+    return body
+
+
+def profile(limit, last, element):
+    """From one to six elements, the last of which is the end mark at the limit."""
+    body = Spelling()
+    count = numbers.randrange(6)
+    places = [0, *sorted(numbers.randrange(limit + 1) for _ in range(count)), limit]
+    for at, distance in enumerate(end - begin for begin, end in zip(places, places[1:])):
+        body.put(distance, 15)
+        element(body, last if at == count else None)
+        if at == 0:
+            body.put(count, ITER_BITS)
+    return body
+
+
+def gradient(body, last):
+    body.any(1)  # Q_GDIR
+    body.put(numbers.randrange(GRADIENT_END) if last is None else last, 8)
+
+
+def speed(body, last):
+    body.put(numbers.choice(SPEEDS) if last is None else last, 7)
+    body.any(1)  # Q_FRONT
+    body.put(0, ITER_BITS)  # differences
+
+
+def pair(place):
+    """The texts of the two telegrams of the group at this place."""
+    limit = numbers.randrange(1 << 15)
+    packets = Spelling()
+    put_packet(packets, 12, authority(limit))
+    put_packet(packets, 21, profile(limit, GRADIENT_END, gradient))
+    put_packet(packets, 27, profile(limit, SPEED_END, speed))
+    fill = USER_BITS - 50 - packets.bits
+    texts = []
+    for position, mark in enumerate(MARKS):
+        out = Spelling()
+        # Q_UPDOWN, M_VERSION, Q_MEDIA, N_PIG, N_TOTAL, M_DUP, M_MCOUNT, NID_C, NID_BG, Q_LINK
+        for value, bits in ((1, 1), (33, 7), (0, 1), (position, 3), (1, 3), (mark, 2), (255, 8),
+                            (place // GROUPS_OF_COUNTRY, 10), (place % GROUPS_OF_COUNTRY, 14), (1, 1)):
+            out.put(value, bits)
+        out.put(packets.value, packets.bits)
+        out.put((1 << fill) - 1, fill)  # packet 255, then ones
+        texts.append(f"{out.value << 2:0208x}")
+    assert fill >= END_BITS
+    return texts
+
+
+def main():
+    sys.stdout.write('{"groups":[')
+    for place in range(int(sys.argv[1])):
+        first, second = pair(place)
+        sys.stdout.write(f'{"," if place else ""}{{"balises":["{first}","{second}"]}}')
+    sys.stdout.write('],"messages":[]}\n')
+
+
+if __name__ == "__main__":
+    main()
