@@ -9,3 +9,4 @@ pub mod HexTextLemmas
 pub mod FormLemmas
 pub mod WholeLemmas
 pub mod CheckLemmas
+pub mod RadioLemmas

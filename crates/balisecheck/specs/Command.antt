@@ -8,19 +8,23 @@ use Rattle.clap.specs.Words.{App, Row, Rule, Text, fault_of, first_of, new_app, 
 use Rattle.clap.specs.Kinds.{Kinds}
 use Rattle.clap.specs.declared.builder.ArgAction.TheVariants.{SetTrue}
 use Rattle.balisecheck.specs.declared.command.Command.{Command}
-use Rattle.balisecheck.specs.declared.command.Command.TheVariants.{Check, Decode, Encode, EncodeRadio}
+use Rattle.balisecheck.specs.declared.command.Command.TheVariants.{Check, Decode, DecodeRadio, Encode, EncodeRadio}
 
 -- the flag `--radio`
 abbrev pub radio : Rule
 radio = record (new_rule (codes "radio")) { long = Some (codes "radio"); action = Some SetTrue }
 
--- `balisecheck decode`
-abbrev pub decode_line : App
-decode_line = with_subcommand (new_app (codes "balisecheck")) (new_app (codes "decode")).top
+-- a subcommand of this name with the flag
+abbrev pub with_flag : Text → App
+with_flag name = with_rule (new_app name) radio
 
--- `balisecheck decode` and `balisecheck encode [--radio]`
+-- `balisecheck decode [--radio]`
+abbrev pub decode_line : App
+decode_line = with_subcommand (new_app (codes "balisecheck")) (with_flag (codes "decode")).top
+
+-- that and `balisecheck encode [--radio]`
 abbrev pub coding_line : App
-coding_line = with_subcommand decode_line (with_rule (new_app (codes "encode")) radio).top
+coding_line = with_subcommand decode_line (with_flag (codes "encode")).top
 
 -- those and `balisecheck check`
 abbrev pub command_line : App
@@ -30,6 +34,10 @@ command_line = with_subcommand coding_line (new_app (codes "check")).top
 abbrev pub has_radio : List Row → Bool
 has_radio rows = option_map_or (λ v. bytes_eq v (codes "true")) (first_of (codes "radio") rows) false
 
+-- the command `decode`, of telegrams or of radio messages
+abbrev pub decode_of : Bool → Command
+decode_of radio = if radio then DecodeRadio else Decode
+
 -- the command `encode`, of telegrams or of radio messages
 abbrev pub encode_of : Bool → Command
 encode_of radio = if radio then EncodeRadio else Encode
@@ -38,7 +46,7 @@ encode_of radio = if radio then EncodeRadio else Encode
 abbrev pub named : Text → Bool → Option Command
 named name radio =
     if bytes_eq name (codes "check") then Some Check
-    else (if bytes_eq name (codes "decode") then Some Decode
+    else (if bytes_eq name (codes "decode") then Some (decode_of radio)
     else (if bytes_eq name (codes "encode") then Some (encode_of radio) else None))
 
 -- the command of the subcommand that was found

@@ -2,11 +2,15 @@ pub mod Counted
 pub mod Command
 pub mod TextLines
 pub mod LineMeaning
+pub mod JsonLine
 pub mod TelegramLines
 pub mod HexText
 pub mod FormLines
 pub mod Output
+pub mod RadioStream
+pub mod Commands
 pub mod Ran
 pub mod LineReading
 pub mod WholeInput
+pub mod RadioHeld
 pub mod Checking

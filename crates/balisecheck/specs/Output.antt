@@ -1,15 +1,9 @@
 -- What a run writes, and the status with which it ends. Lines are answered in order, up to the
 -- first that is refused. The answer to that line is its refusal, which ends the run. Lines count
 -- from 1. An empty line is skipped, but counted.
-use Rattle.std.specs.Prelude.{◌+◌, ◌++◌, ℕ, List, [], ◌∷◌, codes, Option, Some, None, Result, Ok, Err}
-use Rattle.balisecheck.specs.Checking.{check_output}
-use Rattle.balisecheck.specs.Command.{command_of}
+use Rattle.std.specs.Prelude.{◌+◌, ◌++◌, ℕ, List, [], ◌∷◌, Result, Ok, Err}
 use Rattle.balisecheck.specs.TextLines.{lines_of, trimmed}
-use Rattle.balisecheck.specs.FormLines.{message_encoded, telegram_encoded}
 use Rattle.balisecheck.specs.LineMeaning.{Meaning, refusal_of}
-use Rattle.balisecheck.specs.TelegramLines.{decoded_of}
-use Rattle.balisecheck.specs.declared.command.Command.{Command}
-use Rattle.balisecheck.specs.declared.command.Command.TheVariants.{Check, Decode, Encode, EncodeRadio}
 use Rattle.balisecheck.specs.declared.status.Status.{Status}
 use Rattle.balisecheck.specs.declared.status.Status.TheVariants.{Done, Refused}
 
@@ -44,19 +38,3 @@ line_by_line answers input = answers 1 (lines_of input)
 -- what is written for an input of which each line is answered by itself
 abbrev pub each_line : Meaning → List ℕ → Output
 each_line meaning = line_by_line (answers meaning)
-
--- the line that is written if the words are no command
-unfoldable pub usage_line : List ℕ
-usage_line = codes "refused: usage is balisecheck check, decode [--radio] or encode [--radio]\n"
-
--- what is written for a command and an input, or for no command
-abbrev pub of_command : Option Command → List ℕ → Output
-of_command (Some Check) input = check_output input
-of_command (Some Decode) input = each_line decoded_of input
-of_command (Some Encode) input = each_line telegram_encoded input
-of_command (Some EncodeRadio) input = each_line message_encoded input
-of_command None input = (usage_line, Refused)
-
--- what the words write for an input
-unfoldable pub output_of : List (List ℕ) → List ℕ → Output
-output_of words input = of_command (command_of words) input

@@ -1,23 +1,19 @@
--- A telegram as a line of text. A text that is accepted becomes one JSON object without blanks, its
--- keys in byte order. A text that is refused becomes the reason, in words and numbers.
-use Rattle.std.specs.Prelude.{◌++◌, ℕ, List, codes, Result, Ok, Err}
+-- A telegram as a line of text. A text that is accepted becomes one JSON object. A text that is
+-- refused becomes the reason, in words and numbers.
+use Rattle.std.specs.Prelude.{ℕ, List, Result, Ok, Err}
 use Rattle.etcs_telegram.specs.TextMeaning.{telegram_of_text}
 use Rattle.etcs_telegram.specs.Record.{Telegram}
 use Rattle.etcs_telegram.specs.declared.error.TextError.{TextError}
-use Rattle.serde_json.specs.Written.{compact_text}
 use Rattle.etcs_form.specs.Refusal.{line_words}
 use Rattle.etcs_form.specs.Shape.{object}
 use Rattle.etcs_form.specs.Telegrams.{telegram}
 use Rattle.etcs_form.specs.declared.refusal.LineFault.TheVariants.{Text}
+use Rattle.balisecheck.specs.JsonLine.{json_line_of}
 use Rattle.balisecheck.specs.LineMeaning.{Meaning}
-
--- the telegram's JSON line
-unfoldable pub json_line_of : Telegram → List ℕ
-json_line_of t = compact_text ((object telegram).to t) ++ codes "\n"
 
 -- the line that is written for a telegram that was read, or the reason why none was
 abbrev pub line_for : Result Telegram TextError → Result (List ℕ) (List ℕ)
-line_for (Ok t) = Ok (json_line_of t)
+line_for (Ok t) = Ok (json_line_of (object telegram) t)
 line_for (Err why) = Err (line_words (Text why))
 
 -- what a line of hexadecimal text means: a JSON line, or the reason why it is refused

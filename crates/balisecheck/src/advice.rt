@@ -6,9 +6,7 @@
 /// It goes to standard error, so that standard output stays as the contract of `run` states it.
 pub fn advice_for(words: &[&str]) -> Option<&'static str> {
     match words {
-        [_, "check" | "decode", "--radio", ..] => Some(
-            "this version has --radio with encode alone",
-        ),
+        [_, "check", "--radio", ..] => Some("--radio stands with decode and encode alone"),
         [_, "check", name, ..] if !name.starts_with("-") => {
             Some("the input is standard input: balisecheck check < FILE")
         }

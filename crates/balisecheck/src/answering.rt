@@ -25,6 +25,7 @@ fn answer_lines<C: LineCommand, R: Read, W: Write>(
     writer: &mut Counted<W>,
 ) -> Result<Status, RunError>
     requires fresh { (held_of lines.old ≡ []) × (has_ended lines.old ≡ false) }
+    requires uncounted { C.counted command.old ≡ 0 }
     requires reads { CanCount reader.old }
     requires writes { CanCount writer.old }
     ensures ran { Runs R.remaining W.contents reader.old reader.new writer.old writer.new
@@ -51,6 +52,7 @@ pub fn answer_input<C: LineCommand, R: Read, W: Write>(
     reader: &mut Counted<R>,
     writer: &mut Counted<W>,
 ) -> Result<Status, RunError>
+    requires uncounted { C.counted command ≡ 0 }
     requires reads { CanCount reader.old }
     requires writes { CanCount writer.old }
     ensures ran { Runs R.remaining W.contents reader.old reader.new writer.old writer.new

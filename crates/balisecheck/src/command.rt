@@ -3,7 +3,7 @@
 ghost use Rattle.std.specs.Prelude.{◌≡◌, false, IfOk, map};
 ghost use Rattle.clap.specs.declared.builder.command.Command.TheViews.{out-Command};
 ghost use Rattle.clap.specs.Words.{app_of, found_of, new_app, rows_of, subcommand_rows_of, with_rule};
-ghost use Rattle.balisecheck.specs.Command.{command_line, command_of, encode_of, entered, has_radio, radio};
+ghost use Rattle.balisecheck.specs.Command.{command_line, command_of, decode_of, encode_of, entered, has_radio, radio};
 
 use clap::error::ErrorKind;
 use clap::{Arg, ArgAction, ArgMatches, Command as CommandLine};
@@ -16,6 +16,8 @@ pub enum Command {
     Check,
     /// Decode lines of hexadecimal text, each a telegram, to JSON lines.
     Decode,
+    /// Decode a stream of radio messages, in lines of hexadecimal text, to JSON lines.
+    DecodeRadio,
     /// Encode JSON lines, each the form of a telegram, to lines of hexadecimal text.
     Encode,
     /// Encode JSON lines, each the form of a radio message, to lines of hexadecimal text.
@@ -35,12 +37,12 @@ fn with_radio<'a>(alloc: Global, name: &'a str) -> Result<CommandLine<'a>, Alloc
     Ok(whole)
 }
 
-// The command line that the program understands: `balisecheck decode`, `balisecheck encode
+// The command line that the program understands: `balisecheck decode [--radio]`, `balisecheck encode
 // [--radio]` and `balisecheck check`.
 fn grammar<'a>(alloc: Global) -> Result<CommandLine<'a>, AllocError>
     ensures { IfOk result (λ p. app_of p ≡ command_line) }
 {
-    let decode = CommandLine::new(alloc, "decode");
+    let decode = with_radio(alloc, "decode")?;
     let encode = with_radio(alloc, "encode")?;
     let check = CommandLine::new(alloc, "check");
     let program = CommandLine::new(alloc, "balisecheck");
@@ -57,6 +59,17 @@ fn is_radio(matches: &ArgMatches<'_>) -> bool
     match matches.get_str("radio") {
         Some(value) => value == "true",
         None => false,
+    }
+}
+
+// The command `decode`, of telegrams or of radio messages.
+fn decoding(radio: bool) -> Command
+    ensures { result ≡ decode_of radio }
+{
+    if radio {
+        Command::DecodeRadio
+    } else {
+        Command::Decode
     }
 }
 
@@ -78,7 +91,7 @@ fn entered_command(matches: &ArgMatches<'_>) -> Option<Command>
     let (name, inner) = matches.subcommand()?;
     match name {
         "check" => Some(Command::Check),
-        "decode" => Some(Command::Decode),
+        "decode" => Some(decoding(is_radio(inner))),
         "encode" => Some(encoding(is_radio(inner))),
         _ => None,
     }

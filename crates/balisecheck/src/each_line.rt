@@ -24,7 +24,7 @@ use std::mem;
 
 // The line without a `\r` at its end. Only one is removed.
 #[inline]
-fn trim(line: &[u8]) -> &[u8]
+pub(crate) fn trim(line: &[u8]) -> &[u8]
     ensures { result.now ≡ trimmed line.now }
 {
     match line {
@@ -44,7 +44,7 @@ fn refusal(alloc: Global, number: u64, why: LineFault) -> Result<String, Memory>
 }
 
 // Writes the refusal of the line with this number.
-fn refuse_line<W: Write>(
+pub(crate) fn refuse_line<W: Write>(
     alloc: Global,
     number: u64,
     why: LineFault,
@@ -137,6 +137,8 @@ impl<M: LineMeaning> LineCommand for EachLine<M> {
     ghost use Rattle.balisecheck.specs.Output.{answers};
 
     ghost answers = { λ _. answers M.meaning };
+
+    ghost counted = { λ _. 0 };
 
     fn answer<W: Write>(
         &mut self,

@@ -1,6 +1,6 @@
 //! `LineCommand`: what a command does with an input, line by line.
 
-ghost use Rattle.std.specs.Prelude.{ℕ, List, []};
+ghost use Rattle.std.specs.Prelude.{ℕ, ◌+◌, ◌<◌, ◌≤◌, ◌^◌, List, [], length, OnOk};
 ghost use Rattle.balisecheck.specs.Counted.{CanCount, inner_of};
 ghost use Rattle.balisecheck.specs.LineReading.{CountsDevice};
 ghost use Rattle.balisecheck.specs.Output.{Output};
@@ -18,6 +18,10 @@ pub trait LineCommand: Drop {
     /// What is written from a line with this number onwards, for the lines that are left.
     ghost answers: { Self → ℕ → List (List ℕ) → Output };
 
+    /// A bound of what is counted. Each byte of a line raises it by one at most, so that no count can
+    /// overflow.
+    ghost counted: { Self → ℕ };
+
     /// Writes the answer to the line with this number.
     fn answer<W: Write>(
         &mut self,
@@ -26,9 +30,11 @@ pub trait LineCommand: Drop {
         line: &[u8],
         writer: &mut Counted<W>,
     ) -> Result<Turn, RunError>
-        requires { CanCount writer.old }
+        requires numbered { counted self.old + length line.now < 2 ^ 64 }
+        requires writes { CanCount writer.old }
         ensures turns { TakesTurn (W.contents (inner_of writer.old)) (W.contents (inner_of writer.new))
             (answers self.old) (answers self.new) number line.now result }
+        ensures pays { OnOk result (counted self.new ≤ counted self.old + length line.now) }
         ensures counts { CountsDevice result writer.old writer.new };
 
     /// Writes the answer to the end of the input.

@@ -1,14 +1,14 @@
 //! `balisecheck`: the document of a railway line, to what is found about the line; lines of
-//! hexadecimal text, each a Eurobalise telegram, to lines of JSON, and back; and lines of JSON, each a
-//! radio message, to lines of hexadecimal text.
+//! hexadecimal text, each a Eurobalise telegram, to lines of JSON, and back; and a stream of radio
+//! messages, in lines of hexadecimal text, to lines of JSON, and back.
 //!
 //! `program::run` is the whole program, from words and a counted reader to a counted writer and a
-//! status. Its contract says what is written for every input. `specs/Output.antt` defines that
+//! status. Its contract says what is written for every input. `specs/Commands.antt` defines that
 //! text, and `specs/Ran.antt` defines what is promised of it. `main` adds the arguments, standard
 //! input and standard output, which no contract can describe. Read `program.rt` first, then
 //! `answering.rt`, `line_command.rt`, `line_meaning.rt`, `each_line.rt` and `text_lines.rt`. What a
-//! line means is in `telegram_lines.rt` and `form_lines.rt`. A document is answered as a whole, in
-//! `checking.rt`. The command `decode --radio` does not exist yet.
+//! line means is in `telegram_lines.rt` and `form_lines.rt`. A stream is answered in
+//! `radio_decoding.rt`, wherever its lines end. A document is answered as a whole, in `checking.rt`.
 #![tactic(auto)]
 
 mod advice;
@@ -19,10 +19,12 @@ mod counted;
 mod each_line;
 mod error;
 mod form_lines;
+mod json_line;
 mod line_command;
 mod line_meaning;
 mod output;
 mod program;
+mod radio_decoding;
 mod status;
 mod telegram_lines;
 #[cfg(test)]

@@ -4,7 +4,8 @@ ghost use Rattle.std.specs.Prelude.{◌≡◌, None, IfErr, map};
 ghost use Rattle.balisecheck.specs.Command.{command_of};
 ghost use Rattle.balisecheck.specs.Counted.{CanCount, inner_of};
 ghost use Rattle.balisecheck.specs.LineReading.{CountsDevice};
-ghost use Rattle.balisecheck.specs.Output.{each_line, of_command, output_of, usage_line};
+ghost use Rattle.balisecheck.specs.Commands.{of_command, output_of, usage_line};
+ghost use Rattle.balisecheck.specs.Output.{each_line};
 ghost use Rattle.balisecheck.specs.Ran.{Answers, CountsOneDevice, EndsFlushed, Runs, Writes};
 
 use crate::answering::answer_input;
@@ -16,6 +17,7 @@ use crate::error::RunError;
 use crate::form_lines::{EncodingMessages, EncodingTelegrams};
 use crate::line_meaning::LineMeaning;
 use crate::output::{finish, put};
+use crate::radio_decoding::RadioDecoding;
 use crate::status::Status;
 use crate::telegram_lines::DecodingTelegrams;
 use std::alloc::Global;
@@ -72,6 +74,9 @@ fn obey<R: Read, W: Write>(
     match command {
         Some(Command::Check) => check_input(alloc, reader, writer),
         Some(Command::Decode) => answer_each(alloc, DecodingTelegrams, reader, writer),
+        Some(Command::DecodeRadio) => {
+            answer_input(alloc, RadioDecoding::new(alloc), reader, writer)
+        }
         Some(Command::Encode) => answer_each(alloc, EncodingTelegrams, reader, writer),
         Some(Command::EncodeRadio) => answer_each(alloc, EncodingMessages, reader, writer),
         None => refuse_words(writer),

@@ -4,6 +4,7 @@
 mod devices;
 mod documents;
 mod forms;
+mod radio;
 
 use crate::counted::Counted;
 use crate::error::RunError;
@@ -71,7 +72,7 @@ fn words_that_are_no_command_read_nothing(rt: HostRuntime) {
         &[],
         &["balisecheck", "check", "more"],
         &["balisecheck", "decode", "more"],
-        &["balisecheck", "decode", "--radio"],
+        &["balisecheck", "decode", "--radio", "--radio"],
         &["balisecheck", "encode", "--radio", "--radio"],
     ];
     for words in others {

@@ -29,7 +29,7 @@ pub struct TextLines {
 }
 
 impl TextLines {
-    ghost use Rattle.std.specs.Prelude.{◌≡◌, ◌+◌, ◌≤◌, ◌<◌, true, false, [], length, IfOk, OnErr, IfErr};
+    ghost use Rattle.std.specs.Prelude.{◌≡◌, ◌+◌, ◌≤◌, ◌<◌, true, false, [], length, IfOk, OnErr, OnOk, IfErr};
     ghost use Rattle.std.specs.Io.KnownBytes.{Consumes, Keeps};
     ghost use Rattle.balisecheck.specs.Counted.{CanCount, budget_of, inner_of};
     ghost use Rattle.balisecheck.specs.LineReading.{CountsDevice, IsEndMet, MovesTo, Reads};
@@ -139,6 +139,11 @@ impl TextLines {
         // A line that is found is paid for, by held bytes or by the budget.
         ensures spends { IfOk result (λ found. found ≡ true
             → 1 + (length (held_of self.new) + budget_of reader.new)
+            ≤ length (held_of self.old) + budget_of reader.old) }
+
+        // So is each byte of it.
+        ensures pays { OnOk result (length (line_of self.new)
+            + (length (held_of self.new) + budget_of reader.new)
             ≤ length (held_of self.old) + budget_of reader.old) }
     {
         self.line.clear();

@@ -8,9 +8,9 @@ use std::process::Abort;
 use std::test::Fail;
 
 /// A movement authority of 1,000 m for one train, at 500 ms.
-const MESSAGE: &str = "03048000001900080021e810901ff801f400";
+pub const MESSAGE: &str = "03048000001900080021e810901ff801f400";
 
-const MESSAGE_JSON: &str = "{\"m_ack\":0,\"nid_bg\":1,\"nid_c\":1,\"nid_message\":3,\
+pub const MESSAGE_JSON: &str = "{\"m_ack\":0,\"nid_bg\":1,\"nid_c\":1,\"nid_message\":3,\
 \"packets\":[{\"end_speed\":0,\"end_timeout\":1023,\"l_endsection\":1000,\"nid_packet\":15,\
 \"q_dir\":1,\"q_scale\":1,\"sections\":[]}],\"t_train\":100}\n";
 

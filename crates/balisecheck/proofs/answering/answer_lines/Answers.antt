@@ -11,6 +11,7 @@ lines-init g c = record {
   writes = search rules;
   met = λ h. cc (h, c.requires.fresh.1);
   room = rw c.requires.fresh.0 (omega arith);
+  paid = rw c.requires.fresh.0 (omega (arith, c.requires.uncounted));
 }
 
 -- a line was found and answered, and each line has cost at least one byte
@@ -21,12 +22,14 @@ lines-preserved g c =
     let read = rw c.if-branch.true at c.in_ok-next.ensures.reads in
     let found = Running-line (answers c.lines.command) c.lines.number c.lines.invariant.running read c.in_ok-next.ensures.ended in
     let turn = rw (c.in_default.is, c.line.ensures) at c.in_ok-status.ensures.turns in
+    let paid = rw c.line.ensures at c.in_ok-status.ensures.pays in
     record {
       running = Running-answered (answers c.lines.command) (answers c.answer.new.self) c.lines.number held found turn;
       reads = search rules;
       writes = search rules;
       met = c.in_ok-next.ensures.met c.lines.invariant.met;
       room = omega (arith, c.in_ok-next.ensures.spends c.if-branch.true);
+      paid = omega (arith, c.lines.invariant.paid, c.in_ok-next.ensures.pays, paid);
     }
 
 -- no next line could be read

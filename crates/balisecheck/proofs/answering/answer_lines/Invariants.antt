@@ -15,6 +15,7 @@ invariant-lines g l = record {
   writes : failures_of l.writer ≡ failures_of l.fn.writer;
   met : IsEndMet g.R.Read.remaining (has_ended l.lines) l.reader;
   room : l.number + (length (held_of l.lines) + budget_of l.reader) < 2 ^ 64;
+  paid : g.C.LineCommand.counted l.command + (length (held_of l.lines) + budget_of l.reader) < 2 ^ 64;
 }
 
 abbrev pub decreases-lines : goal.decreases-lines

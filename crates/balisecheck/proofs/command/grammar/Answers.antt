@@ -6,8 +6,8 @@ use Rattle.balisecheck.proofs.command.grammar.Goals as goal
 pub returns : goal.returns
 returns c =
     let top = λ (a : App). a.top in
-    let one = c.in_ok-one.ensures.shape c.new-decode.ensures.local
-    ∙ ap₂ with_subcommand c.new-program.ensures.app (ap top c.new-decode.ensures.app) in
+    let one = c.in_ok-one.ensures.shape c.in_ok-decode.ensures.local
+    ∙ ap₂ with_subcommand c.new-program.ensures.app (ap top c.in_ok-decode.ensures.app) in
     let both = c.in_ok-both.ensures.shape c.in_ok-encode.ensures.local
     ∙ ap₂ with_subcommand one (ap top c.in_ok-encode.ensures.app) in
     c.in_ok-all.ensures.shape c.new-check.ensures.local

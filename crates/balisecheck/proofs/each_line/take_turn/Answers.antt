@@ -1,4 +1,4 @@
-use Rattle.std.proofs.Common.{◌≡◌, ◌∙◌, ap, sym, arith, [], refl, length}
+use Rattle.std.proofs.Common.{◌≡◌, ◌∙◌, sym, arith, [], refl, length}
 use Rattle.std.proofs.lemmas.Grind.{common_steps}
 use Rattle.std.proofs.lemmas.List.{nil_from_length}
 use Rattle.balisecheck.specs.TextLines.{trimmed}

@@ -1,5 +1,5 @@
 use Rattle.std.proofs.Common.{ap}
-use Rattle.balisecheck.specs.Output.{of_command}
+use Rattle.balisecheck.specs.Commands.{of_command}
 use Rattle.balisecheck.proofs.RunLemmas.{Ran-as, Ran-unread, counts_at_writer}
 use Rattle.balisecheck.proofs.program.obey.Goals as goal
 

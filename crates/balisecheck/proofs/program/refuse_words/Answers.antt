@@ -1,6 +1,6 @@
 use Rattle.std.proofs.Common.{◌≡◌, rules}
 use Rattle.std.proofs.lemmas.Result.{err_from_is_err_and}
-use Rattle.balisecheck.specs.Output.{usage_line}
+use Rattle.balisecheck.specs.Commands.{usage_line}
 use Rattle.balisecheck.proofs.RunLemmas.{Writes-begun, Writes-failed, Writes-whole}
 use Rattle.balisecheck.proofs.program.refuse_words.Goals as goal
 

@@ -1,5 +1,5 @@
 use Rattle.std.proofs.Common.{sym, ap}
-use Rattle.balisecheck.specs.Output.{of_command, output_of}
+use Rattle.balisecheck.specs.Commands.{of_command, output_of}
 use Rattle.balisecheck.proofs.RunLemmas.{Ran-as, Ran-known, Ran-nothing}
 use Rattle.balisecheck.proofs.program.run.Goals as goal
 
