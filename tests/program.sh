@@ -119,13 +119,13 @@ flag_of() {
 }
 
 # Each example with the lines beside it that have to be written. Without any the pattern itself is the
-# name, which fails. No command decodes radio messages yet.
+# name, which fails.
 decodes_examples() {
     local wanted name got
     for wanted in "$here"/../examples/*.json; do
         name=$(basename "$wanted" .json)
-        [ -z "$(flag_of "$name")" ] || continue
-        "$program" decode <"${wanted%.json}.txt" >"$room/stdout" 2>"$room/stderr"
+        # shellcheck disable=SC2046 # no flag is no word
+        "$program" decode $(flag_of "$name") <"${wanted%.json}.txt" >"$room/stdout" 2>"$room/stderr"
         got=$?
         count "the example $name" "$(
             [ "$got" -eq 0 ] || echo "status $got in place of 0"
@@ -247,6 +247,50 @@ encodes_messages() {
         "$("$program" encode --radio <<<"$(message_with 8020)" | awk '{ if (length != 2046) print length }')"
 }
 
+# refuses_stream WHY INPUT [JSON]: the input of `decode --radio` is refused, after these JSON lines.
+refuses_stream() {
+    answers "the stream ${2:0:80}" 2 "${3-}refused: $1"$'\n' '' decode --radio <<<"$2"
+}
+
+decodes_streams() {
+    local json=$message_json$'\n' cut
+    answers 'no radio message' 0 '' '' decode --radio </dev/null
+    answers 'empty lines of a stream' 0 '' '' decode --radio <<<$'\n\r\n'
+    answers 'two messages on a line' 0 "$json$json" '' decode --radio <<<"$message$message"
+    answers 'a message in upper case, no line end' 0 "$json" '' decode --radio < <(printf '%s' "${message^^}")
+    answers 'two messages in lines of a byte' 0 "$json$json" '' \
+        decode --radio < <(fold -w 2 <<<"$message$message")
+    for ((cut = 2; cut < 36; cut += 2)); do
+        answers "a message cut after $cut digits" 0 "$json" '' \
+            decode --radio <<<"${message:0:cut}"$'\r\n\n'"${message:cut}"
+    done
+    refuses_stream 'message 0: length below 3' 030080
+    refuses_stream 'message 0: length below 3' 040080
+    refuses_stream 'message 0: cut off' "${message%??}"
+    refuses_stream 'message 0: cut off' 04
+    refuses_stream 'message 0: message kind at 0 end 8' 0400c0
+    refuses_stream 'message 0: no authority at 8181 end 8184' "03ffc0$(printf '00%.0s' {1..1020})"
+    refuses_stream 'message 1: short at 18 end 24' "${message}0300c0" "$json"
+    refuses_stream 'message 2: cut off' "$message"$'\n'"$message"$'\n03' "$json$json"
+    refuses_stream 'line 2: not hexadecimal' "${message:0:18}"$'\n0g'
+    refuses_stream 'line 1: not hexadecimal' "${message}0"
+    refuses_stream 'line 3: not hexadecimal' "$message"$'\n\n'"${message}030080 " "$json"
+    refuses_stream 'message 1: length below 3' "$message"$'\n030080\nzz' "$json"
+    refuses_stream 'message 0: spare at 179 end 181' 8807000000320000004000e480200081f450014002831832c00ed280
+}
+
+# Many messages with little memory: no more of a stream is kept than a line and a message.
+streams_in_little_memory() {
+    local got
+    (
+        ulimit -v 100000
+        yes "$message$message" | head -n 100000 | "$program" decode --radio 2>"$room/stderr" | uniq -c >"$room/stdout"
+        exit "${PIPESTATUS[2]}"
+    )
+    got=$?
+    count 'many messages' "$(differs 0 " 200000 $message_json"$'\n' '')"
+}
+
 refuses_examples() {
     local examples=$here/../examples
     answers 'the example pad-bits-set' 2 "${json}refused: line 3: pad bits set"$'\n' '' \
@@ -300,7 +344,7 @@ reads_over_blocks() {
 }
 
 # What is said on standard error to a person whose words are a usual mistake.
-alone='balisecheck: this version has --radio with encode alone
+alone='balisecheck: --radio stands with decode and encode alone
 '
 from_file='balisecheck: the input is standard input: balisecheck decode < FILE
 '
@@ -320,11 +364,13 @@ misunderstands() {
 understands_words() {
     answers 'words that end with two dashes' 0 "$json" '' decode -- <<<"$telegram"
     answers 'no word' 2 "$usage" '' <<<"$telegram"
-    misunderstands "$alone" < <(printf '%s\n' 'decode --radio' 'check --radio')
+    answers 'words that end with the flag and two dashes' 0 "$message_json"$'\n' '' \
+        decode --radio -- <<<"$message"
+    misunderstands "$alone" < <(printf '%s\n' 'check --radio' 'check --radio --radio')
     misunderstands "$check_from_file" < <(printf '%s\n' 'check more' 'check line.json')
     misunderstands "$from_file" < <(printf '%s\n' 'decode decode' 'decode more' 'decode telegrams.txt')
     misunderstands "$encode_from_file" < <(printf '%s\n' 'encode more' 'encode telegrams.json')
-    misunderstands '' < <(printf '%s\n' 'encode --radio --radio' 'encode --radio=' 'decode --help' 'decode --radio=' 'decode -- --radio' help \
+    misunderstands '' < <(printf '%s\n' 'encode --radio --radio' 'decode --radio --radio' 'encode --radio=' 'decode --help' 'decode --radio=' 'decode -- --radio' help \
         --help --version --radio --radio= '-- decode')
 }
 
@@ -372,6 +418,8 @@ devices_fail() {
     fails 'a telegram and a full device' "$device" decode <<<"$telegram"
     fails 'a refused line and a full device' "$device" decode <<<zz
     fails 'a telegram, a refused line and a full device' "$device" decode <<<"$telegram"$'\nzz'
+    fails 'a message and a full device' "$device" decode --radio <<<"$message"
+    fails 'a message that is refused and a full device' "$device" decode --radio <<<030080
     fails 'a form and a full device' "$device" encode <<<"$json"
     fails 'a form of a message and a full device' "$device" encode --radio <<<"$message_json"
     fails 'the report on a line and a full device' "$device" check <<<'{"groups":[],"messages":[]}'
@@ -407,6 +455,8 @@ encodes_lines
 refuses_packets
 encodes_packets
 encodes_messages
+decodes_streams
+streams_in_little_memory
 refuses_examples
 reads_lines
 reads_long_lines
