@@ -392,7 +392,7 @@ manual_holds() {
         text=$("$program" "${words[@]}" </dev/null 2>&1)
         count "the manual page has ${words[*]}" "$(grep '^refused: usage' <<<"$text")"
     done < <(manual DESCRIPTION | sed -n 's/\\//g; s/^\.B \([a-z].*\)/\1/p' | grep -v '^balisecheck')
-    count 'the manual page has all commands' "$([ "$commands" -eq 4 ] || echo "$commands commands")"
+    count 'the manual page has all commands' "$([ "$commands" -eq 5 ] || echo "$commands commands")"
     statuses=$(manual 'EXIT STATUS' | sed -n 's/^\.B \([0-9]\)$/\1/p' | tr -d '\n')
     count 'the manual page has all statuses' "$([ "$statuses" = 0123 ] || echo "$statuses")"
     manual EXAMPLE | sed '/^\./d; '"s/\\\\(aq/'/g" >"$room/wanted"
