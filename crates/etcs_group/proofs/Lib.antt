@@ -8,4 +8,5 @@ pub mod SaidLemmas
 pub mod BlockLemmas
 pub mod PointedLemmas
 pub mod MissedLemmas
+pub mod MixtureLemmas
 pub mod StepLemmas

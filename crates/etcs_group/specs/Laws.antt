@@ -1,14 +1,16 @@
--- The laws of groups, readings and messages.
-use Rattle.std.specs.Prelude.{◌≡◌, ◌↔◌, ℕ, ◌<◌, Bool, List, length, Some, None, IsTrue, IsFalse}
+-- The laws of groups, readings, messages and mixtures.
+use Rattle.std.specs.Prelude.{◌≡◌, ◌↔◌, ℕ, ◌<◌, Bool, List, length, Option, Some, None, IsTrue, IsFalse}
 use Rattle.etcs_packet.specs.declared.run.Run.{Run}
 use Rattle.etcs_telegram.specs.Record.{Telegram}
 use Rattle.etcs_group.specs.declared.refused.Refused.TheVariants as reasons
-use Rattle.etcs_group.specs.Places.{IsLeast}
+use Rattle.etcs_group.specs.Places.{At, IsLeast}
 use Rattle.etcs_group.specs.Group.{IsWellFormed, HasOneCounter}
 use Rattle.etcs_group.specs.Missed.{IsSetOf, IsCovered, IsLost, none_missed}
 use Rattle.etcs_group.specs.Reading.{reading_of}
 use Rattle.etcs_group.specs.Assembly.{IsAccepted, refusal_of}
 use Rattle.etcs_group.specs.Packets.{packets_of, said_by, HasEqualPairs}
+use Rattle.etcs_group.specs.Controlled.{IsControlled, AreOneGroup}
+use Rattle.etcs_group.specs.Mixture.{Fits, Covers, mixed_of, HasAllShown}
 
 -- A list is accepted exactly where no refusal stands.
 abbrev pub AcceptedOrRefused : Type 0
@@ -38,3 +40,31 @@ pub record SaysTheSame (run : Run) (group : List Telegram) : Type 0 where
 -- Both hold in each well-formed group.
 abbrev pub ReadingsSayTheSame : Type 0
 ReadingsSayTheSame = (run : Run) (group : List Telegram) → IsWellFormed group → SaysTheSame run group
+
+-- ---- mixtures
+
+-- A group makes one message: it is well formed, and in each running direction each covered reading is
+-- accepted and has the packets of the reading with nothing missed.
+pub record MakesOneMessage (group : List Telegram) : Type 0 where
+  pub formed : IsWellFormed group
+  pub accepted : (run : Run) (missed : ℕ → Bool) → IsSetOf group missed → IsCovered group missed
+      → IsAccepted run (reading_of run missed group)
+  pub same : (run : Run) (missed : ℕ → Bool) → IsSetOf group missed → IsCovered group missed
+      → packets_of run (reading_of run missed group) ≡ packets_of run (reading_of run none_missed group)
+
+-- A mixture is accepted exactly where it is covered and one aspect has all that it shows. Its message is
+-- then that of this aspect with nothing missed.
+pub record IsMixtureDecided (run : Run) (aspects : List (List Telegram)) (shown : ℕ → Option ℕ) : Type 0 where
+  pub accepted : IsAccepted run (mixed_of run aspects shown) ↔ (Covers aspects shown
+      × ((a : ℕ) × (group : List Telegram) × At aspects a group × HasAllShown aspects shown group))
+  pub packets : (a : ℕ) (group : List Telegram) → At aspects a group → HasAllShown aspects shown group
+      → IsAccepted run (mixed_of run aspects shown)
+      → packets_of run (mixed_of run aspects shown) ≡ packets_of run (reading_of run none_missed group)
+
+-- This holds of each mixture of a controlled group whose aspects make one message each, are contents of
+-- one group and are told apart.
+abbrev pub MixturesAreDecided : Type 0
+MixturesAreDecided = (run : Run) (aspects : List (List Telegram)) (shown : ℕ → Option ℕ)
+    → IsControlled aspects
+    → ((a : ℕ) (group : List Telegram) → At aspects a group → MakesOneMessage group)
+    → AreOneGroup aspects → Fits aspects shown → IsMixtureDecided run aspects shown

@@ -4,4 +4,6 @@ pub mod Missed
 pub mod Reading
 pub mod Assembly
 pub mod Packets
+pub mod Controlled
+pub mod Mixture
 pub mod Laws

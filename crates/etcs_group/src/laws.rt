@@ -1,7 +1,7 @@
-//! Laws of groups, readings and messages, for users. Each law is the contract of a function that does
+//! Laws of groups, readings, messages and mixtures, for users. Each law is the contract of a function that does
 //! nothing.
 
-ghost use Rattle.etcs_group.specs.Laws.{AcceptedOrRefused, ReadingsAreDecided, ReadingsSayTheSame};
+ghost use Rattle.etcs_group.specs.Laws.{AcceptedOrRefused, MixturesAreDecided, ReadingsAreDecided, ReadingsSayTheSame};
 
 /// A list of telegrams is accepted exactly if there is no reason to refuse it.
 pub fn accepted_or_refused()
@@ -19,4 +19,11 @@ pub fn readings_are_decided()
 /// two balises of each pair have equal packets that hold, it is the message of each covered reading.
 pub fn readings_say_the_same()
     ensures { ReadingsSayTheSame }
+{}
+
+/// In a controlled group whose aspects make one message each, are contents of one group and are told
+/// apart, a mixture is accepted exactly if it is covered and one aspect has, at their places, all the
+/// telegrams that it shows. Its message is then that of this aspect with nothing missed.
+pub fn mixtures_are_decided()
+    ensures { MixturesAreDecided }
 {}
