@@ -1,5 +1,5 @@
 //! Makes a `serde_json::Value` of each line of standard input, and counts them. With a word, it makes one
-//! of the whole input. `bench/forms.sh` and `bench/check.sh` prove, build and run it.
+//! of the whole input. `bench/forms.sh` and `bench/documents.sh` prove, build and run it.
 #![tactic(auto)]
 
 use serde_json::Value;

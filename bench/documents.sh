@@ -1,0 +1,37 @@
+#!/usr/bin/env bash
+# Measures how documents of lines are checked: bench/documents.sh [COUNT..]
+#
+# bench/documents.py writes documents of so many sound groups (1,000, 10,000 and 100,000 if no count is
+# given), each a pair with an authority and its profiles, all identities different. `check` has to say yes.
+# Beside it a `serde_json::Value` is made of the same bytes, by the program of bench/json, which is proved
+# and built first. The first failure ends the run with status 1. The rates are by processor time, which the
+# load of the machine changes less than the time elapsed. 100,000 groups take 44 MB of the temporary folder,
+# which TMPDIR names, and eight to nine times that of memory.
+#
+# BALISECHECK names another program to measure.
+set -euo pipefail
+
+here=$(cd "$(dirname "${BASH_SOURCE[0]}")" && pwd)
+# shellcheck source=bench/common.sh
+. "$here/common.sh"
+program=${BALISECHECK:-$here/../balisecheck}
+[ $# -gt 0 ] || set -- 1000 10000 100000
+
+# checks COUNT: the document of so many groups.
+checks() {
+    python3 "$here/documents.py" "$1" >"$room/document"
+    measure "$room/document" "$room/written" "$program" check
+    row 'check' "$1" "$room/document"
+    [ "$(cat "$room/written")" = "yes: groups $1, messages 0" ] || fail "$(head -n 2 "$room/written")"
+    measure "$room/document" "$room/written" "$json" whole
+    row 'serde_json::Value alone' "$1" "$room/document"
+}
+
+# Builds it, so that no build is measured.
+"$program" decode </dev/null || fail "no telegrams: status $? in place of 0"
+build_json
+echo "$(uname -m), $(nproc) processors, load $(cut -d' ' -f1 /proc/loadavg)"
+heading 'documents of sound groups'
+for count; do
+    checks "$count"
+done
