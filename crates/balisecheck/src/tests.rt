@@ -5,6 +5,7 @@ mod devices;
 mod documents;
 mod forms;
 mod radio;
+mod refused_memory;
 
 use crate::counted::Counted;
 use crate::error::RunError;
