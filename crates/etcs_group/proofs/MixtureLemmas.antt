@@ -1,11 +1,12 @@
 -- A mixture is accepted exactly where it is covered and one aspect has all that it shows.
-use Rattle.std.proofs.Common.{◌≡◌, ℕ, zero, suc, ◌+◌, ◌<◌, ◌≤◌, Bool, true, false, cond, ◌&&◌, ltb, List, [], ◌∷◌, length, reverse, slice_get, Option, Some, None, is_none, option_and_then, IsFalse, IsSomeAnd, refl, sym, ap, subst, ◌∙◌, arith, add-one}
+use Rattle.std.proofs.Common.{◌≡◌, ◌≢◌, ℕ, zero, suc, ◌+◌, ◌<◌, ◌≤◌, Bool, true, false, not, cond, ◌&&◌, ltb, List, [], ◌∷◌, ◌++◌, length, reverse, get_or, slice_get, Option, Some, None, is_none, option_and_then, IsTrue, IsFalse, IsSomeAnd, refl, sym, ap, subst, ◌∙◌, arith, add-one}
 use Rattle.std.specs.List.{cons_option, filter_map, range_with_len}
 use Rattle.std.specs.Option.{option_map_or}
 use Rattle.std.proofs.lemmas.Option.{none-some, same_Some, slice_get_past}
 use Rattle.std.proofs.lemmas.Bool.{both_ways, cases_eq, cases_lt, lt-ltb, ltb-true, and_parts}
 use Rattle.std.proofs.lemmas.List.{reverse-reverse}
 use mathlib.Core.Logic.{inl, inr}
+use Rattle.etcs_bits.specs.declared.variables.duplicate.Dup.{Dup}
 use Rattle.etcs_packet.specs.declared.run.Run.{Run}
 use Rattle.etcs_packet.specs.declared.run.Run.TheVariants as runs
 use Rattle.etcs_telegram.specs.Record.{Telegram}
@@ -16,10 +17,10 @@ use Rattle.etcs_group.specs.Reading.{in_passing_order, reading_of}
 use Rattle.etcs_group.specs.Assembly.{IsAccepted}
 use Rattle.etcs_group.specs.Packets.{packets_of}
 use Rattle.etcs_group.specs.Controlled.{count_of, IsControlled, HasAt, IsFixed, AreOneGroup}
-use Rattle.etcs_group.specs.Mixture.{Fits, missed_in, shown_at, mixed_of, HasAllShown}
+use Rattle.etcs_group.specs.Mixture.{shown_in, Fits, missed_in, shown_at, mixed_of, HasAllShown}
 use Rattle.etcs_group.specs.Laws.{IsDecided, MakesOneMessage, IsMixtureDecided, MixturesAreDecided}
 use Rattle.etcs_group.proofs.PlaceLemmas.{some_at, At-reverse, least-some, least-none_says}
-use Rattle.etcs_group.proofs.ReadingLemmas.{kept_from, kept-is, at-reading}
+use Rattle.etcs_group.proofs.ReadingLemmas.{kept_from, kept, kept-is, at-reading}
 use Rattle.etcs_group.proofs.DecidedLemmas.{readings_are_decided}
 
 -- ---- marks alone decide partners, and so what is covered
@@ -266,3 +267,22 @@ module _ (aspects : List (List Telegram)) (shown : ℕ → Option ℕ) (is : IsC
 
 pub mixtures_are_decided : MixturesAreDecided
 mixtures_are_decided run aspects shown is each one fit = mixture_is_decided aspects shown is fit one run each
+
+-- ---- the calls of a controlled group
+
+-- what a place shows is what stands there in the list, and none past its end
+pub shown-is : (shown : List (Option ℕ)) (p : ℕ) → shown_in shown p ≡ get_or shown p None
+shown-is [] p = refl
+shown-is (o ∷ shown) zero = refl
+shown-is (o ∷ shown) (suc p) = shown-is shown p
+
+-- eight places are all that there are
+pub shown-past : (shown : List (Option ℕ)) (p : ℕ) → length shown ≤ p → shown_in shown p ≡ None
+shown-past shown p le = ap (option_and_then (λ (a : Option ℕ). a)) (slice_get_past shown p le)
+
+-- one more place that fits
+pub fit_more : (n k i : ℕ) (shown : ℕ → Option ℕ) → ((p a : ℕ) → p < i → shown p ≡ Some a → (p < n) × (a < k)) → ((a : ℕ) → shown i ≡ Some a → (i < n) × (a < k)) → (p a : ℕ) → p < i + 1 → shown p ≡ Some a → (p < n) × (a < k)
+fit_more n k i shown before here p a lt e = elim (cases_lt p i) [
+  | inl less ↦ before p a less e
+  | inr ge ↦ let same : p ≡ i = omega arith in let r = here a (ap shown (sym same) ∙ e) in let w = r.0 in (omega arith, r.1)
+]

@@ -10,6 +10,10 @@ use Rattle.etcs_group.specs.Missed.{IsCovered}
 use Rattle.etcs_group.specs.Reading.{in_passing_order}
 use Rattle.etcs_group.specs.Controlled.{count_of}
 
+-- what a list of aspects by place stands for; a place past its end shows nothing
+abbrev pub shown_in : List (Option ℕ) → ℕ → Option ℕ
+shown_in shown p = option_and_then (λ aspect. aspect) (slice_get shown p)
+
 -- each place that shows an aspect is a place of the group, and the aspect exists
 abbrev pub Fits : List (List Telegram) → (ℕ → Option ℕ) → Type 0
 Fits aspects shown = (p a : ℕ) → shown p ≡ Some a → (p < count_of aspects) × (a < length aspects)

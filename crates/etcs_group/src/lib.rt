@@ -9,6 +9,7 @@
 #![tactic(auto)]
 
 mod assembly;
+mod controlled;
 mod group;
 mod header;
 pub mod laws;
@@ -18,6 +19,7 @@ mod refusal;
 mod refused;
 
 pub use assembly::assemble;
+pub use controlled::Controlled;
 pub use group::Group;
 pub use missed::{Missed, is_covered};
 pub use refused::Refused;
