@@ -1,26 +1,26 @@
 -- A mixture is accepted exactly where it is covered and one aspect has all that it shows.
-use Rattle.std.proofs.Common.{◌≡◌, ◌≢◌, ℕ, zero, suc, ◌+◌, ◌<◌, ◌≤◌, Bool, true, false, not, cond, ◌&&◌, ltb, List, [], ◌∷◌, ◌++◌, length, reverse, get_or, slice_get, Option, Some, None, is_none, option_and_then, IsTrue, IsFalse, IsSomeAnd, refl, sym, ap, subst, ◌∙◌, arith, add-one}
+use Rattle.std.proofs.Common.{◌≡◌, ◌≢◌, ℕ, zero, suc, ◌+◌, ◌-◌, ◌*◌, ◌^◌, ◌%◌, ◌<◌, ◌≤◌, eqb, bit_or, w8, Bool, true, false, not, cond, ◌&&◌, ltb, List, [], ◌∷◌, ◌++◌, length, reverse, get_or, slice_get, Option, Some, None, is_none, is_some, option_and_then, IsFalse, IsSomeAnd, refl, sym, ap, subst, ◌∙◌, arith, add-one}
 use Rattle.std.specs.List.{cons_option, filter_map, range_with_len}
 use Rattle.std.specs.Option.{option_map_or}
-use Rattle.std.proofs.lemmas.Option.{none-some, same_Some, slice_get_past}
-use Rattle.std.proofs.lemmas.Bool.{both_ways, cases_eq, cases_lt, lt-ltb, ltb-true, and_parts}
-use Rattle.std.proofs.lemmas.List.{reverse-reverse}
+use Rattle.std.proofs.lemmas.Option.{none-some, same_Some, slice_get_past, slice_get_within}
+use Rattle.std.proofs.lemmas.Bool.{both_ways, cases_eq, cases_lt, lt-ltb, le-ltb, ltb-true, and_parts}
+use Rattle.std.proofs.lemmas.List.{append_assoc, append-nil, reverse-reverse}
+use Rattle.std.proofs.lemmas.Nat.Bits.{bit_at_set_same, bit_at_set_other}
 use mathlib.Core.Logic.{inl, inr}
-use Rattle.etcs_bits.specs.declared.variables.duplicate.Dup.{Dup}
 use Rattle.etcs_packet.specs.declared.run.Run.{Run}
 use Rattle.etcs_packet.specs.declared.run.Run.TheVariants as runs
 use Rattle.etcs_telegram.specs.Record.{Telegram}
 use Rattle.etcs_group.specs.Places.{At, least}
 use Rattle.etcs_group.specs.Group.{named_by, partner_of, HasOneCounter}
-use Rattle.etcs_group.specs.Missed.{IsSetOf, IsCovered, none_missed}
+use Rattle.etcs_group.specs.Missed.{is_missed, IsSetOf, IsCovered, none_missed}
 use Rattle.etcs_group.specs.Reading.{in_passing_order, reading_of}
 use Rattle.etcs_group.specs.Assembly.{IsAccepted}
 use Rattle.etcs_group.specs.Packets.{packets_of}
 use Rattle.etcs_group.specs.Controlled.{count_of, IsControlled, HasAt, IsFixed, AreOneGroup}
 use Rattle.etcs_group.specs.Mixture.{shown_in, Fits, missed_in, shown_at, mixed_of, HasAllShown}
 use Rattle.etcs_group.specs.Laws.{IsDecided, MakesOneMessage, IsMixtureDecided, MixturesAreDecided}
-use Rattle.etcs_group.proofs.PlaceLemmas.{some_at, At-reverse, least-some, least-none_says}
-use Rattle.etcs_group.proofs.ReadingLemmas.{kept_from, kept, kept-is, at-reading}
+use Rattle.etcs_group.proofs.PlaceLemmas.{some_at, one_at, At-reverse, least-some, least-none_says}
+use Rattle.etcs_group.proofs.ReadingLemmas.{kept_from, kept-is, at-reading}
 use Rattle.etcs_group.proofs.DecidedLemmas.{readings_are_decided}
 
 -- ---- marks alone decide partners, and so what is covered
@@ -231,42 +231,65 @@ module _ (aspects : List (List Telegram)) (shown : ℕ → Option ℕ) (is : IsC
             low_at None h low = absurd (both_ways false refl low)
             low_at (Some t) h low = (t, h, ltb-true _ _ low)
 
-    -- ---- the law
+  -- ---- the law, where marks are the same in all aspects, and an accepted mixture shows one of them
 
-    module _ (each : (a : ℕ) (group : List Telegram) → At aspects a group → MakesOneMessage group) where
-      marks_of : (a b : ℕ) (g h : List Telegram) → At aspects a g → At aspects b h → (p : ℕ) (t u : Telegram) → At g p t → At h p u → t.header.dup ≡ u.header.dup
-      marks_of a b g h at at' p t u x y = one.marks a b p t u (g, at, x) (h, at', y)
+  module _ (run : Run) (marks : (a b p : ℕ) (t u : Telegram) → HasAt aspects a p t → HasAt aspects b p u → t.header.dup ≡ u.header.dup) (some : IsAccepted run (mixed_of run aspects shown) → (a : ℕ) × (group : List Telegram) × At aspects a group × HasAllShown aspects shown group) (each : (a : ℕ) (group : List Telegram) → At aspects a group → MakesOneMessage group) where
+    marks_of : (a b : ℕ) (g h : List Telegram) → At aspects a g → At aspects b h → (p : ℕ) (t u : Telegram) → At g p t → At h p u → t.header.dup ≡ u.header.dup
+    marks_of a b g h at at' p t u x y = marks a b p t u (g, at, x) (h, at', y)
 
-      decided_in : (a : ℕ) (group : List Telegram) → At aspects a group → IsDecided run group (missed_in aspects shown) (reading_of run (missed_in aspects shown) group)
-      decided_in a group at =
+    decided_in : (a : ℕ) (group : List Telegram) → At aspects a group → IsDecided run group (missed_in aspects shown) (reading_of run (missed_in aspects shown) group)
+    decided_in a group at =
+        let long = is.counts a group at in
+        let some = is.balises in
+        readings_are_decided run group (missed_in aspects shown) (each a group at).formed (one_counter group (each a group at)) (omega arith) (missed_set group long)
+
+    pub mixture_is_decided : IsMixtureDecided run aspects shown
+    mixture_is_decided = record {
+      accepted = (
+        λ accepted.
+            let r = some accepted in
+            let long = is.counts r.0 r.1 r.2 in
+            let covered = (decided_in r.0 r.1 r.2).accepted.0 (subst (IsAccepted run) (mixed_reading r.1 long r.3 run) accepted) in
+            (λ first at. covered-same r.1 first (long ∙ sym (is.counts 0 first at)) (marks_of r.0 0 r.1 first r.2 at) (missed_in aspects shown) covered, r),
+        λ both.
+            let r = both.1 in
+            let long = is.counts r.0 r.1 r.2 in
+            let first = some_at aspects 0 is.some in
+            let covered = covered-same first.0 r.1 (is.counts 0 first.0 first.1 ∙ sym long) (marks_of 0 r.0 first.0 r.1 first.1 r.2) (missed_in aspects shown) (both.0 first.0 first.1) in
+            subst (IsAccepted run) (sym (mixed_reading r.1 long r.3 run)) ((decided_in r.0 r.1 r.2).accepted.1 covered),
+      );
+      packets = λ a group at all accepted.
           let long = is.counts a group at in
-          let some = is.balises in
-          readings_are_decided run group (missed_in aspects shown) (each a group at).formed (one_counter group (each a group at)) (omega arith) (missed_set group long)
+          let eq = mixed_reading group long all run in
+          let covered = (decided_in a group at).accepted.0 (subst (IsAccepted run) eq accepted) in
+          ap (packets_of run) eq ∙ (each a group at).same run (missed_in aspects shown) (missed_set group long) covered;
+    }
 
-      pub mixture_is_decided : IsMixtureDecided run aspects shown
-      mixture_is_decided = record {
-        accepted = (
-          λ accepted.
-              let r = some_aspect accepted in
-              let long = is.counts r.0 r.1 r.2 in
-              let covered = (decided_in r.0 r.1 r.2).accepted.0 (subst (IsAccepted run) (mixed_reading r.1 long r.3 run) accepted) in
-              (λ first at. covered-same r.1 first (long ∙ sym (is.counts 0 first at)) (marks_of r.0 0 r.1 first r.2 at) (missed_in aspects shown) covered, r),
-          λ both.
-              let r = both.1 in
-              let long = is.counts r.0 r.1 r.2 in
-              let first = some_at aspects 0 is.some in
-              let covered = covered-same first.0 r.1 (is.counts 0 first.0 first.1 ∙ sym long) (marks_of 0 r.0 first.0 r.1 first.1 r.2) (missed_in aspects shown) (both.0 first.0 first.1) in
-              subst (IsAccepted run) (sym (mixed_reading r.1 long r.3 run)) ((decided_in r.0 r.1 r.2).accepted.1 covered),
-        );
-        packets = λ a group at all accepted.
-            let long = is.counts a group at in
-            let eq = mixed_reading group long all run in
-            let covered = (decided_in a group at).accepted.0 (subst (IsAccepted run) eq accepted) in
-            ap (packets_of run) eq ∙ (each a group at).same run (missed_in aspects shown) (missed_set group long) covered;
-      }
+  -- ---- one aspect alone
+
+  module _ (alone : length aspects ≤ 1) where
+    -- it is the first
+    is_first : (a p : ℕ) (t : Telegram) → HasAt aspects a p t → (group : List Telegram) → At aspects 0 group → At group p t
+    is_first a p t s group at =
+        let within = slice_get_within aspects a s.0 s.1 in
+        let zero_is : a ≡ 0 = omega arith in
+        subst (λ (g : List Telegram). At g p t) (one_at aspects 0 s.0 group (subst (λ k. At aspects k s.0) zero_is s.1) at) s.2
+
+    marks_alone : (a b p : ℕ) (t u : Telegram) → HasAt aspects a p t → HasAt aspects b p u → t.header.dup ≡ u.header.dup
+    marks_alone a b p t u s s' =
+        let first = some_at aspects 0 is.some in
+        ap (λ (x : Telegram). x.header.dup) (one_at first.0 p t u (is_first a p t s first.0 first.1) (is_first b p u s' first.0 first.1))
+
+    shows_alone : (a : ℕ) × (group : List Telegram) × At aspects a group × HasAllShown aspects shown group
+    shows_alone =
+        let first = some_at aspects 0 is.some in
+        (0, first.0, first.1, λ p t h. let s = shows_place p t h in is_first s.0 p t s.2 first.0 first.1)
 
 pub mixtures_are_decided : MixturesAreDecided
-mixtures_are_decided run aspects shown is each one fit = mixture_is_decided aspects shown is fit one run each
+mixtures_are_decided run aspects shown is each one fit = elim (cases_lt 1 (length aspects)) [
+  | inl several ↦ mixture_is_decided aspects shown is fit run (one several).marks (some_aspect aspects shown is fit (one several) run) each
+  | inr alone ↦ mixture_is_decided aspects shown is fit run (marks_alone aspects shown is fit alone) (λ _. shows_alone aspects shown is fit alone) each
+]
 
 -- ---- the calls of a controlled group
 
@@ -286,3 +309,92 @@ fit_more n k i shown before here p a lt e = elim (cases_lt p i) [
   | inl less ↦ before p a less e
   | inr ge ↦ let same : p ≡ i = omega arith in let r = here a (ap shown (sym same) ∙ e) in let w = r.0 in (omega arith, r.1)
 ]
+
+-- ---- the bits of the places that show nothing
+
+and-false : (b : Bool) → (b && false) ≡ false
+and-false true = refl
+and-false false = refl
+
+-- another place is below i + 1 exactly where it is below i
+same_below : (p i : ℕ) → p ≢ i → ltb p i ≡ ltb p (i + 1)
+same_below p i ne = elim (cases_lt p i) [
+  | inl lt ↦ lt-ltb p i lt ∙ sym (lt-ltb p (i + 1) (omega arith))
+  | inr ge ↦ elim (cases_eq p i) [
+    | inl e ↦ absurd (ne e)
+    | inr _ ↦ le-ltb p i ge ∙ sym (le-ltb p (i + 1) (omega arith))
+  ]
+]
+
+-- the bits of the places below i that show nothing
+abbrev pub AreMissed : (ℕ → Option ℕ) → ℕ → ℕ → Type 0
+AreMissed shown i bits = (p : ℕ) → is_missed bits p ≡ (ltb p i && is_none (shown p))
+
+-- what a test of a place in the list says of what is shown there
+pub none-from_test : (shown : List (Option ℕ)) (i : ℕ) (none : Bool) → is_some (get_or shown i None) ≡ not none → is_none (shown_in shown i) ≡ none
+none-from_test shown i none h = ap is_none (shown-is shown i) ∙ go (get_or shown i None) none h
+  where
+    go : (o : Option ℕ) (b : Bool) → is_some o ≡ not b → is_none o ≡ b
+    go None true h = refl
+    go None false h = absurd (both_ways false refl h)
+    go (Some a) true h = absurd (both_ways true h refl)
+    go (Some a) false h = refl
+
+-- place i shows nothing, and its bit is set
+pub one_more_missed : (shown : ℕ → Option ℕ) (i bits : ℕ) → i < 8 → is_none (shown i) ≡ true → AreMissed shown i bits → AreMissed shown (i + 1) (bit_or bits (1 * 2 ^ i % 2 ^ 8))
+one_more_missed shown i bits lt none before p = elim (cases_eq p i) [
+  | inl e ↦
+      ap (is_missed (bit_or bits (1 * 2 ^ i % 2 ^ 8))) e
+      ∙ ap (λ v. eqb v 1) (bit_at_set_same w8 bits i lt)
+      ∙ sym (ap (λ q. ltb q (i + 1) && is_none (shown q)) e ∙ ap (λ b. b && is_none (shown i)) (lt-ltb i (i + 1) (omega arith)) ∙ none)
+  | inr ne ↦
+      ap (λ v. eqb v 1) (bit_at_set_other w8 bits i lt p ne) ∙ before p ∙ ap (λ b. b && is_none (shown p)) (same_below p i ne)
+]
+
+-- place i shows an aspect
+pub one_more_shown : (shown : ℕ → Option ℕ) (i bits : ℕ) → is_none (shown i) ≡ false → AreMissed shown i bits → AreMissed shown (i + 1) bits
+one_more_shown shown i bits some before p = elim (cases_eq p i) [
+  | inl e ↦
+      before p
+      ∙ ap (λ q. ltb q i && is_none (shown q)) e
+      ∙ ap (λ b. ltb i i && b) some
+      ∙ and-false (ltb i i)
+      ∙ sym (ap (λ q. ltb q (i + 1) && is_none (shown q)) e ∙ ap (λ b. ltb i (i + 1) && b) some ∙ and-false (ltb i (i + 1)))
+  | inr ne ↦ before p ∙ ap (λ b. b && is_none (shown p)) (same_below p i ne)
+]
+
+-- ---- what is read so far, and what the other places show
+
+pub mixed-is : (run : Run) (aspects : List (List Telegram)) (shown : ℕ → Option ℕ) → mixed_of run aspects shown ≡ in_passing_order run (mixed_from aspects shown 0 (count_of aspects))
+mixed-is run aspects shown = ap (in_passing_order run) (mixed-from aspects shown 0 (count_of aspects))
+
+module _ (aspects : List (List Telegram)) (shown : ℕ → Option ℕ) (i n : ℕ) (lt : i < n) where
+  mixed_step : mixed_from aspects shown i (n - i) ≡ cons_option (shown_at aspects shown i) (mixed_from aspects shown (i + 1) (n - (i + 1)))
+  mixed_step =
+      let less : n - i ≡ suc (n - (i + 1)) = omega arith in
+      ap (mixed_from aspects shown i) less
+      ∙ ap (λ k. cons_option (shown_at aspects shown i) (mixed_from aspects shown k (n - (i + 1)))) (sym (add-one i))
+
+  -- place i shows a telegram, which is read
+  pub one_more_read : (front whole : List Telegram) (t : Telegram) → shown_at aspects shown i ≡ Some t → front ++ mixed_from aspects shown i (n - i) ≡ whole → (front ++ (t ∷ [])) ++ mixed_from aspects shown (i + 1) (n - (i + 1)) ≡ whole
+  one_more_read front whole t is all =
+      append_assoc front (t ∷ []) _
+      ∙ ap (λ l. front ++ l) (sym (mixed_step ∙ ap (λ o. cons_option o (mixed_from aspects shown (i + 1) (n - (i + 1)))) is))
+      ∙ all
+
+  -- place i shows nothing
+  pub no_more_read : (front whole : List Telegram) → shown_at aspects shown i ≡ None → front ++ mixed_from aspects shown i (n - i) ≡ whole → front ++ mixed_from aspects shown (i + 1) (n - (i + 1)) ≡ whole
+  no_more_read front whole is all =
+      ap (λ l. front ++ l) (sym (mixed_step ∙ ap (λ o. cons_option o (mixed_from aspects shown (i + 1) (n - (i + 1)))) is)) ∙ all
+
+-- where a place shows a telegram, something is read
+pub mixed-some : (aspects : List (List Telegram)) (shown : ℕ → Option ℕ) → IsControlled aspects → Fits aspects shown → (run : Run) (p : ℕ) (t : Telegram) → shown_at aspects shown p ≡ Some t → mixed_of run aspects shown ≢ []
+mixed-some aspects shown is fit run p t h empty =
+    let r = shown_read aspects shown is fit run p t h in
+    none-some t (sym (slice_get_past [] r.0 (omega arith)) ∙ subst (λ (l : List Telegram). At l r.0 t) empty r.1)
+
+-- at the last place all is read
+pub all_read : (aspects : List (List Telegram)) (shown : ℕ → Option ℕ) (i n : ℕ) (front whole : List Telegram) → n ≤ i → front ++ mixed_from aspects shown i (n - i) ≡ whole → front ≡ whole
+all_read aspects shown i n front whole le all =
+    let none : n - i ≡ 0 = omega arith in
+    sym (append-nil front) ∙ ap (λ k. front ++ mixed_from aspects shown i k) (sym none) ∙ all

@@ -61,10 +61,10 @@ pub record IsMixtureDecided (run : Run) (aspects : List (List Telegram)) (shown 
       → IsAccepted run (mixed_of run aspects shown)
       → packets_of run (mixed_of run aspects shown) ≡ packets_of run (reading_of run none_missed group)
 
--- This holds of each mixture of a controlled group whose aspects make one message each, are contents of
--- one group and are told apart.
+-- This holds of each mixture of a controlled group whose aspects make one message each, and, if there are
+-- two or more, are contents of one group and are told apart.
 abbrev pub MixturesAreDecided : Type 0
 MixturesAreDecided = (run : Run) (aspects : List (List Telegram)) (shown : ℕ → Option ℕ)
     → IsControlled aspects
     → ((a : ℕ) (group : List Telegram) → At aspects a group → MakesOneMessage group)
-    → AreOneGroup aspects → Fits aspects shown → IsMixtureDecided run aspects shown
+    → (1 < length aspects → AreOneGroup aspects) → Fits aspects shown → IsMixtureDecided run aspects shown

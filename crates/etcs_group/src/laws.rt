@@ -21,9 +21,10 @@ pub fn readings_say_the_same()
     ensures { ReadingsSayTheSame }
 {}
 
-/// In a controlled group whose aspects make one message each, are contents of one group and are told
-/// apart, a mixture is accepted exactly if it is covered and one aspect has, at their places, all the
-/// telegrams that it shows. Its message is then that of this aspect with nothing missed.
+/// In a controlled group whose aspects make one message each and, if there are two or more, are contents
+/// of one group and are told apart, a mixture is accepted exactly if it is covered and one aspect has, at
+/// their places, all the telegrams that it shows. Its message is then that of this aspect with nothing
+/// missed.
 pub fn mixtures_are_decided()
     ensures { MixturesAreDecided }
 {}

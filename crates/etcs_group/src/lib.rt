@@ -14,6 +14,7 @@ mod group;
 mod header;
 pub mod laws;
 mod missed;
+mod mixture;
 mod reading;
 mod refusal;
 mod refused;
@@ -22,6 +23,7 @@ pub use assembly::assemble;
 pub use controlled::Controlled;
 pub use group::Group;
 pub use missed::{Missed, is_covered};
+pub use mixture::Mixture;
 pub use refused::Refused;
 
 #[cfg(test)]

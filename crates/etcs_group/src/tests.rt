@@ -1,5 +1,7 @@
 //! Lists of telegrams and groups whose answers were worked out by hand, and the texts of refusals.
 
+mod controlled;
+
 use crate::{Group, Missed, Refused, assemble, is_covered};
 use etcs_packet::Run;
 use etcs_packet::Run::{Nominal, Reverse};
