@@ -19,7 +19,6 @@ use Rattle.etcs_form.specs.Refusal.{line_words}
 use Rattle.etcs_form.specs.declared.refusal.LineFault.TheVariants.{Text}
 use Rattle.etcs_form.specs.declared.refusal.StreamFault.TheVariants.{BelowThree, CutOff}
 use Rattle.etcs_telegram.specs.declared.error.TextError.TheVariants.{NotHex}
-use Rattle.balisecheck.specs.LineMeaning.{refusal_of}
 use Rattle.balisecheck.specs.Output.{Output, answered, prepend}
 use Rattle.balisecheck.specs.RadioHeld.{Feeds}
 use Rattle.balisecheck.specs.RadioStream.{Onwards, fed, line_for, refused_message, stream_answers, told, told_cut}

@@ -12,7 +12,6 @@ use Rattle.balisecheck.specs.declared.counted.Counted.{Counted}
 use Rattle.balisecheck.specs.declared.error.RunError.{RunError}
 use Rattle.balisecheck.specs.declared.error.RunError.TheVariants.{Memory, Device}
 use Rattle.balisecheck.specs.declared.status.Status.{Status}
-use Rattle.balisecheck.specs.declared.status.Status.TheVariants.{Done}
 use Rattle.balisecheck.specs.declared.turn.Turn.TheVariants.{Next, Stop}
 use Rattle.balisecheck.proofs.StreamLemmas.{Appends-kept, Appends-none, Appends-then, Consumes-none, Consumes-then}
 

@@ -10,8 +10,8 @@ use Rattle.etcs_telegram.specs.Telegram.{used_bits}
 use Rattle.serde_json.specs.Data.{Data}
 use Rattle.serde_json.specs.Read.{read}
 use Rattle.etcs_form.specs.AnyMessage.{message}
-use Rattle.etcs_form.specs.Fault.{Fault, Reason, Missing, Unknown, Kind, Range}
-use Rattle.etcs_form.specs.Refusal.{line_words, path_words}
+use Rattle.etcs_form.specs.Fault.{Fault}
+use Rattle.etcs_form.specs.Refusal.{fault_told, line_words}
 use Rattle.etcs_form.specs.Shape.{Shape, object}
 use Rattle.etcs_form.specs.Telegrams.{telegram}
 use Rattle.etcs_form.specs.declared.refusal.LineFault.TheVariants.{Json, TooBig}
@@ -33,21 +33,10 @@ or_no_json None = Err (line_words Json)
 unfoldable pub value_in : List ℕ → Result Data (List ℕ)
 value_in bytes = if is_utf8 bytes then or_no_json (read bytes) else Err (line_words Json)
 
--- what is wrong with a form, in words
-abbrev pub reason_words : Reason → List ℕ
-reason_words Missing = codes "missing key"
-reason_words Unknown = codes "unknown key"
-reason_words Kind = codes "kind"
-reason_words Range = codes "range"
-
--- a form's fault in words: what is wrong, and the way to it
-abbrev pub fault_words : Fault → List ℕ
-fault_words f = codes "form " ++ (reason_words f.reason ++ (codes " at " ++ path_words f.path))
-
 -- the record that was read of a form, or the form's first fault in words
 abbrev pub or_fault : {X : Type 0} → Result X Fault → Result X (List ℕ)
 or_fault (Ok x) = Ok x
-or_fault (Err f) = Err (fault_words f)
+or_fault (Err f) = Err (fault_told f)
 
 -- the record of which the line is the form, or the reason why it is none
 abbrev pub record_in : {X : Type 0} → Shape X → List ℕ → Result X (List ℕ)
