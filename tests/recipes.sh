@@ -1,9 +1,9 @@
 #!/usr/bin/env bash
-# Runs the recipes of docs/REFUSALS.md, docs/FORMATS.md and docs/FINDINGS.md as they stand there, on the
-# examples and on files made here: the functions (blocks marked `bash`), the commands with what they have to write
-# (blocks marked `console`), and the commands of the table that mend files. Each file made here has to
-# be used there. The sums of L_PACKET in docs/FORMATS.md are compared with the examples, and the
-# functions are tried with what they have to refuse.
+# Runs the commands of README.md, examples/README.md, docs/REFUSALS.md, docs/FORMATS.md and docs/FINDINGS.md as
+# they stand there, on the examples and on files made here: the functions (blocks marked `bash`), the commands with
+# what they have to write (blocks marked `console`), and the commands of the table that mend files. Each document has
+# to have commands, and each file made here has to be used there. The sums of L_PACKET in docs/FORMATS.md are compared
+# with the examples, and the functions are tried with what they have to refuse.
 #
 # BALISECHECK names the program. The exit status is 1 if a recipe failed.
 set -uo pipefail
@@ -11,7 +11,7 @@ set -uo pipefail
 here=$(cd "$(dirname "${BASH_SOURCE[0]}")" && pwd)
 document=$here/../docs/REFUSALS.md
 formats=$here/../docs/FORMATS.md
-findings=$here/../docs/FINDINGS.md
+documents=("$here/../README.md" "$here/../examples/README.md" "$document" "$formats" "$here/../docs/FINDINGS.md")
 program=${BALISECHECK:-$here/../crates/balisecheck/out/balisecheck}
 [ -x "$program" ] || { echo "the recipes: no program at $program" >&2; exit 1; }
 program=$(readlink -f -- "$program")
@@ -77,10 +77,18 @@ makes_other_files() {
     { cat "$here/../examples/duplicated-pair.txt"; printf '\n%s\n' "${telegram/2000ff/2001ff}"; } >line.txt
 }
 
-# blocks LANGUAGE: what stands in the documents' blocks of this language.
+# blocks LANGUAGE DOCUMENT..: what stands in the documents' blocks of this language.
 blocks() {
-    awk -v opening="\`\`\`$1" '$0 == "```" { inside = 0 } inside { print } $0 == opening { inside = 1 }' \
-        "$document" "$formats" "$findings"
+    awk -v opening="\`\`\`$1" 'FNR == 1 || $0 == "```" { inside = 0 } inside { print } $0 == opening { inside = 1 }' \
+        "${@:2}"
+}
+
+# has_commands DOCUMENT: it has a command in a block marked `console`, and none of its program elsewhere.
+has_commands() {
+    count "$1 has commands" "$(
+        blocks console "$1" | grep -q '^\$ ' || echo 'no block marked `console`'
+        grep -n '^    \$' "$1"
+    )"
 }
 
 # recipe COMMAND: in a bash of its own, in the folder of the files.
@@ -165,6 +173,17 @@ uses_files() {
     local file
     for file in faulty.txt lost.txt lengths.txt batch.txt numbered.txt names.txt line.txt; do
         count "$file is used" "$(grep -q "^\$ .* $file" "$commands" || echo 'it is not')"
+    done
+}
+
+# What the commands on names and on lines of telegrams do with files whose lines end in `\r\n`, and with empty lines
+# that have blanks in them.
+reads_other_line_ends() {
+    local file command
+    for file in names.txt line.txt; do
+        command=$(grep "^\$ jq .*$file" "$commands")
+        command=${command#'$ '}
+        writes "$command >as-it-is.txt; sed 's/$/ \t\r/' $file >ends.txt; ${command//$file/ends.txt} | diff as-it-is.txt -" ''
     done
 }
 
@@ -258,12 +277,16 @@ makes_files_to_mend
 to_mend=(*.txt)
 makes_other_files
 cd "$here" || exit 1
-blocks bash >"$functions"
-blocks console >"$commands"
+blocks bash "${documents[@]}" >"$functions"
+blocks console "${documents[@]}" >"$commands"
+for text in "${documents[@]}"; do
+    has_commands "$text"
+done
 mends_files
 mends_utf16
 runs_commands
 uses_files
+reads_other_line_ends
 writes 'all_refused missing.txt; echo "status $?"' $'status 3\n'
 writes './balisecheck decode <batch.txt | json_lines 2>refused.txt | jq -c .packets | number_lines batch.txt' \
     $'1 []\n'
