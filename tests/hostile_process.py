@@ -1,0 +1,103 @@
+"""The whole process, without a shim: limits of memory and stack, devices of the system, two runs at once."""
+import os
+import subprocess
+
+from hostile_program import DEVICE, MEMORY, PROGRAM, Job, alone, stops
+from hostile_runs import CHECK, DECODE, DECODE_RADIO, ENCODE, ENCODE_RADIO, FORM, MESSAGE, SHORT, runs
+
+STACK = 512  # KiB of stack that README.md names
+
+
+def least(low, high, holds):
+    """The least number at which it holds, if it holds from there on. It holds at `high`."""
+    while low < high:
+        middle = (low + high) // 2
+        low, high = (low, middle) if holds(middle) else (middle + 1, high)
+    return low
+
+
+def limited(kind, kilobytes, words, data):
+    """The answer with this limit."""
+    return alone(words, data, limits=f"ulimit -{kind} {kilobytes} || exit 98;")
+
+
+def great_inputs():
+    """Words and inputs for which each command asks for much memory."""
+    yield CHECK, b'{"groups":[],"messages":[' + b"1," * 500000 + b"1]}"
+    yield CHECK, b'{"groups":[{"balises":["' + b"a" * 2000000 + b'"]}],"messages":[]}'
+    yield DECODE, SHORT.encode() + b"\n" + b"f" * 4000000
+    yield ENCODE, FORM.encode() + b"\n" + b"[1," * 100 + b"1," * 500000
+    yield DECODE_RADIO, MESSAGE.encode() + b"\n" + b"0" * 4000000
+    yield ENCODE_RADIO, b'{"nid_message":3,"x":"' + b"a" * 4000000 + b'"}'
+
+
+def memory_limits(tests, known, step):
+    """Above the least limit with which the system starts the program and its stack, each limit gives the expected
+    text, or memory. Below it the system ends the program, before or while its stack grows."""
+    start = least(0, 100000, lambda size: all(limited("v", size, *run) == wanted for run, wanted in known * 3))
+    tests.figures["KiB of address space with which each run answers"] = start
+    great = [(run, alone(*run)) for run in great_inputs()]
+    for size in range(start + 128, start + 40000, step):
+        for (words, data), wanted in great:
+            answer = limited("v", size, words, data)
+            tests.figures["runs with little memory"] += 1
+            tests.figures["runs with little memory that answered memory"] += answer.status == 3
+            tests.holds(f"{words} with {size} KiB", answer == wanted or stops(answer, wanted, MEMORY), answer, wanted.stdout[:200])
+
+
+def stack_limit(tests, known):
+    """The least stack with which each run answers as with any other. The system moves the stack's begin by some KiB."""
+    def suffices(size):
+        return all(limited("s", size, *run) == wanted for run, wanted in known)
+    size = least(1, 8192, lambda size: suffices(size) and suffices(size))
+    tests.figures["KiB of stack with which each run answers"] = size
+    tests.holds(f"{size} KiB of stack are less than is said", size <= STACK)
+    for more in (STACK, STACK + 4, 2 * STACK):
+        tests.holds(f"each run answers with {more} KiB of stack", suffices(more))
+
+
+def system_devices(tests, known):
+    """A full device, a closed one, a folder, and pipes that nobody reads."""
+    for (words, data), wanted in known:
+        for name, limits in (("full", "exec >/dev/full;"), ("closed", "exec >&-;")):
+            answer = alone(words, data, limits=limits)
+            tests.figures["runs with a full or closed device"] += 1
+            fine = stops(answer, wanted, DEVICE) if wanted.stdout else answer.status in (wanted.status, 3)
+            tests.holds(f"{words} with standard output {name}", fine, answer)
+        answer = alone(words, data, limits="exec </;")
+        tests.holds(f"{words} of a folder", answer.status in (2, 3) and answer.stderr in (DEVICE, wanted.stderr), answer)
+        answer = alone(words, data, limits="exec 2>&-; exec <&-;")
+        tests.holds(f"{words} with nothing to read or to say", answer.status in (2, 3), answer)
+    lines = (SHORT + "\n").encode() * 10000
+    with open(os.devnull, "wb") as nowhere:
+        ran = subprocess.run(["sh", "-c", '"$0" decode | head -n 1; exit 0', PROGRAM], input=lines, check=False,
+                             stdout=subprocess.PIPE, stderr=nowhere, timeout=60)
+    tests.equal("a reader that goes away", ran.stdout.count(b"\n"), 1)
+
+
+def at_once(program, tests, known):
+    """Two runs at once on one input, a file: each answers as alone."""
+    for (words, data), wanted in known:
+        file = program.room / "input"
+        file.write_bytes(data)
+        both = [subprocess.Popen([PROGRAM, *words], stdin=file.open("rb"), stdout=subprocess.PIPE, stderr=subprocess.PIPE)
+                for _ in range(2)]
+        for run in both:
+            out, err = run.communicate(timeout=60)
+            tests.figures["runs beside another on the same input"] += 1
+            tests.equal(f"{words} beside another", (run.returncode, out.decode(), err.decode()), tuple(wanted))
+
+
+def process(program, tests, whole=True):
+    """All of the above; where it is not the whole of it, on fewer runs."""
+    all_runs = [(words, data) for _, words, data in runs()]
+    some = [run for run in all_runs if len(run[1]) < 10000][::1 if whole else 24]
+    known = [(run, answer) for run, (answer, _) in zip(some, program.play([Job(*run) for run in some]))]
+    system_devices(tests, known)
+    at_once(program, tests, known)
+    memory_limits(tests, known[::16], 500 if whole else 13000)
+    if whole:
+        stack_limit(tests, known)
+    else:
+        for run, wanted in known:
+            tests.equal(f"{run[0]} with {STACK} KiB of stack", limited("s", STACK, *run), wanted)
