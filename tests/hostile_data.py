@@ -1,10 +1,9 @@
 """Inputs that are cut, turned and replaced, and what has to come of them."""
-import json
 import re
 
-from hostile_program import SECONDS, Job, alone
+from hostile_program import Job, alone
 from hostile_runs import (CHECK, DECODE, DECODE_RADIO, ENCODE, ENCODE_RADIO, FORM, LONG, MESSAGE, MESSAGE_FORM, REPORT,
-                          SHORT, bits_of, documents, flipped, greatest)
+                          SHORT, documents, flipped, greatest)
 from hostile_texts import is_documented
 
 REPLACING = (b'"', b"{", b"[", b",", b"0", b"\x01", b"\xff")
@@ -27,10 +26,12 @@ def come_back(program, tests, decode, encode, lines):
     tests.figures["records that came back"] += len(lines)
     forms = "".join(line + "\n" for line in lines)
     encoded, _ = program.play([Job(encode, forms.encode())])[0]
-    complete = (encoded.status, encoded.stdout.count("\n")) == (0, len(lines))
-    tests.holds(f"{' '.join(encode)} of {len(lines)} records", complete, encoded.stdout[-200:], lines[encoded.stdout.count("\n") - 1])
+    count = encoded.stdout.count("\n")
+    complete = (encoded.status, count) == (0, len(lines))
+    tests.holds(f"{' '.join(encode)} of {len(lines)} records", complete, encoded.stdout[-200:], lines[count - 1:][:1])
     decoded, _ = program.play([Job(decode, encoded.stdout.encode())])[0]
-    tests.holds(f"{len(lines)} records come back", (decoded.status, decoded.stdout) == (0, forms), first_difference(forms, decoded.stdout))
+    same = (decoded.status, decoded.stdout) == (0, forms)
+    tests.holds(f"{len(lines)} records come back", same, first_difference(forms, decoded.stdout))
 
 
 def first_difference(wanted, found):
@@ -60,7 +61,8 @@ def turned_bits(program, tests, words, encode, digits, step):
 
 def worked_telegram(program, tests):
     """A telegram without packets with each of its 216 bits turned."""
-    found = [answer.stdout for answer in answers_to(program, tests, DECODE, [flipped(SHORT, place) for place in range(216)])]
+    lines = [flipped(SHORT, place) for place in range(216)]
+    found = [answer.stdout for answer in answers_to(program, tests, DECODE, lines)]
     line = "refused: line 1: {}\n".format
     tests.equal("bit 0", found[0], line("down-link at 0 end 1"))
     # the last bit of M_VERSION turns 2.1 into 2.0, which is read
@@ -131,7 +133,8 @@ def long_lines():
             yield "127 levels", words, left * deep + middle + right * deep, wanted
             yield "128 levels", words, left * (deep + 1) + middle + right * (deep + 1), f"refused: {front}not JSON\n"
             yield "a million levels", words, left * 10 ** 6, f"refused: {front}not JSON\n"
-    yield "an unknown key a million times", CHECK, b"{" + b",".join([b'"x":0'] * 10 ** 6) + b"}", "refused: form unknown key at /\n"
+    unknown = b"{" + b",".join([b'"x":0'] * 10 ** 6) + b"}"
+    yield "an unknown key a million times", CHECK, unknown, "refused: form unknown key at /\n"
     many = b"{" + b'"groups":0,' * 10 ** 6 + b'"groups":[],"messages":[]}'
     yield "one key a million times", CHECK, many, "yes: groups 0, messages 0\n"
     yield "a number of a million digits", CHECK, b'{"groups":[],"messages":[' + b"1" * 10 ** 6 + b"]}", NOT_JSON

@@ -69,7 +69,8 @@ def memory(program, tests, seed=1, whole=True):
     refuse_each(program, tests, known, ONE)
     refuse_each(program, tests, known, FROM)
     for each in (1, 2, 3, 7):
-        disturb(program, tests, [(name, wanted, job._replace(refused=EACH_NTH, request=each)) for name, job, wanted, _ in known])
+        disturb(program, tests, [(name, wanted, job._replace(refused=EACH_NTH, request=each))
+                                 for name, job, wanted, _ in known])
     refuse_at_random(program, tests, undisturbed(program, tests, list(runs())), seed, MANY if whole else 100)
 
 
@@ -86,12 +87,12 @@ def device_jobs(known, pieces):
         for piece in pieces:
             calls = len(job.data) // piece + 2 if piece else 3
             for number in range(1, calls + 1):
-                for failing in (ONE, FROM):
-                    yield f"{name}, read {number} of {piece}", wanted, job._replace(reader=Device(failing, number, piece))
+                for how in (ONE, FROM):
+                    yield f"{name}, read {number} of {piece}", wanted, job._replace(reader=Device(how, number, piece))
             calls = len(wanted.stdout) // piece + 2 if piece else 2
             for number in range(1, calls + 1):
-                for failing in (ONE, FROM, TAKES_NONE):
-                    yield f"{name}, write {number} of {piece}", wanted, job._replace(writer=Device(failing, number, piece))
+                for how in (ONE, FROM, TAKES_NONE):
+                    yield f"{name}, write {number} of {piece}", wanted, job._replace(writer=Device(how, number, piece))
 
 
 def failing_devices(program, tests, known, pieces):
@@ -103,7 +104,8 @@ def failing_devices(program, tests, known, pieces):
 
 def slow_devices(program, tests, known):
     """Devices that give and take one byte a call, or a few, say the same as others."""
-    cases = [(f"{name}, pieces of {given} and {taken}", wanted, job._replace(reader=Device(piece=given), writer=Device(piece=taken)))
+    cases = [(f"{name}, pieces of {given} and {taken}", wanted,
+              job._replace(reader=Device(piece=given), writer=Device(piece=taken)))
              for name, job, wanted, _ in known for given, taken in ((1, 1), (1, 0), (0, 1), (7, 3))]
     for (name, wanted, _), (answer, counts) in zip(cases, program.play([job for _, _, job in cases])):
         tests.figures["calls of slow devices"] += counts.reads + counts.writes
@@ -132,7 +134,8 @@ def ends_in_between(program, tests, known, piece):
             before = job._replace(data=job.data[:(number - 1) * piece])
             cases.append((name, wanted, before, job._replace(reader=Device(TAKES_NONE, number, piece))))
     fronts = program.play([case[2] for case in cases])
-    for (name, wanted, _, job), (front, _), (answer, _) in zip(cases, fronts, program.play([case[3] for case in cases])):
+    answers = program.play([case[3] for case in cases])
+    for (name, wanted, _, job), (front, _), (answer, _) in zip(cases, fronts, answers):
         tests.figures["ends with bytes after them"] += 1
         tests.holds(f"{name}, an end at read {job.reader.call}", answer in (front, wanted), answer, front, wanted)
 

@@ -11,16 +11,16 @@ import time
 
 from hostile_data import come_back
 from hostile_program import Job
-from hostile_runs import (CHECK, COMMANDS, DECODE, DECODE_RADIO, ENCODE, ENCODE_RADIO, decodes, documents, encodes, messages,
-                          streams)
+from hostile_runs import (CHECK, COMMANDS, DECODE, DECODE_RADIO, ENCODE, ENCODE_RADIO, decodes, documents, encodes,
+                          messages, streams)
 from hostile_texts import is_documented
 
 OTHER = {DECODE: ENCODE, ENCODE: DECODE, DECODE_RADIO: ENCODE_RADIO, ENCODE_RADIO: DECODE_RADIO}
 NUMBERS = (b"0", b"1", b"2", b"3", b"7", b"31", b"32", b"120", b"127", b"255", b"1023", b"8191", b"32767", b"65536",
-           b"4294967295", b"18446744073709551615", b"18446744073709551616", b"-1", b"-0", b"1.5", b"1e5", b"1e400", b"null",
-           b'"a"', b"[]", b"{}", b"true")
-PIECES = (b'"', b"{", b"}", b"[", b"]", b",", b":", b"0", b"\\", b"\\u0000", b"\\ud800", b"\x00", b"\x7f", b"\xff", b"\xc3\xa9",
-          b" ", b"\r", b'"x":0,', b"null", b"g", b"-")
+           b"4294967295", b"18446744073709551615", b"18446744073709551616", b"-1", b"-0", b"1.5", b"1e5", b"1e400",
+           b"null", b'"a"', b"[]", b"{}", b"true")
+PIECES = (b'"', b"{", b"}", b"[", b"]", b",", b":", b"0", b"\\", b"\\u0000", b"\\ud800", b"\x00", b"\x7f", b"\xff",
+          b"\xc3\xa9", b" ", b"\r", b'"x":0,', b"null", b"g", b"-")
 LINES, CHUNK, KEPT = 6000, 10, 3000  # of a batch, of a process at first, and of what new inputs are made from
 SLOW, START = 100, 2000  # a run is slow past so many times the median a byte; what a start counts for, in bytes
 
@@ -56,7 +56,8 @@ def turned(choice, line, first=0):
 def renumbered(choice, line):
     """Some numbers of the JSON replaced, mostly by small ones."""
     places = list(re.finditer(rb"(?<=:)\d+", line))
-    for found in sorted(choice.sample(places, min(len(places), choice.choice((1, 1, 1, 1, 1, 3)))), key=lambda one: -one.start()):
+    chosen = choice.sample(places, min(len(places), choice.choice((1, 1, 1, 1, 1, 3))))
+    for found in sorted(chosen, key=lambda one: -one.start()):
         near = str(choice.randrange(max(2, 2 * int(found[0]) + 2)) if len(found[0]) < 19 else 0).encode()
         number = near if choice.random() < 0.9 else choice.choice(NUMBERS)
         line = line[:found.start()] + number + line[found.end():]
@@ -68,8 +69,9 @@ def torn(choice, line, other):
     begin, end = sorted((choice.randrange(len(line) + 1), choice.randrange(len(line) + 1)))
     end = min(end, begin + choice.choice((1, 2, 8, 40, 1000)))
     how = choice.randrange(6)
-    middle = (b"", line[begin:end] * choice.choice((2, 3, 30)), choice.choice(PIECES), choice.choice(PIECES) + line[begin:end],
-              other[begin:end], bytes(choice.randrange(256) for _ in range(choice.choice((1, 2, 20)))))[how]
+    middle = (b"", line[begin:end] * choice.choice((2, 3, 30)), choice.choice(PIECES),
+              choice.choice(PIECES) + line[begin:end], other[begin:end],
+              bytes(choice.randrange(256) for _ in range(choice.choice((1, 2, 20)))))[how]
     return line[:begin] + middle + (other[end:] if how == 0 and choice.random() < 0.3 else line[end:])
 
 
@@ -108,19 +110,15 @@ def turned_text(choice, document):
     return document[:found.start()] + inner + document[found.end():]
 
 
-def is_slow(answer, counts, median, size):
-    """Whether a run took more than it should."""
-    return counts is not None and counts.nanoseconds > SLOW * median * (size + START)
-
-
 def timed(program, tests, jobs):
     """The answers to these jobs. One that is slow is tried again, since something else may have run meanwhile."""
     found = program.play(jobs)
     costs = sorted(counts.nanoseconds / (len(job.data) + START) for job, (_, counts) in zip(jobs, found) if counts)
-    for job, (answer, counts) in zip(jobs, found):
-        if costs and is_slow(answer, counts, costs[len(costs) // 2], len(job.data)):
+    for job, (_, counts) in zip(jobs, found):
+        limit = counts and SLOW * costs[len(costs) // 2] * (len(job.data) + START)
+        if counts and counts.nanoseconds > limit:
             again = min(one.nanoseconds for _, one in program.play([job] * 3))
-            tests.holds(f"{job.words} of {job.data[:500]} is slow", again <= SLOW * costs[len(costs) // 2] * (len(job.data) + START), again)
+            tests.holds(f"{job.words} of {job.data[:500]} is slow", again <= limit, again)
     return [answer for answer, _ in found]
 
 
@@ -141,7 +139,7 @@ def test_lines(program, tests, words, lines):
             tests.holds(f"{' '.join(words)} of {job.data[:2000]}", fine, answer)
             if not fine:
                 continue
-            accepted += zip(chunk, (line[:-1] for line in written[:count]))
+            accepted += zip(chunk, written[:count])
             if refused and count + 1 < len(chunk):
                 waiting.append(chunk[count + 1:])
     return accepted
@@ -158,7 +156,7 @@ def test_whole(program, tests, words, inputs):
             accepted.append((data, answer.stdout))
             tests.holds(f"the yes to {data[:2000]}", answer.status == 1 or answer.stdout == yes_to(data), answer)
         elif words != CHECK and answer.status == 0 and answer.stdout:
-            accepted.append((data, answer.stdout[:-1].split("\n")[0]))
+            accepted.append((data, answer.stdout))
     return accepted
 
 
@@ -186,7 +184,7 @@ def batch(program, tests, words, choice, corpus):
         accepted = test_lines(program, tests, words, lines)
         accepted += test_whole(program, tests, words, whole)
         if accepted:
-            come_back(program, tests, words, OTHER[words], [written for _, written in accepted])
+            come_back(program, tests, words, OTHER[words], "".join(written for _, written in accepted).splitlines())
     for data, _ in accepted:
         if len(data) < 4000 and choice.random() < 0.05:
             corpus.append(data)
@@ -198,9 +196,10 @@ def fuzz(program, tests, seconds, seed, inputs=None, commands=COMMANDS):
     """New inputs for each command, for so many seconds in all, or so many a command."""
     for words in commands:
         choice, corpus, name = random.Random(f"{seed} {words}"), accepted_of(program, words), " ".join(words)
-        begin, runs = time.monotonic(), program.runs
-        while (tests.figures[f"{name}: inputs"] < inputs if inputs else time.monotonic() - begin < seconds / len(commands)):
+        begin, runs, tried, spent = time.monotonic(), program.runs, 0, 0
+        while tried < inputs if inputs else spent < seconds / len(commands):
             batch(program, tests, words, choice, corpus)
-        spent, tried = time.monotonic() - begin, tests.figures[f"{name}: inputs"]
-        print(f"{name}: {tried} inputs in {program.runs - runs} processes, {tests.figures[f'{name}: refused']} refused, "
+            tried, spent = tests.figures[f"{name}: inputs"], time.monotonic() - begin
+        refused = tests.figures[f"{name}: refused"]
+        print(f"{name}: {tried} inputs in {program.runs - runs} processes, {refused} refused, "
               f"{tried / spent:.0f} a second, seed {seed}", flush=True)

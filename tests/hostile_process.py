@@ -3,7 +3,7 @@ import os
 import subprocess
 
 from hostile_program import DEVICE, MEMORY, PROGRAM, Job, alone, stops
-from hostile_runs import CHECK, DECODE, DECODE_RADIO, ENCODE, ENCODE_RADIO, FORM, MESSAGE, SHORT, runs
+from hostile_runs import CHECK, COMMANDS, DECODE, DECODE_RADIO, ENCODE, ENCODE_RADIO, FORM, MESSAGE, SHORT, runs
 
 STACK = 512  # KiB of stack that README.md names
 
@@ -42,7 +42,8 @@ def memory_limits(tests, known, step):
             answer = limited("v", size, words, data)
             tests.figures["runs with little memory"] += 1
             tests.figures["runs with little memory that answered memory"] += answer.status == 3
-            tests.holds(f"{words} with {size} KiB", answer == wanted or stops(answer, wanted, MEMORY), answer, wanted.stdout[:200])
+            fine = answer == wanted or stops(answer, wanted, MEMORY)
+            tests.holds(f"{words} with {size} KiB", fine, answer, wanted.stdout[:200])
 
 
 def stack_limit(tests, known):
@@ -65,7 +66,8 @@ def system_devices(tests, known):
             fine = stops(answer, wanted, DEVICE) if wanted.stdout else answer.status in (wanted.status, 3)
             tests.holds(f"{words} with standard output {name}", fine, answer)
         answer = alone(words, data, limits="exec </;")
-        tests.holds(f"{words} of a folder", answer.status in (2, 3) and answer.stderr in (DEVICE, wanted.stderr), answer)
+        fine = stops(answer, wanted, DEVICE) if words in COMMANDS else answer == wanted
+        tests.holds(f"{words} of a folder", fine, answer)
         answer = alone(words, data, limits="exec 2>&-; exec <&-;")
         tests.holds(f"{words} with nothing to read or to say", answer.status in (2, 3), answer)
     lines = (SHORT + "\n").encode() * 10000
@@ -80,8 +82,8 @@ def at_once(program, tests, known):
     for (words, data), wanted in known:
         file = program.room / "input"
         file.write_bytes(data)
-        both = [subprocess.Popen([PROGRAM, *words], stdin=file.open("rb"), stdout=subprocess.PIPE, stderr=subprocess.PIPE)
-                for _ in range(2)]
+        pipe = subprocess.PIPE
+        both = [subprocess.Popen([PROGRAM, *words], stdin=file.open("rb"), stdout=pipe, stderr=pipe) for _ in range(2)]
         for run in both:
             out, err = run.communicate(timeout=60)
             tests.figures["runs beside another on the same input"] += 1

@@ -70,8 +70,8 @@ class Program:
             return [(alone(words, job.data, job.seconds), None) for job in jobs]
         with open(self.room / "jobs", "wb") as file:
             for job in jobs:
-                file.write(JOB.pack(len(job.data), job.seconds, job.refused, job.request, job.seed, *job.reader, *job.writer))
-                file.write(job.data)
+                head = len(job.data), job.seconds, job.refused, job.request, job.seed, *job.reader, *job.writer
+                file.write(JOB.pack(*head) + job.data)
         ran = subprocess.run([PROGRAM, *words], stdin=subprocess.DEVNULL, check=False,
                              env={**os.environ, "LD_PRELOAD": str(self.shim), "HOSTILE_ROOM": str(self.room)})
         answers = list(ANSWER.iter_unpack((self.room / "answers").read_bytes()))

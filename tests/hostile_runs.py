@@ -15,7 +15,6 @@ FORM = answer(210, [])
 MESSAGE = "03048000001900080021e810901ff801f400"
 REPORT = "8807000000320000004000e480200081f450014002830832c00ed280"
 MESSAGE_FORM = json.dumps(json.loads((EXAMPLES / "radio-movement-authority.json").read_text()), separators=(",", ":"))
-AUTHORITY = '"nid_packet":15'
 RAW = '{"nid_packet":44,"q_dir":2,"l_packet":%d,"body":"%s"}'
 
 
@@ -68,7 +67,8 @@ def faulty_forms():
     yield "a number out of range", FORM.replace('"n_pig":0', '"n_pig":8')
     for name, packets in (("a body with its pad bits set", RAW % (24, "40")), ("packet 255", '{"nid_packet":255}'),
                           ("no packet", "7"), ("an unknown key of a packet", '{"nid_packet":0,"x":0}'),
-                          ("too big", RAW % (159, "00" * 17)), ("a packet, and half a packet", RAW % (31, "00") + ',{"nid_packet":44}')):
+                          ("too big", RAW % (159, "00" * 17)),
+                          ("a packet, and half a packet", RAW % (31, "00") + ',{"nid_packet":44}')):
         yield name, FORM.replace('"packets":[]', f'"packets":[{packets}]')
 
 
@@ -86,7 +86,7 @@ def encodes():
 def streams():
     """Runs of `decode --radio`."""
     yield "two messages", MESSAGE * 2
-    yield "two messages of both kinds, in three lines", f"{MESSAGE}{REPORT[:11 * 2]}\r\n{REPORT[22:30]}\n\n{REPORT[30:]}"
+    yield "two messages, in three lines", f"{MESSAGE}{REPORT[:22]}\r\n{REPORT[22:30]}\n\n{REPORT[30:]}"
     yield "a message that is cut off", MESSAGE + MESSAGE[:20]
     yield "a message, and one with a fault", f"{MESSAGE}\n0300c0"
     yield "a report with a spare number", REPORT.replace("028308", "028318")

@@ -8,12 +8,12 @@ TELEGRAM = rf"(?:not hexadecimal|wrong size|pad bits set|{FAULT})"
 MESSAGE = rf"(?:not hexadecimal|{FAULT})"
 FORM = r"form (?:missing key|unknown key|kind|range) at (?:/|(?:/[a-z_0-9]+)+)"
 USAGE = r"refused: usage is balisecheck check, decode \[--radio\] or encode \[--radio\]\n"
-NAMES = ("position wrong", "total wrong", "version, identity or link flag differs", "mark points outside", "mark not answered",
-         "counter 254", "counters differ", "packets of duplicates differ", "packet not modelled", "no gradient",
-         "gradient short", "no speed profile", "speed profile short", "identity used before",
+NAMES = ("position wrong", "total wrong", "version, identity or link flag differs", "mark points outside",
+         "mark not answered", "counter 254", "counters differ", "packets of duplicates differ", "packet not modelled",
+         "no gradient", "gradient short", "no speed profile", "speed profile short", "identity used before",
          "marks differ between aspects", "aspects not told apart")
-FINDING = (r"F(\d+) (?:group \d+(?: aspect \d+)?|message \d+)(?: balise [0-7])?(?: packet \d+)?(?: nominal| reverse)?: ("
-           + "|".join(NAMES) + r")\n")
+SITE = r"(?:group \d+(?: aspect \d+)?|message \d+)(?: balise [0-7])?(?: packet \d+)?(?: nominal| reverse)?"
+FINDING = rf"F(\d+) {SITE}: ({'|'.join(NAMES)})\n"
 PLACE = rf"group \d+: (?:count|aspects)|group \d+(?: aspect \d+)? balise [0-7]: {TELEGRAM}|message \d+: {MESSAGE}"
 REFUSALS = {
     ("check",): rf"refused: (?:not JSON|{FORM}|{PLACE})\n",
