@@ -1,8 +1,10 @@
-"""Writes the document of a line of COUNT sound groups, the same one each time: documents.py COUNT
+"""Writes the document of a line of COUNT sound groups, the same one each time: documents.py COUNT [ASPECTS]
 
 Each group is a pair of duplicates with the same packets: an authority (12) that a gradient profile (21) and a speed
-profile (27) reach. All identities are different. There are no messages.
+profile (27) reach. All identities are different. There are no messages. If ASPECTS is there and more than 1, each
+group has so many aspects, 254 at most, each with packets and a counter of its own.
 """
+import json
 import sys
 
 from packets import END_BITS, HEAD_BITS, ITER_BITS, SPEEDS, USER_BITS, Spelling, numbers
@@ -12,6 +14,7 @@ NONE_OF_FOUR = 0  # of the parts after the end section of an authority
 NO_TIMEOUT = 1023
 GRADIENT_END, SPEED_END = 255, 127
 MARKS = (1, 2)  # M_DUP: of the next balise, of the previous one
+ANY_MESSAGE = 255  # M_MCOUNT
 GROUPS_OF_COUNTRY = 1 << 14
 
 
@@ -60,8 +63,8 @@ def speed(body, last):
     body.put(0, ITER_BITS)  # differences
 
 
-def pair(place):
-    """The texts of the two telegrams of the group at this place."""
+def pair(place, counter):
+    """The texts of the two telegrams of the group at this place, with this M_MCOUNT."""
     limit = numbers.randrange(1 << 15)
     packets = Spelling()
     put_packet(packets, 12, authority(limit))
@@ -72,7 +75,7 @@ def pair(place):
     for position, mark in enumerate(MARKS):
         out = Spelling()
         # Q_UPDOWN, M_VERSION, Q_MEDIA, N_PIG, N_TOTAL, M_DUP, M_MCOUNT, NID_C, NID_BG, Q_LINK
-        for value, bits in ((1, 1), (33, 7), (0, 1), (position, 3), (1, 3), (mark, 2), (255, 8),
+        for value, bits in ((1, 1), (33, 7), (0, 1), (position, 3), (1, 3), (mark, 2), (counter, 8),
                             (place // GROUPS_OF_COUNTRY, 10), (place % GROUPS_OF_COUNTRY, 14), (1, 1)):
             out.put(value, bits)
         out.put(packets.value, packets.bits)
@@ -82,11 +85,19 @@ def pair(place):
     return texts
 
 
+def group(place, aspects):
+    """The group at this place, with so many aspects."""
+    if aspects == 1:
+        return {"balises": pair(place, ANY_MESSAGE)}
+    return {"aspects": [{"balises": pair(place, counter)} for counter in range(aspects)]}
+
+
 def main():
+    count, aspects = int(sys.argv[1]), int(sys.argv[2]) if len(sys.argv) > 2 else 1
     sys.stdout.write('{"groups":[')
-    for place in range(int(sys.argv[1])):
-        first, second = pair(place)
-        sys.stdout.write(f'{"," if place else ""}{{"balises":["{first}","{second}"]}}')
+    for place in range(count):
+        text = json.dumps(group(place, aspects), separators=(",", ":"))
+        sys.stdout.write(f'{"," if place else ""}{text}')
     sys.stdout.write('],"messages":[]}\n')
 
 

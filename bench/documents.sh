@@ -2,11 +2,12 @@
 # Measures how documents of lines are checked: bench/documents.sh [COUNT..]
 #
 # bench/documents.py writes documents of so many sound groups (1,000, 10,000 and 100,000 if no count is
-# given), each a pair with an authority and its profiles, all identities different. `check` has to say yes.
-# Beside it a `serde_json::Value` is made of the same bytes, by the program of bench/json, which is proved
-# and built first. The first failure ends the run with status 1. The rates are by processor time, which the
-# load of the machine changes less than the time elapsed. 100,000 groups take 44 MB of the temporary folder,
-# which TMPDIR names, and eight to nine times that of memory.
+# given), each a pair with an authority and its profiles, all identities different. After them comes one of
+# 10,000 groups with two aspects each. `check` has to say yes. Beside it a `serde_json::Value` is made of the
+# same bytes, by the program of bench/json, which is proved and built first. The first failure ends the run
+# with status 1. The rates are by processor time, which the load of the machine changes less than the time
+# elapsed. 100,000 groups take 44 MB of the temporary folder, which TMPDIR names, and eight to nine times
+# that of memory.
 #
 # BALISECHECK names another program to measure.
 set -euo pipefail
@@ -17,11 +18,11 @@ here=$(cd "$(dirname "${BASH_SOURCE[0]}")" && pwd)
 program=${BALISECHECK:-$here/../balisecheck}
 [ $# -gt 0 ] || set -- 1000 10000 100000
 
-# checks COUNT: the document of so many groups.
+# checks COUNT ASPECTS NAME: the document of so many groups with so many aspects each.
 checks() {
-    python3 "$here/documents.py" "$1" >"$room/document"
+    python3 "$here/documents.py" "$1" "$2" >"$room/document"
     measure "$room/document" "$room/written" "$program" check
-    row 'check' "$1" "$room/document"
+    row "$3" "$1" "$room/document"
     [ "$(cat "$room/written")" = "yes: groups $1, messages 0" ] || fail "$(head -n 2 "$room/written")"
     measure "$room/document" "$room/written" "$json" whole
     row 'serde_json::Value alone' "$1" "$room/document"
@@ -33,5 +34,6 @@ build_json
 echo "$(uname -m), $(nproc) processors, load $(cut -d' ' -f1 /proc/loadavg)"
 heading 'documents of sound groups'
 for count; do
-    checks "$count"
+    checks "$count" 1 'check'
 done
+checks 10000 2 'check, two aspects'

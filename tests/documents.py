@@ -2,8 +2,9 @@
 """Tests of `balisecheck check` from outside, of the documents in examples/check, and of docs/FINDINGS.md.
 
 Each document of tests/cases/documents.txt has to be answered as it says there. Each one of examples/check has to be
-answered as the report beside it says, and each mended one by yes. The page has to have a section for each rule, with
-an example and its report as they stand in the folder.
+answered as the report beside it says, and each mended one by yes. With one aspect in the place of the balises of a
+group the answer has to be the same. The page has to have a section for each rule, with an example and its report as
+they stand in the folder.
 
 BALISECHECK names the program. The last line is `the documents: N passed, M failed`, and the exit status is 1 if a
 test failed.
@@ -24,7 +25,7 @@ FOLDER = TOP / "examples" / "check"
 PAGE = (TOP / "docs" / "FINDINGS.md").read_text()
 PROGRAM = os.environ.get("BALISECHECK", str(TOP / "crates" / "balisecheck" / "out" / "balisecheck"))
 MENDED = "-mended"
-RULES = range(1, 15)
+RULES = range(1, 17)
 
 
 class Tests:
@@ -85,12 +86,21 @@ def test_answers(tests):
             tests.equal(document.name, answer(document.read_bytes()), answered(report))
 
 
+def test_one_aspect(tests):
+    """A group whose list has one aspect is answered as the group with the same balises."""
+    for document in sorted(FOLDER.glob("*.json")):
+        line = json.loads(document.read_text())
+        line["groups"] = [group if "aspects" in group else {"aspects": [group]} for group in line["groups"]]
+        found = answer(json.dumps(line).encode())
+        tests.equal(f"{document.name} with one aspect in each group", found, answer(document.read_bytes()))
+
+
 def examples():
-    """The documents that have a mended one, each after rule and name of its one finding; rule 0 for another report."""
+    """The documents that have a mended one, each after rule and name of its findings; rule 0 for another report."""
     for mended in FOLDER.glob(f"*{MENDED}.json"):
         name = mended.stem.removesuffix(MENDED)
         report = (FOLDER / f"{name}.txt").read_text()
-        one = re.fullmatch(r"no: findings 1\nF(\d+) [a-z0-9 ]+: ([a-z0-9 ,]+)\n", report)
+        one = re.fullmatch(r"no: findings \d+\nF(\d+) [a-z0-9 ]+: ([a-z0-9 ,]+)\n(?:F\1 [a-z0-9 ]+: \2\n)*", report)
         yield (int(one[1]), one[2], name) if one else (0, report, name)
 
 
@@ -128,6 +138,7 @@ def main():
     tests = Tests()
     test_cases(tests)
     test_answers(tests)
+    test_one_aspect(tests)
     test_sections(tests)
     test_page(tests)
     print(f"the documents: {tests.passed} passed, {tests.failed} failed")

@@ -75,6 +75,8 @@ makes_other_files() {
     printf '%s\n\n\r\n%s\r\n%s' "$telegram" "$marked" "$telegram" >numbered.txt
     printf 'Signal A, km 12.300\nSignal B, km 13.850\n' >names.txt
     { cat "$here/../examples/duplicated-pair.txt"; printf '\n%s\n' "${telegram/2000ff/2001ff}"; } >line.txt
+    printf '%s\n%s\n\n%s\n%s\n' "a10283802000ff${ones}c0" "a11303802000ff${ones}c0" "a10284002000ff${ones}c0" \
+        "a11304002000ff${ones}c0" >aspects.txt
 }
 
 # blocks LANGUAGE DOCUMENT..: what stands in the documents' blocks of this language.
@@ -171,7 +173,7 @@ mends_utf16() {
 # Each of the other files is in a command.
 uses_files() {
     local file
-    for file in faulty.txt lost.txt lengths.txt batch.txt numbered.txt names.txt line.txt; do
+    for file in faulty.txt lost.txt lengths.txt batch.txt numbered.txt names.txt line.txt aspects.txt; do
         count "$file is used" "$(grep -q "^\$ .* $file" "$commands" || echo 'it is not')"
     done
 }
@@ -180,7 +182,7 @@ uses_files() {
 # that have blanks in them.
 reads_other_line_ends() {
     local file command
-    for file in names.txt line.txt; do
+    for file in names.txt line.txt aspects.txt; do
         command=$(grep "^\$ jq .*$file" "$commands")
         command=${command#'$ '}
         writes "$command >as-it-is.txt; sed 's/$/ \t\r/' $file >ends.txt; ${command//$file/ends.txt} | diff as-it-is.txt -" ''

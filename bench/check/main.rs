@@ -3,7 +3,7 @@
 
 use etcs_bits::{Country, GroupNumber, Identity};
 use etcs_check::{Line, check};
-use etcs_group::Group;
+use etcs_group::{Controlled, Group};
 use etcs_telegram::{Telegram, from_hex};
 use std::alloc::Global;
 use std::io;
@@ -46,15 +46,17 @@ fn telegram(alloc: Global, text: &str, identity: Identity) -> Option<Telegram> {
     Some(telegram)
 }
 
-// A pair of this identity.
-fn pair(alloc: Global, texts: &[String], identity: Identity) -> Option<Group> {
+// A pair of this identity, which no unit switches.
+fn pair(alloc: Global, texts: &[String], identity: Identity) -> Option<Controlled> {
     let mut telegrams = Vec::new(alloc);
     'texts: for text in texts.iter() {
         telegrams
             .push(telegram(alloc, text.as_str(), identity)?)
             .ok()?;
     }
-    Group::new(telegrams).ok()
+    let mut aspects = Vec::new(alloc);
+    aspects.push(Group::new(telegrams).ok()?).ok()?;
+    Controlled::new(aspects).ok()
 }
 
 // A line of so many pairs.

@@ -1,5 +1,5 @@
 -- A list of findings is empty exactly where none of its facts stands.
-use Rattle.std.proofs.Common.{◌≡◌, ℕ, zero, suc, ◌+◌, Bool, true, false, List, [], ◌∷◌, ◌++◌, refl, sym, ap, ◌∙◌, arith}
+use Rattle.std.proofs.Common.{◌≡◌, ℕ, zero, suc, ◌+◌, Bool, true, false, List, [], ◌∷◌, ◌++◌, refl, sym, ap, ap₂, ◌∙◌, arith}
 use Rattle.std.specs.List.{flat_map, enumerate_from}
 use Rattle.std.proofs.lemmas.Option.{none-some, same_Some}
 use Rattle.etcs_group.specs.Places.{At}
@@ -62,6 +62,18 @@ pub flat_map-empty : {X : Type 0} (f : X → List Finding) (xs : List X) → ((k
 flat_map-empty f [] h = refl
 flat_map-empty f (y ∷ ys) h = append_empty (f y) (flat_map f ys) (h 0 y refl) (flat_map-empty f ys (λ k x at. h (suc k) x at))
 
+-- the findings of equal functions are the same
+for_each_from-same : {X : Type 0} (f g : ℕ → X → List Finding) (n : ℕ) (xs : List X) → ((k : ℕ) (x : X) → At xs k x → f (n + k) x ≡ g (n + k) x) → flat_map (λ (e : ℕ × X). f e.0 e.1) (enumerate_from n xs) ≡ flat_map (λ (e : ℕ × X). g e.0 e.1) (enumerate_from n xs)
+for_each_from-same f g n [] h = refl
+for_each_from-same f g n (y ∷ ys) h =
+    let z : n ≡ n + 0 = omega arith in
+    let first : f n y ≡ g n y = ap (λ m. f m y) z ∙ h 0 y refl ∙ ap (λ m. g m y) (sym z) in
+    ap₂ ◌++◌ first (for_each_from-same f g (n + 1) ys (λ k x at.
+    let w : (n + 1) + k ≡ n + suc k = omega arith in ap (λ m. f m x) w ∙ h (suc k) x at ∙ ap (λ m. g m x) (sym w)))
+
+pub for_each-same : {X : Type 0} (f g : ℕ → X → List Finding) (xs : List X) → ((k : ℕ) (x : X) → At xs k x → f k x ≡ g k x) → for_each xs f ≡ for_each xs g
+for_each-same f g xs h = for_each_from-same f g 0 xs (λ k x at. let z : 0 + k ≡ k = omega arith in ap (λ m. f m x) z ∙ h k x at ∙ ap (λ m. g m x) (sym z))
+
 -- each rule has its place in the list
 pub rule_place : (r : Rule) → (k : ℕ) × At all_rules k r
 rule_place rules.PositionWrong = (0, refl)
@@ -78,6 +90,8 @@ rule_place rules.GradientShort = (10, refl)
 rule_place rules.NoSpeed = (11, refl)
 rule_place rules.SpeedShort = (12, refl)
 rule_place rules.IdentityUsed = (13, refl)
+rule_place rules.MarksDiffer = (14, refl)
+rule_place rules.NotToldApart = (15, refl)
 
 pub rules-say : (f : Rule → List Finding) → flat_map f all_rules ≡ [] → (r : Rule) → f r ≡ []
 rules-say f h r = let p = rule_place r in flat_map-says f all_rules h p.0 r p.1

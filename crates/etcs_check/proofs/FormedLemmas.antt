@@ -8,18 +8,16 @@ use Rattle.std.proofs.lemmas.Bool.{eqb-true, eq-eqb, eqb-false, ne_eqb, ltb-true
 use mathlib.Core.Logic.{inl, inr}
 use Rattle.etcs_bits.specs.declared.variables.duplicate.Dup.{Dup}
 use Rattle.etcs_bits.specs.declared.variables.duplicate.Dup.TheVariants as dups
-use Rattle.etcs_bits.specs.declared.variables.identity.Identity.{Identity}
-use Rattle.etcs_bits.specs.declared.variables.version.Version.{Version}
 use Rattle.etcs_bits.specs.variables.Variables.{version_number}
-use Rattle.etcs_bits.specs.variables.VariableValues.{version_of}
-use Rattle.etcs_bits.specs.variables.VariableLemmas.{version_names}
 use Rattle.etcs_packet.specs.declared.track.TrackPacket.{TrackPacket}
 use Rattle.etcs_telegram.specs.Record.{Telegram}
 use Rattle.etcs_group.specs.Places.{At}
 use Rattle.etcs_group.specs.Group.{is_modelled, named_by, partner_of, AreAlike, IsWellFormed, HasOneCounter}
 use Rattle.etcs_group.proofs.PlaceLemmas.{some_at}
 use Rattle.etcs_group.proofs.MarkLemmas.{partner-says, partner-is, next-at, previous-at}
-use Rattle.etcs_check.specs.Findings.{is_misplaced, is_miscounted, same_identity, is_unlike, is_outside, is_other, is_unanswered, is_unfit, first_counter, counter_differs, is_unmodelled}
+use Rattle.etcs_check.specs.Duplicates.{same_identity}
+use Rattle.etcs_check.specs.Findings.{is_misplaced, is_miscounted, is_unlike, is_outside, is_other, is_unanswered, is_unfit, first_counter, counter_differs, is_unmodelled}
+use Rattle.etcs_check.proofs.NumberLemmas.{version_same, same_identity-says, same_identity-is}
 use Rattle.etcs_check.proofs.CleanLemmas.{IsClean}
 
 -- ---- tests of all packets of a list
@@ -32,22 +30,7 @@ at-from_modelled packets h k p at =
     let lt = slice_get_within packets k p at in
     not_from_true _ (subst (λ q. IsTrue (is_modelled q)) (same_Some (get_or packets k p) p (sym (slice_get-get_or packets k p lt) ∙ at)) (h k p lt))
 
--- ---- equal identities and equal headers
-
-pub identity_same : (x y : Identity) → x.country ≡ y.country → x.group ≡ y.group → x ≡ y
-identity_same x y e f = ap (λ c. record { country = c; group = x.group }) e ∙ ap (λ g. record { country = y.country; group = g }) f
-
-pub same_identity-says : (x y : Identity) → same_identity x y ≡ true → x ≡ y
-same_identity-says x y h =
-    let p = and_parts (eqb x.country y.country) (eqb x.group y.group) h in
-    identity_same x y (eqb-true _ _ p.0) (eqb-true _ _ p.1)
-
-pub same_identity-is : (x y : Identity) → x ≡ y → same_identity x y ≡ true
-same_identity-is x y e =
-    and_from _ _ (eq-eqb _ _ (ap (λ (z : Identity). z.country) e)) (eq-eqb _ _ (ap (λ (z : Identity). z.group) e))
-
-version_same : (v w : Version) → version_number v ≡ version_number w → v ≡ w
-version_same v w e = sym (version_names v).0 ∙ ap version_of e ∙ (version_names w).0
+-- ---- equal headers
 
 alike-says : (t first : Telegram) → is_unlike (Some first) t ≡ false → AreAlike t first
 alike-says t first h =
@@ -75,9 +58,23 @@ other-is_false o b e = rw e (not_from_true _ (eq-eqb b b refl))
 
 -- ---- no fact, so well formed
 
-module _ (used : Bool) (group : List Telegram) (clean : IsClean (slice_get group 0) used group) where
-  clean_alike : (b : ℕ) (t first : Telegram) → At group b t → At group 0 first → AreAlike t first
-  clean_alike b t first at at0 = alike-says t first (ap (λ o. is_unlike o t) (sym at0) ∙ clean.alike b t at)
+-- two telegrams like a third are alike
+pub alike_both : (t u first : Telegram) → AreAlike t first → AreAlike u first → AreAlike t u
+alike_both t u first a b = record {
+  version = a.version ∙ sym b.version;
+  identity = a.identity ∙ sym b.identity;
+  linked = a.linked ∙ sym b.linked;
+}
+
+module _ (first : List Telegram) (before : List (List Telegram)) (group : List Telegram) (long : 0 < length first) (clean : IsClean first before group) where
+  -- each balise is like balise 0 of aspect 0
+  pub clean_first : (b : ℕ) (t f : Telegram) → At group b t → At first 0 f → AreAlike t f
+  clean_first b t f at at0 = alike-says t f (ap (λ o. is_unlike o t) (sym at0) ∙ clean.alike b t at)
+
+  clean_alike : (b : ℕ) (t u : Telegram) → At group b t → At group 0 u → AreAlike t u
+  clean_alike b t u at at0 =
+      let f = some_at first 0 long in
+      alike_both t u f.0 (clean_first b t f.0 at f.1) (clean_first 0 u f.0 at0 f.1)
 
   clean_inside : (b : ℕ) (t : Telegram) → At group b t → t.header.dup ≢ dups.Single → IsSome (partner_of group b)
   clean_inside b t at marked = go t.header.dup refl b at (clean.inside b t at)
@@ -126,18 +123,20 @@ module _ (used : Bool) (group : List Telegram) (clean : IsClean (slice_get group
 
 -- ---- and back
 
+-- a telegram like balise 0 of aspect 0, if there is one
+pub alike_first : (first : List Telegram) (t : Telegram) → ((f : Telegram) → At first 0 f → AreAlike t f) → is_unlike (slice_get first 0) t ≡ false
+alike_first first t h = go (slice_get first 0) refl
+  where
+    go : (o : Option Telegram) → slice_get first 0 ≡ o → is_unlike o t ≡ false
+    go None e = refl
+    go (Some f) e = alike-is t f (h f e)
+
 module _ (group : List Telegram) (formed : IsWellFormed group) where
   pub formed_placed : (b : ℕ) (t : Telegram) → At group b t → is_misplaced b t ≡ false
   formed_placed b t at = not_from_true _ (eq-eqb _ _ (formed.placed b t at))
 
   pub formed_counted : (b : ℕ) (t : Telegram) → At group b t → is_miscounted group t ≡ false
   formed_counted b t at = not_from_true _ (eq-eqb _ _ (formed.counted b t at))
-
-  pub formed_alike : (b : ℕ) (t : Telegram) → At group b t → is_unlike (slice_get group 0) t ≡ false
-  formed_alike b t at =
-      let w = slice_get_within group b t at in
-      let first = some_at group 0 (omega arith) in
-      ap (λ o. is_unlike o t) first.1 ∙ alike-is t first.0 (formed.alike b t first.0 at first.1)
 
   pub formed_inside : (b : ℕ) (t : Telegram) → At group b t → is_outside (length group) t.header.dup b ≡ false
   formed_inside b t at = go t.header.dup refl

@@ -23,7 +23,7 @@ use Rattle.etcs_check.specs.Findings.{lies_past, goes_past, is_short, lacks, not
 use Rattle.etcs_check.specs.Greatest.{greater, greatest, is_before, before_at}
 use Rattle.etcs_check.specs.Line.{message_short}
 use Rattle.etcs_check.specs.declared.finding.Rule.{Rule}
-use Rattle.etcs_check.specs.declared.finding.Site.{Site}
+use Rattle.etcs_check.specs.declared.finding.Spot.{Spot}
 use Rattle.etcs_check.proofs.FindingLemmas.{for_each-empty, noted-empty}
 
 pub greater-none : (o : Option ℕ) → greater o None ≡ o
@@ -180,11 +180,11 @@ said_end run n group i le = ap (λ l. flat_map (λ (e : ℕ × Telegram). said_a
 pub lacks-is : (reach : TrackPacket → Option Reach) (packets : List TrackPacket) → (is_some (greatest packets) && not (list_any (λ p. is_some (reach p)) packets)) ≡ lacks reach packets
 lacks-is reach packets = ap (λ b. b && not (list_any (λ p. is_some (reach p)) packets)) (sym (some_greatest packets))
 
-pub message_short-is : (rule : Rule) (site : Site) (reach : TrackPacket → Option Reach) (packets : List TrackPacket) (run : Run) → for_each packets (before_at rule site reach (greatest (filter (holds run) packets)) run None) ≡ message_short rule site reach packets run
-message_short-is rule site reach packets run = λ i. for_each packets (λ k p. noted (holds run p && sym (short-before reach (filter (holds run) packets) p) i) (finding_of rule site (Some run) None (Some k)))
+pub message_short-is : (rule : Rule) (spot : Spot) (reach : TrackPacket → Option Reach) (packets : List TrackPacket) (run : Run) → for_each packets (before_at rule spot reach (greatest (filter (holds run) packets)) run None) ≡ message_short rule spot reach packets run
+message_short-is rule spot reach packets run = λ i. for_each packets (λ k p. noted (holds run p && sym (short-before reach (filter (holds run) packets) p) i) (finding_of rule spot (Some run) None (Some k)))
 
-pub short_by-is : (rule : Rule) (site : Site) (reach : TrackPacket → Option Reach) (group : List Telegram) (run : Run) (b : ℕ) (t : Telegram) → is_silent run t.header.dup (length group) b ≡ false → for_each t.packets (before_at rule site reach (greatest (said_by run group)) run (Some b)) ≡ short_by rule site reach group run b t
-short_by-is rule site reach group run b t speaks = λ i. for_each t.packets (λ k p. noted (not (sym speaks i) && (holds run p && sym (short-before reach (said_by run group) p) i)) (finding_of rule site (Some run) (Some b) (Some k)))
+pub short_by-is : (rule : Rule) (spot : Spot) (reach : TrackPacket → Option Reach) (group : List Telegram) (run : Run) (b : ℕ) (t : Telegram) → is_silent run t.header.dup (length group) b ≡ false → for_each t.packets (before_at rule spot reach (greatest (said_by run group)) run (Some b)) ≡ short_by rule spot reach group run b t
+short_by-is rule spot reach group run b t speaks = λ i. for_each t.packets (λ k p. noted (not (sym speaks i) && (holds run p && sym (short-before reach (said_by run group) p) i)) (finding_of rule spot (Some run) (Some b) (Some k)))
 
-pub short_by-silent : (rule : Rule) (site : Site) (reach : TrackPacket → Option Reach) (group : List Telegram) (run : Run) (b : ℕ) (t : Telegram) → is_silent run t.header.dup (length group) b ≡ true → short_by rule site reach group run b t ≡ []
-short_by-silent rule site reach group run b t silent = for_each-empty t.packets (short_at rule site reach group run b t) (λ k p at. noted-empty _ (finding_of rule site (Some run) (Some b) (Some k)) (and_left _ _ (not_from_true _ silent)))
+pub short_by-silent : (rule : Rule) (spot : Spot) (reach : TrackPacket → Option Reach) (group : List Telegram) (run : Run) (b : ℕ) (t : Telegram) → is_silent run t.header.dup (length group) b ≡ true → short_by rule spot reach group run b t ≡ []
+short_by-silent rule spot reach group run b t silent = for_each-empty t.packets (short_at rule spot reach group run b t) (λ k p at. noted-empty _ (finding_of rule spot (Some run) (Some b) (Some k)) (and_left _ _ (not_from_true _ silent)))

@@ -1,5 +1,5 @@
 -- One more mark in a table, one more group that was seen, and what the marks tell.
-use Rattle.std.proofs.Common.{◌≡◌, ◌≢◌, ℕ, suc, ◌+◌, ◌*◌, ◌/◌, ◌%◌, ◌^◌, ◌<◌, ◌≤◌, Bool, true, false, ◌||◌, eqb, List, [], ◌∷◌, length, get_or, set, replicate, take, Some, None, bit_or, slice_get, refl, sym, ap, ap₂, subst, ◌∙◌, arith}
+use Rattle.std.proofs.Common.{◌≡◌, ◌≢◌, ℕ, suc, ◌+◌, ◌*◌, ◌/◌, ◌%◌, ◌^◌, ◌<◌, ◌≤◌, Bool, true, false, ◌||◌, eqb, List, [], ◌∷◌, length, get_or, set, replicate, take, Option, Some, None, bit_or, slice_get, refl, sym, ap, ap₂, subst, ◌∙◌, arith}
 use Rattle.std.specs.Int.{w64}
 use Rattle.std.specs.Option.{option_map_or}
 use Rattle.std.proofs.lemmas.Nat.{div-add-mod', mod_below, div_below}
@@ -12,26 +12,27 @@ use mathlib.Core.Logic.{inl, inr}
 use Rattle.etcs_bits.specs.declared.variables.identity.Identity.{Identity}
 use Rattle.etcs_telegram.specs.Record.{Telegram}
 use Rattle.etcs_group.specs.Places.{At}
-use Rattle.etcs_group.proofs.PlaceLemmas.{At-take}
-use Rattle.etcs_check.specs.Findings.{same_identity, have_one_identity, is_used, facts_of, finding_of}
+use Rattle.etcs_group.proofs.PlaceLemmas.{At-take, at_list_any, list_any-none}
+use Rattle.etcs_check.specs.Duplicates.{same_identity}
+use Rattle.etcs_check.specs.Aspects.{whole, have_one_identity, is_used, rule_facts}
+use Rattle.etcs_check.specs.Findings.{finding_of}
 use Rattle.etcs_check.specs.Line.{group_at, group_list}
 use Rattle.etcs_check.specs.declared.finding.Rule.TheVariants as rules
 use Rattle.etcs_check.specs.declared.finding.Site.TheVariants as sites
-use Rattle.etcs_check.proofs.FindingLemmas.{rules-say, for_each-says, noted-false}
+use Rattle.etcs_check.proofs.FindingLemmas.{rules-say, for_each-says, noted-false, append_parts}
 use Rattle.etcs_check.specs.Identities.{number_of, identity_number, IsNumbered, AreNumbered, has_bit, is_marked, is_among, HasSeen, HasNoRepeat, HasRepeat}
-use Rattle.etcs_check.specs.Soundness.{identity_of}
-use Rattle.etcs_check.proofs.FormedLemmas.{identity_same, same_identity-says, same_identity-is}
+use Rattle.etcs_check.specs.Soundness.{identity_of, group_identity}
+use Rattle.etcs_check.proofs.NumberLemmas.{identity_same, same_identity-says, same_identity-is}
 
 -- ---- identities and their numbers
 
-pub number-is : (g : List Telegram) (i : Identity) → identity_of g ≡ Some i → identity_number g ≡ number_of i
-number-is [] i e = absurd (none-some i e)
-number-is (t ∷ ts) i e = ap number_of (same_Some t.header.identity i e)
+pub number-is : (g : List (List Telegram)) (i : Identity) → group_identity g ≡ Some i → identity_number g ≡ number_of i
+number-is g i e = ap (λ o. option_map_or number_of o 0) e
 
 same_number : (i j : Identity) → i.group < 16384 → j.group < 16384 → number_of i ≡ number_of j → i ≡ j
 same_number i j a b e = identity_same i j (omega arith) (omega arith)
 
-one_number : (g h : List Telegram) → IsNumbered g → IsNumbered h → have_one_identity g h ≡ eqb (identity_number g) (identity_number h)
+one_number : (g h : List (List Telegram)) → IsNumbered g → IsNumbered h → have_one_identity g h ≡ eqb (identity_number g) (identity_number h)
 one_number g h a b =
     ap₂ (λ o p. option_map_or (λ i. option_map_or (same_identity i) p false) o false) a.1 b.1
     ∙ test ∙ sym (ap₂ eqb (number-is g a.0 a.1) (number-is h b.0 b.1))
@@ -43,11 +44,11 @@ one_number g h a b =
     ]
 
 -- an earlier group has the identity where one has its number
-pub used-among : (earlier : List (List Telegram)) (g : List Telegram) → AreNumbered earlier → IsNumbered g → is_used earlier g ≡ is_among earlier (identity_number g)
+pub used-among : (earlier : List (List (List Telegram))) (g : List (List Telegram)) → AreNumbered earlier → IsNumbered g → is_used earlier g ≡ is_among earlier (identity_number g)
 used-among [] g all own = refl
 used-among (h ∷ hs) g all own = ap₂ ◌||◌ (one_number h g (all 0 h refl) own) (used-among hs g (λ k x at. all (suc k) x at) own)
 
-pub numbered_before : (groups : List (List Telegram)) (i : ℕ) → ((k : ℕ) (h : List Telegram) → k < i → At groups k h → IsNumbered h) → AreNumbered (take i groups)
+pub numbered_before : (groups : List (List (List Telegram))) (i : ℕ) → ((k : ℕ) (h : List (List Telegram)) → k < i → At groups k h → IsNumbered h) → AreNumbered (take i groups)
 numbered_before groups i before k h at = let t = At-take i groups k h at in before k h t.0 t.1
 
 -- the word of place q with its bit set
@@ -85,12 +86,12 @@ unmarked n p lt =
 
 -- ---- one more group
 
-pub among_more : (groups : List (List Telegram)) (i : ℕ) (g : List Telegram) (x : ℕ) → At groups i g → is_among (take (i + 1) groups) x ≡ (is_among (take i groups) x || eqb (identity_number g) x)
+pub among_more : (groups : List (List (List Telegram))) (i : ℕ) (g : List (List Telegram)) (x : ℕ) → At groups i g → is_among (take (i + 1) groups) x ≡ (is_among (take i groups) x || eqb (identity_number g) x)
 among_more groups i g x at =
     list_any_more (λ h. eqb (identity_number h) x) groups i g (slice_get_within groups i g at)
     ∙ ap (λ h. is_among (take i groups) x || eqb (identity_number h) x) (get_or_from_slice_get groups i g g at)
 
-or_swap : (a b : Bool) → (a || b) ≡ (b || a)
+pub or_swap : (a b : Bool) → (a || b) ≡ (b || a)
 or_swap true true = refl
 or_swap true false = refl
 or_swap false true = refl
@@ -107,7 +108,7 @@ eqb_moved base p q = elim (cases_eq p q) [
 ]
 
 -- its identity is of this part, and was marked
-pub seen_marked : (base n : ℕ) (table new : List ℕ) (groups : List (List Telegram)) (i : ℕ) (g : List Telegram) (q : ℕ) → At groups i g → identity_number g ≡ base + q
+pub seen_marked : (base n : ℕ) (table new : List ℕ) (groups : List (List (List Telegram))) (i : ℕ) (g : List (List Telegram)) (q : ℕ) → At groups i g → identity_number g ≡ base + q
     → ((p : ℕ) → is_marked new p ≡ (eqb p q || is_marked table p)) → HasSeen base n table (take i groups) → HasSeen base n new (take (i + 1) groups)
 seen_marked base n table new groups i g q at is marked seen p lt =
     marked p ∙ ap (λ b. eqb p q || b) (seen p lt) ∙ or_swap (eqb p q) (is_among (take i groups) (base + p))
@@ -115,33 +116,33 @@ seen_marked base n table new groups i g q at is marked seen p lt =
     ∙ sym (among_more groups i g (base + p) at)
 
 -- its identity is of another part
-pub seen_other : (base n : ℕ) (table : List ℕ) (groups : List (List Telegram)) (i : ℕ) (g : List Telegram) → At groups i g
+pub seen_other : (base n : ℕ) (table : List ℕ) (groups : List (List (List Telegram))) (i : ℕ) (g : List (List Telegram)) → At groups i g
     → ((p : ℕ) → p < n → identity_number g ≢ base + p) → HasSeen base n table (take i groups) → HasSeen base n table (take (i + 1) groups)
 seen_other base n table groups i g at other seen p lt =
     seen p lt ∙ sym (among_more groups i g (base + p) at ∙ or_false _ _ (ne_eqb _ _ (other p lt)))
 
 -- the mark of its identity tells whether it was used
-pub used_mark : (base n : ℕ) (table : List ℕ) (groups : List (List Telegram)) (g : List Telegram) (q : ℕ) → identity_number g ≡ base + q → q < n → HasSeen base n table groups → is_used groups g ≡ is_among groups (identity_number g) → is_used groups g ≡ is_marked table q
+pub used_mark : (base n : ℕ) (table : List ℕ) (groups : List (List (List Telegram))) (g : List (List Telegram)) (q : ℕ) → identity_number g ≡ base + q → q < n → HasSeen base n table groups → is_used groups g ≡ is_among groups (identity_number g) → is_used groups g ≡ is_marked table q
 used_mark base n table groups g q is lt seen numbered = numbered ∙ sym (seen q lt ∙ ap (is_among groups) (sym is))
 
 pub seen_none : (base n w : ℕ) → n ≤ 64 * w → HasSeen base n (replicate w 0) []
 seen_none base n w le p lt = unmarked w p (omega arith)
 
 -- what is known of each group so far, and of one more
-pub fresh_more : (base n : ℕ) (groups : List (List Telegram)) (i : ℕ) (g : List Telegram) → At groups i g
-    → ((k : ℕ) (h : List Telegram) → k < i → At groups k h → base ≤ identity_number h → identity_number h < base + n → is_used (take k groups) h ≡ false)
+pub fresh_more : (base n : ℕ) (groups : List (List (List Telegram))) (i : ℕ) (g : List (List Telegram)) → At groups i g
+    → ((k : ℕ) (h : List (List Telegram)) → k < i → At groups k h → base ≤ identity_number h → identity_number h < base + n → is_used (take k groups) h ≡ false)
     → (base ≤ identity_number g → identity_number g < base + n → is_used (take i groups) g ≡ false)
-    → (k : ℕ) (h : List Telegram) → k < i + 1 → At groups k h → base ≤ identity_number h → identity_number h < base + n → is_used (take k groups) h ≡ false
+    → (k : ℕ) (h : List (List Telegram)) → k < i + 1 → At groups k h → base ≤ identity_number h → identity_number h < base + n → is_used (take k groups) h ≡ false
 fresh_more base n groups i g at before now k h lt at' = elim (cases_eq k i) [
   | inl e ↦
       let same : g ≡ h = same_Some g h (sym at ∙ ap (slice_get groups) (sym e) ∙ at') in
-      let P : ℕ → List Telegram → Type 0 = λ k h. base ≤ identity_number h → identity_number h < base + n → is_used (take k groups) h ≡ false in
+      let P : ℕ → List (List Telegram) → Type 0 = λ k h. base ≤ identity_number h → identity_number h < base + n → is_used (take k groups) h ≡ false in
       subst (λ h. P k h) same (subst (λ k. P k g) (sym e) now)
   | inr ne ↦ before k h (omega arith) at'
 ]
 
 -- one more part
-pub no_repeat_more : (m n next : ℕ) (groups : List (List Telegram)) → next ≡ m + n → HasNoRepeat 0 m groups → HasNoRepeat m n groups → HasNoRepeat 0 next groups
+pub no_repeat_more : (m n next : ℕ) (groups : List (List (List Telegram))) → next ≡ m + n → HasNoRepeat 0 m groups → HasNoRepeat m n groups → HasNoRepeat 0 next groups
 no_repeat_more m n next groups e low high i g at lo hi = elim (cases_lt (identity_number g) m) [
   | inl lt ↦ low i g at lo (omega arith)
   | inr ge ↦ high i g at (omega arith) (omega arith)
@@ -149,14 +150,14 @@ no_repeat_more m n next groups e low high i g at lo hi = elim (cases_lt (identit
 
 -- ---- the table of all identities
 
-pub seen_more : (groups : List (List Telegram)) (i : ℕ) (g : List Telegram) (table new : List ℕ) → At groups i g
+pub seen_more : (groups : List (List (List Telegram))) (i : ℕ) (g : List (List Telegram)) (table new : List ℕ) → At groups i g
     → ((p : ℕ) → is_marked new p ≡ (eqb p (identity_number g) || is_marked table p)) → HasSeen 0 16777216 table (take i groups) → HasSeen 0 16777216 new (take (i + 1) groups)
 seen_more groups i g table new at marked seen =
     let whole : identity_number g ≡ 0 + identity_number g = omega arith in
     seen_marked 0 16777216 table new groups i g (identity_number g) at whole marked seen
 
 -- what is told of one more group is whether its identity was used
-pub used_told : (groups : List (List Telegram)) (i : ℕ) (g : List Telegram) (repeated used : Bool) (table : List ℕ) → At groups i g → IsNumbered g → AreNumbered (take i groups)
+pub used_told : (groups : List (List (List Telegram))) (i : ℕ) (g : List (List Telegram)) (repeated used : Bool) (table : List ℕ) → At groups i g → IsNumbered g → AreNumbered (take i groups)
     → (repeated ≡ true → used ≡ is_marked table (identity_number g)) → (repeated ≡ false → used ≡ false)
     → (repeated ≡ false → HasNoRepeat 0 16777216 groups) → (repeated ≡ true → HasSeen 0 16777216 table (take i groups))
     → used ≡ is_used (take i groups) g
@@ -173,7 +174,36 @@ used_told groups i g repeated used table at own before marked not_marked none se
     ]
 
 -- a repeat is a finding
-pub repeat_stands : (groups : List (List Telegram)) → HasRepeat groups → group_list groups ≢ []
+pub repeat_stands : (groups : List (List (List Telegram))) → HasRepeat groups → group_list groups ≢ []
 repeat_stands groups r h =
-    let none = rules-say (facts_of (sites.Group r.0) (slice_get r.1 0) (is_used (take r.0 groups) r.1) r.1) (for_each-says groups (group_at groups) h r.0 r.1 r.2) rules.IdentityUsed in
-    both_ways _ (noted-false _ (finding_of rules.IdentityUsed (sites.Group r.0) None None None) none) r.3
+    let none = rules-say (rule_facts (sites.Group r.0) (is_used (take r.0 groups) r.1) r.1) (for_each-says groups (group_at groups) h r.0 r.1 r.2) rules.IdentityUsed in
+    both_ways _ (noted-false _ (finding_of rules.IdentityUsed (whole (sites.Group r.0)) None None None) (append_parts _ _ none).0) r.3
+
+-- ---- identities that were used
+
+same_identity_of : Option Identity → Option Identity → Bool
+same_identity_of o p = option_map_or (λ i. option_map_or (same_identity i) p false) o false
+
+identities-say : (o p : Option Identity) → same_identity_of o p ≡ true → o ≡ p
+unfolding same_identity_of
+identities-say None p h = absurd (both_ways _ refl h)
+identities-say (Some i) None h = absurd (both_ways _ refl h)
+identities-say (Some i) (Some j) h = ap Some (same_identity-says i j h)
+
+identities-are : (i : Identity) (o p : Option Identity) → o ≡ Some i → o ≡ p → same_identity_of o p ≡ true
+unfolding same_identity_of
+identities-are i o p is e = rw (← e, is) (same_identity-is i i refl)
+
+pub identity-at : (group : List Telegram) (t : Telegram) → At group 0 t → identity_of group ≡ Some t.header.identity
+identity-at [] t at = absurd (none-some t at)
+identity-at (u ∷ ts) t at = ap (λ (x : Telegram). Some x.header.identity) (same_Some u t at)
+
+pub unused-says : (earlier : List (List (List Telegram))) (g : List (List Telegram)) (i : Identity) → group_identity g ≡ Some i → is_used earlier g ≡ false → (k : ℕ) (h : List (List Telegram)) → At earlier k h → group_identity h ≢ group_identity g
+unfolding same_identity_of
+unused-says earlier g i is new k h at same =
+    both_ways _ new (at_list_any (λ h. same_identity_of (group_identity h) (group_identity g)) earlier k h at (identities-are i (group_identity h) (group_identity g) (same ∙ is) same))
+
+pub unused-is : (earlier : List (List (List Telegram))) (g : List (List Telegram)) → ((k : ℕ) (h : List (List Telegram)) → At earlier k h → group_identity h ≢ group_identity g) → is_used earlier g ≡ false
+unfolding same_identity_of
+unused-is earlier g distinct =
+    list_any-none (λ h. same_identity_of (group_identity h) (group_identity g)) earlier (λ k h at. false_from_ne_true _ (λ same. distinct k h at (identities-say (group_identity h) (group_identity g) same)))

@@ -6,6 +6,8 @@ pub mod CleanLemmas
 pub mod FormedLemmas
 pub mod PairLemmas
 pub mod SoundLemmas
+pub mod AspectLemmas
+pub mod CounterLemmas
 pub mod LineLemmas
 pub mod MeaningLemmas
 pub mod ListedLemmas

@@ -12,31 +12,32 @@ use Rattle.etcs_group.specs.Places.{At}
 use Rattle.etcs_group.proofs.PlaceLemmas.{At-take, at_take}
 use Rattle.etcs_check.specs.Profiles.{gradient_reach, speed_reach}
 use Rattle.etcs_check.specs.Soundness.{IsSoundMessage}
+use Rattle.etcs_check.specs.Aspects.{whole}
 use Rattle.etcs_check.specs.Findings.{finding_of, for_directions}
 use Rattle.etcs_check.specs.Line.{message_lack, message_short_at, message_short, message_facts, message_findings, group_at, group_list, message_at, message_list}
 use Rattle.etcs_check.specs.Laws.{NoFindingMeansSoundLine}
 use Rattle.etcs_check.specs.declared.finding.Rule.{Rule}
 use Rattle.etcs_check.specs.declared.finding.Rule.TheVariants as rules
-use Rattle.etcs_check.specs.declared.finding.Site.{Site}
+use Rattle.etcs_check.specs.declared.finding.Spot.{Spot}
 use Rattle.etcs_check.specs.declared.finding.Site.TheVariants as sites
 use Rattle.etcs_check.proofs.FindingLemmas.{rules-say, rules-empty, append_parts, append_empty, noted-false, noted-empty, for_each-says, for_each-empty, for_directions-says, for_directions-empty}
 use Rattle.etcs_check.proofs.ProfileLemmas.{HaveProfiles, NoneShortIn, profiles-held, lacks-from_profiles, long-held}
 use Rattle.etcs_check.proofs.CleanLemmas.{packets_clean, packets_empty}
 use Rattle.etcs_check.proofs.FormedLemmas.{modelled-from_at, at-from_modelled}
-use Rattle.etcs_check.proofs.SoundLemmas.{no_finding_means_sound_group}
+use Rattle.etcs_check.proofs.AspectLemmas.{no_finding_means_sound_group}
 
 -- ---- messages
 
-short_says : (rule : Rule) (at : Site) (reach : TrackPacket → Option Reach) (packets : List TrackPacket) → for_directions (message_short rule at reach packets) ≡ [] → (run : Run) → NoneShortIn reach packets run
+short_says : (rule : Rule) (at : Spot) (reach : TrackPacket → Option Reach) (packets : List TrackPacket) → for_directions (message_short rule at reach packets) ≡ [] → (run : Run) → NoneShortIn reach packets run
 short_says rule at reach packets h run k p at' =
     noted-false _ (finding_of rule at (Some run) None (Some k)) (for_each-says packets (message_short_at rule at reach packets run) (for_directions-says (message_short rule at reach packets) h run) k p at')
 
-profiles_say : (rule short_rule : Rule) (at : Site) (reach : TrackPacket → Option Reach) (packets : List TrackPacket) → for_directions (message_lack rule at reach packets) ≡ [] → for_directions (message_short short_rule at reach packets) ≡ [] → (run : Run) → HaveProfiles reach (filter (holds run) packets)
+profiles_say : (rule short_rule : Rule) (at : Spot) (reach : TrackPacket → Option Reach) (packets : List TrackPacket) → for_directions (message_lack rule at reach packets) ≡ [] → for_directions (message_short short_rule at reach packets) ≡ [] → (run : Run) → HaveProfiles reach (filter (holds run) packets)
 profiles_say rule short_rule at reach packets none_lack none_short run =
     profiles-held reach packets run (noted-false _ (finding_of rule at (Some run) None None) (for_directions-says (message_lack rule at reach packets) none_lack run))
     (short_says short_rule at reach packets none_short run)
 
-pub message_sound : (at : Site) (m : Message) → message_findings at m ≡ [] → IsSoundMessage m
+pub message_sound : (at : Spot) (m : Message) → message_findings at m ≡ [] → IsSoundMessage m
 message_sound at (messages.Position m) h = tt
 message_sound at (messages.Movement m) h =
     let none = rules-say (message_facts at m.packets) h in (
@@ -47,15 +48,15 @@ message_sound at (messages.Movement m) h =
       ),
     )
 
-lack_empty : (rule : Rule) (at : Site) (reach : TrackPacket → Option Reach) (packets : List TrackPacket) → ((run : Run) → HaveProfiles reach (filter (holds run) packets)) → for_directions (message_lack rule at reach packets) ≡ []
+lack_empty : (rule : Rule) (at : Spot) (reach : TrackPacket → Option Reach) (packets : List TrackPacket) → ((run : Run) → HaveProfiles reach (filter (holds run) packets)) → for_directions (message_lack rule at reach packets) ≡ []
 lack_empty rule at reach packets h =
     for_directions-empty (message_lack rule at reach packets) (λ run. noted-empty _ (finding_of rule at (Some run) None None) (lacks-from_profiles reach (filter (holds run) packets) (h run)))
 
-short_empty : (rule : Rule) (at : Site) (reach : TrackPacket → Option Reach) (packets : List TrackPacket) → ((run : Run) → HaveProfiles reach (filter (holds run) packets)) → for_directions (message_short rule at reach packets) ≡ []
+short_empty : (rule : Rule) (at : Spot) (reach : TrackPacket → Option Reach) (packets : List TrackPacket) → ((run : Run) → HaveProfiles reach (filter (holds run) packets)) → for_directions (message_short rule at reach packets) ≡ []
 short_empty rule at reach packets h =
     for_directions-empty (message_short rule at reach packets) (λ run. for_each-empty packets (message_short_at rule at reach packets run) (λ k p at'. noted-empty _ (finding_of rule at (Some run) None (Some k)) (long-held reach packets run (h run) k p at')))
 
-pub sound_message : (at : Site) (m : Message) → IsSoundMessage m → message_findings at m ≡ []
+pub sound_message : (at : Spot) (m : Message) → IsSoundMessage m → message_findings at m ≡ []
 sound_message at (messages.Position m) h = refl
 sound_message at (messages.Movement m) h = rules-empty (message_facts at m.packets) none
   where
@@ -73,13 +74,13 @@ pub no_finding_means_sound_line : NoFindingMeansSoundLine
 no_finding_means_sound_line groups messages some = (
   λ none.
       let p = append_parts (group_list groups) (message_list messages) none in
-      let each = λ (i : ℕ) (g : List Telegram) (at : At groups i g). (no_finding_means_sound_group (sites.Group i) (take i groups) g (some i g at)).0 (for_each-says groups (group_at groups) p.0 i g at) in
+      let each = λ (i : ℕ) (g : List (List Telegram)) (at : At groups i g). (no_finding_means_sound_group (sites.Group i) (take i groups) g (some i g at)).0 (for_each-says groups (group_at groups) p.0 i g at) in
       record {
         sound = λ i g at. (each i g at).0;
         distinct = λ i j g h lt at at'. (each j h at').1 i g (at_take j groups i g lt at);
-        messages_sound = λ i m at. message_sound (sites.Message i) m (for_each-says messages message_at p.1 i m at);
+        messages_sound = λ i m at. message_sound (whole (sites.Message i)) m (for_each-says messages message_at p.1 i m at);
       },
   λ sound. append_empty (group_list groups) (message_list messages)
       (for_each-empty groups (group_at groups) (λ i g at. (no_finding_means_sound_group (sites.Group i) (take i groups) g (some i g at)).1 (sound.sound i g at, λ j h at'. let t = At-take i groups j h at' in sound.distinct j i h g t.0 t.1 at)))
-      (for_each-empty messages message_at (λ i m at. sound_message (sites.Message i) m (sound.messages_sound i m at))),
+      (for_each-empty messages message_at (λ i m at. sound_message (whole (sites.Message i)) m (sound.messages_sound i m at))),
 )

@@ -1,16 +1,29 @@
--- The numbers in the rows of a packet decide the packet.
-use Rattle.std.proofs.Common.{◌≡◌, ℕ, ◌+◌, Bool, true, false, List, [], ◌∷◌, ◌++◌, map, refl, sym, ap, ap₂, subst, ◌∙◌, ◌↔◌, IsTrue}
-use Rattle.std.specs.Bool.{Decides}
+-- The numbers in the rows of a packet decide the packet, and the parts of a telegram the telegram.
+use Rattle.std.proofs.Common.{◌≡◌, ℕ, ◌+◌, Bool, true, false, eqb, List, [], ◌∷◌, ◌++◌, map, refl, sym, ap, ap₂, subst, ◌∙◌, ◌↔◌, IsTrue}
+use Rattle.std.specs.Bool.{Decides, beq}
+use Rattle.std.specs.Cmp.{booleans_Decides}
 use Rattle.std.specs.Cmp.Lexicographic.{pointwise}
+use Rattle.std.proofs.lemmas.Bool.{both_ways, eqb-true, eq-eqb, and_parts, and_from}
 use Rattle.std.proofs.lemmas.Bool.Decides.{Decides-eqb}
 use Rattle.std.proofs.lemmas.List.{map-append, append_assoc}
 use Rattle.std.proofs.lemmas.Slice.Eq.{slice_eq-Decides}
+use Rattle.etcs_bits.specs.declared.variables.duplicate.Dup.{Dup}
+use Rattle.etcs_bits.specs.declared.variables.duplicate.Dup.TheVariants as dups
+use Rattle.etcs_bits.specs.declared.variables.identity.Identity.{Identity}
+use Rattle.etcs_bits.specs.declared.variables.version.Version.{Version}
+use Rattle.etcs_bits.specs.variables.Variables.{version_number}
+use Rattle.etcs_bits.specs.variables.VariableValues.{version_of}
+use Rattle.etcs_bits.specs.variables.VariableLemmas.{version_names}
 use Rattle.etcs_bits.specs.layout.Rows.{Row, row, width}
 use Rattle.etcs_bits.specs.layout.Fields.{Fields, nothing, field, ◌▹◌, sized, l_packet, AreRowsOf}
 use Rattle.etcs_packet.specs.Track.{track_packet}
 use Rattle.etcs_packet.specs.declared.track.TrackPacket.{TrackPacket}
-use Rattle.etcs_check.specs.Duplicates.{packet_numbers, same_packet}
-use Rattle.etcs_check.specs.Laws.{PacketsAreTheirNumbers}
+use Rattle.etcs_telegram.specs.Record.{Telegram}
+use Rattle.etcs_telegram.specs.declared.header.Header.{Header}
+use Rattle.etcs_telegram.specs.declared.size.Size.{Size}
+use Rattle.etcs_telegram.specs.declared.size.Size.TheVariants as sizes
+use Rattle.etcs_check.specs.Duplicates.{packet_numbers, same_packet, same_identity, same_mark, same_size, same_header, same_telegram}
+use Rattle.etcs_check.specs.Laws.{PacketsAreTheirNumbers, TelegramsAreTheirParts}
 
 numbers : List Row → List ℕ
 numbers rows = map (λ r. r.number) rows
@@ -78,3 +91,103 @@ pub same_packet-is : (r : Bool) (p q : TrackPacket) → (IsTrue r ↔ (p ≡ q))
 same_packet-is r p q h =
     let d = Decides-same_packet p q in
     same_bool r (same_packet p q) (λ e. d.1 (h.0 e)) (λ e. h.1 (d.0 e))
+
+-- a test that decides equality of two lists of packets
+pub packets_told : (r : Bool) (xs ys : List TrackPacket) → (IsTrue r ↔ (xs ≡ ys)) → r ≡ pointwise same_packet xs ys
+packets_told r xs ys h =
+    let d = Decides-same_packets xs ys in
+    same_bool r (pointwise same_packet xs ys) (λ e. d.1 (h.0 e)) (λ e. h.1 (d.0 e))
+
+-- ---- identities
+
+pub identity_same : (x y : Identity) → x.country ≡ y.country → x.group ≡ y.group → x ≡ y
+identity_same x y e f = ap (λ c. record { country = c; group = x.group }) e ∙ ap (λ g. record { country = y.country; group = g }) f
+
+pub same_identity-says : (x y : Identity) → same_identity x y ≡ true → x ≡ y
+same_identity-says x y h =
+    let p = and_parts (eqb x.country y.country) (eqb x.group y.group) h in
+    identity_same x y (eqb-true _ _ p.0) (eqb-true _ _ p.1)
+
+pub same_identity-is : (x y : Identity) → x ≡ y → same_identity x y ≡ true
+same_identity-is x y e =
+    and_from _ _ (eq-eqb _ _ (ap (λ (z : Identity). z.country) e)) (eq-eqb _ _ (ap (λ (z : Identity). z.group) e))
+
+-- ---- telegrams
+
+mark_self : (m : Dup) → same_mark m m ≡ true
+mark_self dups.Single = refl
+mark_self dups.Next = refl
+mark_self dups.Previous = refl
+
+mark_says : (m n : Dup) → same_mark m n ≡ true → m ≡ n
+mark_says dups.Single dups.Single h = refl
+mark_says dups.Next dups.Next h = refl
+mark_says dups.Previous dups.Previous h = refl
+mark_says m n h = absurd (both_ways false refl h)
+
+pub Decides-same_mark : (m n : Dup) → Decides (same_mark m n) (m ≡ n)
+Decides-same_mark m n = (mark_says m n, λ e. subst (λ x. same_mark m x ≡ true) e (mark_self m))
+
+size_self : (s : Size) → same_size s s ≡ true
+size_self sizes.Short = refl
+size_self sizes.Long = refl
+
+size_says : (s r : Size) → same_size s r ≡ true → s ≡ r
+size_says sizes.Short sizes.Short h = refl
+size_says sizes.Long sizes.Long h = refl
+size_says s r h = absurd (both_ways false refl h)
+
+-- records made of their fields
+abbrev header_of : Version → ℕ → ℕ → Dup → ℕ → Identity → Bool → Header
+header_of v p n d c i l = record { version = v; position = p; total = n; dup = d; counter = c; identity = i; linked = l }
+
+abbrev telegram_of : Size → Header → List TrackPacket → Telegram
+telegram_of s h ps = record { size = s; header = h; packets = ps }
+
+pub version_same : (v w : Version) → version_number v ≡ version_number w → v ≡ w
+version_same v w e = sym (version_names v).0 ∙ ap version_of e ∙ (version_names w).0
+
+header_same : (v w : Version) (p q n m : ℕ) (d e : Dup) (c k : ℕ) (i j : Identity) (l o : Bool)
+    → v ≡ w → p ≡ q → n ≡ m → d ≡ e → c ≡ k → i ≡ j → l ≡ o
+    → header_of v p n d c i l ≡ header_of w q m e k j o
+header_same v w p q n m d e c k i j l o a1 a2 a3 a4 a5 a6 a7 = rw (a1, a2, a3, a4, a5, a6, a7) refl
+
+header_says : (g h : Header) → same_header g h ≡ true → g ≡ h
+header_says g h s =
+    let a = and_parts (eqb (version_number g.version) (version_number h.version)) _ s in
+    let b = and_parts (eqb g.position h.position) _ a.1 in
+    let c = and_parts (eqb g.total h.total) _ b.1 in
+    let d = and_parts (same_mark g.dup h.dup) _ c.1 in
+    let e = and_parts (eqb g.counter h.counter) _ d.1 in
+    let f = and_parts (same_identity g.identity h.identity) (beq g.linked h.linked) e.1 in
+    header_same g.version h.version g.position h.position g.total h.total g.dup h.dup g.counter h.counter g.identity h.identity g.linked h.linked
+    (version_same _ _ (eqb-true _ _ a.0)) (eqb-true _ _ b.0) (eqb-true _ _ c.0) ((Decides-same_mark _ _).0 d.0) (eqb-true _ _ e.0) (same_identity-says _ _ f.0) ((booleans_Decides _ _).0 f.1)
+
+header_self : (g : Header) → same_header g g ≡ true
+header_self g =
+    and_from (eqb (version_number g.version) (version_number g.version)) _ (eq-eqb (version_number g.version) (version_number g.version) refl)
+    (and_from (eqb g.position g.position) _ (eq-eqb g.position g.position refl)
+    (and_from (eqb g.total g.total) _ (eq-eqb g.total g.total refl)
+    (and_from (same_mark g.dup g.dup) _ (mark_self g.dup)
+    (and_from (eqb g.counter g.counter) _ (eq-eqb g.counter g.counter refl)
+    (and_from (same_identity g.identity g.identity) (beq g.linked g.linked) (same_identity-is g.identity g.identity refl) ((booleans_Decides g.linked g.linked).1 refl))))))
+
+telegram_same : (s r : Size) (g h : Header) (xs ys : List TrackPacket) → s ≡ r → g ≡ h → xs ≡ ys → telegram_of s g xs ≡ telegram_of r h ys
+telegram_same s r g h xs ys a b c = rw (a, b, c) refl
+
+telegram_self : (t : Telegram) → same_telegram t t ≡ true
+telegram_self t =
+    and_from (same_size t.size t.size) _ (size_self t.size)
+    (and_from (same_header t.header t.header) (pointwise same_packet t.packets t.packets) (header_self t.header) ((Decides-same_packets t.packets t.packets).1 refl))
+
+pub Decides-same_telegram : (t u : Telegram) → Decides (same_telegram t u) (t ≡ u)
+Decides-same_telegram t u = (
+  λ h.
+      let a = and_parts (same_size t.size u.size) _ h in
+      let b = and_parts (same_header t.header u.header) (pointwise same_packet t.packets u.packets) a.1 in
+      telegram_same t.size u.size t.header u.header t.packets u.packets (size_says t.size u.size a.0) (header_says t.header u.header b.0) ((Decides-same_packets t.packets u.packets).0 b.1),
+  λ e. subst (λ x. same_telegram t x ≡ true) e (telegram_self t),
+)
+
+pub telegrams_are_their_parts : TelegramsAreTheirParts
+telegrams_are_their_parts t u = Decides-same_telegram t u

@@ -1,38 +1,35 @@
--- A group has no finding exactly where it is sound, and each finding hurts.
-use Rattle.std.proofs.Common.{◌≡◌, ◌≢◌, ℕ, suc, ◌+◌, ◌<◌, ◌↔◌, Bool, true, false, not, List, [], ◌∷◌, length, slice_get, Option, Some, None, refl, sym, ap, subst, ◌∙◌, arith}
-use Rattle.std.specs.Option.{option_map_or}
+-- An aspect has no finding against itself exactly where it is sound, and each finding hurts.
+use Rattle.std.proofs.Common.{◌≡◌, ◌≢◌, ℕ, suc, ◌+◌, ◌<◌, Bool, true, false, not, List, length, slice_get, Option, Some, None, refl, sym, ap, subst, ◌∙◌, arith}
 use Rattle.std.proofs.lemmas.Option.{none-some, same_Some, slice_get_within}
 use Rattle.std.proofs.lemmas.Bool.{both_ways, and_parts, eqb-true, not-true, not-false, false_from_ne_true}
 use Rattle.etcs_bits.specs.declared.variables.duplicate.Dup.{Dup}
 use Rattle.etcs_bits.specs.declared.variables.duplicate.Dup.TheVariants as dups
-use Rattle.etcs_bits.specs.declared.variables.identity.Identity.{Identity}
 use Rattle.etcs_packet.specs.declared.run.Run.{Run}
 use Rattle.etcs_packet.specs.declared.run.Run.TheVariants as runs
 use Rattle.etcs_packet.specs.declared.track.TrackPacket.{TrackPacket}
 use Rattle.etcs_telegram.specs.Record.{Telegram}
 use Rattle.etcs_group.specs.Places.{At}
-use Rattle.etcs_group.specs.Group.{named_by, IsWellFormed, HasOneCounter}
+use Rattle.etcs_group.specs.Group.{named_by, AreAlike, IsWellFormed, HasOneCounter}
 use Rattle.etcs_group.specs.Missed.{IsSetOf, IsCovered, none_missed}
 use Rattle.etcs_group.specs.Reading.{reading_of}
 use Rattle.etcs_group.specs.Assembly.{IsAccepted}
 use Rattle.etcs_group.specs.Packets.{held_by, packets_of, said_by, HasEqualPairs}
-use Rattle.etcs_group.proofs.PlaceLemmas.{one_at, at_list_any, list_any-none}
+use Rattle.etcs_group.proofs.PlaceLemmas.{one_at}
 use Rattle.etcs_group.proofs.MarkLemmas.{partner-says, next-at, previous-at}
 use Rattle.etcs_group.proofs.ReadingLemmas.{at-reading}
 use Rattle.etcs_group.proofs.DecidedLemmas.{readings_are_decided}
 use Rattle.etcs_group.proofs.BlockLemmas.{readings_say_the_same}
 use Rattle.etcs_group.proofs.SaidLemmas.{said-packets}
 use Rattle.etcs_check.specs.Profiles.{gradient_reach, speed_reach, AreReached}
-use Rattle.etcs_check.specs.Soundness.{IsSoundReading, IsSoundGroup, identity_of}
-use Rattle.etcs_check.specs.Findings.{same_identity, is_unfit, counter_differs, are_pair, pair_differs, lacks, is_used, is_short_at, group_facts}
+use Rattle.etcs_check.specs.Soundness.{IsSoundReading, IsSoundGroup}
+use Rattle.etcs_check.specs.Findings.{is_unfit, counter_differs, mark_differs, is_counter_taken, are_pair, pair_differs, lacks, is_short_at}
 use Rattle.etcs_check.specs.Meaning.{only, passed_first, DependsOnMissed, IsNeverAccepted, IsNotReached}
 use Rattle.etcs_check.specs.Duplicates.{same_held}
-use Rattle.etcs_check.specs.Laws.{NoFindingMeansSoundGroup, SoundGroupsAreDecided}
-use Rattle.etcs_check.specs.declared.finding.Site.{Site}
+use Rattle.etcs_check.specs.Laws.{SoundGroupsAreDecided}
 use Rattle.etcs_check.proofs.NumberLemmas.{Decides-same_packets}
 use Rattle.etcs_check.proofs.ProfileLemmas.{profiles-said, lacks-from_profiles, long-said}
-use Rattle.etcs_check.proofs.CleanLemmas.{IsClean, clean-from_facts, facts-from_clean}
-use Rattle.etcs_check.proofs.FormedLemmas.{same_identity-says, same_identity-is, formed-from_clean, fitting-from_clean, formed_placed, formed_counted, formed_alike, formed_inside, formed_answered, formed_modelled, fitting_254, fitting_one}
+use Rattle.etcs_check.proofs.CleanLemmas.{IsClean}
+use Rattle.etcs_check.proofs.FormedLemmas.{formed-from_clean, fitting-from_clean, alike_first, formed_placed, formed_counted, formed_inside, formed_answered, formed_modelled, fitting_254, fitting_one}
 use Rattle.etcs_check.proofs.PairLemmas.{duplicates-equal, only-covered}
 
 -- ---- pairs
@@ -107,9 +104,9 @@ pair-from_same group run formed b t at same = false_from_ne_true _ (λ differs.
 
 -- ---- no finding, so sound
 
-module _ (used : Bool) (group : List Telegram) (long : 0 < length group) (clean : IsClean (slice_get group 0) used group) where
+module _ (first : List Telegram) (before : List (List Telegram)) (group : List Telegram) (long : 0 < length first) (some : 0 < length group) (clean : IsClean first before group) where
   formed : IsWellFormed group
-  formed = formed-from_clean used group clean
+  formed = formed-from_clean first before group long clean
 
   reached_said : (run : Run) → AreReached (said_by run group)
   reached_said run i a limit at is = (
@@ -125,7 +122,7 @@ module _ (used : Bool) (group : List Telegram) (long : 0 < length group) (clean 
   sound-from_clean = record {
     formed = formed;
     readings = λ run missed set covered. record {
-      accepted = (readings_are_decided run group missed formed (fitting-from_clean used group clean) long set).accepted.1 covered;
+      accepted = (readings_are_decided run group missed formed (fitting-from_clean first before group long clean) some set).accepted.1 covered;
       same = says_said run missed covered ∙ (readings_say_the_same run group formed).full;
       reached = subst AreReached (sym (says_said run missed covered)) (reached_said run);
     };
@@ -167,11 +164,16 @@ module _ (group : List Telegram) (sound : IsSoundGroup group) where
       let w = slice_get_within group (suc b) n.1 n.2 in
       omega arith
 
-  pub clean-from_sound : (used : Bool) → used ≡ false → IsClean (slice_get group 0) used group
-  clean-from_sound used new = record {
+  -- an aspect that is like aspect 0, and told apart from those before
+  pub clean-from_sound : (first : List Telegram) (before : List (List Telegram))
+      → ((b : ℕ) (t f : Telegram) → At group b t → At first 0 f → AreAlike t f)
+      → ((b : ℕ) (t : Telegram) → At group b t → mark_differs (slice_get first b) t ≡ false)
+      → ((b : ℕ) (t : Telegram) → At group b t → is_counter_taken before t ≡ false)
+      → IsClean first before group
+  clean-from_sound first before alike marks fresh = record {
     placed = formed_placed group sound.formed;
     counted = formed_counted group sound.formed;
-    alike = formed_alike group sound.formed;
+    alike = λ b t at. alike_first first t (λ f at0. alike b t f at at0);
     inside = formed_inside group sound.formed;
     answered = formed_answered group sound.formed;
     fit = fitting_254 group fitting;
@@ -183,60 +185,9 @@ module _ (group : List Telegram) (sound : IsSoundGroup group) where
     long_gradients = λ run. long-said gradient_reach group run (λ i a limit at is. (said_reached run i a limit at is).0);
     speeds = λ run. lacks-from_profiles speed_reach (said_by run group) (λ i a limit at is. (said_reached run i a limit at is).1);
     long_speeds = λ run. long-said speed_reach group run (λ i a limit at is. (said_reached run i a limit at is).1);
-    new_identity = new;
+    marks = marks;
+    fresh = fresh;
   }
-
--- ---- identities that were used
-
-same_identity_of : Option Identity → Option Identity → Bool
-same_identity_of o p = option_map_or (λ i. option_map_or (same_identity i) p false) o false
-
-identities-say : (o p : Option Identity) → same_identity_of o p ≡ true → o ≡ p
-unfolding same_identity_of
-identities-say None p h = absurd (both_ways _ refl h)
-identities-say (Some i) None h = absurd (both_ways _ refl h)
-identities-say (Some i) (Some j) h = ap Some (same_identity-says i j h)
-
-identities-are : (i : Identity) (o p : Option Identity) → o ≡ Some i → o ≡ p → same_identity_of o p ≡ true
-unfolding same_identity_of
-identities-are i o p is e = rw (← e, is) (same_identity-is i i refl)
-
-pub identity-at : (group : List Telegram) (t : Telegram) → At group 0 t → identity_of group ≡ Some t.header.identity
-identity-at [] t at = absurd (none-some t at)
-identity-at (u ∷ ts) t at = ap (λ (x : Telegram). Some x.header.identity) (same_Some u t at)
-
-identity-some : (group : List Telegram) → 0 < length group → (i : Identity) × (identity_of group ≡ Some i)
-identity-some [] lt = absurd (omega arith)
-identity-some (t ∷ ts) lt = (t.header.identity, refl)
-
-unused-says : (earlier : List (List Telegram)) (group : List Telegram) → 0 < length group → is_used earlier group ≡ false → (k : ℕ) (h : List Telegram) → At earlier k h → identity_of h ≢ identity_of group
-unfolding same_identity_of
-unused-says earlier group long new k h at same =
-    let i = identity-some group long in
-    both_ways _ new (at_list_any (λ h. same_identity_of (identity_of h) (identity_of group)) earlier k h at (identities-are i.0 (identity_of h) (identity_of group) (same ∙ i.1) same))
-
-unused-is : (earlier : List (List Telegram)) (group : List Telegram) → ((k : ℕ) (h : List Telegram) → At earlier k h → identity_of h ≢ identity_of group) → is_used earlier group ≡ false
-unfolding same_identity_of
-unused-is earlier group distinct =
-    list_any-none (λ h. same_identity_of (identity_of h) (identity_of group)) earlier (λ k h at. false_from_ne_true _ (λ same. distinct k h at (identities-say (identity_of h) (identity_of group) same)))
-
--- ---- the law
-
--- with an identity of which it is said whether an earlier group has it
-pub no_fact_means_sound_group : (at : Site) (used : Bool) (group : List Telegram) → 0 < length group → (group_facts at (slice_get group 0) used group ≡ []) ↔ (IsSoundGroup group × (used ≡ false))
-no_fact_means_sound_group at used group long = (
-  λ none.
-      let c = clean-from_facts at (slice_get group 0) used group none in
-      (sound-from_clean used group long c, c.new_identity),
-  λ s. facts-from_clean at (slice_get group 0) used group (clean-from_sound group s.0 used s.1),
-)
-
-pub no_finding_means_sound_group : NoFindingMeansSoundGroup
-no_finding_means_sound_group at earlier group long =
-    let law = no_fact_means_sound_group at (is_used earlier group) group long in (
-      λ none. let s = law.0 none in (s.0, unused-says earlier group long s.1),
-      λ s. law.1 (s.0, unused-is earlier group s.1),
-    )
 
 pub sound_groups_are_decided : SoundGroupsAreDecided
 sound_groups_are_decided group run missed sound long set =

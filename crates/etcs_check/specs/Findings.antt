@@ -1,13 +1,13 @@
--- The facts against a balise group, and their list in order (this project's rules, after SUBSET-026,
--- 3.16.2). No reading is mentioned here: each fact is seen at a balise, at its neighbour and in what
--- the group says. A place counts the balises of the group from 0.
+-- The facts against one aspect of a balise group, and their list in order (this project's rules, after
+-- SUBSET-026, 3.16.2). A group that no lineside unit switches has one aspect. No reading is mentioned
+-- here: each fact is seen at a balise, at its neighbour, in what the aspect says, and in other aspects.
+-- A place counts the balises of the group from 0.
 use Rattle.std.specs.Prelude.{ℕ, ◌+◌, ◌==◌, ◌&&◌, nat_lt, Bool, true, false, not, if◌then◌else◌, List, [], ◌∷◌, ◌++◌, length, slice_get, Option, Some, None, is_some, flat_map}
 use Rattle.std.specs.Bool.{beq}
 use Rattle.std.specs.List.{list_any, enumerate_from}
 use Rattle.std.specs.Option.{option_map_or}
 use Rattle.etcs_bits.specs.declared.variables.duplicate.Dup.{Dup}
 use Rattle.etcs_bits.specs.declared.variables.duplicate.Dup.TheVariants as dups
-use Rattle.etcs_bits.specs.declared.variables.identity.Identity.{Identity}
 use Rattle.etcs_bits.specs.variables.Variables.{version_number}
 use Rattle.etcs_packet.specs.Track.{holds}
 use Rattle.etcs_packet.specs.declared.run.Run.{Run}
@@ -18,13 +18,12 @@ use Rattle.etcs_profile.specs.declared.reach.Reach.TheVariants.{Ends, Open}
 use Rattle.etcs_telegram.specs.Record.{Telegram}
 use Rattle.etcs_group.specs.Group.{is_modelled, partner_of}
 use Rattle.etcs_group.specs.Packets.{is_silent, said_by}
-use Rattle.etcs_check.specs.Duplicates.{same_held}
+use Rattle.etcs_check.specs.Duplicates.{same_identity, same_mark, same_held}
 use Rattle.etcs_check.specs.Profiles.{limit_of, gradient_reach, speed_reach}
-use Rattle.etcs_check.specs.Soundness.{identity_of}
 use Rattle.etcs_check.specs.declared.finding.Finding.{Finding}
 use Rattle.etcs_check.specs.declared.finding.Rule.{Rule}
 use Rattle.etcs_check.specs.declared.finding.Rule.TheVariants as rules
-use Rattle.etcs_check.specs.declared.finding.Site.{Site}
+use Rattle.etcs_check.specs.declared.finding.Spot.{Spot}
 
 -- ---- the facts about one balise, each a test
 
@@ -35,10 +34,6 @@ is_misplaced b t = not (t.header.position == b)
 -- F2: its total and one is not the number of balises
 abbrev pub is_miscounted : List Telegram → Telegram → Bool
 is_miscounted group t = not ((t.header.total + 1) == length group)
-
--- whether two identities are the same
-abbrev pub same_identity : Identity → Identity → Bool
-same_identity i j = (i.country == j.country) && (i.group == j.group)
 
 -- F3: its version, identity or link flag is not that of this balise, if there is one
 abbrev pub is_unlike : Option Telegram → Telegram → Bool
@@ -75,16 +70,33 @@ abbrev pub counter_differs : List Telegram → Telegram → Bool
 counter_differs group t =
     nat_lt t.header.counter 254 && is_other (first_counter group) t.header.counter
 
--- The fact of a rule about one balise by itself. The balise is compared with `first`, balise 0.
-abbrev pub balise_fact : Option Telegram → List Telegram → Rule → ℕ → Telegram → Bool
-balise_fact first group rules.PositionWrong b t = is_misplaced b t
-balise_fact first group rules.TotalWrong b t = is_miscounted group t
-balise_fact first group rules.HeaderDiffers b t = is_unlike first t
-balise_fact first group rules.MarkOutside b t = is_outside (length group) t.header.dup b
-balise_fact first group rules.MarkUnanswered b t = is_unanswered group (partner_of group b) b
-balise_fact first group rules.CounterUnfit b t = is_unfit t
-balise_fact first group rules.CountersDiffer b t = counter_differs group t
-balise_fact first group r b t = false
+-- F15: its mark is not that of this balise, if there is one
+abbrev pub mark_differs : Option Telegram → Telegram → Bool
+mark_differs None t = false
+mark_differs (Some u) t = not (same_mark t.header.dup u.header.dup)
+
+-- the list has a telegram with this counter
+abbrev pub has_counter : ℕ → List Telegram → Bool
+has_counter n group = list_any (λ t. t.header.counter == n) group
+
+-- F16: its counter is below 254, and stands in one of these aspects
+abbrev pub is_counter_taken : List (List Telegram) → Telegram → Bool
+is_counter_taken before t =
+    nat_lt t.header.counter 254 && list_any (has_counter t.header.counter) before
+
+-- The fact of a rule about one balise of an aspect by itself. The balise is compared with `first`,
+-- aspect 0, and with the aspects before its own.
+abbrev pub balise_fact : List Telegram → List (List Telegram) → List Telegram → Rule → ℕ → Telegram → Bool
+balise_fact first before group rules.PositionWrong b t = is_misplaced b t
+balise_fact first before group rules.TotalWrong b t = is_miscounted group t
+balise_fact first before group rules.HeaderDiffers b t = is_unlike (slice_get first 0) t
+balise_fact first before group rules.MarkOutside b t = is_outside (length group) t.header.dup b
+balise_fact first before group rules.MarkUnanswered b t = is_unanswered group (partner_of group b) b
+balise_fact first before group rules.CounterUnfit b t = is_unfit t
+balise_fact first before group rules.CountersDiffer b t = counter_differs group t
+balise_fact first before group rules.MarksDiffer b t = mark_differs (slice_get first b) t
+balise_fact first before group rules.NotToldApart b t = is_counter_taken before t
+balise_fact first before group r b t = false
 
 -- ---- the facts about two balises, about packets and about what is said
 
@@ -126,20 +138,12 @@ abbrev pub is_short_at : (TrackPacket → Option Reach) → List Telegram → Ru
 is_short_at reach group run b t p =
     not (is_silent run t.header.dup (length group) b) && (holds run p && is_short reach (said_by run group) p)
 
--- two groups have the same identity; none that is empty has one
-abbrev pub have_one_identity : List Telegram → List Telegram → Bool
-have_one_identity g h =
-    option_map_or (λ i. option_map_or (same_identity i) (identity_of h) false) (identity_of g) false
-
--- F14: an earlier group has the identity of this one
-abbrev pub is_used : List (List Telegram) → List Telegram → Bool
-is_used earlier group = list_any (λ h. have_one_identity h group) earlier
-
 -- ---- lists of findings
 
 -- a finding of these parts
-abbrev pub finding_of : Rule → Site → Option Run → Option ℕ → Option ℕ → Finding
-finding_of rule site run b k = record { rule = rule; site = site; dir = run; balise = b; packet = k }
+abbrev pub finding_of : Rule → Spot → Option Run → Option ℕ → Option ℕ → Finding
+finding_of rule spot run b k =
+    record { rule = rule; site = spot.site; aspect = spot.aspect; dir = run; balise = b; packet = k }
 
 -- the finding alone, where its fact stands
 abbrev pub noted : Bool → Finding → List Finding
@@ -160,90 +164,88 @@ for_directions f = f runs.Nominal ++ f runs.Reverse
 -- ---- the facts of each rule
 
 -- one balise by itself
-abbrev pub balise_at : Rule → Site → (ℕ → Telegram → Bool) → ℕ → Telegram → List Finding
-balise_at rule site fact b t = noted (fact b t) (finding_of rule site None (Some b) None)
+abbrev pub balise_at : Rule → Spot → (ℕ → Telegram → Bool) → ℕ → Telegram → List Finding
+balise_at rule spot fact b t = noted (fact b t) (finding_of rule spot None (Some b) None)
 
-abbrev pub balise_facts : Rule → Site → (ℕ → Telegram → Bool) → List Telegram → List Finding
-balise_facts rule site fact group = for_each group (balise_at rule site fact)
+abbrev pub balise_facts : Rule → Spot → (ℕ → Telegram → Bool) → List Telegram → List Finding
+balise_facts rule spot fact group = for_each group (balise_at rule spot fact)
 
 -- F8: each pair, named by its lower balise
-abbrev pub pair_at : Site → List Telegram → Run → ℕ → Telegram → List Finding
-pair_at site group run b t =
+abbrev pub pair_at : Spot → List Telegram → Run → ℕ → Telegram → List Finding
+pair_at spot group run b t =
     noted (pair_differs run t (slice_get group (b + 1)))
-    (finding_of rules.DuplicatesDiffer site (Some run) (Some b) None)
+    (finding_of rules.DuplicatesDiffer spot (Some run) (Some b) None)
 
-abbrev pub pair_facts : Site → List Telegram → Run → List Finding
-pair_facts site group run = for_each group (pair_at site group run)
+abbrev pub pair_facts : Spot → List Telegram → Run → List Finding
+pair_facts spot group run = for_each group (pair_at spot group run)
 
 -- F9: each packet of a balise, or of a message
-abbrev pub unmodelled_at : Site → Option ℕ → ℕ → TrackPacket → List Finding
-unmodelled_at site b k p = noted (is_unmodelled p) (finding_of rules.NotModelled site None b (Some k))
+abbrev pub unmodelled_at : Spot → Option ℕ → ℕ → TrackPacket → List Finding
+unmodelled_at spot b k p = noted (is_unmodelled p) (finding_of rules.NotModelled spot None b (Some k))
 
-abbrev pub unmodelled_in : Site → Option ℕ → List TrackPacket → List Finding
-unmodelled_in site b packets = for_each packets (unmodelled_at site b)
+abbrev pub unmodelled_in : Spot → Option ℕ → List TrackPacket → List Finding
+unmodelled_in spot b packets = for_each packets (unmodelled_at spot b)
 
-abbrev pub unmodelled_by : Site → ℕ → Telegram → List Finding
-unmodelled_by site b t = unmodelled_in site (Some b) t.packets
+abbrev pub unmodelled_by : Spot → ℕ → Telegram → List Finding
+unmodelled_by spot b t = unmodelled_in spot (Some b) t.packets
 
-abbrev pub unmodelled_facts : Site → List Telegram → List Finding
-unmodelled_facts site group = for_each group (unmodelled_by site)
+abbrev pub unmodelled_facts : Spot → List Telegram → List Finding
+unmodelled_facts spot group = for_each group (unmodelled_by spot)
 
 -- F10 and F12: what is said
-abbrev pub lack_facts : Rule → Site → (TrackPacket → Option Reach) → List Telegram → Run → List Finding
-lack_facts rule site reach group run =
-    noted (lacks reach (said_by run group)) (finding_of rule site (Some run) None None)
+abbrev pub lack_facts : Rule → Spot → (TrackPacket → Option Reach) → List Telegram → Run → List Finding
+lack_facts rule spot reach group run =
+    noted (lacks reach (said_by run group)) (finding_of rule spot (Some run) None None)
 
 -- F11 and F13: each packet of each balise
-abbrev pub short_at : Rule → Site → (TrackPacket → Option Reach) → List Telegram → Run → ℕ → Telegram → ℕ → TrackPacket → List Finding
-short_at rule site reach group run b t k p =
-    noted (is_short_at reach group run b t p) (finding_of rule site (Some run) (Some b) (Some k))
+abbrev pub short_at : Rule → Spot → (TrackPacket → Option Reach) → List Telegram → Run → ℕ → Telegram → ℕ → TrackPacket → List Finding
+short_at rule spot reach group run b t k p =
+    noted (is_short_at reach group run b t p) (finding_of rule spot (Some run) (Some b) (Some k))
 
-abbrev pub short_by : Rule → Site → (TrackPacket → Option Reach) → List Telegram → Run → ℕ → Telegram → List Finding
-short_by rule site reach group run b t = for_each t.packets (short_at rule site reach group run b t)
+abbrev pub short_by : Rule → Spot → (TrackPacket → Option Reach) → List Telegram → Run → ℕ → Telegram → List Finding
+short_by rule spot reach group run b t = for_each t.packets (short_at rule spot reach group run b t)
 
-abbrev pub short_facts : Rule → Site → (TrackPacket → Option Reach) → List Telegram → Run → List Finding
-short_facts rule site reach group run = for_each group (short_by rule site reach group run)
+abbrev pub short_facts : Rule → Spot → (TrackPacket → Option Reach) → List Telegram → Run → List Finding
+short_facts rule spot reach group run = for_each group (short_by rule spot reach group run)
 
--- ---- all facts about a group
+-- ---- all facts about an aspect
 
 -- those of a rule in one running direction
-abbrev pub facts_in : Site → List Telegram → Rule → Run → List Finding
-facts_in site group rules.DuplicatesDiffer run = pair_facts site group run
-facts_in site group rules.NoGradient run = lack_facts rules.NoGradient site gradient_reach group run
-facts_in site group rules.GradientShort run = short_facts rules.GradientShort site gradient_reach group run
-facts_in site group rules.NoSpeed run = lack_facts rules.NoSpeed site speed_reach group run
-facts_in site group rules.SpeedShort run = short_facts rules.SpeedShort site speed_reach group run
-facts_in site group r run = []
+abbrev pub facts_in : Spot → List Telegram → Rule → Run → List Finding
+facts_in spot group rules.DuplicatesDiffer run = pair_facts spot group run
+facts_in spot group rules.NoGradient run = lack_facts rules.NoGradient spot gradient_reach group run
+facts_in spot group rules.GradientShort run = short_facts rules.GradientShort spot gradient_reach group run
+facts_in spot group rules.NoSpeed run = lack_facts rules.NoSpeed spot speed_reach group run
+facts_in spot group rules.SpeedShort run = short_facts rules.SpeedShort spot speed_reach group run
+facts_in spot group r run = []
 
--- those of a rule; the balises are compared with `first`, and `used` says whether an earlier group
--- has the identity
-abbrev pub facts_of : Site → Option Telegram → Bool → List Telegram → Rule → List Finding
-facts_of site first used group rules.PositionWrong =
-    balise_facts rules.PositionWrong site (balise_fact first group rules.PositionWrong) group
-facts_of site first used group rules.TotalWrong =
-    balise_facts rules.TotalWrong site (balise_fact first group rules.TotalWrong) group
-facts_of site first used group rules.HeaderDiffers =
-    balise_facts rules.HeaderDiffers site (balise_fact first group rules.HeaderDiffers) group
-facts_of site first used group rules.MarkOutside =
-    balise_facts rules.MarkOutside site (balise_fact first group rules.MarkOutside) group
-facts_of site first used group rules.MarkUnanswered =
-    balise_facts rules.MarkUnanswered site (balise_fact first group rules.MarkUnanswered) group
-facts_of site first used group rules.CounterUnfit =
-    balise_facts rules.CounterUnfit site (balise_fact first group rules.CounterUnfit) group
-facts_of site first used group rules.CountersDiffer =
-    balise_facts rules.CountersDiffer site (balise_fact first group rules.CountersDiffer) group
-facts_of site first used group rules.NotModelled = unmodelled_facts site group
-facts_of site first used group rules.IdentityUsed =
-    noted used (finding_of rules.IdentityUsed site None None None)
-facts_of site first used group r = for_directions (facts_in site group r)
+-- Those of a rule. The balises are compared with `first`, aspect 0, and with the aspects before.
+abbrev pub facts_of : Spot → List Telegram → List (List Telegram) → List Telegram → Rule → List Finding
+facts_of spot first before group rules.PositionWrong =
+    balise_facts rules.PositionWrong spot (balise_fact first before group rules.PositionWrong) group
+facts_of spot first before group rules.TotalWrong =
+    balise_facts rules.TotalWrong spot (balise_fact first before group rules.TotalWrong) group
+facts_of spot first before group rules.HeaderDiffers =
+    balise_facts rules.HeaderDiffers spot (balise_fact first before group rules.HeaderDiffers) group
+facts_of spot first before group rules.MarkOutside =
+    balise_facts rules.MarkOutside spot (balise_fact first before group rules.MarkOutside) group
+facts_of spot first before group rules.MarkUnanswered =
+    balise_facts rules.MarkUnanswered spot (balise_fact first before group rules.MarkUnanswered) group
+facts_of spot first before group rules.CounterUnfit =
+    balise_facts rules.CounterUnfit spot (balise_fact first before group rules.CounterUnfit) group
+facts_of spot first before group rules.CountersDiffer =
+    balise_facts rules.CountersDiffer spot (balise_fact first before group rules.CountersDiffer) group
+facts_of spot first before group rules.NotModelled = unmodelled_facts spot group
+facts_of spot first before group rules.MarksDiffer =
+    balise_facts rules.MarksDiffer spot (balise_fact first before group rules.MarksDiffer) group
+facts_of spot first before group rules.NotToldApart =
+    balise_facts rules.NotToldApart spot (balise_fact first before group rules.NotToldApart) group
+facts_of spot first before group r = for_directions (facts_in spot group r)
 
 -- the rules in the order of their numbers
 abbrev pub all_rules : List Rule
 all_rules =
     rules.PositionWrong ∷ rules.TotalWrong ∷ rules.HeaderDiffers ∷ rules.MarkOutside ∷ rules.MarkUnanswered
     ∷ rules.CounterUnfit ∷ rules.CountersDiffer ∷ rules.DuplicatesDiffer ∷ rules.NotModelled
-    ∷ rules.NoGradient ∷ rules.GradientShort ∷ rules.NoSpeed ∷ rules.SpeedShort ∷ rules.IdentityUsed ∷ []
-
--- those of all rules: by rule, then direction, balise and packet
-abbrev pub group_facts : Site → Option Telegram → Bool → List Telegram → List Finding
-group_facts site first used group = flat_map (facts_of site first used group) all_rules
+    ∷ rules.NoGradient ∷ rules.GradientShort ∷ rules.NoSpeed ∷ rules.SpeedShort ∷ rules.IdentityUsed
+    ∷ rules.MarksDiffer ∷ rules.NotToldApart ∷ []

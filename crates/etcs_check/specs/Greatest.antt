@@ -10,7 +10,7 @@ use Rattle.etcs_check.specs.Profiles.{limit_of, gradient_reach, speed_reach}
 use Rattle.etcs_check.specs.Findings.{finding_of, lies_past, noted}
 use Rattle.etcs_check.specs.declared.finding.Finding.{Finding}
 use Rattle.etcs_check.specs.declared.finding.Rule.{Rule}
-use Rattle.etcs_check.specs.declared.finding.Site.{Site}
+use Rattle.etcs_check.specs.declared.finding.Spot.{Spot}
 use Rattle.etcs_check.specs.declared.profile_rules.Kind.{Kind}
 use Rattle.etcs_check.specs.declared.profile_rules.Kind.TheVariants as kinds
 
@@ -35,6 +35,6 @@ abbrev pub is_before : (TrackPacket → Option Reach) → Option ℕ → TrackPa
 is_before reach limit p = option_map_or (λ r. option_map_or (lies_past r) limit false) (reach p) false
 
 -- the finding of a packet that holds, if it is a profile of the kind that ends before the location
-abbrev pub before_at : Rule → Site → (TrackPacket → Option Reach) → Option ℕ → Run → Option ℕ → ℕ → TrackPacket → List Finding
-before_at rule site reach limit run b k p =
-    noted (holds run p && is_before reach limit p) (finding_of rule site (Some run) b (Some k))
+abbrev pub before_at : Rule → Spot → (TrackPacket → Option Reach) → Option ℕ → Run → Option ℕ → ℕ → TrackPacket → List Finding
+before_at rule spot reach limit run b k p =
+    noted (holds run p && is_before reach limit p) (finding_of rule spot (Some run) b (Some k))

@@ -1,5 +1,5 @@
 -- The laws that join findings and soundness.
-use Rattle.std.specs.Prelude.{◌≡◌, ◌≢◌, ◌↔◌, ℕ, ◌<◌, Bool, List, [], length, IsTrue}
+use Rattle.std.specs.Prelude.{◌≡◌, ◌≢◌, ◌↔◌, ℕ, ◌<◌, Bool, List, [], length, Option, IsTrue}
 use Rattle.etcs_packet.specs.declared.run.Run.{Run}
 use Rattle.etcs_packet.specs.declared.track.TrackPacket.{TrackPacket}
 use Rattle.etcs_telegram.specs.Record.{Telegram}
@@ -7,9 +7,11 @@ use Rattle.etcs_radio.specs.declared.message.Message.{Message}
 use Rattle.etcs_group.specs.Places.{At}
 use Rattle.etcs_group.specs.Missed.{IsSetOf}
 use Rattle.etcs_group.specs.Reading.{reading_of}
-use Rattle.etcs_group.specs.Laws.{IsDecided}
-use Rattle.etcs_check.specs.Duplicates.{same_packet}
-use Rattle.etcs_check.specs.Soundness.{IsSoundGroup, IsSoundLine, identity_of}
+use Rattle.etcs_group.specs.Laws.{IsDecided, IsMixtureDecided}
+use Rattle.etcs_group.specs.Controlled.{IsControlled}
+use Rattle.etcs_group.specs.Mixture.{Fits}
+use Rattle.etcs_check.specs.Duplicates.{same_packet, same_telegram}
+use Rattle.etcs_check.specs.Soundness.{IsSoundGroup, IsSoundControlled, IsSoundLine, group_identity}
 use Rattle.etcs_check.specs.Line.{group_findings, findings}
 use Rattle.etcs_check.specs.Meaning.{States, Hurts}
 use Rattle.etcs_check.specs.declared.finding.Finding.{Finding}
@@ -19,24 +21,31 @@ use Rattle.etcs_check.specs.declared.finding.Site.{Site}
 abbrev pub PacketsAreTheirNumbers : Type 0
 PacketsAreTheirNumbers = (p q : TrackPacket) → IsTrue (same_packet p q) ↔ (p ≡ q)
 
--- A group has no finding exactly where it is sound and no earlier group has its identity.
-abbrev pub NoFindingMeansSoundGroup : Type 0
-NoFindingMeansSoundGroup = (at : Site) (earlier : List (List Telegram)) (group : List Telegram) → 0 < length group
-    → (group_findings at earlier group ≡ [])
-    ↔ (IsSoundGroup group × ((i : ℕ) (h : List Telegram) → At earlier i h → identity_of h ≢ identity_of group))
+-- Two telegrams are equal exactly where their sizes and headers are, and the numbers in the rows of
+-- their packets.
+abbrev pub TelegramsAreTheirParts : Type 0
+TelegramsAreTheirParts = (t u : Telegram) → IsTrue (same_telegram t u) ↔ (t ≡ u)
 
--- no group is empty
-abbrev pub HaveBalises : List (List Telegram) → Type 0
-HaveBalises groups = (i : ℕ) (group : List Telegram) → At groups i group → 0 < length group
+-- A controlled group has no finding exactly where it is sound and no earlier group has its identity.
+abbrev pub NoFindingMeansSoundGroup : Type 0
+NoFindingMeansSoundGroup = (site : Site) (earlier : List (List (List Telegram))) (aspects : List (List Telegram))
+    → IsControlled aspects
+    → (group_findings site earlier aspects ≡ [])
+    ↔ (IsSoundControlled aspects × ((i : ℕ) (h : List (List Telegram)) → At earlier i h
+    → group_identity h ≢ group_identity aspects))
+
+-- each group has aspects, all of one count, which is not 0
+abbrev pub AreControlled : List (List (List Telegram)) → Type 0
+AreControlled groups = (i : ℕ) (aspects : List (List Telegram)) → At groups i aspects → IsControlled aspects
 
 -- A line has no finding exactly where it is sound.
 abbrev pub NoFindingMeansSoundLine : Type 0
-NoFindingMeansSoundLine = (groups : List (List Telegram)) (messages : List Message) → HaveBalises groups
+NoFindingMeansSoundLine = (groups : List (List (List Telegram))) (messages : List Message) → AreControlled groups
     → (findings groups messages ≡ []) ↔ IsSoundLine groups messages
 
 -- Each finding states a fact at its place, which means what it says for the readings of its group.
 abbrev pub FindingsAreFacts : Type 0
-FindingsAreFacts = (groups : List (List Telegram)) (messages : List Message) (i : ℕ) (f : Finding)
+FindingsAreFacts = (groups : List (List (List Telegram))) (messages : List Message) (i : ℕ) (f : Finding)
     → At (findings groups messages) i f → States groups messages f × Hurts groups f
 
 -- Of a sound group exactly the covered readings are accepted. Of each other set of its places the
@@ -45,3 +54,9 @@ abbrev pub SoundGroupsAreDecided : Type 0
 SoundGroupsAreDecided = (group : List Telegram) (run : Run) (missed : ℕ → Bool)
     → IsSoundGroup group → 0 < length group → IsSetOf group missed
     → IsDecided run group missed (reading_of run missed group)
+
+-- In a sound controlled group a mixture is accepted exactly where it is covered and one aspect has all
+-- that it shows. Its message is then that of this aspect with nothing missed.
+abbrev pub SoundMixturesAreDecided : Type 0
+SoundMixturesAreDecided = (run : Run) (aspects : List (List Telegram)) (shown : ℕ → Option ℕ)
+    → IsControlled aspects → IsSoundControlled aspects → Fits aspects shown → IsMixtureDecided run aspects shown

@@ -2,8 +2,10 @@ pub mod Profiles
 pub mod Soundness
 pub mod Duplicates
 pub mod Findings
+pub mod Aspects
 pub mod Line
 pub mod Identities
+pub mod Counters
 pub mod Greatest
 pub mod Meaning
 pub mod Laws

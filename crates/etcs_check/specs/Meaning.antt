@@ -1,6 +1,6 @@
 -- What a finding says: the fact that it states at its place, and what that means for what trains read
 -- of its group.
-use Rattle.std.specs.Prelude.{◌≢◌, ℕ, suc, ◌+◌, ◌==◌, Bool, List, filter, take, slice_get, Option, Some, None, IsTrue, ⊤}
+use Rattle.std.specs.Prelude.{◌≡◌, ◌≢◌, ℕ, suc, ◌+◌, ◌==◌, Bool, List, filter, take, slice_get, Option, Some, None, IsTrue, ⊤, ◌⊎◌}
 use Rattle.etcs_packet.specs.Track.{holds}
 use Rattle.etcs_packet.specs.declared.run.Run.{Run}
 use Rattle.etcs_packet.specs.declared.run.Run.TheVariants as runs
@@ -15,7 +15,9 @@ use Rattle.etcs_group.specs.Reading.{reading_of}
 use Rattle.etcs_group.specs.Assembly.{IsAccepted}
 use Rattle.etcs_group.specs.Packets.{packets_of, said_by}
 use Rattle.etcs_check.specs.Profiles.{gradient_reach, speed_reach, AreReached}
-use Rattle.etcs_check.specs.Findings.{balise_fact, pair_differs, is_unmodelled, lacks, is_short_at, is_used}
+use Rattle.etcs_check.specs.Soundness.{first_aspect}
+use Rattle.etcs_check.specs.Findings.{balise_fact, pair_differs, is_unmodelled, lacks, is_short_at}
+use Rattle.etcs_check.specs.Aspects.{told_aspect, is_used, is_untold}
 use Rattle.etcs_check.specs.Line.{is_short_in}
 use Rattle.etcs_check.specs.declared.finding.Finding.{Finding}
 use Rattle.etcs_check.specs.declared.finding.Rule.{Rule}
@@ -30,21 +32,38 @@ abbrev pub HasPacket : List Telegram → ℕ → ℕ → (Telegram → TrackPack
 HasPacket group b k test =
     (t : Telegram) × (p : TrackPacket) × At group b t × At t.packets k p × IsTrue (test t p)
 
--- the fact of a rule about a group, at a running direction, a balise and a packet
-abbrev pub GroupFact : Bool → List Telegram → Rule → Option Run → Option ℕ → Option ℕ → Type 0
-GroupFact used group rules.DuplicatesDiffer (Some run) (Some b) None =
+-- the fact of a rule about an aspect, at a running direction, a balise and a packet; `first` is aspect 0,
+-- and `before` are the aspects before this one
+abbrev pub AspectFact : List Telegram → List (List Telegram) → List Telegram → Rule → Option Run → Option ℕ → Option ℕ → Type 0
+AspectFact first before group rules.DuplicatesDiffer (Some run) (Some b) None =
     (t : Telegram) × At group b t × IsTrue (pair_differs run t (slice_get group (b + 1)))
-GroupFact used group rules.NotModelled None (Some b) (Some k) = HasPacket group b k (λ t p. is_unmodelled p)
-GroupFact used group rules.NoGradient (Some run) None None = IsTrue (lacks gradient_reach (said_by run group))
-GroupFact used group rules.GradientShort (Some run) (Some b) (Some k) =
+AspectFact first before group rules.NotModelled None (Some b) (Some k) =
+    HasPacket group b k (λ t p. is_unmodelled p)
+AspectFact first before group rules.NoGradient (Some run) None None =
+    IsTrue (lacks gradient_reach (said_by run group))
+AspectFact first before group rules.GradientShort (Some run) (Some b) (Some k) =
     HasPacket group b k (is_short_at gradient_reach group run b)
-GroupFact used group rules.NoSpeed (Some run) None None = IsTrue (lacks speed_reach (said_by run group))
-GroupFact used group rules.SpeedShort (Some run) (Some b) (Some k) =
+AspectFact first before group rules.NoSpeed (Some run) None None =
+    IsTrue (lacks speed_reach (said_by run group))
+AspectFact first before group rules.SpeedShort (Some run) (Some b) (Some k) =
     HasPacket group b k (is_short_at speed_reach group run b)
-GroupFact used group rules.IdentityUsed None None None = IsTrue used
-GroupFact used group rule None (Some b) None =
-    (t : Telegram) × At group b t × IsTrue (balise_fact (slice_get group 0) group rule b t)
-GroupFact used group rule run b k = ⊥
+AspectFact first before group rule None (Some b) None =
+    (t : Telegram) × At group b t × IsTrue (balise_fact first before group rule b t)
+AspectFact first before group rule run b k = ⊥
+
+-- the fact of a rule about a controlled group as a whole
+abbrev pub WholeFact : Bool → List (List Telegram) → Rule → Option Run → Option ℕ → Option ℕ → Type 0
+WholeFact used aspects rules.IdentityUsed None None None = IsTrue used
+WholeFact used aspects rules.NotToldApart None (Some b) None =
+    (t : Telegram) × At (first_aspect aspects) b t × IsTrue (is_untold aspects b t)
+WholeFact used aspects rule run b k = ⊥
+
+-- the fact of a rule about a controlled group: about the whole, or about the aspect that is told
+abbrev pub GroupFact : Bool → List (List Telegram) → Rule → Option ℕ → Option Run → Option ℕ → Option ℕ → Type 0
+GroupFact used aspects rule aspect run b k =
+    ((aspect ≡ None) × WholeFact used aspects rule run b k)
+    ⊎ ((a : ℕ) × (group : List Telegram) × At aspects a group × (aspect ≡ told_aspect aspects a)
+    × AspectFact (first_aspect aspects) (take a aspects) group rule run b k)
 
 -- packet k passes the test
 abbrev pub IsPacket : List TrackPacket → ℕ → (TrackPacket → Bool) → Type 0
@@ -65,15 +84,15 @@ abbrev pub MessageFact : Message → Rule → Option Run → Option ℕ → Opti
 MessageFact (messages.Movement m) rule run b k = PacketFact m.packets rule run b k
 MessageFact (messages.Position m) rule run b k = ⊥
 
-abbrev pub StatesAt : List (List Telegram) → List Message → Finding → Site → Type 0
+abbrev pub StatesAt : List (List (List Telegram)) → List Message → Finding → Site → Type 0
 StatesAt groups messages f (sites.Group g) =
-    (group : List Telegram) × At groups g group
-    × GroupFact (is_used (take g groups) group) group f.rule f.dir f.balise f.packet
+    (aspects : List (List Telegram)) × At groups g aspects
+    × GroupFact (is_used (take g groups) aspects) aspects f.rule f.aspect f.dir f.balise f.packet
 StatesAt groups messages f (sites.Message i) =
-    (m : Message) × At messages i m × MessageFact m f.rule f.dir f.balise f.packet
+    (m : Message) × At messages i m × (f.aspect ≡ None) × MessageFact m f.rule f.dir f.balise f.packet
 
--- the fact of the finding's rule stands at its site, direction, balise and packet
-abbrev pub States : List (List Telegram) → List Message → Finding → Type 0
+-- the fact of the finding's rule stands at its site, aspect, direction, balise and packet
+abbrev pub States : List (List (List Telegram)) → List Message → Finding → Type 0
 States groups messages f = StatesAt groups messages f f.site
 
 -- ---- what it means for readings
@@ -104,22 +123,28 @@ DependsOnMissed group run b =
 abbrev pub IsNotReached : List Telegram → Run → Type 0
 IsNotReached group run = AreReached (packets_of run (reading_of run none_missed group)) → ⊥
 
--- What a finding of a rule means. That of a pair or of profiles is said of well-formed groups alone.
-abbrev pub HurtsGroup : List Telegram → Rule → Option Run → Option ℕ → Type 0
-HurtsGroup group rules.CounterUnfit run b = IsNeverAccepted group
-HurtsGroup group rules.CountersDiffer run b = IsNeverAccepted group
-HurtsGroup group rules.DuplicatesDiffer (Some run) (Some b) = IsWellFormed group → DependsOnMissed group run b
-HurtsGroup group rules.NoGradient (Some run) b = IsWellFormed group → IsNotReached group run
-HurtsGroup group rules.GradientShort (Some run) b = IsWellFormed group → IsNotReached group run
-HurtsGroup group rules.NoSpeed (Some run) b = IsWellFormed group → IsNotReached group run
-HurtsGroup group rules.SpeedShort (Some run) b = IsWellFormed group → IsNotReached group run
-HurtsGroup group rule run b = ⊤
+-- What a finding of a rule means for its aspect. That of a pair or of profiles is said of well-formed
+-- aspects alone.
+abbrev pub HurtsAspect : List Telegram → Rule → Option Run → Option ℕ → Type 0
+HurtsAspect group rules.CounterUnfit run b = IsNeverAccepted group
+HurtsAspect group rules.CountersDiffer run b = IsNeverAccepted group
+HurtsAspect group rules.DuplicatesDiffer (Some run) (Some b) = IsWellFormed group → DependsOnMissed group run b
+HurtsAspect group rules.NoGradient (Some run) b = IsWellFormed group → IsNotReached group run
+HurtsAspect group rules.GradientShort (Some run) b = IsWellFormed group → IsNotReached group run
+HurtsAspect group rules.NoSpeed (Some run) b = IsWellFormed group → IsNotReached group run
+HurtsAspect group rules.SpeedShort (Some run) b = IsWellFormed group → IsNotReached group run
+HurtsAspect group rule run b = ⊤
 
-abbrev pub HurtsSite : List (List Telegram) → Finding → Site → Type 0
+-- what it means for a controlled group: for the aspect that is told
+abbrev pub HurtsGroup : List (List Telegram) → Rule → Option ℕ → Option Run → Option ℕ → Type 0
+HurtsGroup aspects rule aspect run b = (a : ℕ) (group : List Telegram) → At aspects a group
+    → aspect ≡ told_aspect aspects a → HurtsAspect group rule run b
+
+abbrev pub HurtsSite : List (List (List Telegram)) → Finding → Site → Type 0
 HurtsSite groups f (sites.Group g) =
-    (group : List Telegram) × At groups g group × HurtsGroup group f.rule f.dir f.balise
+    (aspects : List (List Telegram)) × At groups g aspects × HurtsGroup aspects f.rule f.aspect f.dir f.balise
 HurtsSite groups f (sites.Message i) = ⊤
 
 -- what a finding means for the readings of the group at its site
-abbrev pub Hurts : List (List Telegram) → Finding → Type 0
+abbrev pub Hurts : List (List (List Telegram)) → Finding → Type 0
 Hurts groups f = HurtsSite groups f f.site

@@ -1,7 +1,7 @@
--- Sound groups, messages and lines, by what trains may read of them (this project's rule, after
+-- Sound aspects, groups, messages and lines, by what trains may read of them (this project's rule, after
 -- SUBSET-026, 3.16.2). No finding is mentioned here. A train may run over a group in either direction,
 -- and may miss balises whose duplicates it reads.
-use Rattle.std.specs.Prelude.{◌≡◌, ◌≢◌, ℕ, ◌<◌, Bool, List, [], ◌∷◌, Option, Some, None, filter, ⊤}
+use Rattle.std.specs.Prelude.{◌≡◌, ◌≢◌, ℕ, ◌<◌, Bool, List, [], ◌∷◌, length, Option, Some, None, filter, ⊤}
 use Rattle.std.specs.List.{AllPass}
 use Rattle.etcs_bits.specs.declared.variables.identity.Identity.{Identity}
 use Rattle.etcs_packet.specs.Track.{holds}
@@ -13,6 +13,7 @@ use Rattle.etcs_group.specs.Missed.{IsSetOf, IsCovered, none_missed}
 use Rattle.etcs_group.specs.Reading.{reading_of}
 use Rattle.etcs_group.specs.Assembly.{IsAccepted}
 use Rattle.etcs_group.specs.Packets.{packets_of}
+use Rattle.etcs_group.specs.Controlled.{AreOneGroup}
 use Rattle.etcs_radio.specs.declared.message.Message.{Message}
 use Rattle.etcs_radio.specs.declared.message.Message.TheVariants as messages
 use Rattle.etcs_check.specs.Profiles.{AreReached}
@@ -30,10 +31,25 @@ pub record IsSoundGroup (group : List Telegram) : Type 0 where
   pub readings : (run : Run) (missed : ℕ → Bool) → IsSetOf group missed → IsCovered group missed
       → IsSoundReading group run missed
 
--- the identity of a group: that of its balise 0
+-- A sound controlled group has sound aspects. If there are two or more, they are contents of one group
+-- and told apart.
+pub record IsSoundControlled (aspects : List (List Telegram)) : Type 0 where
+  pub sound : (a : ℕ) (group : List Telegram) → At aspects a group → IsSoundGroup group
+  pub one : 1 < length aspects → AreOneGroup aspects
+
+-- the identity of an aspect: that of its balise 0
 abbrev pub identity_of : List Telegram → Option Identity
 identity_of [] = None
 identity_of (t ∷ _) = Some t.header.identity
+
+-- the first aspect of a controlled group
+abbrev pub first_aspect : List (List Telegram) → List Telegram
+first_aspect [] = []
+first_aspect (first ∷ _) = first
+
+-- the identity of a controlled group: that of its first aspect
+abbrev pub group_identity : List (List Telegram) → Option Identity
+group_identity aspects = identity_of (first_aspect aspects)
 
 -- A sound message 3 has modelled packets alone, and those that hold in a running direction are
 -- reached. A message 136 is always sound.
@@ -43,8 +59,8 @@ IsSoundMessage (messages.Movement m) =
 IsSoundMessage (messages.Position m) = ⊤
 
 -- In a sound line the groups and the messages are sound, and no two groups have one identity.
-pub record IsSoundLine (groups : List (List Telegram)) (messages : List Message) : Type 0 where
-  pub sound : (i : ℕ) (group : List Telegram) → At groups i group → IsSoundGroup group
-  pub distinct : (i j : ℕ) (g h : List Telegram) → i < j → At groups i g → At groups j h
-      → identity_of g ≢ identity_of h
+pub record IsSoundLine (groups : List (List (List Telegram))) (messages : List Message) : Type 0 where
+  pub sound : (i : ℕ) (aspects : List (List Telegram)) → At groups i aspects → IsSoundControlled aspects
+  pub distinct : (i j : ℕ) (g h : List (List Telegram)) → i < j → At groups i g → At groups j h
+      → group_identity g ≢ group_identity h
   pub messages_sound : (i : ℕ) (m : Message) → At messages i m → IsSoundMessage m

@@ -4,10 +4,11 @@
 ghost use Rattle.std.specs.Prelude.{◌≡◌, ◌≢◌, ◌<◌, ◌≤◌, ◌+◌, ◌++◌, [], ℕ, length, slice_get, Some, OnOk, OnErr};
 ghost use Rattle.etcs_telegram.specs.Record.{Telegram};
 ghost use Rattle.etcs_group.specs.Group.{partner_of};
-ghost use Rattle.etcs_check.specs.Findings.{are_pair, balise_fact, balise_facts, counter_differs, first_counter, is_other, is_outside, is_unanswered, is_unlike, is_unmodelled, pair_differs, pair_facts, unmodelled_facts, unmodelled_in};
+ghost use Rattle.etcs_check.specs.Duplicates.{same_mark};
+ghost use Rattle.etcs_check.specs.Findings.{are_pair, balise_fact, balise_facts, counter_differs, first_counter, is_other, is_outside, is_unanswered, is_unlike, is_unmodelled, mark_differs, pair_differs, pair_facts, unmodelled_facts, unmodelled_in};
 
 use crate::duplicates::same_held;
-use crate::finding::{Finding, Rule, Site, note};
+use crate::finding::{Finding, Rule, Spot, note};
 use etcs_bits::{Dup, Memory};
 use etcs_packet::{Run, TrackPacket};
 use etcs_telegram::Telegram;
@@ -49,12 +50,44 @@ fn is_unanswered(group: &[Telegram], place: usize) -> bool
     }
 }
 
-// Whether a telegram has another version, identity or link flag than balise 0.
+// Whether a telegram has another version, identity or link flag than this one.
 fn is_unlike(first: &Telegram, telegram: &Telegram) -> bool
     ensures { result ≡ is_unlike (Some first.now) telegram.now }
 {
     let (this, that) = (&telegram.header, &first.header);
     !(this.version == that.version && this.identity == that.identity && this.linked == that.linked)
+}
+
+// The same of balise 0 of aspect 0.
+fn is_unlike_first(first: &[Telegram], telegram: &Telegram) -> bool
+    ensures { result ≡ is_unlike (slice_get first.now 0) telegram.now }
+{
+    match first.get(0) {
+        Some(balise) => is_unlike(balise, telegram),
+        None => false,
+    }
+}
+
+// Whether two marks are the same.
+fn same_mark(this: Dup, that: Dup) -> bool
+    ensures { result ≡ same_mark this that }
+{
+    match (this, that) {
+        (Dup::Single, Dup::Single) => true,
+        (Dup::Next, Dup::Next) => true,
+        (Dup::Previous, Dup::Previous) => true,
+        _ => false,
+    }
+}
+
+// Whether the mark of a telegram is not that of the balise of aspect 0 at the same place.
+fn mark_differs(first: &[Telegram], telegram: &Telegram, place: usize) -> bool
+    ensures { result ≡ mark_differs (slice_get first.now place) telegram.now }
+{
+    match first.get(place) {
+        Some(balise) => !same_mark(telegram.header.dup, balise.header.dup),
+        None => false,
+    }
 }
 
 // Whether a mark names a balise outside the group of this many balises.
@@ -97,23 +130,25 @@ fn counter_differs(group: &[Telegram], telegram: &Telegram) -> bool
     }
 }
 
-// Whether the rule is broken by the balise at this place. It is compared with `first`, balise 0.
-fn balise_fact(first: &Telegram, group: &[Telegram], rule: Rule, place: usize) -> bool
+// Whether the rule is broken by the balise at this place of an aspect. The balise is compared with
+// `first`, aspect 0. Counters of earlier aspects are not looked at.
+fn balise_fact(first: &[Telegram], group: &[Telegram], rule: Rule, place: usize) -> bool
     requires within { place < length group.now }
     requires few { length group.now ≤ 8 }
     ensures { (t : Telegram) → slice_get group.now place ≡ Some t
-        → result ≡ balise_fact (Some first.now) group.now rule place t }
+        → result ≡ balise_fact first.now [] group.now rule place t }
 {
     let telegram = &group[place];
     let header = &telegram.header;
     match rule {
         Rule::PositionWrong => header.position.number() as usize != place,
         Rule::TotalWrong => header.total.number() as usize + 1 != group.len(),
-        Rule::HeaderDiffers => is_unlike(first, telegram),
+        Rule::HeaderDiffers => is_unlike_first(first, telegram),
         Rule::MarkOutside => is_outside(group.len(), header.dup, place),
         Rule::MarkUnanswered => is_unanswered(group, place),
         Rule::CounterUnfit => header.counter.number() == 254,
         Rule::CountersDiffer => counter_differs(group, telegram),
+        Rule::MarksDiffer => mark_differs(first, telegram, place),
         _ => false,
     }
 }
@@ -122,18 +157,18 @@ fn balise_fact(first: &Telegram, group: &[Telegram], rule: Rule, place: usize) -
 pub(crate) fn note_balises(
     found: &mut Vec<Finding>,
     rule: Rule,
-    site: Site,
-    first: &Telegram,
+    spot: Spot,
+    first: &[Telegram],
     group: &[Telegram],
 ) -> Result<(), Memory>
     requires few { length group.now ≤ 8 }
     ensures ok { OnOk result (found.new.items ≡ found.old.items
-        ++ balise_facts rule site (balise_fact (Some first.now) group.now rule) group.now) }
-    ensures memory { OnErr result (balise_facts rule site (balise_fact (Some first.now) group.now rule) group.now ≢ []) }
+        ++ balise_facts rule spot (balise_fact first.now [] group.now rule) group.now) }
+    ensures memory { OnErr result (balise_facts rule spot (balise_fact first.now [] group.now rule) group.now ≢ []) }
 {
     'places: for place in 0..group.len() {
         let fact = balise_fact(first, group, rule, place);
-        note(found, fact, rule, site, None, Some(place), None)?;
+        note(found, fact, rule, spot, None, Some(place), None)?;
     }
     Ok(())
 }
@@ -170,12 +205,12 @@ fn pair_differs_at(group: &[Telegram], run: Run, place: usize) -> bool
 // Appends a finding for each pair of duplicates whose packets differ in the running direction.
 pub(crate) fn note_pairs(
     found: &mut Vec<Finding>,
-    site: Site,
+    spot: Spot,
     group: &[Telegram],
     run: Run,
 ) -> Result<(), Memory>
-    ensures ok { OnOk result (found.new.items ≡ found.old.items ++ pair_facts site group.now run) }
-    ensures memory { OnErr result (pair_facts site group.now run ≢ []) }
+    ensures ok { OnOk result (found.new.items ≡ found.old.items ++ pair_facts spot group.now run) }
+    ensures memory { OnErr result (pair_facts spot group.now run ≢ []) }
 {
     'places: for place in 0..group.len() {
         let fact = pair_differs_at(group, run, place);
@@ -183,7 +218,7 @@ pub(crate) fn note_pairs(
             found,
             fact,
             Rule::DuplicatesDiffer,
-            site,
+            spot,
             Some(run),
             Some(place),
             None,
@@ -210,12 +245,12 @@ fn is_unmodelled(packet: &TrackPacket) -> bool
 // Appends a finding for each packet of a balise, or of a message, that is not modelled.
 pub(crate) fn note_unmodelled(
     found: &mut Vec<Finding>,
-    site: Site,
+    spot: Spot,
     balise: Option<usize>,
     packets: &[TrackPacket],
 ) -> Result<(), Memory>
-    ensures ok { OnOk result (found.new.items ≡ found.old.items ++ unmodelled_in site balise packets.now) }
-    ensures memory { OnErr result (unmodelled_in site balise packets.now ≢ []) }
+    ensures ok { OnOk result (found.new.items ≡ found.old.items ++ unmodelled_in spot balise packets.now) }
+    ensures memory { OnErr result (unmodelled_in spot balise packets.now ≢ []) }
 {
     'places: for place in 0..packets.len() {
         let fact = is_unmodelled(&packets[place]);
@@ -223,7 +258,7 @@ pub(crate) fn note_unmodelled(
             found,
             fact,
             Rule::NotModelled,
-            site,
+            spot,
             None,
             balise,
             Some(place),
@@ -235,14 +270,14 @@ pub(crate) fn note_unmodelled(
 // Appends a finding for each packet of a group that is not modelled.
 pub(crate) fn note_group_unmodelled(
     found: &mut Vec<Finding>,
-    site: Site,
+    spot: Spot,
     group: &[Telegram],
 ) -> Result<(), Memory>
-    ensures ok { OnOk result (found.new.items ≡ found.old.items ++ unmodelled_facts site group.now) }
-    ensures memory { OnErr result (unmodelled_facts site group.now ≢ []) }
+    ensures ok { OnOk result (found.new.items ≡ found.old.items ++ unmodelled_facts spot group.now) }
+    ensures memory { OnErr result (unmodelled_facts spot group.now ≢ []) }
 {
     'places: for place in 0..group.len() {
-        note_unmodelled(found, site, Some(place), packets(&group[place]))?;
+        note_unmodelled(found, spot, Some(place), packets(&group[place]))?;
     }
     Ok(())
 }

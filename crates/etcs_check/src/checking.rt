@@ -1,26 +1,29 @@
 //! All rules, looked for in one group and in one message.
 
-ghost use Rattle.std.specs.Prelude.{◌≡◌, ◌≢◌, ◌↔◌, ◌<◌, ◌≤◌, ◌++◌, [], ℕ, false, length, flat_map, slice_get, Some, IfOk, OnOk, OnErr};
-ghost use Rattle.etcs_check.specs.Findings.{all_rules, facts_in, facts_of, for_directions, group_facts};
+ghost use Rattle.std.specs.Prelude.{◌≡◌, ◌≢◌, ◌↔◌, ◌<◌, ◌≤◌, ◌++◌, [], ℕ, false, length, flat_map, None, IfOk, OnOk, OnErr};
+ghost use Rattle.etcs_check.specs.Aspects.{aspect_facts, group_facts, rule_facts, whole, whole_facts};
+ghost use Rattle.etcs_check.specs.Counters.{alone_facts};
+ghost use Rattle.etcs_check.specs.Findings.{all_rules, facts_in, facts_of, for_directions, for_each};
 ghost use Rattle.etcs_check.specs.Line.{message_facts, message_facts_in, message_findings};
 ghost use Rattle.etcs_check.specs.Meaning.{GroupFact, HurtsGroup, MessageFact};
-ghost use Rattle.etcs_check.specs.Soundness.{IsSoundGroup, IsSoundMessage};
+ghost use Rattle.etcs_check.specs.Soundness.{IsSoundControlled, IsSoundMessage};
 ghost use Rattle.etcs_check.specs.declared.finding.Finding.{Finding};
 ghost use Rattle.etcs_check.specs.declared.finding.Site.TheVariants as sites;
 ghost use Rattle.etcs_group.specs.Places.{At};
 
+use crate::aspects::{aspect_of, first_aspect, note_taken, note_untold, whole};
 use crate::balise_rules::{note_balises, note_group_unmodelled, note_pairs, note_unmodelled};
-use crate::finding::{Finding, Rule, Site, note};
+use crate::finding::{Finding, Rule, Site, Spot, note};
 use crate::profile_rules::{Kind, note_lack, note_message_lack, note_message_short, note_short};
 use etcs_bits::Memory;
-use etcs_group::Group;
+use etcs_group::{Controlled, Group};
 use etcs_packet::{Run, TrackPacket};
 use etcs_radio::Message;
 use etcs_telegram::Telegram;
 use std::alloc::Global;
 
 // The rules in the order of their numbers.
-const RULES: [Rule; 14] = [
+const RULES: [Rule; 16] = [
     Rule::PositionWrong,
     Rule::TotalWrong,
     Rule::HeaderDiffers,
@@ -35,25 +38,27 @@ const RULES: [Rule; 14] = [
     Rule::NoSpeed,
     Rule::SpeedShort,
     Rule::IdentityUsed,
+    Rule::MarksDiffer,
+    Rule::NotToldApart,
 ];
 
-// Appends the findings of a rule about a group in one running direction.
+// Appends the findings of a rule about an aspect in one running direction.
 fn note_in(
     found: &mut Vec<Finding>,
     rule: Rule,
-    site: Site,
+    spot: Spot,
     group: &[Telegram],
     run: Run,
 ) -> Result<(), Memory>
-    ensures ok { OnOk result (found.new.items ≡ found.old.items ++ facts_in site group.now rule run) }
-    ensures memory { OnErr result (facts_in site group.now rule run ≢ []) }
+    ensures ok { OnOk result (found.new.items ≡ found.old.items ++ facts_in spot group.now rule run) }
+    ensures memory { OnErr result (facts_in spot group.now rule run ≢ []) }
 {
     match rule {
-        Rule::DuplicatesDiffer => note_pairs(found, site, group, run),
-        Rule::NoGradient => note_lack(found, rule, site, Kind::Gradient, group, run),
-        Rule::GradientShort => note_short(found, rule, site, Kind::Gradient, group, run),
-        Rule::NoSpeed => note_lack(found, rule, site, Kind::Speed, group, run),
-        Rule::SpeedShort => note_short(found, rule, site, Kind::Speed, group, run),
+        Rule::DuplicatesDiffer => note_pairs(found, spot, group, run),
+        Rule::NoGradient => note_lack(found, rule, spot, Kind::Gradient, group, run),
+        Rule::GradientShort => note_short(found, rule, spot, Kind::Gradient, group, run),
+        Rule::NoSpeed => note_lack(found, rule, spot, Kind::Speed, group, run),
+        Rule::SpeedShort => note_short(found, rule, spot, Kind::Speed, group, run),
         _ => Ok(()),
     }
 }
@@ -62,28 +67,28 @@ fn note_in(
 fn note_directions(
     found: &mut Vec<Finding>,
     rule: Rule,
-    site: Site,
+    spot: Spot,
     group: &[Telegram],
 ) -> Result<(), Memory>
-    ensures ok { OnOk result (found.new.items ≡ found.old.items ++ for_directions (facts_in site group.now rule)) }
-    ensures memory { OnErr result (for_directions (facts_in site group.now rule) ≢ []) }
+    ensures ok { OnOk result (found.new.items ≡ found.old.items ++ for_directions (facts_in spot group.now rule)) }
+    ensures memory { OnErr result (for_directions (facts_in spot group.now rule) ≢ []) }
 {
-    note_in(found, rule, site, group, Run::Nominal)?;
-    note_in(found, rule, site, group, Run::Reverse)
+    note_in(found, rule, spot, group, Run::Nominal)?;
+    note_in(found, rule, spot, group, Run::Reverse)
 }
 
-// Appends the findings of a rule about a group. Its balises are compared with `first`.
+// Appends the findings of a rule about an aspect. Its balises are compared with `first`, aspect 0, and
+// with no other aspect.
 fn note_rule(
     found: &mut Vec<Finding>,
     rule: Rule,
-    site: Site,
-    first: &Telegram,
-    used: bool,
+    spot: Spot,
+    first: &[Telegram],
     group: &[Telegram],
 ) -> Result<(), Memory>
     requires few { length group.now ≤ 8 }
-    ensures ok { OnOk result (found.new.items ≡ found.old.items ++ facts_of site (Some first.now) used group.now rule) }
-    ensures memory { OnErr result (facts_of site (Some first.now) used group.now rule ≢ []) }
+    ensures ok { OnOk result (found.new.items ≡ found.old.items ++ facts_of spot first.now [] group.now rule) }
+    ensures memory { OnErr result (facts_of spot first.now [] group.now rule ≢ []) }
 {
     match rule {
         Rule::PositionWrong
@@ -92,66 +97,125 @@ fn note_rule(
         | Rule::MarkOutside
         | Rule::MarkUnanswered
         | Rule::CounterUnfit
-        | Rule::CountersDiffer => note_balises(found, rule, site, first, group),
-        Rule::NotModelled => note_group_unmodelled(found, site, group),
-        Rule::IdentityUsed => note(found, used, rule, site, None, None, None),
+        | Rule::CountersDiffer
+        | Rule::MarksDiffer
+        | Rule::NotToldApart => note_balises(found, rule, spot, first, group),
+        Rule::NotModelled => note_group_unmodelled(found, spot, group),
         Rule::DuplicatesDiffer
         | Rule::NoGradient
         | Rule::GradientShort
         | Rule::NoSpeed
-        | Rule::SpeedShort => note_directions(found, rule, site, group),
+        | Rule::SpeedShort => note_directions(found, rule, spot, group),
+        Rule::IdentityUsed => Ok(()),
     }
 }
 
-// Appends the findings of all rules about a group whose balises are compared with `first`.
-fn note_rules(
+// Appends the findings of a rule about each aspect, where no earlier aspect is looked at.
+fn note_each(
     found: &mut Vec<Finding>,
+    rule: Rule,
     site: Site,
-    first: &Telegram,
-    used: bool,
-    group: &[Telegram],
+    aspects: &[Group],
 ) -> Result<(), Memory>
-    requires few { length group.now ≤ 8 }
-    ensures ok { OnOk result (found.new.items ≡ found.old.items ++ group_facts site (Some first.now) used group.now) }
-    ensures memory { OnErr result (group_facts site (Some first.now) used group.now ≢ []) }
+    requires some { 0 < length aspects.now }
+    ensures ok { OnOk result (found.new.items ≡ found.old.items
+        ++ for_each aspects.now (alone_facts site aspects.now rule)) }
+    ensures memory { OnErr result (for_each aspects.now (alone_facts site aspects.now rule) ≢ []) }
 {
-    'rules: for rule in &RULES {
-        note_rule(found, *rule, site, first, used, group)?;
+    let first = first_aspect(aspects);
+    'aspects: for place in 0..aspects.len() {
+        let spot = aspect_of(site, aspects, place);
+        note_rule(found, rule, spot, first, aspects[place].telegrams())?;
     }
     Ok(())
 }
 
-// Appends the findings about a group. Its balises are compared with its balise 0.
+// Appends the findings of a rule about each aspect.
+fn note_aspects(
+    found: &mut Vec<Finding>,
+    rule: Rule,
+    site: Site,
+    aspects: &[Group],
+) -> Result<(), Memory>
+    requires some { 0 < length aspects.now }
+    ensures ok { OnOk result (found.new.items ≡ found.old.items
+        ++ for_each aspects.now (aspect_facts site aspects.now rule)) }
+    ensures memory { OnErr result (for_each aspects.now (aspect_facts site aspects.now rule) ≢ []) }
+{
+    match rule {
+        Rule::NotToldApart => note_taken(found, site, aspects),
+        _ => note_each(found, rule, site, aspects),
+    }
+}
+
+// Appends the findings of a rule about a group as a whole.
+fn note_whole(
+    found: &mut Vec<Finding>,
+    rule: Rule,
+    site: Site,
+    used: bool,
+    aspects: &[Group],
+) -> Result<(), Memory>
+    requires some { 0 < length aspects.now }
+    ensures ok { OnOk result (found.new.items ≡ found.old.items ++ whole_facts site used aspects.now rule) }
+    ensures memory { OnErr result (whole_facts site used aspects.now rule ≢ []) }
+{
+    match rule {
+        Rule::IdentityUsed => note(found, used, rule, whole(site), None, None, None),
+        Rule::NotToldApart => note_untold(found, site, aspects),
+        _ => Ok(()),
+    }
+}
+
+// Appends the findings of a rule about a group: about the whole, and then about each aspect.
+fn note_group_rule(
+    found: &mut Vec<Finding>,
+    rule: Rule,
+    site: Site,
+    used: bool,
+    aspects: &[Group],
+) -> Result<(), Memory>
+    requires some { 0 < length aspects.now }
+    ensures ok { OnOk result (found.new.items ≡ found.old.items ++ rule_facts site used aspects.now rule) }
+    ensures memory { OnErr result (rule_facts site used aspects.now rule ≢ []) }
+{
+    note_whole(found, rule, site, used, aspects)?;
+    note_aspects(found, rule, site, aspects)
+}
+
+// Appends the findings about a group.
 pub(crate) fn note_group(
     found: &mut Vec<Finding>,
     site: Site,
     used: bool,
-    group: &[Telegram],
+    aspects: &[Group],
 ) -> Result<(), Memory>
-    requires some { 0 < length group.now }
-    requires few { length group.now ≤ 8 }
-    ensures ok { OnOk result (found.new.items ≡ found.old.items ++ group_facts site (slice_get group.now 0) used group.now) }
-    ensures memory { OnErr result (group_facts site (slice_get group.now 0) used group.now ≢ []) }
+    requires some { 0 < length aspects.now }
+    ensures ok { OnOk result (found.new.items ≡ found.old.items ++ group_facts site used aspects.now) }
+    ensures memory { OnErr result (group_facts site used aspects.now ≢ []) }
 {
-    note_rules(found, site, &group[0], used, group)
+    'rules: for rule in &RULES {
+        note_group_rule(found, *rule, site, used, aspects)?;
+    }
+    Ok(())
 }
 
 // Appends the findings of a rule about the packets of a message in one running direction.
 fn note_message_in(
     found: &mut Vec<Finding>,
     rule: Rule,
-    site: Site,
+    spot: Spot,
     packets: &[TrackPacket],
     run: Run,
 ) -> Result<(), Memory>
-    ensures ok { OnOk result (found.new.items ≡ found.old.items ++ message_facts_in site packets.now rule run) }
-    ensures memory { OnErr result (message_facts_in site packets.now rule run ≢ []) }
+    ensures ok { OnOk result (found.new.items ≡ found.old.items ++ message_facts_in spot packets.now rule run) }
+    ensures memory { OnErr result (message_facts_in spot packets.now rule run ≢ []) }
 {
     match rule {
-        Rule::NoGradient => note_message_lack(found, rule, site, Kind::Gradient, packets, run),
-        Rule::GradientShort => note_message_short(found, rule, site, Kind::Gradient, packets, run),
-        Rule::NoSpeed => note_message_lack(found, rule, site, Kind::Speed, packets, run),
-        Rule::SpeedShort => note_message_short(found, rule, site, Kind::Speed, packets, run),
+        Rule::NoGradient => note_message_lack(found, rule, spot, Kind::Gradient, packets, run),
+        Rule::GradientShort => note_message_short(found, rule, spot, Kind::Gradient, packets, run),
+        Rule::NoSpeed => note_message_lack(found, rule, spot, Kind::Speed, packets, run),
+        Rule::SpeedShort => note_message_short(found, rule, spot, Kind::Speed, packets, run),
         _ => Ok(()),
     }
 }
@@ -160,30 +224,30 @@ fn note_message_in(
 fn note_message_directions(
     found: &mut Vec<Finding>,
     rule: Rule,
-    site: Site,
+    spot: Spot,
     packets: &[TrackPacket],
 ) -> Result<(), Memory>
-    ensures ok { OnOk result (found.new.items ≡ found.old.items ++ for_directions (message_facts_in site packets.now rule)) }
-    ensures memory { OnErr result (for_directions (message_facts_in site packets.now rule) ≢ []) }
+    ensures ok { OnOk result (found.new.items ≡ found.old.items ++ for_directions (message_facts_in spot packets.now rule)) }
+    ensures memory { OnErr result (for_directions (message_facts_in spot packets.now rule) ≢ []) }
 {
-    note_message_in(found, rule, site, packets, Run::Nominal)?;
-    note_message_in(found, rule, site, packets, Run::Reverse)
+    note_message_in(found, rule, spot, packets, Run::Nominal)?;
+    note_message_in(found, rule, spot, packets, Run::Reverse)
 }
 
 // Appends the findings of a rule about the packets of a message.
 fn note_message_rule(
     found: &mut Vec<Finding>,
     rule: Rule,
-    site: Site,
+    spot: Spot,
     packets: &[TrackPacket],
 ) -> Result<(), Memory>
-    ensures ok { OnOk result (found.new.items ≡ found.old.items ++ message_facts site packets.now rule) }
-    ensures memory { OnErr result (message_facts site packets.now rule ≢ []) }
+    ensures ok { OnOk result (found.new.items ≡ found.old.items ++ message_facts spot packets.now rule) }
+    ensures memory { OnErr result (message_facts spot packets.now rule ≢ []) }
 {
     match rule {
-        Rule::NotModelled => note_unmodelled(found, site, None, packets),
+        Rule::NotModelled => note_unmodelled(found, spot, None, packets),
         Rule::NoGradient | Rule::GradientShort | Rule::NoSpeed | Rule::SpeedShort => {
-            note_message_directions(found, rule, site, packets)
+            note_message_directions(found, rule, spot, packets)
         }
         Rule::PositionWrong
         | Rule::TotalWrong
@@ -193,17 +257,19 @@ fn note_message_rule(
         | Rule::CounterUnfit
         | Rule::CountersDiffer
         | Rule::DuplicatesDiffer
-        | Rule::IdentityUsed => Ok(()),
+        | Rule::IdentityUsed
+        | Rule::MarksDiffer
+        | Rule::NotToldApart => Ok(()),
     }
 }
 
 // Appends the findings of all rules about the packets of a message.
-fn note_packets(found: &mut Vec<Finding>, site: Site, packets: &[TrackPacket]) -> Result<(), Memory>
-    ensures ok { OnOk result (found.new.items ≡ found.old.items ++ flat_map (message_facts site packets.now) all_rules) }
-    ensures memory { OnErr result (flat_map (message_facts site packets.now) all_rules ≢ []) }
+fn note_packets(found: &mut Vec<Finding>, spot: Spot, packets: &[TrackPacket]) -> Result<(), Memory>
+    ensures ok { OnOk result (found.new.items ≡ found.old.items ++ flat_map (message_facts spot packets.now) all_rules) }
+    ensures memory { OnErr result (flat_map (message_facts spot packets.now) all_rules ≢ []) }
 {
     'rules: for rule in &RULES {
-        note_message_rule(found, *rule, site, packets)?;
+        note_message_rule(found, *rule, spot, packets)?;
     }
     Ok(())
 }
@@ -214,41 +280,41 @@ pub(crate) fn note_message(
     site: Site,
     message: &Message,
 ) -> Result<(), Memory>
-    ensures ok { OnOk result (found.new.items ≡ found.old.items ++ message_findings site message.now) }
-    ensures memory { OnErr result (message_findings site message.now ≢ []) }
+    ensures ok { OnOk result (found.new.items ≡ found.old.items ++ message_findings (whole site) message.now) }
+    ensures memory { OnErr result (message_findings (whole site) message.now ≢ []) }
 {
     match message {
-        Message::Movement(movement) => note_packets(found, site, movement.packets()),
+        Message::Movement(movement) => note_packets(found, whole(site), movement.packets()),
         Message::Position(_) => Ok(()),
     }
 }
 
-/// The findings about one balise group, which stands at this place of its line: by rule, then by
-/// running direction, nominal first, then by balise and packet. `used` says whether an earlier group
-/// of the line has its identity: only then is there a finding [`Rule::IdentityUsed`].
+/// The findings about one balise group, which stands at this place of its line: by rule, then by aspect
+/// (those about the whole group first), by running direction, nominal first, then by balise and packet.
+/// `used` says whether an earlier group of the line has its identity: only then is there a finding
+/// [`Rule::IdentityUsed`].
 ///
 /// Memory is asked for only if there is a finding.
 pub fn check_group(
     alloc: Global,
     place: usize,
     used: bool,
-    group: &Group,
+    group: &Controlled,
 ) -> Result<Vec<Finding>, Memory>
-    ensures ok { IfOk result (λ found. found.items
-        ≡ group_facts (sites.Group place) (slice_get group.now 0) used group.now) }
-    ensures memory { OnErr result (group_facts (sites.Group place) (slice_get group.now 0) used group.now ≢ []) }
+    ensures ok { IfOk result (λ found. found.items ≡ group_facts (sites.Group place) used group.now) }
+    ensures memory { OnErr result (group_facts (sites.Group place) used group.now ≢ []) }
 
     // No finding means sound, with an identity that no earlier group has.
-    ensures sound { IfOk result (λ found. (found.items ≡ []) ↔ (IsSoundGroup group.now × (used ≡ false))) }
+    ensures sound { IfOk result (λ found. (found.items ≡ []) ↔ (IsSoundControlled group.now × (used ≡ false))) }
 
     // A finding is there exactly where its fact stands, and means what it says for the readings.
     ensures facts { IfOk result (λ found. (f : Finding) → ((i : ℕ) × At found.items i f)
-        ↔ ((f.site ≡ sites.Group place) × GroupFact used group.now f.rule f.dir f.balise f.packet)) }
+        ↔ ((f.site ≡ sites.Group place) × GroupFact used group.now f.rule f.aspect f.dir f.balise f.packet)) }
     ensures hurts { IfOk result (λ found. (i : ℕ) (f : Finding) → At found.items i f
-        → HurtsGroup group.now f.rule f.dir f.balise) }
+        → HurtsGroup group.now f.rule f.aspect f.dir f.balise) }
 {
     let mut found = Vec::new(alloc);
-    note_group(&mut found, Site::Group(place), used, group.telegrams())?;
+    note_group(&mut found, Site::Group(place), used, group.aspects())?;
     Ok(found)
 }
 
@@ -257,15 +323,15 @@ pub fn check_group(
 ///
 /// Memory is asked for only if there is a finding.
 pub fn check_message(alloc: Global, place: usize, message: &Message) -> Result<Vec<Finding>, Memory>
-    ensures ok { IfOk result (λ found. found.items ≡ message_findings (sites.Message place) message.now) }
-    ensures memory { OnErr result (message_findings (sites.Message place) message.now ≢ []) }
+    ensures ok { IfOk result (λ found. found.items ≡ message_findings (whole (sites.Message place)) message.now) }
+    ensures memory { OnErr result (message_findings (whole (sites.Message place)) message.now ≢ []) }
 
     // No finding means sound.
     ensures sound { IfOk result (λ found. (found.items ≡ []) ↔ IsSoundMessage message.now) }
 
     // A finding is there exactly where its fact stands.
     ensures facts { IfOk result (λ found. (f : Finding) → ((i : ℕ) × At found.items i f)
-        ↔ ((f.site ≡ sites.Message place) × MessageFact message.now f.rule f.dir f.balise f.packet)) }
+        ↔ ((f.site ≡ sites.Message place) × (f.aspect ≡ None) × MessageFact message.now f.rule f.dir f.balise f.packet)) }
 {
     let mut found = Vec::new(alloc);
     note_message(&mut found, Site::Message(place), message)?;

@@ -1,15 +1,15 @@
-//! Whether the packets of two balises are the same.
+//! Whether the packets of two balises are the same, and whether two telegrams are.
 
 ghost use Rattle.std.specs.Prelude.{◌≡◌, ◌↔◌, ◌≤◌, ◌<◌, ℕ, length, drop, filter, slice_get, Some, IsTrue};
 ghost use Rattle.std.specs.Cmp.Lexicographic.{pointwise};
 ghost use Rattle.etcs_packet.specs.Track.{holds};
 ghost use Rattle.etcs_packet.specs.declared.track.TrackPacket.{TrackPacket};
 ghost use Rattle.etcs_group.specs.Packets.{held_by};
-ghost use Rattle.etcs_check.specs.Duplicates.{same_held, same_packet};
+ghost use Rattle.etcs_check.specs.Duplicates.{same_header, same_held, same_packet, same_size, same_telegram};
 
-use etcs_bits::Same;
+use etcs_bits::{Same, are_same};
 use etcs_packet::{Run, TrackPacket};
-use etcs_telegram::Telegram;
+use etcs_telegram::{Header, Size, Telegram};
 
 // The first place from `from` on at which a packet holds, or the length.
 fn next_held(packets: &[TrackPacket], run: Run, from: usize) -> usize
@@ -58,6 +58,46 @@ pub(crate) fn same_held(this: &Telegram, that: &Telegram, run: Run) -> bool
     ensures { result ≡ same_held run this.now that.now }
 {
     same_lists(&this.packets, &that.packets, run)
+}
+
+// Whether two headers are the same.
+fn same_header(this: &Header, that: &Header) -> bool
+    ensures { result ≡ same_header this.now that.now }
+{
+    this.version.same(&that.version)
+        && this.position.same(&that.position)
+        && this.total.same(&that.total)
+        && this.dup.same(&that.dup)
+        && this.counter.same(&that.counter)
+        && this.identity.same(&that.identity)
+        && this.linked.same(&that.linked)
+}
+
+// Whether two sizes are the same.
+fn same_size(this: Size, that: Size) -> bool
+    ensures { result ≡ same_size this that }
+{
+    match (this, that) {
+        (Size::Short, Size::Short) => true,
+        (Size::Long, Size::Long) => true,
+        _ => false,
+    }
+}
+
+// Whether two lists have the same packets.
+fn same_content(these: &[TrackPacket], those: &[TrackPacket]) -> bool
+    ensures { result ≡ pointwise same_packet these.now those.now }
+{
+    are_same(these, those)
+}
+
+// Whether two telegrams are one and the same.
+pub(crate) fn same_telegram(this: &Telegram, that: &Telegram) -> bool
+    ensures { result ≡ same_telegram this.now that.now }
+{
+    same_size(this.size, that.size)
+        && same_header(&this.header, &that.header)
+        && same_content(&this.packets, &that.packets)
 }
 
 /// Whether two telegrams have equal lists of packets that hold in the running direction, in the same

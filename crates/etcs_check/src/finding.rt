@@ -7,15 +7,16 @@ use etcs_bits::Memory;
 use etcs_packet::Run;
 
 /// The rules, in the order in which findings are listed (this project's rules, after SUBSET-026,
-/// 3.16.2). The first eight and the last are about balise groups, the others about groups and
-/// messages 3.
+/// 3.16.2). F9 to F13 are about balise groups and messages 3, the others about groups. F1 to F13 are
+/// looked for in each aspect of a group.
 #[derive(Clone, Copy, Debug, PartialEq, Eq)]
 pub enum Rule {
     /// F1: the position of a balise, N_PIG, is not its place in the group.
     PositionWrong,
     /// F2: the total of a balise, N_TOTAL, and one is not the number of balises of the group.
     TotalWrong,
-    /// F3: the version, the identity or the link flag of a balise differs from that of balise 0.
+    /// F3: the version, the identity or the link flag of a balise differs from that of balise 0 of
+    /// aspect 0.
     HeaderDiffers,
     /// F4: the mark of a balise, M_DUP, names a balise outside the group.
     MarkOutside,
@@ -40,8 +41,14 @@ pub enum Rule {
     /// F13: a speed profile that is said ends before the supervised location of an authority that
     /// is said.
     SpeedShort,
-    /// F14: an earlier group has the identity of the group.
+    /// F14: an earlier group has the identity of the group, that of balise 0 of its aspect 0.
     IdentityUsed,
+    /// F15: the mark of a balise differs from that of the same balise in aspect 0.
+    MarksDiffer,
+    /// F16: a train that reads two aspects could take them for one. Either no aspect is named: a balise
+    /// is neither one and the same telegram with counter 255 in all aspects, nor has a counter below 254
+    /// in each of them. Or it is: the balise's counter is below 254, and stands in an earlier aspect.
+    NotToldApart,
 }
 
 /// Where a finding stands. Groups and messages are counted from 0, each by themselves.
@@ -53,6 +60,13 @@ pub enum Site {
     Message(usize),
 }
 
+// Where facts stand: the group or message, and the aspect if one is told.
+#[derive(Clone, Copy)]
+pub(crate) struct Spot {
+    pub(crate) site: Site,
+    pub(crate) aspect: Option<usize>,
+}
+
 /// A fact against a line.
 #[derive(Clone, Copy, Debug, PartialEq, Eq)]
 pub struct Finding {
@@ -60,6 +74,8 @@ pub struct Finding {
     pub rule: Rule,
     /// The group or message.
     pub site: Site,
+    /// The aspect, counted from 0, where the group has two or more and the fact is about one of them.
+    pub aspect: Option<usize>,
     /// The running direction, for the rules F8 and F10 to F13.
     pub dir: Option<Run>,
     /// The balise, counted from 0 by its place in the group, for all rules about one balise.
@@ -74,18 +90,19 @@ pub(crate) fn note(
     found: &mut Vec<Finding>,
     fact: bool,
     rule: Rule,
-    site: Site,
+    spot: Spot,
     dir: Option<Run>,
     balise: Option<usize>,
     packet: Option<usize>,
 ) -> Result<(), Memory>
-    ensures ok { OnOk result (found.new.items ≡ found.old.items ++ noted fact (finding_of rule site dir balise packet)) }
-    ensures memory { OnErr result (noted fact (finding_of rule site dir balise packet) ≢ []) }
+    ensures ok { OnOk result (found.new.items ≡ found.old.items ++ noted fact (finding_of rule spot dir balise packet)) }
+    ensures memory { OnErr result (noted fact (finding_of rule spot dir balise packet) ≢ []) }
 {
     if fact {
         let finding = Finding {
             rule,
-            site,
+            site: spot.site,
+            aspect: spot.aspect,
             dir,
             balise,
             packet,

@@ -3,7 +3,8 @@
 ghost use Rattle.std.specs.Prelude.{◌≡◌, ℕ, ◌+◌, ◌*◌, ◌^◌, ◌<◌, ◌≤◌, ◌||◌, ◌==◌, length, IsTrue, IsFalse};
 ghost use Rattle.etcs_check.specs.Identities.{AreNumbered, HasNoRepeat, HasRepeat, IsNumbered, identity_number, is_marked, number_of};
 
-use etcs_group::Group;
+use crate::aspects::first_aspect;
+use etcs_group::{Controlled, Group};
 use etcs_telegram::Telegram;
 
 // How many identities are looked at in one pass over the groups, 64 to a word of the table.
@@ -21,14 +22,23 @@ fn number_of(telegram: &Telegram) -> u32
     country * 16_384 + group
 }
 
-// The number of a group's identity.
-pub(crate) fn identity_number(group: &[Telegram]) -> u32
-    requires { 0 < length group.now }
-    ensures value { result ≡ identity_number group.now }
+// The number of the identity of a group with these aspects.
+pub(crate) fn identity_number(aspects: &[Group]) -> u32
+    requires { 0 < length aspects.now }
+    ensures value { result ≡ identity_number aspects.now }
     ensures small { result < 16777216 }
-    ensures numbered { IsNumbered group.now }
+    ensures numbered { IsNumbered aspects.now }
 {
-    number_of(&group[0])
+    let first = first_aspect(aspects);
+    number_of(&first[0])
+}
+
+// Whether the place is marked.
+pub(crate) fn is_marked(table: &[u64], place: usize) -> bool
+    requires { place < 64 * length table.now }
+    ensures { result ≡ is_marked table.now place }
+{
+    (table[place / 64] >> (place % 64)) & 1 == 1
 }
 
 // Marks the place, and tells whether it was marked before.
@@ -37,15 +47,13 @@ pub(crate) fn mark(table: &mut [u64], place: usize) -> bool
     ensures before { result ≡ is_marked table.old place }
     ensures after { (p : ℕ) → is_marked table.new p ≡ (p == place || is_marked table.old p) }
 {
-    let word = place / 64;
-    let bit = place % 64;
-    let marked = (table[word] >> bit) & 1 == 1;
-    table[word] |= 1 << bit;
+    let marked = is_marked(table, place);
+    table[place / 64] |= 1 << (place % 64);
     marked
 }
 
 // Whether a group whose identity is one of those from `base` on has that of an earlier one.
-fn repeats_in(groups: &[Group], base: u32) -> bool
+fn repeats_in(groups: &[Controlled], base: u32) -> bool
     requires { base + PART < 2 ^ 32 }
     ensures found { IsTrue result → HasRepeat groups.now }
     ensures none { IsFalse result → HasNoRepeat base PART groups.now }
@@ -53,7 +61,7 @@ fn repeats_in(groups: &[Group], base: u32) -> bool
 {
     let mut table = [0u64; 32_768];
     'groups: for i in 0..groups.len() {
-        let identity = identity_number(groups[i].telegrams());
+        let identity = identity_number(groups[i].aspects());
         if base <= identity && identity < base + PART {
             if mark(&mut table, (identity - base) as usize) {
                 return true;
@@ -64,7 +72,7 @@ fn repeats_in(groups: &[Group], base: u32) -> bool
 }
 
 // Whether a group has the identity of an earlier one. Takes no memory from the heap.
-pub(crate) fn has_repeat(groups: &[Group]) -> bool
+pub(crate) fn has_repeat(groups: &[Controlled]) -> bool
     ensures found { IsTrue result → HasRepeat groups.now }
     ensures none { IsFalse result → HasNoRepeat 0 16777216 groups.now }
     ensures numbered { IsFalse result → AreNumbered groups.now }

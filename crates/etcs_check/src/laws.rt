@@ -1,11 +1,17 @@
 //! Laws of findings and soundness, for users. Each law is the contract of a function that does
 //! nothing.
 
-ghost use Rattle.etcs_check.specs.Laws.{FindingsAreFacts, NoFindingMeansSoundGroup, NoFindingMeansSoundLine, PacketsAreTheirNumbers, SoundGroupsAreDecided};
+ghost use Rattle.etcs_check.specs.Laws.{FindingsAreFacts, NoFindingMeansSoundGroup, NoFindingMeansSoundLine, PacketsAreTheirNumbers, SoundGroupsAreDecided, SoundMixturesAreDecided, TelegramsAreTheirParts};
 
 /// Two packets are equal exactly if the numbers in the rows of their tables are.
 pub fn packets_are_their_numbers()
     ensures { PacketsAreTheirNumbers }
+{}
+
+/// Two telegrams are equal exactly if their sizes and headers are, and the numbers in the rows of their
+/// packets.
+pub fn telegrams_are_their_parts()
+    ensures { TelegramsAreTheirParts }
 {}
 
 /// A group has no finding exactly if it is sound and no earlier group has its identity.
@@ -13,13 +19,13 @@ pub fn no_finding_means_sound_group()
     ensures { NoFindingMeansSoundGroup }
 {}
 
-/// A line whose groups have balises has no finding exactly if it is sound: over every group, running
-/// direction and set of missed balises whose duplicates are read, and over every message.
+/// A line has no finding exactly if it is sound: over each aspect of every group, running direction and
+/// set of missed balises whose duplicates are read, and over every message.
 pub fn no_finding_means_sound_line()
     ensures { NoFindingMeansSoundLine }
 {}
 
-/// Each finding of a line states a fact at its site, running direction, balise and packet. A counter
+/// Each finding of a line states a fact at its site, aspect, running direction, balise and packet. A counter
 /// that does not fit means that the reading with nothing missed is refused. Duplicates that differ
 /// mean that what a train makes of the group depends on which of the two it misses. A missing or
 /// short profile means that what the group says does not reach a supervised location.
@@ -32,4 +38,11 @@ pub fn findings_are_facts()
 /// none or missed.
 pub fn sound_groups_are_decided()
     ensures { SoundGroupsAreDecided }
+{}
+
+/// Of a sound group whose aspects are mixed, because it was switched while a train passed, what is read is
+/// accepted exactly if what is missed is covered and one aspect has all that is shown. Its packets are then
+/// those of this aspect with nothing missed.
+pub fn sound_mixtures_are_decided()
+    ensures { SoundMixturesAreDecided }
 {}

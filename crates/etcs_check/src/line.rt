@@ -1,14 +1,15 @@
 //! A railway line, and all facts against it.
 
-ghost use Rattle.std.specs.Prelude.{◌≡◌, ◌≢◌, ◌↔◌, ◌<◌, ◌++◌, ◌||◌, ◌==◌, [], ℕ, Bool, true, false, List, length, replicate, IfOk, OnOk, OnErr};
+ghost use Rattle.std.specs.Prelude.{◌≡◌, ◌≢◌, ◌↔◌, ◌<◌, ◌++◌, ◌||◌, ◌==◌, [], ℕ, Bool, true, false, List, length, replicate, Option, IfOk, OnOk, OnErr};
 ghost use Rattle.etcs_packet.specs.declared.run.Run.{Run};
 ghost use Rattle.etcs_telegram.specs.Record.{Telegram};
 ghost use Rattle.etcs_group.specs.Places.{At};
 ghost use Rattle.etcs_group.specs.Missed.{IsSetOf};
 ghost use Rattle.etcs_group.specs.Reading.{reading_of};
-ghost use Rattle.etcs_group.specs.Laws.{IsDecided};
+ghost use Rattle.etcs_group.specs.Laws.{IsDecided, IsMixtureDecided};
+ghost use Rattle.etcs_group.specs.Mixture.{Fits};
 ghost use Rattle.etcs_check.specs.Identities.{IsNumbered, identity_number, is_marked};
-ghost use Rattle.etcs_check.specs.Laws.{HaveBalises};
+ghost use Rattle.etcs_check.specs.Laws.{AreControlled};
 ghost use Rattle.etcs_check.specs.Line.{findings, group_list, message_list};
 ghost use Rattle.etcs_check.specs.Meaning.{Hurts, States};
 ghost use Rattle.etcs_check.specs.Soundness.{IsSoundLine};
@@ -18,16 +19,16 @@ use crate::checking::{note_group, note_message};
 use crate::finding::{Finding, Site};
 use crate::identities::{has_repeat, identity_number, mark};
 use etcs_bits::Memory;
-use etcs_group::Group;
+use etcs_group::{Controlled, Group};
 use etcs_radio::Message;
-use etcs_telegram::Telegram;
 use std::alloc::Global;
 
-/// The data of a railway line: its balise groups and its radio messages.
+/// The data of a railway line: its balise groups and its radio messages. A group that no lineside unit
+/// switches has one aspect.
 #[derive(Debug, Drop)]
 pub struct Line {
     /// The balise groups.
-    pub groups: Vec<Group>,
+    pub groups: Vec<Controlled>,
     /// The radio messages.
     pub messages: Vec<Message>,
 }
@@ -49,32 +50,32 @@ fn table_of(alloc: Global, repeated: bool) -> Result<Vec<u64>, Memory>
 
 // Whether the identity of the group is marked in the table; then marks it. Where none is used twice,
 // there is no table.
-fn was_used(table: &mut Vec<u64>, repeated: bool, group: &[Telegram]) -> bool
-    requires some { 0 < length group.now }
+fn was_used(table: &mut Vec<u64>, repeated: bool, aspects: &[Group]) -> bool
+    requires some { 0 < length aspects.now }
     requires long { repeated ≡ true → length table.old.items ≡ 262144 }
-    ensures before { repeated ≡ true → result ≡ is_marked table.old.items (identity_number group.now) }
+    ensures before { repeated ≡ true → result ≡ is_marked table.old.items (identity_number aspects.now) }
     ensures none { repeated ≡ false → result ≡ false }
     ensures after { repeated ≡ true → (p : ℕ) → is_marked table.new.items p
-        ≡ (p == identity_number group.now || is_marked table.old.items p) }
+        ≡ (p == identity_number aspects.now || is_marked table.old.items p) }
     ensures long { repeated ≡ true → length table.new.items ≡ 262144 }
-    ensures numbered { IsNumbered group.now }
+    ensures numbered { IsNumbered aspects.now }
 {
-    let identity = identity_number(group);
+    let identity = identity_number(aspects);
     repeated && mark(table, identity as usize)
 }
 
-// Appends the findings about the groups. Each of them has a balise.
-fn note_groups(alloc: Global, found: &mut Vec<Finding>, groups: &[Group]) -> Result<(), Memory>
+// Appends the findings about the groups. Each of them has aspects of one count.
+fn note_groups(alloc: Global, found: &mut Vec<Finding>, groups: &[Controlled]) -> Result<(), Memory>
     ensures ok { OnOk result (found.new.items ≡ found.old.items ++ group_list groups.now) }
     ensures memory { OnErr result (group_list groups.now ≢ []) }
-    ensures balises { OnOk result (HaveBalises groups.now) }
+    ensures controlled { OnOk result (AreControlled groups.now) }
 {
     let repeated = has_repeat(groups);
     let mut table = table_of(alloc, repeated)?;
     'places: for place in 0..groups.len() {
-        let group = groups[place].telegrams();
-        let used = was_used(&mut table, repeated, group);
-        note_group(found, Site::Group(place), used, group)?;
+        let aspects = groups[place].aspects();
+        let used = was_used(&mut table, repeated, aspects);
+        note_group(found, Site::Group(place), used, aspects)?;
     }
     Ok(())
 }
@@ -90,11 +91,13 @@ fn note_messages(found: &mut Vec<Finding>, messages: &[Message]) -> Result<(), M
     Ok(())
 }
 
-/// All facts against a line: by group, then by message; within each by rule, then by running
-/// direction, nominal first, then by balise and packet. No finding hides another. An empty list says
-/// that the line is sound: over every group, running direction and set of missed balises whose
-/// duplicates are read, a train makes the same message, in which every movement authority has gradient
-/// and speed profiles up to its supervised location (this project's rules, after SUBSET-026, 3.16.2).
+/// All facts against a line: by group, then by message; within each by rule, then by aspect (those about
+/// the whole group first), by running direction, nominal first, then by balise and packet. No finding
+/// hides another. An empty list says that the line is sound: over each aspect of every group, running
+/// direction and set of missed balises whose duplicates are read, a train makes the same message, in
+/// which every movement authority has gradient and speed profiles up to its supervised location; and
+/// where a group is switched while a train passes, the train refuses what it reads unless one aspect has
+/// all of it (this project's rules, after SUBSET-026, 3.16.2).
 ///
 /// Memory is asked for only if there is a finding.
 pub fn check(alloc: Global, line: &Line) -> Result<Vec<Finding>, Memory>
@@ -113,10 +116,16 @@ pub fn check(alloc: Global, line: &Line) -> Result<Vec<Finding>, Memory>
     ensures all { IfOk result (λ found. (f : Finding)
         → States line.now.groups.items line.now.messages.items f → (i : ℕ) × At found.items i f) }
 
-    // In a sound line each reading is accepted or refused by what was missed alone.
-    ensures decided { IfOk result (λ found. found.items ≡ [] → (g : ℕ) (group : List Telegram) (run : Run)
-        (missed : ℕ → Bool) → At line.now.groups.items g group → IsSetOf group missed
-        → IsDecided run group missed (reading_of run missed group)) }
+    // In a sound line each reading of an aspect is accepted or refused by what was missed alone.
+    ensures decided { IfOk result (λ found. found.items ≡ [] → (g a : ℕ) (aspects : List (List Telegram))
+        (group : List Telegram) (run : Run) (missed : ℕ → Bool) → At line.now.groups.items g aspects
+        → At aspects a group → IsSetOf group missed → IsDecided run group missed (reading_of run missed group)) }
+
+    // In a sound line a mixture of aspects is accepted exactly where it is covered and one aspect has all
+    // that it shows. Its packets are then those of that aspect.
+    ensures mixtures { IfOk result (λ found. found.items ≡ [] → (g : ℕ) (aspects : List (List Telegram))
+        (run : Run) (shown : ℕ → Option ℕ) → At line.now.groups.items g aspects → Fits aspects shown
+        → IsMixtureDecided run aspects shown) }
 {
     let mut found = Vec::new(alloc);
     note_groups(alloc, &mut found, &line.groups)?;

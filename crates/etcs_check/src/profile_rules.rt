@@ -11,7 +11,7 @@ ghost use Rattle.etcs_check.specs.Line.{message_lack, message_short};
 ghost use Rattle.etcs_check.specs.Profiles.{limit_of};
 
 use crate::balise_rules::packets;
-use crate::finding::{Finding, Rule, Site, note};
+use crate::finding::{Finding, Rule, Spot, note};
 use etcs_bits::{Dup, Memory};
 use etcs_packet::{Run, TrackPacket};
 use etcs_profile::Reach;
@@ -137,7 +137,7 @@ fn holds_before(kind: Kind, limit: Option<u64>, run: Run, packet: &TrackPacket) 
 fn note_before(
     found: &mut Vec<Finding>,
     rule: Rule,
-    site: Site,
+    spot: Spot,
     kind: Kind,
     limit: Option<u64>,
     run: Run,
@@ -145,12 +145,12 @@ fn note_before(
     packets: &[TrackPacket],
 ) -> Result<(), Memory>
     ensures ok { OnOk result (found.new.items ≡ found.old.items
-        ++ for_each packets.now (before_at rule site (reach_of kind) limit run balise)) }
-    ensures memory { OnErr result (for_each packets.now (before_at rule site (reach_of kind) limit run balise) ≢ []) }
+        ++ for_each packets.now (before_at rule spot (reach_of kind) limit run balise)) }
+    ensures memory { OnErr result (for_each packets.now (before_at rule spot (reach_of kind) limit run balise) ≢ []) }
 {
     'places: for place in 0..packets.len() {
         let fact = holds_before(kind, limit, run, &packets[place]);
-        note(found, fact, rule, site, Some(run), balise, Some(place))?;
+        note(found, fact, rule, spot, Some(run), balise, Some(place))?;
     }
     Ok(())
 }
@@ -160,16 +160,16 @@ fn note_before(
 pub(crate) fn note_message_lack(
     found: &mut Vec<Finding>,
     rule: Rule,
-    site: Site,
+    spot: Spot,
     kind: Kind,
     packets: &[TrackPacket],
     run: Run,
 ) -> Result<(), Memory>
-    ensures ok { OnOk result (found.new.items ≡ found.old.items ++ message_lack rule site (reach_of kind) packets.now run) }
-    ensures memory { OnErr result (message_lack rule site (reach_of kind) packets.now run ≢ []) }
+    ensures ok { OnOk result (found.new.items ≡ found.old.items ++ message_lack rule spot (reach_of kind) packets.now run) }
+    ensures memory { OnErr result (message_lack rule spot (reach_of kind) packets.now run ≢ []) }
 {
     let fact = lacks_held(packets, run, kind);
-    note(found, fact, rule, site, Some(run), None, None)
+    note(found, fact, rule, spot, Some(run), None, None)
 }
 
 // Appends a finding for each profile of the kind in a message that holds and is too short. The
@@ -177,16 +177,16 @@ pub(crate) fn note_message_lack(
 pub(crate) fn note_message_short(
     found: &mut Vec<Finding>,
     rule: Rule,
-    site: Site,
+    spot: Spot,
     kind: Kind,
     packets: &[TrackPacket],
     run: Run,
 ) -> Result<(), Memory>
-    ensures ok { OnOk result (found.new.items ≡ found.old.items ++ message_short rule site (reach_of kind) packets.now run) }
-    ensures memory { OnErr result (message_short rule site (reach_of kind) packets.now run ≢ []) }
+    ensures ok { OnOk result (found.new.items ≡ found.old.items ++ message_short rule spot (reach_of kind) packets.now run) }
+    ensures memory { OnErr result (message_short rule spot (reach_of kind) packets.now run ≢ []) }
 {
     let limit = greatest_held(packets, run, None);
-    note_before(found, rule, site, kind, limit, run, None, packets)
+    note_before(found, rule, spot, kind, limit, run, None, packets)
 }
 
 // Whether a balise of a group of this many is passed after the one that its mark names.
@@ -261,16 +261,16 @@ fn lacks_said(group: &[Telegram], run: Run, kind: Kind) -> bool
 pub(crate) fn note_lack(
     found: &mut Vec<Finding>,
     rule: Rule,
-    site: Site,
+    spot: Spot,
     kind: Kind,
     group: &[Telegram],
     run: Run,
 ) -> Result<(), Memory>
-    ensures ok { OnOk result (found.new.items ≡ found.old.items ++ lack_facts rule site (reach_of kind) group.now run) }
-    ensures memory { OnErr result (lack_facts rule site (reach_of kind) group.now run ≢ []) }
+    ensures ok { OnOk result (found.new.items ≡ found.old.items ++ lack_facts rule spot (reach_of kind) group.now run) }
+    ensures memory { OnErr result (lack_facts rule spot (reach_of kind) group.now run ≢ []) }
 {
     let fact = lacks_said(group, run, kind);
-    note(found, fact, rule, site, Some(run), None, None)
+    note(found, fact, rule, spot, Some(run), None, None)
 }
 
 // Appends a finding for each profile of the kind that this balise of the group, at this place, says
@@ -278,7 +278,7 @@ pub(crate) fn note_lack(
 fn note_short_at(
     found: &mut Vec<Finding>,
     rule: Rule,
-    site: Site,
+    spot: Spot,
     kind: Kind,
     limit: Option<u64>,
     group: &[Telegram],
@@ -289,8 +289,8 @@ fn note_short_at(
     requires within { place < length group.now }
     requires limit { limit ≡ greatest (said_by run group.now) }
     ensures ok { OnOk result (found.new.items ≡ found.old.items
-        ++ short_by rule site (reach_of kind) group.now run place telegram.now) }
-    ensures memory { OnErr result (short_by rule site (reach_of kind) group.now run place telegram.now ≢ []) }
+        ++ short_by rule spot (reach_of kind) group.now run place telegram.now) }
+    ensures memory { OnErr result (short_by rule spot (reach_of kind) group.now run place telegram.now ≢ []) }
 {
     if is_silent(run, telegram, group.len(), place) {
         return Ok(());
@@ -298,7 +298,7 @@ fn note_short_at(
     note_before(
         found,
         rule,
-        site,
+        spot,
         kind,
         limit,
         run,
@@ -312,20 +312,20 @@ fn note_short_at(
 pub(crate) fn note_short(
     found: &mut Vec<Finding>,
     rule: Rule,
-    site: Site,
+    spot: Spot,
     kind: Kind,
     group: &[Telegram],
     run: Run,
 ) -> Result<(), Memory>
-    ensures ok { OnOk result (found.new.items ≡ found.old.items ++ short_facts rule site (reach_of kind) group.now run) }
-    ensures memory { OnErr result (short_facts rule site (reach_of kind) group.now run ≢ []) }
+    ensures ok { OnOk result (found.new.items ≡ found.old.items ++ short_facts rule spot (reach_of kind) group.now run) }
+    ensures memory { OnErr result (short_facts rule spot (reach_of kind) group.now run ≢ []) }
 {
     let limit = greatest_said(group, run);
     'places: for place in 0..group.len() {
         note_short_at(
             found,
             rule,
-            site,
+            spot,
             kind,
             limit,
             group,

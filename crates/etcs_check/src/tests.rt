@@ -1,5 +1,6 @@
 //! Lines whose findings were worked out by hand.
 
+mod aspects;
 mod groups;
 mod lines;
 mod memory;
@@ -8,7 +9,7 @@ mod profiles;
 mod readings;
 
 use crate::{Finding, Line, Rule, Site, check};
-use etcs_group::Group;
+use etcs_group::{Controlled, Group};
 use etcs_packet::Run;
 use etcs_telegram::{Telegram, from_hex};
 use std::alloc::Global;
@@ -42,6 +43,8 @@ fn number(rule: Rule) -> u32 {
         Rule::NoSpeed => 12,
         Rule::SpeedShort => 13,
         Rule::IdentityUsed => 14,
+        Rule::MarksDiffer => 15,
+        Rule::NotToldApart => 16,
     }
 }
 
@@ -53,6 +56,9 @@ fn text_of(alloc: Global, finding: &Finding) -> Result<String, Fail> {
         Site::Message(place) => format!(in alloc; "message {place} ")?,
     };
     text = format!(in alloc; "{text}F{}", number(finding.rule))?;
+    if let Some(aspect) = finding.aspect {
+        text = format!(in alloc; "{text} aspect {aspect}")?;
+    }
     match finding.dir {
         Some(Run::Nominal) => text = format!(in alloc; "{text} nominal")?,
         Some(Run::Reverse) => text = format!(in alloc; "{text} reverse")?,
@@ -107,12 +113,38 @@ fn group_of(telegrams: Vec<Telegram>) -> Result<Group, Fail> {
     Ok(Group::new(telegrams).map_err(|_| "no group")?)
 }
 
-// The line of one group.
-fn line_of(alloc: Global, group: Group) -> Result<Line, Fail> {
+// The group of these aspects.
+fn controlled_of(aspects: Vec<Group>) -> Result<Controlled, Fail> {
+    Ok(Controlled::new(aspects).map_err(|_| "no controlled group")?)
+}
+
+// The group that has this one as its only aspect.
+fn unswitched(alloc: Global, group: Group) -> Result<Controlled, Fail> {
+    let mut aspects = Vec::new(alloc);
+    aspects.push(group)?;
+    controlled_of(aspects)
+}
+
+// The group whose aspects are groups of the short telegrams that begin with these digits.
+fn switched(alloc: Global, aspects: &[&[&str]]) -> Result<Controlled, Fail> {
     let mut groups = Vec::new(alloc);
-    groups.push(group)?;
-    Ok(Line {
+    'aspects: for fronts in aspects {
+        groups.push(short_group(alloc, fronts)?)?;
+    }
+    controlled_of(groups)
+}
+
+// The line of these groups, without messages.
+fn line_of_groups(alloc: Global, groups: Vec<Controlled>) -> Line {
+    Line {
         groups,
         messages: Vec::new(alloc),
-    })
+    }
+}
+
+// The line of one group with one aspect.
+fn line_of(alloc: Global, group: Group) -> Result<Line, Fail> {
+    let mut groups = Vec::new(alloc);
+    groups.push(unswitched(alloc, group)?)?;
+    Ok(line_of_groups(alloc, groups))
 }

@@ -1,10 +1,11 @@
 -- What is read of a document's values, and when bytes are JSON.
-use Rattle.std.proofs.Common.{◌≡◌, ◌+◌, ◌≢◌, ℕ, suc, Bool, true, false, List, [], ◌∷◌, ◌++◌, length, Option, Some, None, Result, Ok, Err, refl, ap, sym, subst, ◌∙◌}
+use Rattle.std.proofs.Common.{◌≡◌, ◌+◌, ℕ, suc, Bool, true, false, List, [], ◌∷◌, ◌++◌, length, Option, Some, None, Result, Ok, Err, refl, ap, sym, subst, ◌∙◌}
 use Rattle.std.specs.Prelude.{◌↔◌, IsTrue, if◌then◌else◌}
 use Rattle.std.specs.Str.{IsUtf8, is_utf8}
 use Rattle.std.proofs.lemmas.Str.{IsUtf8-from_is_utf8, is_utf8-from_IsUtf8}
 use Rattle.serde_json.specs.Data.{Data}
 use Rattle.serde_json.specs.Read.{read as read_text}
+use Rattle.etcs_form.proofs.ResultLemmas.{same_ok}
 use Rattle.etcs_form.specs.Document.{◌then◌, each_from, json_of, json_or, with_first}
 use Rattle.etcs_form.specs.DocumentFault.{DocumentFault, no_json}
 
@@ -29,22 +30,15 @@ abbrev pub with_front : {A : Type 0} → List A → Result (List A) DocumentFaul
 with_front front (Ok xs) = Ok (front ++ xs)
 with_front front (Err f) = Err f
 
-abbrev or_else : {A : Type 0} → A → Result A DocumentFault → A
-or_else x (Ok y) = y
-or_else x (Err f) = x
-
-ok_inj : {A : Type 0} (x y : A) (r : Result A DocumentFault) → r ≡ Ok x → r ≡ Ok y → y ≡ x
-ok_inj x y r is was = ap (or_else x) (sym was ∙ is)
-
 as_many : {A : Type 0} (r : Result A DocumentFault) (rest : Result (List A) DocumentFault) (n : ℕ) → ((ys : List A) → rest ≡ Ok ys → length ys ≡ n)
     → (xs : List A) → (r then λ x. with_first x rest) ≡ Ok xs → length xs ≡ suc n
 as_many (Err f) rest n h xs is = cc
 as_many (Ok x) (Err f) n h xs is = cc
-as_many (Ok x) (Ok ys) n h xs is = ap length (ok_inj (x ∷ ys) xs (Ok (x ∷ ys)) refl is) ∙ ap suc (h ys refl)
+as_many (Ok x) (Ok ys) n h xs is = ap length (same_ok xs (x ∷ ys) (Ok (x ∷ ys)) is refl) ∙ ap suc (h ys refl)
 
 -- as many are read as there are values
 pub read_count : {A : Type 0} (read : ℕ → Data → Result A DocumentFault) (i : ℕ) (ds : List Data) (xs : List A) → each_from read i ds ≡ Ok xs → length xs ≡ length ds
-read_count read i [] xs is = ap length (ok_inj [] xs (Ok []) refl is)
+read_count read i [] xs is = ap length (same_ok xs [] (Ok []) is refl)
 read_count read i (d ∷ ds) xs is = as_many (read i d) (each_from read (i + 1) ds) (length ds) (read_count read (i + 1) ds) xs is
 
 -- a test that fails decides against what it tests

@@ -11,7 +11,11 @@ pub mod RawLemmas
 pub mod PathLemmas
 pub mod RunLemmas
 pub mod AnyList
+pub mod ResultLemmas
 pub mod DocumentLemmas
+pub mod AspectLemmas
+pub mod ValueLemmas
+pub mod BaliseLemmas
 pub mod VerdictLemmas
 pub mod ReportLemmas
 pub mod RangeLemmas

@@ -1,13 +1,14 @@
 -- The document of a railway line: a JSON object with its groups and its messages. A group is an object
--- with its balises. Each balise and each message is the text of its hexadecimal digits. The form is
--- this project's. The first fault is the answer, where each group is read whole before the next, and
--- all groups before the messages.
-use Rattle.std.specs.Prelude.{ℕ, ◌+◌, ◌&&◌, if◌then◌else◌, nat_le, nat_lt, codes, List, [], ◌∷◌, length, Option, Some, None, Result, Ok, Err}
+-- with its balises, or one with its aspects, each of which is an object with its balises. Each balise
+-- and each message is the text of its hexadecimal digits. The form is this project's. The first fault
+-- is the answer, where each group and each aspect is read whole before the next, and all groups before
+-- the messages.
+use Rattle.std.specs.Prelude.{ℕ, ◌+◌, ◌==◌, ◌&&◌, Bool, true, if◌then◌else◌, nat_le, nat_lt, codes, List, [], ◌∷◌, length, Option, Some, None, Result, Ok, Err}
 use Rattle.std.specs.Str.{is_utf8}
 use Rattle.serde_json.specs.Data.{Data, Items}
-use Rattle.serde_json.specs.Find.{as_array, as_str}
+use Rattle.serde_json.specs.Find.{as_array, as_str, get}
 use Rattle.serde_json.specs.Read.{read}
-use Rattle.etcs_form.specs.DocumentFault.{DocumentFault, bad_count, bad_form, bad_message, bad_telegram, no_json}
+use Rattle.etcs_form.specs.DocumentFault.{DocumentFault, bad_aspect_telegram, bad_aspects, bad_count, bad_form, bad_message, bad_telegram, no_json}
 use Rattle.etcs_form.specs.Fault.{Fault, Kind, Step, fault, here, key, place, under}
 use Rattle.etcs_form.specs.Reading.{◌>>=◌, at_key, data_list, object_with}
 use Rattle.etcs_radio.specs.TextMeaning.{message_of_text}
@@ -47,36 +48,94 @@ values_or (Some ds) = Ok (data_list ds)
 unfoldable pub values_of : Data → Result (List Data) Fault
 values_of d = values_or (as_array d)
 
--- ---- balises and groups
+-- ---- balises
 
--- balise b of group g, from the whole document
-abbrev pub balise_path : ℕ → ℕ → List Step
-balise_path g b = key (codes "groups") ∷ place g ∷ key (codes "balises") ∷ place b ∷ []
+-- balise b of group g, or of aspect a of that group, from the whole document
+abbrev pub balise_path : ℕ → Option ℕ → ℕ → List Step
+balise_path g None b = key (codes "groups") ∷ place g ∷ key (codes "balises") ∷ place b ∷ []
+balise_path g (Some a) b =
+    key (codes "groups") ∷ place g ∷ key (codes "aspects") ∷ place a ∷ key (codes "balises") ∷ place b ∷ []
 
-abbrev pub as_balise : ℕ → ℕ → Result Telegram TextError → Result Telegram DocumentFault
-as_balise g b (Ok t) = Ok t
-as_balise g b (Err e) = Err (bad_telegram g b e)
+-- the text of that balise is no telegram
+abbrev pub bad_balise : ℕ → Option ℕ → ℕ → TextError → DocumentFault
+bad_balise g None b e = bad_telegram g b e
+bad_balise g (Some a) b e = bad_aspect_telegram g a b e
 
-abbrev pub telegram_or : ℕ → ℕ → Option (List ℕ) → Result Telegram DocumentFault
-telegram_or g b None = Err (bad_form (fault Kind (balise_path g b)))
-telegram_or g b (Some text) = as_balise g b (telegram_of_text text)
+abbrev pub as_balise : ℕ → Option ℕ → ℕ → Result Telegram TextError → Result Telegram DocumentFault
+as_balise g a b (Ok t) = Ok t
+as_balise g a b (Err e) = Err (bad_balise g a b e)
 
--- balise b of group g: a text, which is a telegram
-unfoldable pub telegram_at : ℕ → ℕ → Data → Result Telegram DocumentFault
-telegram_at g b d = telegram_or g b (as_str d)
+abbrev pub telegram_or : ℕ → Option ℕ → ℕ → Option (List ℕ) → Result Telegram DocumentFault
+telegram_or g a b None = Err (bad_form (fault Kind (balise_path g a b)))
+telegram_or g a b (Some text) = as_balise g a b (telegram_of_text text)
 
--- the balises of group g, of which there are one to eight
-unfoldable pub telegrams_of : ℕ → List Data → Result (List Telegram) DocumentFault
-telegrams_of g ds =
-    if nat_lt 0 (length ds) && nat_le (length ds) 8 then each_from (telegram_at g) 0 ds else Err (bad_count g)
+-- that balise: a text, which is a telegram
+unfoldable pub telegram_at : ℕ → Option ℕ → ℕ → Data → Result Telegram DocumentFault
+telegram_at g a b d = telegram_or g a b (as_str d)
+
+-- ---- aspects
+
+-- as many as the first aspect has; for the first itself, and for a group without a list of aspects, any
+-- count
+abbrev pub has_count : Option ℕ → ℕ → Bool
+has_count None count = true
+has_count (Some first) count = count == first
+
+-- The balises of group g, or of aspect a of that group: one to eight of them, and as many as the first
+-- aspect has. These are looked at before the balises.
+unfoldable pub telegrams_of : ℕ → Option ℕ → Option ℕ → List Data → Result (List Telegram) DocumentFault
+telegrams_of g a first ds =
+    if nat_lt 0 (length ds) && nat_le (length ds) 8
+    then (if has_count first (length ds) then each_from (telegram_at g a) 0 ds else Err (bad_aspects g))
+    else Err (bad_count g)
 
 -- an object with a list of balises and no other key
 unfoldable pub balises_of : Data → Result (List Data) Fault
 balises_of d = object_with (codes "balises" ∷ []) d >>= λ _. at_key values_of (codes "balises") d
 
--- group g: first its form, then the count of its balises, and then each of these
-unfoldable pub group_at : ℕ → Data → Result (List Telegram) DocumentFault
-group_at g d = in_form (under (key (codes "groups")) (under (place g) (balises_of d))) then telegrams_of g
+-- a fault in the form of group g, from the whole document
+abbrev pub in_group : {A : Type 0} → ℕ → Result A Fault → Result A DocumentFault
+in_group g r = in_form (under (key (codes "groups")) (under (place g) r))
+
+-- a fault in the form of aspect a of a group, from the group
+abbrev pub in_aspect : {A : Type 0} → ℕ → Result A Fault → Result A Fault
+in_aspect a r = under (key (codes "aspects")) (under (place a) r)
+
+-- aspect a of group g: first its form, then the count of its balises, and then each of these
+unfoldable pub aspect_at : ℕ → Option ℕ → ℕ → Data → Result (List Telegram) DocumentFault
+aspect_at g first a d = in_group g (in_aspect a (balises_of d)) then telegrams_of g (Some a) first
+
+-- the aspects after the first, which has so many balises
+abbrev pub others_of : ℕ → ℕ → List Data → Result (List (List Telegram)) DocumentFault
+others_of g count ds = each_from (aspect_at g (Some count)) 1 ds
+
+-- the aspects of group g, of which there is one or more
+unfoldable pub aspects_of : ℕ → List Data → Result (List (List Telegram)) DocumentFault
+aspects_of g [] = Err (bad_aspects g)
+aspects_of g (d ∷ ds) = aspect_at g None 0 d then λ first. with_first first (others_of g (length first) ds)
+
+-- ---- groups
+
+-- an object with a list of aspects and no other key
+unfoldable pub list_of_aspects : Data → Result (List Data) Fault
+list_of_aspects d = object_with (codes "aspects" ∷ []) d >>= λ _. at_key values_of (codes "aspects") d
+
+-- the one aspect of a group without a list of aspects
+unfoldable pub only_aspect : ℕ → Data → Result (List (List Telegram)) DocumentFault
+only_aspect g d = in_group g (balises_of d) then telegrams_of g None None then λ only. Ok (only ∷ [])
+
+-- a group with a list of aspects
+unfoldable pub controlled_at : ℕ → Data → Result (List (List Telegram)) DocumentFault
+controlled_at g d = in_group g (list_of_aspects d) then aspects_of g
+
+-- a group with the key `aspects` if there is one, and else without
+abbrev pub group_or : ℕ → Data → Option Data → Result (List (List Telegram)) DocumentFault
+group_or g d None = only_aspect g d
+group_or g d (Some list) = controlled_at g d
+
+-- the aspects of group g
+unfoldable pub group_at : ℕ → Data → Result (List (List Telegram)) DocumentFault
+group_at g d = group_or g d (get (codes "aspects") d)
 
 -- ---- messages
 
@@ -111,19 +170,19 @@ abbrev pub list_at : List ℕ → Data → Result (List Data) DocumentFault
 list_at name d = in_form (at_key values_of name d)
 
 -- the groups of a document, and the messages
-unfoldable pub groups_of : Data → Result (List (List Telegram)) DocumentFault
+unfoldable pub groups_of : Data → Result (List (List (List Telegram))) DocumentFault
 groups_of d = list_at (codes "groups") d then each_from group_at 0
 
 unfoldable pub messages_of : Data → Result (List Message) DocumentFault
 messages_of d = list_at (codes "messages") d then each_from message_at 0
 
 -- the line of a document: an object with the two keys; the groups, and then the messages
-unfoldable pub line_of : Data → Result (List (List Telegram) × List Message) DocumentFault
+unfoldable pub line_of : Data → Result (List (List (List Telegram)) × List Message) DocumentFault
 line_of d =
     in_form (object_with (codes "groups" ∷ codes "messages" ∷ []) d)
     then (λ _. groups_of d)
     then (λ groups. messages_of d then λ messages. Ok (groups, messages))
 
 -- the line of bytes, or their first fault
-unfoldable pub line_of_text : List ℕ → Result (List (List Telegram) × List Message) DocumentFault
+unfoldable pub line_of_text : List ℕ → Result (List (List (List Telegram)) × List Message) DocumentFault
 line_of_text bytes = json_of bytes then line_of

@@ -1,6 +1,6 @@
--- What is wrong with bytes that are no document of a railway line, and where. Groups, balises and
--- messages count from 0.
-use Rattle.std.specs.Prelude.{◌≡◌, ℕ, Option, Some, None, Result, Ok, Err, IsSomeAnd}
+-- What is wrong with bytes that are no document of a railway line, and where. Groups, aspects, balises
+-- and messages count from 0.
+use Rattle.std.specs.Prelude.{◌≡◌, ℕ, Result, Ok, Err, IsSomeAnd}
 use Rattle.etcs_form.specs.Fault.{Fault, fault_of}
 use Rattle.etcs_form.specs.declared.error.FormError.{FormError}
 use Rattle.etcs_form.specs.declared.error.FormError.TheVariants as forms
@@ -11,13 +11,16 @@ use Rattle.etcs_radio.specs.declared.error.RadioTextError.TheVariants as radio
 use Rattle.etcs_telegram.specs.declared.error.TextError.{TextError}
 use Rattle.etcs_telegram.specs.declared.error.TextError.TheVariants as texts
 
--- the bytes are no JSON, the value has not the form of a line, a group has no balise or too many, the
--- text of a balise in a group is no telegram, or the text of a message is no message
+-- the bytes are no JSON, the value has not the form of a line, a group has no balise or too many, it has
+-- no aspect or two whose counts of balises differ, the text of a balise in a group or in an aspect of
+-- one is no telegram, or the text of a message is no message
 pub data DocumentFault : Type 0 where
   no_json : DocumentFault
   bad_form : Fault → DocumentFault
   bad_count : ℕ → DocumentFault
+  bad_aspects : ℕ → DocumentFault
   bad_telegram : ℕ → ℕ → TextError → DocumentFault
+  bad_aspect_telegram : ℕ → ℕ → ℕ → TextError → DocumentFault
   bad_message : ℕ → RadioTextError → DocumentFault
 
 -- ---- the fault of an error
@@ -29,8 +32,11 @@ Fails errors.Memory reading = Unit {0}
 Fails errors.NotJson reading = reading ≡ Err no_json
 Fails (errors.Form e) reading = IsSomeAnd (fault_of e) (λ f. reading ≡ Err (bad_form f))
 Fails (errors.Count g) reading = reading ≡ Err (bad_count g)
+Fails (errors.Aspects g) reading = reading ≡ Err (bad_aspects g)
 Fails (errors.Telegram g b texts.Memory) reading = ⊥
 Fails (errors.Telegram g b e) reading = reading ≡ Err (bad_telegram g b e)
+Fails (errors.AspectTelegram g a b texts.Memory) reading = ⊥
+Fails (errors.AspectTelegram g a b e) reading = reading ≡ Err (bad_aspect_telegram g a b e)
 Fails (errors.Message m radio.Memory) reading = ⊥
 Fails (errors.Message m e) reading = reading ≡ Err (bad_message m e)
 

@@ -89,8 +89,8 @@ stream_words (streams.Fault fault) = fault_words fault
 stream_words streams.BelowThree = codes "length below 3"
 stream_words streams.CutOff = codes "cut off"
 
--- Why bytes are no document of a line: a group, a balise and a message are told by their places. Want
--- of memory is no reason.
+-- Why bytes are no document of a line: a group, an aspect, a balise and a message are told by their
+-- places. Want of memory is no reason.
 unfoldable pub document_words : LineError → List ℕ
 document_words documents.Memory = []
 document_words documents.NotJson = codes "not JSON"
@@ -99,6 +99,10 @@ document_words (documents.Count g) = codes "group " ++ (decimal g ++ codes ": co
 document_words (documents.Telegram g b why) =
     codes "group " ++ (decimal g ++ (codes " balise " ++ (decimal b ++ (codes ": " ++ text_words why))))
 document_words (documents.Message m why) = codes "message " ++ (decimal m ++ (codes ": " ++ radio_words why))
+document_words (documents.Aspects g) = codes "group " ++ (decimal g ++ codes ": aspects")
+document_words (documents.AspectTelegram g a b why) =
+    codes "group " ++ (decimal g ++ (codes " aspect " ++ (decimal a ++ (codes " balise " ++ (decimal b
+    ++ (codes ": " ++ text_words why))))))
 
 -- the line that tells a refusal
 unfoldable pub refusal_words : Refusal → List ℕ
@@ -131,6 +135,7 @@ IsDocumentTold documents.Memory = ⊥
 IsDocumentTold (documents.Form why) = IsFormTold why
 IsDocumentTold (documents.Telegram g b why) = IsTextTold why
 IsDocumentTold (documents.Message m why) = IsRadioTextTold why
+IsDocumentTold (documents.AspectTelegram g a b why) = IsTextTold why
 IsDocumentTold _ = Unit {0}
 
 abbrev pub IsTold : Refusal → Type 0

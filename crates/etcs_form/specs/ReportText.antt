@@ -27,6 +27,8 @@ rule_number rules.GradientShort = codes "F11"
 rule_number rules.NoSpeed = codes "F12"
 rule_number rules.SpeedShort = codes "F13"
 rule_number rules.IdentityUsed = codes "F14"
+rule_number rules.MarksDiffer = codes "F15"
+rule_number rules.NotToldApart = codes "F16"
 
 -- the name of what a rule finds
 unfoldable pub rule_name : Rule → List ℕ
@@ -44,6 +46,8 @@ rule_name rules.GradientShort = codes "gradient short"
 rule_name rules.NoSpeed = codes "no speed profile"
 rule_name rules.SpeedShort = codes "speed profile short"
 rule_name rules.IdentityUsed = codes "identity used before"
+rule_name rules.MarksDiffer = codes "marks differ between aspects"
+rule_name rules.NotToldApart = codes "aspects not told apart"
 
 -- ---- where a finding stands
 
@@ -51,6 +55,11 @@ rule_name rules.IdentityUsed = codes "identity used before"
 unfoldable pub site_words : Site → List ℕ
 site_words (sites.Group g) = codes " group " ++ decimal g
 site_words (sites.Message m) = codes " message " ++ decimal m
+
+-- the aspect, where the finding has one
+unfoldable pub aspect_words : Option ℕ → List ℕ
+aspect_words None = []
+aspect_words (Some a) = codes " aspect " ++ decimal a
 
 -- the balise, where the finding has one
 unfoldable pub balise_words : Option ℕ → List ℕ
@@ -71,7 +80,8 @@ direction_words (Some runs.Reverse) = codes " reverse"
 -- the way from the line to what is at fault, and the running direction
 unfoldable pub place_words : Finding → List ℕ
 place_words f =
-    site_words f.site ++ (balise_words f.balise ++ (packet_words f.packet ++ direction_words f.dir))
+    site_words f.site
+    ++ (aspect_words f.aspect ++ (balise_words f.balise ++ (packet_words f.packet ++ direction_words f.dir)))
 
 -- ---- the lines
 

@@ -1,18 +1,20 @@
 -- What a yes says of bytes: they are the document of a line, and the line is sound.
-use Rattle.std.specs.Prelude.{◌≡◌, ◌↔◌, ℕ, Bool, List, [], Option, Result, Ok, Err, codes, filter, option_and_then, IsOkAnd, IsSomeAnd}
+use Rattle.std.specs.Prelude.{◌≡◌, ◌↔◌, ℕ, Bool, List, [], Option, Some, Result, Ok, codes, filter, option_and_then, IsOkAnd, IsSomeAnd}
+use Rattle.std.specs.Option.{option_map_or}
 use Rattle.serde_json.specs.Data.{Data}
 use Rattle.serde_json.specs.Find.{as_str, at, get}
 use Rattle.etcs_check.specs.Line.{findings}
 use Rattle.etcs_check.specs.Profiles.{AreReached}
 use Rattle.etcs_check.specs.Soundness.{IsSoundLine}
 use Rattle.etcs_check.specs.declared.finding.Finding.{Finding}
-use Rattle.etcs_form.specs.Document.{◌then◌, json_of, line_of_text}
+use Rattle.etcs_form.specs.Document.{◌then◌, json_of, line_of, line_of_text}
 use Rattle.etcs_form.specs.DocumentFault.{DocumentFault}
 use Rattle.etcs_form.specs.declared.line_error.LineError.{LineError}
-use Rattle.etcs_form.specs.declared.line_error.LineError.TheVariants as errors
 use Rattle.etcs_form.specs.declared.verdict.Verdict.{Verdict}
 use Rattle.etcs_group.specs.Assembly.{IsAccepted}
+use Rattle.etcs_group.specs.Laws.{IsMixtureDecided}
 use Rattle.etcs_group.specs.Missed.{IsCovered, IsSetOf, none_missed}
+use Rattle.etcs_group.specs.Mixture.{Fits}
 use Rattle.etcs_group.specs.Packets.{packets_of}
 use Rattle.etcs_group.specs.Places.{At}
 use Rattle.etcs_group.specs.Reading.{reading_of}
@@ -28,10 +30,10 @@ use Rattle.etcs_telegram.specs.Text.{IsTelegramText}
 
 -- a line, and all its findings
 abbrev pub Judged : Type 0
-Judged = (List (List Telegram) × List Message) × List Finding
+Judged = (List (List (List Telegram)) × List Message) × List Finding
 
 -- the line, with all facts against it
-abbrev pub judged : List (List Telegram) × List Message → Judged
+abbrev pub judged : List (List (List Telegram)) × List Message → Judged
 judged line = (line, findings line.0 line.1)
 
 -- the line of bytes with all facts against it, or the first fault of the bytes
@@ -48,11 +50,20 @@ IsSoundText bytes = IsOkAnd (line_of_text bytes) (λ line. IsSoundLine line.0 li
 
 -- ---- each telegram and each message has one record
 
--- the text of balise b of group g in a document, if there is one
-abbrev pub balise_text : Data → ℕ → ℕ → Option (List ℕ)
-balise_text d g b =
-    option_and_then as_str (option_and_then (at b) (option_and_then (get (codes "balises"))
-    (option_and_then (at g) (get (codes "groups") d))))
+-- the object with the balises of aspect a of a group: an item of its aspects if it has such a list, and
+-- else the group itself
+abbrev pub aspect_in : ℕ → Data → Option Data
+aspect_in a group = option_map_or (at a) (get (codes "aspects") group) (Some group)
+
+-- the text of balise b in an object with balises, if there is one
+abbrev pub balise_in : ℕ → Data → Option (List ℕ)
+balise_in b aspect = option_and_then as_str (option_and_then (at b) (get (codes "balises") aspect))
+
+-- the text of balise b in aspect a of group g in a document, if there is one
+abbrev pub balise_text : Data → ℕ → ℕ → ℕ → Option (List ℕ)
+balise_text d g a b =
+    option_and_then (balise_in b)
+    (option_and_then (aspect_in a) (option_and_then (at g) (get (codes "groups") d)))
 
 -- the text of message m in a document, if there is one
 abbrev pub message_text : Data → ℕ → Option (List ℕ)
@@ -76,23 +87,36 @@ abbrev pub IsReachedMessage : Message → Type 0
 IsReachedMessage (messages.Movement m) = (run : Run) → AreReached (filter (holds run) m.packets)
 IsReachedMessage (messages.Position m) = Unit {0}
 
--- Every telegram and message of the line has exactly one record. For every group, running direction
--- and set of missed balises whose declared duplicates are read, the assembled message is accepted and
--- equals that with nothing missed, every other set being refused. There, as in each radio message,
--- every movement authority has gradient and speed profiles, all reaching at least its supervised
--- location.
-pub record SaysYes (bytes : List ℕ) (groups : List (List Telegram)) (messages : List Message) : Type 0 where
+-- In each group a mixture is accepted exactly where it is covered and one aspect has, at their places, all
+-- the telegrams that it shows; its packets are then those of that aspect with nothing missed.
+abbrev pub AreMixturesDecided : List (List (List Telegram)) → Type 0
+AreMixturesDecided groups = (g : ℕ) (aspects : List (List Telegram)) (run : Run) (shown : ℕ → Option ℕ)
+    → At groups g aspects → Fits aspects shown → IsMixtureDecided run aspects shown
+
+-- Every telegram and message of the line has exactly one record. For each aspect of every group, running
+-- direction and set of missed balises whose declared duplicates are read, the assembled message is
+-- accepted and equals that with nothing missed, every other set being refused. There, as in each radio
+-- message, every movement authority has gradient and speed profiles, all reaching at least its supervised
+-- location. Mixtures of aspects are decided.
+pub record SaysYes (bytes : List ℕ) (groups : List (List (List Telegram))) (messages : List Message) : Type 0 where
   pub document : Data
   pub json : json_of bytes ≡ Ok document
-  pub telegrams : (g b : ℕ) (group : List Telegram) (t : Telegram) → At groups g group → At group b t
-      → IsSomeAnd (balise_text document g b) (λ text. IsOnlyTelegram text t)
+  pub line : line_of document ≡ Ok (groups, messages)
+  pub telegrams : (g a b : ℕ) (aspects : List (List Telegram)) (group : List Telegram) (t : Telegram)
+      → At groups g aspects → At aspects a group → At group b t
+      → IsSomeAnd (balise_text document g a b) (λ text. IsOnlyTelegram text t)
   pub messages_read : (i : ℕ) (m : Message) → At messages i m
       → IsSomeAnd (message_text document i) (λ text. IsOnlyMessage text m)
-  pub accepted : (g : ℕ) (group : List Telegram) (run : Run) (missed : ℕ → Bool) → At groups g group
-      → IsSetOf group missed → IsCovered group missed ↔ IsAccepted run (reading_of run missed group)
-  pub same : (g : ℕ) (group : List Telegram) (run : Run) (missed : ℕ → Bool) → At groups g group
-      → IsSetOf group missed → IsCovered group missed
+  pub accepted : (g a : ℕ) (aspects : List (List Telegram)) (group : List Telegram)
+      → (run : Run) (missed : ℕ → Bool) → At groups g aspects → At aspects a group → IsSetOf group missed
+      → IsCovered group missed ↔ IsAccepted run (reading_of run missed group)
+  pub same : (g a : ℕ) (aspects : List (List Telegram)) (group : List Telegram)
+      → (run : Run) (missed : ℕ → Bool) → At groups g aspects → At aspects a group → IsSetOf group missed
+      → IsCovered group missed
       → packets_of run (reading_of run missed group) ≡ packets_of run (reading_of run none_missed group)
-  pub reached : (g : ℕ) (group : List Telegram) (run : Run) (missed : ℕ → Bool) → At groups g group
-      → IsSetOf group missed → IsCovered group missed → AreReached (packets_of run (reading_of run missed group))
+  pub reached : (g a : ℕ) (aspects : List (List Telegram)) (group : List Telegram)
+      → (run : Run) (missed : ℕ → Bool) → At groups g aspects → At aspects a group → IsSetOf group missed
+      → IsCovered group missed
+      → AreReached (packets_of run (reading_of run missed group))
+  pub mixtures : AreMixturesDecided groups
   pub messages_reached : (i : ℕ) (m : Message) → At messages i m → IsReachedMessage m

@@ -37,12 +37,15 @@ fn read_document(alloc: Global, value: &Value) -> Result<Line, LineError>
 }
 
 /// Reads the document of a railway line: `{"groups":[{"balises":["TEXT"]}],"messages":["TEXT"]}`,
-/// where each text is the hexadecimal digits of a telegram or of a radio message (this project's
-/// form).
+/// where each text is the hexadecimal digits of a telegram or of a radio message. A group that a
+/// lineside unit switches is `{"aspects":[{"balises":["TEXT"]}]}`, with each content that it shows.
+/// (The form is this project's.)
 ///
 /// The error is the first fault, depth first: `NotJson`; then the document's own form; then each group
-/// whole before the next, which is its form, the count of its balises and each of these; and only
-/// then the messages. The one error besides is that memory ran out: a fault may then go unseen.
+/// whole before the next, which is its form, the count of its balises and each of these, or its list
+/// of aspects, each whole before the next; and only then the messages. An aspect's count is compared
+/// with that of aspect 0 before its balises are looked at. The one error besides is that memory ran
+/// out: a fault may then go unseen.
 #[tactic(auto, unfolding(crate::specs::Document::line_of_text))]
 pub fn read_line(alloc: Global, bytes: &[u8]) -> Result<Line, LineError>
     ensures { Gives (λ l. (l.groups.items, l.messages.items)) result (line_of_text bytes.now) }

@@ -2,92 +2,75 @@
 
 ghost use Rattle.std.specs.Prelude.{◌≡◌, ◌∷◌, [], ◌<◌, ◌≤◌, codes, length, map, IfOk};
 ghost use Rattle.serde_json.specs.View.{view};
-ghost use Rattle.etcs_form.specs.Document.{balises_of, each_from, group_at, groups_of, telegram_at, telegrams_of};
+ghost use Rattle.etcs_form.specs.Document.{aspects_of, controlled_at, each_from, group_at, groups_of, list_of_aspects, only_aspect, others_of, with_first};
 ghost use Rattle.etcs_form.specs.DocumentFault.{Gives};
 ghost use Rattle.etcs_form.specs.Fault.{Gives as GivesForm};
 
+use crate::document_aspects::{balises_in, read_aspect, read_counted};
 use crate::document_values::values_at;
 use crate::error::{FormError, Step};
 use crate::known_keys::check_keys;
-use crate::line_error::{LineError, kind_at};
-use etcs_group::Group;
-use etcs_telegram::{Telegram, TextError, from_hex};
+use crate::line_error::LineError;
+use etcs_group::{Controlled, Group};
 use serde_json::Value;
 use std::alloc::Global;
 
-// Reads balise `place` of a group: a text, which is a telegram.
-#[tactic(auto, unfolding(crate::specs::Document::telegram_at))]
-fn read_telegram(
+// Reads the aspects after the first, which has so many balises, one after the other.
+fn read_others(
     alloc: Global,
     group: usize,
-    place: usize,
-    value: &Value,
-) -> Result<Telegram, LineError>
-    ensures { Gives (λ t. t) result (telegram_at group place (view value.now)) }
+    count: usize,
+    first: Group,
+    values: &[Value],
+) -> Result<Vec<Group>, LineError>
+    ensures { Gives (λ v. v.items) result (with_first first (others_of group count (map view values.now))) }
 {
-    let Some(text) = value.as_str() else {
-        return Err(kind_at(
-            alloc,
-            &[
-                Step::Key("groups"),
-                Step::Place(group),
-                Step::Key("balises"),
-                Step::Place(place),
-            ],
-        ));
-    };
-    match from_hex(alloc, text.as_bytes()) {
-        Ok(telegram) => Ok(telegram),
-        Err(TextError::Memory) => Err(LineError::Memory),
-        Err(why) => Err(LineError::Telegram(group, place, why)),
+    let mut aspects = Vec::new(alloc);
+    if aspects.push(first).is_err() {
+        return Err(LineError::Memory);
     }
-}
-
-// Reads the balises of a group, one after the other.
-fn read_telegrams(alloc: Global, group: usize, values: &[Value]) -> Result<Vec<Telegram>, LineError>
-    ensures { Gives (λ v. v.items) result (each_from (telegram_at group) 0 (map view values.now)) }
-{
-    let mut telegrams = Vec::new(alloc);
-    'balises: for (place, value) in values.iter().enumerate() {
-        let telegram = read_telegram(alloc, group, place, value)?;
-        if telegrams.push(telegram).is_err() {
+    'aspects: for (index, value) in values.iter().enumerate() {
+        let aspect = read_aspect(alloc, group, Some(count), index + 1, value)?;
+        if aspects.push(aspect).is_err() {
             return Err(LineError::Memory);
         }
     }
-    Ok(telegrams)
+    Ok(aspects)
 }
 
-// Reads a group of one to eight balises. Their count comes before them.
-#[tactic(auto, unfolding(crate::specs::Document::telegrams_of))]
-fn read_counted(alloc: Global, place: usize, values: &[Value]) -> Result<Group, LineError>
-    ensures { Gives (λ g. g) result (telegrams_of place (map view values.now)) }
+// Reads the aspects of the group at this place, each whole before the next.
+#[tactic(auto, unfolding(crate::specs::Document::aspects_of))]
+fn read_aspects(alloc: Global, group: usize, values: &[Value]) -> Result<Controlled, LineError>
+    ensures { Gives (λ c. c) result (aspects_of group (map view values.now)) }
 {
-    if values.is_empty() || values.len() > 8 {
-        return Err(LineError::Count(place));
+    if values.is_empty() {
+        return Err(LineError::Aspects(group));
     }
-    let telegrams = read_telegrams(alloc, place, values)?;
-    match Group::new(telegrams) {
-        Ok(group) => Ok(group),
-        Err(_) => Err(LineError::Count(place)),
+    let first = read_aspect(alloc, group, None, 0, &values[0])?;
+    let count = first.telegrams().len();
+    let aspects = read_others(alloc, group, count, first, &values[1..])?;
+    match Controlled::new(aspects) {
+        Ok(controlled) => Ok(controlled),
+        Err(_) => Err(LineError::Aspects(group)),
     }
 }
 
-// The balises of a group, none of which is looked at.
-#[tactic(auto, unfolding(crate::specs::Document::balises_of))]
-fn balises_in<'a>(alloc: Global, value: &'a Value) -> Result<&'a [Value], FormError>
-    ensures { GivesForm (λ vs. map view vs.now) result (balises_of (view value.now)) }
+// The aspects of a group, none of which is looked at.
+#[tactic(auto, unfolding(crate::specs::Document::list_of_aspects))]
+fn aspects_in<'a>(alloc: Global, value: &'a Value) -> Result<&'a [Value], FormError>
+    ensures { GivesForm (λ vs. map view vs.now) result (list_of_aspects (view value.now)) }
 {
-    check_keys(alloc, value, &["balises"])?;
-    values_at(alloc, value, "balises")
+    check_keys(alloc, value, &["aspects"])?;
+    values_at(alloc, value, "aspects")
 }
 
-// Reads the group at this place: its form, the count of its balises, and then each of these.
-#[tactic(auto, unfolding(crate::specs::Document::group_at))]
-fn read_group(alloc: Global, place: usize, value: &Value) -> Result<Group, LineError>
-    ensures { Gives (λ g. g) result (group_at place (view value.now)) }
+// Reads the group at this place, which has a list of aspects.
+#[tactic(auto, unfolding(crate::specs::Document::controlled_at))]
+fn read_controlled(alloc: Global, place: usize, value: &Value) -> Result<Controlled, LineError>
+    ensures { Gives (λ c. c) result (controlled_at place (view value.now)) }
 {
-    match balises_in(alloc, value) {
-        Ok(balises) => read_counted(alloc, place, balises),
+    match aspects_in(alloc, value) {
+        Ok(aspects) => read_aspects(alloc, place, aspects),
         Err(error) => {
             let error = error.under(Step::Place(place)).under(Step::Key("groups"));
             Err(LineError::from(error))
@@ -95,8 +78,49 @@ fn read_group(alloc: Global, place: usize, value: &Value) -> Result<Group, LineE
     }
 }
 
+// The controlled group with this one aspect.
+fn alone(alloc: Global, group: Group) -> Result<Controlled, LineError>
+    ensures { Gives (λ c. c) result (Ok (group ∷ [])) }
+{
+    let Ok(aspects) = (vec![in alloc; group]) else {
+        return Err(LineError::Memory);
+    };
+    match Controlled::new(aspects) {
+        Ok(controlled) => Ok(controlled),
+        Err(_) => unreachable!("one aspect has one count"),
+    }
+}
+
+// Reads the group at this place, which has balises: its form, their count, and then each of them.
+#[tactic(auto, unfolding(crate::specs::Document::only_aspect))]
+fn read_uncontrolled(alloc: Global, place: usize, value: &Value) -> Result<Controlled, LineError>
+    ensures { Gives (λ c. c) result (only_aspect place (view value.now)) }
+{
+    match balises_in(alloc, value) {
+        Ok(balises) => {
+            let group = read_counted(alloc, place, None, None, balises)?;
+            alone(alloc, group)
+        }
+        Err(error) => {
+            let error = error.under(Step::Place(place)).under(Step::Key("groups"));
+            Err(LineError::from(error))
+        }
+    }
+}
+
+// Reads the group at this place: one with the key `aspects` if it is there, and else one with balises.
+#[tactic(auto, unfolding(crate::specs::Document::group_at))]
+fn read_group(alloc: Global, place: usize, value: &Value) -> Result<Controlled, LineError>
+    ensures { Gives (λ c. c) result (group_at place (view value.now)) }
+{
+    match value.get("aspects") {
+        Some(_) => read_controlled(alloc, place, value),
+        None => read_uncontrolled(alloc, place, value),
+    }
+}
+
 // Reads groups, one after the other.
-fn read_each(alloc: Global, values: &[Value]) -> Result<Vec<Group>, LineError>
+fn read_each(alloc: Global, values: &[Value]) -> Result<Vec<Controlled>, LineError>
     ensures { Gives (λ v. v.items) result (each_from group_at 0 (map view values.now)) }
 {
     let mut groups = Vec::new(alloc);
@@ -111,7 +135,7 @@ fn read_each(alloc: Global, values: &[Value]) -> Result<Vec<Group>, LineError>
 
 /// Reads the groups of a document, each whole before the next.
 #[tactic(auto, unfolding(crate::specs::Document::groups_of))]
-pub(crate) fn read_groups(alloc: Global, value: &Value) -> Result<Vec<Group>, LineError>
+pub(crate) fn read_groups(alloc: Global, value: &Value) -> Result<Vec<Controlled>, LineError>
     ensures { Gives (λ v. v.items) result (groups_of (view value.now)) }
 {
     let values = values_at(alloc, value, "groups")?;

@@ -11,11 +11,15 @@ use etcs_check::check;
 use std::alloc::Global;
 
 /// Reads the document of a railway line, and finds all facts against the line. Where none is found,
-/// the answer is yes: every telegram and message of the line has exactly one record, and for every
-/// group, running direction and set of missed balises whose declared duplicates are read, the
-/// assembled message is accepted and equals that with nothing missed, every other set being refused;
-/// there, as in each radio message, every movement authority has gradient and speed profiles, all
-/// reaching at least its supervised location.
+/// the answer is yes: every telegram and message of the line has exactly one record, and for each
+/// aspect of every group, running direction and set of missed balises whose declared duplicates are
+/// read, the assembled message is accepted and equals that with nothing missed, every other set being
+/// refused; there, as in each radio message, every movement authority has gradient and speed profiles,
+/// all reaching at least its supervised location.
+///
+/// Where a unit switches a group while a train passes, the train reads a mixture of aspects. A yes also
+/// says that a mixture is accepted exactly where it is covered and one aspect has, at their places, all
+/// the telegrams that it shows. Its packets are then those of that aspect with nothing missed.
 ///
 /// The error is that of [`read_line`]. Findings take memory too.
 pub fn check_text(alloc: Global, bytes: &[u8]) -> Result<Verdict, LineError>

@@ -18,6 +18,7 @@ mod body_text;
 mod building;
 mod cover_form;
 mod document;
+mod document_aspects;
 mod document_groups;
 mod document_messages;
 mod document_values;

@@ -11,8 +11,8 @@ use etcs_radio::RadioTextError;
 use etcs_telegram::TextError;
 use std::alloc::Global;
 
-/// Why bytes are not the document of a railway line: their first fault, depth first. Groups, balises
-/// and messages count from 0.
+/// Why bytes are not the document of a railway line: their first fault, depth first. Groups,
+/// aspects, balises and messages count from 0.
 #[derive(Debug, Drop)]
 pub enum LineError {
     /// Memory ran out. A fault may then go unseen. It stands inside no other error.
@@ -28,6 +28,12 @@ pub enum LineError {
     Telegram(usize, usize, TextError),
     /// The text of the message with this number is no radio message.
     Message(usize, RadioTextError),
+    /// The group with this number has an empty list of aspects, or an aspect whose count of balises
+    /// differs from that of aspect 0.
+    Aspects(usize),
+    /// In the group with the first number, in the aspect with the second, the balise with the third
+    /// has a text that is no telegram.
+    AspectTelegram(usize, usize, usize, TextError),
 }
 
 impl From<Memory> for LineError {

@@ -174,6 +174,11 @@ fn document_reason(alloc: Global, why: &LineError) -> Result<String, AllocError>
             let reason = radio_reason(alloc, why)?;
             format!(in alloc; "message {message}: {reason}")
         }
+        LineError::Aspects(group) => format!(in alloc; "group {group}: aspects"),
+        LineError::AspectTelegram(group, aspect, balise, why) => {
+            let reason = text_reason(alloc, why)?;
+            format!(in alloc; "group {group} aspect {aspect} balise {balise}: {reason}")
+        }
     }
 }
 

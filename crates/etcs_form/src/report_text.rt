@@ -1,7 +1,7 @@
 //! `report`: what a check of a line found, as text.
 
 ghost use Rattle.std.specs.Prelude.{◌≡◌, ◌++◌, length, string_bytes, IfOk, OnOk};
-ghost use Rattle.etcs_form.specs.ReportText.{balise_words, direction_words, finding_words, findings_words, packet_words, place_words, report_words, rule_name, rule_number, site_words};
+ghost use Rattle.etcs_form.specs.ReportText.{aspect_words, balise_words, direction_words, finding_words, findings_words, packet_words, place_words, report_words, rule_name, rule_number, site_words};
 
 use etcs_bits::Memory;
 use etcs_check::{Finding, Line, Rule, Site};
@@ -28,6 +28,8 @@ fn number_of(rule: Rule) -> &'static str
         Rule::NoSpeed => "F12",
         Rule::SpeedShort => "F13",
         Rule::IdentityUsed => "F14",
+        Rule::MarksDiffer => "F15",
+        Rule::NotToldApart => "F16",
     }
 }
 
@@ -51,6 +53,8 @@ fn name_of(rule: Rule) -> &'static str
         Rule::NoSpeed => "no speed profile",
         Rule::SpeedShort => "speed profile short",
         Rule::IdentityUsed => "identity used before",
+        Rule::MarksDiffer => "marks differ between aspects",
+        Rule::NotToldApart => "aspects not told apart",
     }
 }
 
@@ -62,6 +66,17 @@ fn site_text(alloc: Global, site: Site) -> Result<String, AllocError>
     match site {
         Site::Group(place) => format!(in alloc; " group {place}"),
         Site::Message(place) => format!(in alloc; " message {place}"),
+    }
+}
+
+// The aspect, where there is one.
+#[tactic(auto, unfolding(crate::specs::ReportText::aspect_words))]
+fn aspect_text(alloc: Global, aspect: Option<usize>) -> Result<String, AllocError>
+    ensures { IfOk result (λ s. string_bytes s ≡ aspect_words aspect) }
+{
+    match aspect {
+        None => format!(in alloc; ""),
+        Some(place) => format!(in alloc; " aspect {place}"),
     }
 }
 
@@ -105,10 +120,11 @@ fn place_text(alloc: Global, finding: &Finding) -> Result<String, AllocError>
     ensures { IfOk result (λ s. string_bytes s ≡ place_words finding.now) }
 {
     let site = site_text(alloc, finding.site)?;
+    let aspect = aspect_text(alloc, finding.aspect)?;
     let balise = balise_text(alloc, finding.balise)?;
     let packet = packet_text(alloc, finding.packet)?;
     let direction = direction_text(finding.dir);
-    format!(in alloc; "{site}{balise}{packet}{direction}")
+    format!(in alloc; "{site}{aspect}{balise}{packet}{direction}")
 }
 
 // Appends the line that tells a finding.

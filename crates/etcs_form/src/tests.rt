@@ -1,6 +1,7 @@
 //! Forms that were worked out by hand: the JSON text of a record, the record of a text, and which
 //! fault is told of a text that is no form.
 
+mod aspects;
 mod authorities;
 mod documents;
 mod faults;

@@ -9,8 +9,8 @@ use etcs_check::{Finding, Line};
 pub struct Verdict {
     /// The line.
     pub line: Line,
-    /// All facts against it: by group, then by message; within each by rule, then by running
-    /// direction, nominal first, then by balise and packet.
+    /// All facts against it: by group, then by message; within each by rule, then by aspect, none
+    /// first, then by running direction, nominal first, then by balise and packet.
     pub findings: Vec<Finding>,
 }
 

@@ -1,18 +1,8 @@
 //! Lines of no group, and of many.
 
-use super::{ALONE, SECOND, findings, short_group, text_of_all};
-use crate::{Line, Rule, Site, check, check_group};
-use etcs_group::Group;
-use std::alloc::Global;
+use super::{ALONE, SECOND, findings, line_of_groups, short_group, text_of_all, unswitched};
+use crate::{Rule, Site, check, check_group};
 use std::test::Fail;
-
-// A line without messages.
-fn line_of_groups(alloc: Global, groups: Vec<Group>) -> Line {
-    Line {
-        groups,
-        messages: Vec::new(alloc),
-    }
-}
 
 #[test]
 fn a_line_without_groups_has_no_finding(rt: HostRuntime) -> Result<(), Fail> {
@@ -27,7 +17,7 @@ fn an_identity_is_used_once(rt: HostRuntime) -> Result<(), Fail> {
     let alloc = rt.alloc();
     let mut groups = Vec::new(alloc);
     'fronts: for front in [ALONE, "a1007f802001", ALONE, ALONE] {
-        groups.push(short_group(alloc, &[front])?)?;
+        groups.push(unswitched(alloc, short_group(alloc, &[front])?)?)?;
     }
     let line = line_of_groups(alloc, groups);
     assert_eq!(rt;
@@ -40,10 +30,10 @@ fn an_identity_is_used_once(rt: HostRuntime) -> Result<(), Fail> {
 #[test]
 fn a_group_is_checked_by_itself(rt: HostRuntime) -> Result<(), Fail> {
     let alloc = rt.alloc();
-    let alone = short_group(alloc, &[ALONE])?;
+    let alone = unswitched(alloc, short_group(alloc, &[ALONE])?)?;
     let found = check_group(alloc, 3, false, &alone)?;
     assert_eq!(rt; text_of_all(alloc, found.as_slice())?.as_str(), "");
-    let second = short_group(alloc, &[SECOND])?;
+    let second = unswitched(alloc, short_group(alloc, &[SECOND])?)?;
     let found = check_group(alloc, 3, true, &second)?;
     assert_eq!(rt;
         text_of_all(alloc, found.as_slice())?.as_str(),
@@ -57,7 +47,7 @@ fn a_line_may_have_thousands_of_findings(rt: HostRuntime) -> Result<(), Fail> {
     let alloc = rt.alloc();
     let mut groups = Vec::new(alloc);
     'groups: for _ in 0..1000u32 {
-        groups.push(short_group(alloc, &[SECOND])?)?;
+        groups.push(unswitched(alloc, short_group(alloc, &[SECOND])?)?)?;
     }
     let found = check(alloc, &line_of_groups(alloc, groups))?;
     assert_eq!(rt; found.len(), 3999);

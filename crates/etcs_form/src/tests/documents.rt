@@ -103,7 +103,7 @@ const FAULTS: [(&str, &str); 31] = [
 ];
 
 // The error in words.
-fn error_text(alloc: Global, error: &LineError) -> Result<String, Fail> {
+pub(crate) fn error_text(alloc: Global, error: &LineError) -> Result<String, Fail> {
     let text = match error {
         LineError::Memory => return Err("out of memory".into()),
         LineError::NotJson => format!(in alloc; "not JSON")?,
@@ -113,12 +113,16 @@ fn error_text(alloc: Global, error: &LineError) -> Result<String, Fail> {
             format!(in alloc; "group {group} balise {balise}: {why}")?
         }
         LineError::Message(place, why) => format!(in alloc; "message {place}: {why}")?,
+        LineError::Aspects(group) => format!(in alloc; "group {group}: aspects")?,
+        LineError::AspectTelegram(group, aspect, balise, why) => {
+            format!(in alloc; "group {group} aspect {aspect} balise {balise}: {why}")?
+        }
     };
     Ok(text)
 }
 
 // The first fault of bytes in words; the empty text if they are a line.
-fn fault_of(alloc: Global, bytes: &[u8]) -> Result<String, Fail> {
+pub(crate) fn fault_of(alloc: Global, bytes: &[u8]) -> Result<String, Fail> {
     match read_line(alloc, bytes) {
         Ok(_) => Ok(String::new(alloc)),
         Err(error) => error_text(alloc, &error),
@@ -138,7 +142,7 @@ fn nested(alloc: Global, levels: usize) -> Result<String, Fail> {
 }
 
 // The items between commas: each a JSON text.
-fn listed(alloc: Global, list: String, item: &str) -> Result<String, Fail> {
+pub(crate) fn listed(alloc: Global, list: String, item: &str) -> Result<String, Fail> {
     if list.is_empty() {
         Ok(format!(in alloc; "{item}")?)
     } else {
@@ -147,7 +151,7 @@ fn listed(alloc: Global, list: String, item: &str) -> Result<String, Fail> {
 }
 
 // The group of the telegrams that begin with these digits.
-fn group_text(alloc: Global, fronts: &[&str]) -> Result<String, Fail> {
+pub(crate) fn group_text(alloc: Global, fronts: &[&str]) -> Result<String, Fail> {
     let mut list = String::new(alloc);
     'fronts: for front in fronts {
         let text = if front.len() <= 52 {
@@ -185,6 +189,7 @@ fn at_balise(rule: Rule, balise: usize, dir: Option<Run>, packet: Option<usize>)
     Finding {
         rule,
         site: Site::Group(0),
+        aspect: None,
         dir,
         balise: Some(balise),
         packet,
@@ -196,6 +201,7 @@ fn at_site(rule: Rule, site: Site, dir: Option<Run>) -> Finding {
     Finding {
         rule,
         site,
+        aspect: None,
         dir,
         balise: None,
         packet: None,
@@ -243,8 +249,8 @@ fn a_line_has_all_groups_and_messages(rt: HostRuntime) -> Result<(), Fail> {
         return Err("no line".into());
     };
     assert_eq!(rt; line.groups.len(), 2);
-    assert_eq!(rt; line.groups[0].telegrams().len(), 2);
-    assert_eq!(rt; line.groups[1].telegrams().len(), 1);
+    assert_eq!(rt; line.groups[0].aspects()[0].telegrams().len(), 2);
+    assert_eq!(rt; line.groups[1].aspects()[0].telegrams().len(), 1);
     assert_eq!(rt; line.messages.len(), 1);
     Ok(())
 }

@@ -122,6 +122,32 @@ fn documents_are_refused_without_a_place(rt: HostRuntime) -> Result<(), Fail> {
 }
 
 #[test]
+fn aspects_are_refused_with_their_place(rt: HostRuntime) -> Result<(), Fail> {
+    let alloc = rt.alloc();
+    assert_eq!(rt;
+        document(alloc, LineError::Aspects(0))?.as_str(),
+        "refused: group 0: aspects\n"
+    );
+    assert_eq!(rt;
+        document(
+            alloc,
+            LineError::AspectTelegram(0, 1, 0, TextError::PadBits)
+        )?
+        .as_str(),
+        "refused: group 0 aspect 1 balise 0: pad bits set\n"
+    );
+    assert_eq!(rt;
+        document(
+            alloc,
+            LineError::AspectTelegram(12, 2, 7, TextError::Fault(SPARE))
+        )?
+        .as_str(),
+        "refused: group 12 aspect 2 balise 7: spare at 15 end 17\n"
+    );
+    Ok(())
+}
+
+#[test]
 fn groups_and_messages_are_refused_with_their_place(rt: HostRuntime) -> Result<(), Fail> {
     let alloc = rt.alloc();
     assert_eq!(rt;

@@ -2,7 +2,7 @@
 
 use crate::report;
 use etcs_check::{Finding, Line, Rule, Site};
-use etcs_group::Group;
+use etcs_group::{Controlled, Group};
 use etcs_packet::Run;
 use etcs_telegram::from_hex;
 use std::alloc::Global;
@@ -17,7 +17,9 @@ fn line_of(alloc: Global, count: usize) -> Result<Line, Fail> {
     let mut groups = Vec::new(alloc);
     for _ in 0..count {
         let telegrams = vec![in alloc; from_hex(alloc, ALONE)?]?;
-        groups.push(Group::new(telegrams).map_err(|_| "no group")?)?;
+        let group = Group::new(telegrams).map_err(|_| "no group")?;
+        let aspects = vec![in alloc; group]?;
+        groups.push(Controlled::new(aspects).map_err(|_| "no controlled group")?)?;
     }
     Ok(Line {
         groups,
@@ -30,6 +32,7 @@ fn of_group(rule: Rule, dir: Option<Run>, balise: Option<usize>, packet: Option<
     Finding {
         rule,
         site: Site::Group(0),
+        aspect: None,
         dir,
         balise,
         packet,
@@ -41,6 +44,7 @@ fn of_message(rule: Rule, place: usize, dir: Option<Run>, packet: Option<usize>)
     Finding {
         rule,
         site: Site::Message(place),
+        aspect: None,
         dir,
         balise: None,
         packet,
@@ -165,6 +169,42 @@ fn findings_about_a_message_have_no_balise(rt: HostRuntime) -> Result<(), Fail> 
         expect_line(rt.alloc(), &rt, of_message(rule, 2, dir, packet), line)?;
     }
     Ok(())
+}
+
+#[test]
+fn the_aspect_stands_after_the_group(rt: HostRuntime) -> Result<(), Fail> {
+    for (rule, aspect, balise, line) in [
+        (
+            Rule::MarksDiffer,
+            Some(1),
+            Some(0),
+            "F15 group 0 aspect 1 balise 0: marks differ between aspects",
+        ),
+        (
+            Rule::NotToldApart,
+            Some(10),
+            Some(7),
+            "F16 group 0 aspect 10 balise 7: aspects not told apart",
+        ),
+        (
+            Rule::NotToldApart,
+            None,
+            Some(0),
+            "F16 group 0 balise 0: aspects not told apart",
+        ),
+    ] {
+        let finding = Finding {
+            aspect,
+            ..of_group(rule, None, balise, None)
+        };
+        expect_line(rt.alloc(), &rt, finding, line)?;
+    }
+    let finding = Finding {
+        aspect: Some(0),
+        ..of_group(Rule::SpeedShort, Some(Run::Reverse), Some(2), Some(1))
+    };
+    let line = "F13 group 0 aspect 0 balise 2 packet 1 reverse: speed profile short";
+    expect_line(rt.alloc(), &rt, finding, line)
 }
 
 #[test]

@@ -6,4 +6,4 @@ use Rattle.etcs_check.proofs.balise_rules.note_unmodelled.Given as goal
 -- the findings so far and those about the rest are all
 abbrev pub invariant-places : goal.invariant-places
 invariant-places l =
-    l.found.items ++ each_from (unmodelled_at l.site l.balise) l.place (drop l.place l.packets) ≡ l.initial.found.items ++ for_each l.packets (unmodelled_at l.site l.balise)
+    l.found.items ++ each_from (unmodelled_at l.spot l.balise) l.place (drop l.place l.packets) ≡ l.initial.found.items ++ for_each l.packets (unmodelled_at l.spot l.balise)

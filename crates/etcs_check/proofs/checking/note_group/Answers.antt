@@ -1,15 +1,15 @@
-use Rattle.std.proofs.Common.{◌≡◌, ◌≢◌, ◌++◌, [], OnOk, OnErr, subst, sym}
-use Rattle.etcs_check.specs.Findings.{group_facts}
-use Rattle.etcs_check.proofs.NoteLemmas.{index_at}
+use Rattle.std.proofs.lemmas.Option.{slice_get-get_or}
+use Rattle.etcs_check.specs.Aspects.{rule_facts}
+use Rattle.etcs_check.specs.Findings.{all_rules}
+use Rattle.etcs_check.proofs.NoteLemmas.{on_err, flat_stands, flat_pushed}
 use Rattle.etcs_check.proofs.checking.note_group.Goals as goal
 
--- The group has a balise 0.
-pub returns-clause-ok : goal.returns-clause-ok
-returns-clause-ok c =
-    let first = index_at c.args.group.now 0 _ c.index-group-0.result c.requires.some c.index-group-0.is in
-    subst (λ o. OnOk c.note_rules.result (c.note_rules.new.found.items ≡ c.args.found.now.items ++ group_facts c.args.site o c.args.used c.args.group.now)) (sym first) c.note_rules.ensures.ok
+-- A finding of this rule is one of all.
+pub returns-in_err-note_group_rule-clause-memory : goal.returns-in_err-note_group_rule-clause-memory
+returns-in_err-note_group_rule-clause-memory c =
+    on_err _ _ (flat_stands (rule_facts c.args.site c.args.used c.args.aspects.now) all_rules c.rules.rule-index _ (slice_get-get_or all_rules c.rules.rule-index _ c.rules-test.true) c.in_err-note_group_rule.ensures.memory)
 
-pub returns-clause-memory : goal.returns-clause-memory
-returns-clause-memory c =
-    let first = index_at c.args.group.now 0 _ c.index-group-0.result c.requires.some c.index-group-0.is in
-    subst (λ o. OnErr c.note_rules.result (group_facts c.args.site o c.args.used c.args.group.now ≢ [])) (sym first) c.note_rules.ensures.memory
+-- The findings of this rule were appended.
+pub rules-preserved : goal.rules-preserved
+rules-preserved c =
+    flat_pushed (rule_facts c.args.site c.args.used c.args.aspects.now) all_rules c.rules.rule-index _ c.rules.found.items _ _ (slice_get-get_or all_rules c.rules.rule-index _ c.rules-test.true) c.in_ok-note_group_rule.ensures.ok c.rules.invariant

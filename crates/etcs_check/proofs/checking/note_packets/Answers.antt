@@ -7,9 +7,9 @@ use Rattle.etcs_check.proofs.checking.note_packets.Goals as goal
 -- A finding of this rule is one of all.
 pub returns-in_err-note_message_rule-clause-memory : goal.returns-in_err-note_message_rule-clause-memory
 returns-in_err-note_message_rule-clause-memory c =
-    on_err _ _ (flat_stands (message_facts c.args.site c.args.packets.now) all_rules c.rules.rule-index _ (slice_get-get_or all_rules c.rules.rule-index _ c.rules-test.true) c.in_err-note_message_rule.ensures.memory)
+    on_err _ _ (flat_stands (message_facts c.args.spot c.args.packets.now) all_rules c.rules.rule-index _ (slice_get-get_or all_rules c.rules.rule-index _ c.rules-test.true) c.in_err-note_message_rule.ensures.memory)
 
 -- The findings of this rule were appended.
 pub rules-preserved : goal.rules-preserved
 rules-preserved c =
-    flat_pushed (message_facts c.args.site c.args.packets.now) all_rules c.rules.rule-index _ c.rules.found.items _ _ (slice_get-get_or all_rules c.rules.rule-index _ c.rules-test.true) c.in_ok-note_message_rule.ensures.ok c.rules.invariant
+    flat_pushed (message_facts c.args.spot c.args.packets.now) all_rules c.rules.rule-index _ c.rules.found.items _ _ (slice_get-get_or all_rules c.rules.rule-index _ c.rules-test.true) c.in_ok-note_message_rule.ensures.ok c.rules.invariant

@@ -7,4 +7,4 @@ use Rattle.etcs_check.proofs.checking.note_packets.Given as goal
 -- the findings so far and those of the other rules are all
 abbrev pub invariant-rules : goal.invariant-rules
 invariant-rules l =
-    l.found.items ++ flat_map (message_facts l.site l.packets) (drop l.rule-index all_rules) ≡ l.initial.found.items ++ flat_map (message_facts l.site l.packets) all_rules
+    l.found.items ++ flat_map (message_facts l.spot l.packets) (drop l.rule-index all_rules) ≡ l.initial.found.items ++ flat_map (message_facts l.spot l.packets) all_rules

@@ -6,10 +6,10 @@ use Rattle.etcs_check.proofs.profile_rules.note_before.Goals as goal
 pub returns-in_err-note-clause-memory : goal.returns-in_err-note-clause-memory
 returns-in_err-note-clause-memory c =
     let at = index_at c.args.packets.now c.places.place _ c.index-packets-place.result c.places-test.true c.index-packets-place.is in
-    on_err _ _ (each_stands (before_at c.args.rule c.args.site (reach_of c.args.kind) c.args.limit c.args.run c.args.balise) c.args.packets.now c.places.place c.index-packets-place.result at (stands_as _ _ _ c.in_err-note.ensures.memory c.holds_before-fact.ensures))
+    on_err _ _ (each_stands (before_at c.args.rule c.args.spot (reach_of c.args.kind) c.args.limit c.args.run c.args.balise) c.args.packets.now c.places.place c.index-packets-place.result at (stands_as _ _ _ c.in_err-note.ensures.memory c.holds_before-fact.ensures))
 
 -- The findings of this packet were appended.
 pub places-preserved : goal.places-preserved
 places-preserved c =
     let at = index_at c.args.packets.now c.places.place _ c.index-packets-place.result c.places-test.true c.index-packets-place.is in
-    each_pushed (before_at c.args.rule c.args.site (reach_of c.args.kind) c.args.limit c.args.run c.args.balise) c.args.packets.now c.places.place c.index-packets-place.result c.places.found.items _ _ at (noted_as _ _ _ _ _ c.in_ok-note.ensures.ok c.holds_before-fact.ensures) c.places.invariant
+    each_pushed (before_at c.args.rule c.args.spot (reach_of c.args.kind) c.args.limit c.args.run c.args.balise) c.args.packets.now c.places.place c.index-packets-place.result c.places.found.items _ _ at (noted_as _ _ _ _ _ c.in_ok-note.ensures.ok c.holds_before-fact.ensures) c.places.invariant

@@ -1,4 +1,3 @@
-use Rattle.std.proofs.Common.{sym, ◌∙◌}
 use Rattle.etcs_form.proofs.DocumentLemmas.{is_json, is_no_json, is_not}
 use Rattle.etcs_form.proofs.document.read_json.Goals as goal
 

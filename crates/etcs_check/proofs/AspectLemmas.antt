@@ -1,0 +1,275 @@
+-- A controlled group has no finding exactly where it is sound, and what is read of a mixture is decided.
+use Rattle.std.proofs.Common.{◌≡◌, ◌≢◌, ℕ, zero, suc, ◌<◌, ◌↔◌, Bool, true, false, ltb, ◌||◌, List, [], ◌∷◌, length, slice_get, take, Some, None, refl, sym, ap, subst, ◌∙◌, arith}
+use Rattle.std.specs.List.{list_all}
+use Rattle.std.specs.Option.{option_map_or}
+use Rattle.std.proofs.lemmas.Option.{none-some, same_Some, slice_get_within}
+use Rattle.std.proofs.lemmas.Bool.{both_ways, cases_lt, and_parts, and_from, and_cases, and_left, and_right, or_cases, or_left, or_right, eqb-true, eq-eqb, ltb-true, lt-ltb, le-ltb, not-false, not_from_true, false_from_ne_true}
+use mathlib.Core.Logic.{◌⊎◌, inl, inr}
+use Rattle.etcs_telegram.specs.Record.{Telegram}
+use Rattle.etcs_group.specs.Places.{At}
+use Rattle.etcs_group.specs.Group.{AreAlike}
+use Rattle.etcs_group.specs.Controlled.{count_of, IsControlled, HasAt, IsFixed, IsSwitched, AreOneGroup}
+use Rattle.etcs_group.specs.Laws.{MakesOneMessage}
+use Rattle.etcs_group.proofs.PlaceLemmas.{some_at, one_at, at_list_any, list_any-at, At-take, at_take}
+use Rattle.etcs_group.proofs.MixtureLemmas.{mixtures_are_decided}
+use Rattle.etcs_check.specs.Soundness.{IsSoundGroup, IsSoundControlled, first_aspect}
+use Rattle.etcs_check.specs.Findings.{has_counter, is_counter_taken, mark_differs, finding_of, for_each}
+use Rattle.etcs_check.specs.Aspects.{whole, aspect_of, is_used, all_at, is_steady, is_counted, is_untold, whole_facts, aspect_facts, rule_facts, group_facts}
+use Rattle.etcs_check.specs.Laws.{NoFindingMeansSoundGroup, SoundMixturesAreDecided}
+use Rattle.etcs_check.specs.declared.finding.Rule.{Rule}
+use Rattle.etcs_check.specs.declared.finding.Rule.TheVariants as rules
+use Rattle.etcs_check.specs.declared.finding.Site.{Site}
+use Rattle.etcs_check.proofs.NumberLemmas.{Decides-same_mark, Decides-same_telegram}
+use Rattle.etcs_check.proofs.FindingLemmas.{append_parts, append_empty, rules-say, rules-empty, noted-false, noted-empty, for_each-says, for_each-empty}
+use Rattle.etcs_check.proofs.CleanLemmas.{IsClean, clean-from_facts, facts-from_clean, balises_clean, balises_empty}
+use Rattle.etcs_check.proofs.FormedLemmas.{alike_both, clean_first}
+use Rattle.etcs_check.proofs.SoundLemmas.{sound-from_clean, clean-from_sound}
+use Rattle.etcs_check.proofs.IdentityLemmas.{identity-at, unused-says, unused-is}
+
+-- ---- tests of all aspects
+
+list_all-at : {X : Type 0} (p : X → Bool) (xs : List X) → list_all p xs ≡ true → (i : ℕ) (x : X) → At xs i x → p x ≡ true
+list_all-at p [] h i x at = absurd (none-some x at)
+list_all-at p (y ∷ xs) h zero x at = ap p (sym (same_Some y x at)) ∙ (and_parts (p y) (list_all p xs) h).0
+list_all-at p (y ∷ xs) h (suc i) x at = list_all-at p xs (and_parts (p y) (list_all p xs) h).1 i x at
+
+at-list_all : {X : Type 0} (p : X → Bool) (xs : List X) → ((i : ℕ) (x : X) → At xs i x → p x ≡ true) → list_all p xs ≡ true
+at-list_all p [] h = refl
+at-list_all p (y ∷ xs) h = and_from (p y) (list_all p xs) (h 0 y refl) (at-list_all p xs (λ i x at. h (suc i) x at))
+
+all_at-says : (test : Telegram → Bool) (b : ℕ) (aspects : List (List Telegram)) → all_at test b aspects ≡ true → (a : ℕ) (t : Telegram) → HasAt aspects a b t → test t ≡ true
+all_at-says test b aspects h a t has =
+    ap (λ o. option_map_or test o false) (sym has.2) ∙ list_all-at (λ group. option_map_or test (slice_get group b) false) aspects h a has.0 has.1
+
+all_at-is : (test : Telegram → Bool) (b : ℕ) (aspects : List (List Telegram)) → ((a : ℕ) (group : List Telegram) → At aspects a group → (t : Telegram) × At group b t × (test t ≡ true)) → all_at test b aspects ≡ true
+all_at-is test b aspects h =
+    at-list_all (λ group. option_map_or test (slice_get group b) false) aspects (λ a group at. let t = h a group at in ap (λ o. option_map_or test o false) t.1 ∙ t.2)
+
+-- ---- the first aspect
+
+pub first_at : (aspects : List (List Telegram)) → 0 < length aspects → At aspects 0 (first_aspect aspects)
+first_at [] lt = absurd (omega arith)
+first_at (g ∷ gs) lt = refl
+
+count_is : (aspects : List (List Telegram)) → count_of aspects ≡ length (first_aspect aspects)
+count_is [] = refl
+count_is (g ∷ gs) = refl
+
+module _ (aspects : List (List Telegram)) (controlled : IsControlled aspects) where
+  first_here : At aspects 0 (first_aspect aspects)
+  first_here = first_at aspects controlled.some
+
+  first_long : 0 < length (first_aspect aspects)
+  first_long = subst (λ n. 0 < n) (count_is aspects) controlled.balises
+
+  as_long : (a : ℕ) (group : List Telegram) → At aspects a group → length group ≡ length (first_aspect aspects)
+  as_long a group at = controlled.counts a group at ∙ count_is aspects
+
+  -- aspect 0 has a balise at each place of an aspect
+  first_has : (a p : ℕ) (t : Telegram) → HasAt aspects a p t → (f : Telegram) × At (first_aspect aspects) p f
+  first_has a p t has =
+      let w = slice_get_within has.0 p t has.2 in
+      let l = as_long a has.0 has.1 in
+      some_at (first_aspect aspects) p (omega arith)
+
+  only_first : (a : ℕ) (group : List Telegram) → At aspects a group → (1 < length aspects → ⊥) → group ≡ first_aspect aspects
+  only_first a group at few =
+      let w = slice_get_within aspects a group at in
+      let z : a ≡ 0 = elim (cases_lt 1 (length aspects)) [ inl many ↦ absurd (few many) | inr le ↦ omega arith ] in
+      one_at aspects 0 group (first_aspect aspects) (subst (λ k. At aspects k group) z at) first_here
+
+pub aspect_long : (aspects : List (List Telegram)) → IsControlled aspects → (a : ℕ) (group : List Telegram) → At aspects a group → 0 < length group
+aspect_long aspects controlled a group at =
+    let l = as_long aspects controlled a group at in
+    let f = first_long aspects controlled in
+    omega arith
+
+mark-says : (t f : Telegram) → mark_differs (Some f) t ≡ false → t.header.dup ≡ f.header.dup
+mark-says t f h = (Decides-same_mark t.header.dup f.header.dup).0 (not-false _ h)
+
+mark-is : (t f : Telegram) → t.header.dup ≡ f.header.dup → mark_differs (Some f) t ≡ false
+mark-is t f e = not_from_true _ ((Decides-same_mark t.header.dup f.header.dup).1 e)
+
+-- ---- no finding, so sound
+
+module _ (site : Site) (used : Bool) (aspects : List (List Telegram)) (controlled : IsControlled aspects) (none : group_facts site used aspects ≡ []) where
+  none_of : (rule : Rule) → (whole_facts site used aspects rule ≡ []) × (for_each aspects (aspect_facts site aspects rule) ≡ [])
+  none_of rule = append_parts _ _ (rules-say (rule_facts site used aspects) none rule)
+
+  clean_at : (a : ℕ) (group : List Telegram) → At aspects a group → IsClean (first_aspect aspects) (take a aspects) group
+  clean_at a group at =
+      clean-from_facts (aspect_of site aspects a) (first_aspect aspects) (take a aspects) group (λ rule. for_each-says aspects (aspect_facts site aspects rule) (none_of rule).1 a group at)
+
+  new_identity : used ≡ false
+  new_identity = noted-false used (finding_of rules.IdentityUsed (whole site) None None None) (none_of rules.IdentityUsed).0
+
+  told_at : (b : ℕ) (t : Telegram) → At (first_aspect aspects) b t → is_untold aspects b t ≡ false
+  told_at = balises_clean rules.NotToldApart (whole site) (is_untold aspects) (first_aspect aspects) (none_of rules.NotToldApart).0
+
+  alike_at : (a p : ℕ) (t f : Telegram) → HasAt aspects a p t → At (first_aspect aspects) 0 f → AreAlike t f
+  alike_at a p t f has at0 =
+      clean_first (first_aspect aspects) (take a aspects) has.0 (first_long aspects controlled) (clean_at a has.0 has.1) p t f has.2 at0
+
+  mark_at : (a p : ℕ) (t f : Telegram) → HasAt aspects a p t → At (first_aspect aspects) p f → t.header.dup ≡ f.header.dup
+  mark_at a p t f has at = mark-says t f (ap (λ o. mark_differs o t) (sym at) ∙ (clean_at a has.0 has.1).marks p t has.2)
+
+  one_mark : (a b p : ℕ) (t u : Telegram) → HasAt aspects a p t → HasAt aspects b p u → t.header.dup ≡ u.header.dup
+  one_mark a b p t u ht hu =
+      let f = first_has aspects controlled a p t ht in
+      mark_at a p t f.0 ht f.1 ∙ sym (mark_at b p u f.0 hu f.1)
+
+  steady_at : (p : ℕ) (f : Telegram) → all_at (is_steady f) p aspects ≡ true → (a : ℕ) (t : Telegram) → HasAt aspects a p t → (f ≡ t) × (t.header.counter ≡ 255)
+  steady_at p f h a t has =
+      let s = and_parts _ _ (all_at-says (is_steady f) p aspects h a t has) in
+      ((Decides-same_telegram f t).0 s.1, eqb-true _ _ s.0)
+
+  told_place : 1 < length aspects → (p : ℕ) → IsFixed aspects p ⊎ IsSwitched aspects p
+  told_place many p = elim (cases_lt p (length (first_aspect aspects))) [
+    | inl lt ↦
+        let f = some_at (first_aspect aspects) p lt in
+        elim (and_cases (ltb 1 (length aspects)) _ (told_at p f.0 f.1)) [
+          | inl one ↦ absurd (both_ways _ one (lt-ltb _ _ many))
+          | inr told ↦ elim (or_cases (all_at (is_steady f.0) p aspects) (all_at is_counted p aspects) (not-false _ told)) [
+            | inl steady ↦ inl (λ a b t u ht hu.
+                let x = steady_at p f.0 steady a t ht in
+                let y = steady_at p f.0 steady b u hu in
+                (sym x.0 ∙ y.0, x.1))
+            | inr counted ↦ inr (λ a t has. ltb-true _ _ (all_at-says is_counted p aspects counted a t has))
+          ]
+        ]
+    | inr ge ↦ inr (λ a t has.
+        let w = slice_get_within has.0 p t has.2 in
+        let l = as_long aspects controlled a has.0 has.1 in
+        absurd (omega arith))
+  ]
+
+  -- a counter of an earlier aspect is another one
+  earlier_differs : (k a q p : ℕ) (t u : Telegram) → k < a → HasAt aspects k q t → HasAt aspects a p u → u.header.counter < 254 → t.header.counter ≢ u.header.counter
+  earlier_differs k a q p t u lt ht hu low same = elim (and_cases (ltb u.header.counter 254) _ ((clean_at a hu.0 hu.1).fresh p u hu.2)) [
+    | inl high ↦ both_ways _ high (lt-ltb _ _ low)
+    | inr fresh ↦ both_ways _ fresh (at_list_any (has_counter u.header.counter) (take a aspects) k ht.0 (at_take a aspects k ht.0 lt ht.1)
+        (at_list_any _ ht.0 q t ht.2 (eq-eqb _ _ same)))
+  ]
+
+  one_group : 1 < length aspects → AreOneGroup aspects
+  one_group many = record {
+    alike = λ a b p q t u ht hu.
+        let f = some_at (first_aspect aspects) 0 (first_long aspects controlled) in
+        alike_both t u f.0 (alike_at a p t f.0 ht f.1) (alike_at b q u f.0 hu f.1);
+    marks = one_mark;
+    told = told_place many;
+    distinct = λ a b p q t u ne ht hu low low'. elim (cases_lt a b) [
+      | inl lt ↦ earlier_differs a b p q t u lt ht hu low'
+      | inr ge ↦ λ same. earlier_differs b a q p u t (omega arith) hu ht low (sym same)
+    ];
+  }
+
+  sound_group : IsSoundControlled aspects
+  sound_group = record {
+    sound = λ a group at. sound-from_clean (first_aspect aspects) (take a aspects) group (first_long aspects controlled) (aspect_long aspects controlled a group at) (clean_at a group at);
+    one = one_group;
+  }
+
+-- ---- sound, so no finding
+
+module _ (aspects : List (List Telegram)) (controlled : IsControlled aspects) (sound : IsSoundControlled aspects) where
+  alike_all : (a p : ℕ) (t f : Telegram) → HasAt aspects a p t → At (first_aspect aspects) 0 f → AreAlike t f
+  alike_all a p t f has at0 = elim (cases_lt 1 (length aspects)) [
+    | inl many ↦ (sound.one many).alike a 0 p 0 t f has (first_aspect aspects, first_here aspects controlled, at0)
+    | inr few ↦
+        let g = only_first aspects controlled a has.0 has.1 (λ many. omega arith) in
+        (sound.sound a has.0 has.1).formed.alike p t f has.2 (subst (λ g. At g 0 f) (sym g) at0)
+  ]
+
+  mark_first : (a p : ℕ) (t f : Telegram) → HasAt aspects a p t → At (first_aspect aspects) p f → t.header.dup ≡ f.header.dup
+  mark_first a p t f has at = elim (cases_lt 1 (length aspects)) [
+    | inl many ↦ (sound.one many).marks a 0 p t f has (first_aspect aspects, first_here aspects controlled, at)
+    | inr few ↦
+        let g = only_first aspects controlled a has.0 has.1 (λ many. omega arith) in
+        ap (λ (x : Telegram). x.header.dup) (one_at (first_aspect aspects) p t f (subst (λ g. At g p t) g has.2) at)
+  ]
+
+  mark_all : (a p : ℕ) (t : Telegram) → HasAt aspects a p t → mark_differs (slice_get (first_aspect aspects) p) t ≡ false
+  mark_all a p t has =
+      let f = first_has aspects controlled a p t has in
+      ap (λ o. mark_differs o t) f.1 ∙ mark-is t f.0 (mark_first a p t f.0 has f.1)
+
+  fresh_all : (a p : ℕ) (t : Telegram) → HasAt aspects a p t → is_counter_taken (take a aspects) t ≡ false
+  fresh_all a p t has = false_from_ne_true _ (λ taken.
+      let parts = and_parts (ltb t.header.counter 254) _ taken in
+      let r = list_any-at (has_counter t.header.counter) (take a aspects) parts.1 in
+      let q = list_any-at _ r.1 r.3 in
+      let before = At-take a aspects r.0 r.1 r.2 in
+      let lt = before.0 in
+      let w = slice_get_within aspects a has.0 has.1 in
+      let low = ltb-true _ _ parts.0 in
+      let same : q.1.header.counter ≡ t.header.counter = eqb-true _ _ q.3 in
+      (sound.one (omega arith)).distinct r.0 a q.0 p q.1 t (omega arith) (r.1, before.1, q.2) has (subst (λ c. c < 254) (sym same) low) low same)
+
+  clean_all : (a : ℕ) (group : List Telegram) → At aspects a group → IsClean (first_aspect aspects) (take a aspects) group
+  clean_all a group at =
+      clean-from_sound group (sound.sound a group at) (first_aspect aspects) (take a aspects)
+      (λ b t f at' at0. alike_all a b t f (group, at, at') at0)
+      (λ b t at'. mark_all a b t (group, at, at'))
+      (λ b t at'. fresh_all a b t (group, at, at'))
+
+  told_all : 1 < length aspects → (b : ℕ) (t : Telegram) → At (first_aspect aspects) b t → (all_at (is_steady t) b aspects || all_at is_counted b aspects) ≡ true
+  told_all many b t at = elim ((sound.one many).told b) [
+    | inl fixed ↦ or_left _ _ (all_at-is (is_steady t) b aspects (λ a group at'.
+        let u = here a group at' in
+        let e = fixed 0 a t u.0 (first_aspect aspects, first_here aspects controlled, at) (group, at', u.1) in
+        (u.0, u.1, and_from _ _ (eq-eqb _ _ (ap (λ (x : Telegram). x.header.counter) (sym e.0) ∙ e.1)) ((Decides-same_telegram t u.0).1 e.0))))
+    | inr switched ↦ or_right _ _ (all_at-is is_counted b aspects (λ a group at'.
+        let u = here a group at' in
+        (u.0, u.1, lt-ltb _ _ (switched a u.0 (group, at', u.1)))))
+  ]
+    where
+      here : (a : ℕ) (group : List Telegram) → At aspects a group → (u : Telegram) × At group b u
+      here a group at' =
+          let l = as_long aspects controlled a group at' in
+          let w = slice_get_within (first_aspect aspects) b t at in
+          some_at group b (omega arith)
+
+  untold_none : (b : ℕ) (t : Telegram) → At (first_aspect aspects) b t → is_untold aspects b t ≡ false
+  untold_none b t at = elim (cases_lt 1 (length aspects)) [
+    | inl many ↦ and_right (ltb 1 (length aspects)) _ (not_from_true _ (told_all many b t at))
+    | inr few ↦ and_left _ _ (le-ltb _ _ few)
+  ]
+
+  whole_none : (site : Site) (used : Bool) → used ≡ false → (rule : Rule) → whole_facts site used aspects rule ≡ []
+  whole_none site used new rules.IdentityUsed = noted-empty used (finding_of rules.IdentityUsed (whole site) None None None) new
+  whole_none site used new rules.NotToldApart = balises_empty rules.NotToldApart (whole site) (is_untold aspects) (first_aspect aspects) untold_none
+  whole_none site used new rule = refl
+
+  no_facts : (site : Site) (used : Bool) → used ≡ false → group_facts site used aspects ≡ []
+  no_facts site used new = rules-empty (rule_facts site used aspects) (λ rule.
+      append_empty _ _ (whole_none site used new rule)
+      (for_each-empty aspects (aspect_facts site aspects rule) (λ a group at. facts-from_clean (aspect_of site aspects a) (first_aspect aspects) (take a aspects) group (clean_all a group at) rule)))
+
+-- ---- the laws
+
+-- with an identity of which it is said whether an earlier group has it
+pub no_fact_means_sound_group : (site : Site) (used : Bool) (aspects : List (List Telegram)) → IsControlled aspects → (group_facts site used aspects ≡ []) ↔ (IsSoundControlled aspects × (used ≡ false))
+no_fact_means_sound_group site used aspects controlled = (
+  λ none. (sound_group site used aspects controlled none, new_identity site used aspects controlled none),
+  λ s. no_facts aspects controlled s.0 site used s.1,
+)
+
+pub no_finding_means_sound_group : NoFindingMeansSoundGroup
+no_finding_means_sound_group site earlier aspects controlled =
+    let law = no_fact_means_sound_group site (is_used earlier aspects) aspects controlled in
+    let f = some_at (first_aspect aspects) 0 (first_long aspects controlled) in (
+      λ none. let s = law.0 none in (s.0, unused-says earlier aspects f.0.header.identity (identity-at (first_aspect aspects) f.0 f.1) s.1),
+      λ s. law.1 (s.0, unused-is earlier aspects s.1),
+    )
+
+makes_one_message : (group : List Telegram) → IsSoundGroup group → MakesOneMessage group
+makes_one_message group sound = record {
+  formed = sound.formed;
+  accepted = λ run missed set covered. (sound.readings run missed set covered).accepted;
+  same = λ run missed set covered. (sound.readings run missed set covered).same;
+}
+
+pub sound_mixtures_are_decided : SoundMixturesAreDecided
+sound_mixtures_are_decided run aspects shown controlled sound fits =
+    mixtures_are_decided run aspects shown controlled (λ a group at. makes_one_message group (sound.sound a group at)) sound.one fits

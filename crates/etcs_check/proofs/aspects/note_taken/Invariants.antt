@@ -1,0 +1,14 @@
+use Rattle.std.proofs.Common.{◌≡◌, ◌++◌, length, drop, take}
+use Rattle.etcs_check.specs.Aspects.{aspect_facts}
+use Rattle.etcs_check.specs.Counters.{HasCounters}
+use Rattle.etcs_check.specs.Findings.{each_from, for_each}
+use Rattle.etcs_check.specs.declared.finding.Rule.TheVariants as rules
+use Rattle.etcs_check.proofs.aspects.note_taken.Given as goal
+
+-- the findings so far and those about the other aspects are all, and the table holds the counters so far
+abbrev pub invariant-aspects : goal.invariant-aspects
+invariant-aspects l = record {
+  all : l.found.items ++ each_from (aspect_facts l.site l.aspects rules.NotToldApart) l.place (drop l.place l.aspects) ≡ l.initial.found.items ++ for_each l.aspects (aspect_facts l.site l.aspects rules.NotToldApart);
+  long : length l.table ≡ 4;
+  counters : HasCounters l.table (take l.place l.aspects);
+}

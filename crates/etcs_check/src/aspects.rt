@@ -1,0 +1,193 @@
+//! The rules about how the aspects of a controlled group are told apart.
+
+ghost use Rattle.std.specs.Prelude.{◌≡◌, ◌≢◌, ◌<◌, ◌≤◌, ◌*◌, ◌++◌, ◌||◌, [], ℕ, false, length, slice_get, Some, OnOk, OnErr};
+ghost use Rattle.std.specs.Option.{option_map_or};
+ghost use Rattle.etcs_telegram.specs.Record.{Telegram};
+ghost use Rattle.etcs_check.specs.Aspects.{all_at, aspect_facts, aspect_of, is_counted, is_steady, is_untold, whole};
+ghost use Rattle.etcs_check.specs.Counters.{is_taken, taken_facts};
+ghost use Rattle.etcs_check.specs.Findings.{balise_facts, for_each, has_counter};
+ghost use Rattle.etcs_check.specs.Identities.{is_marked};
+ghost use Rattle.etcs_check.specs.Soundness.{first_aspect};
+ghost use Rattle.etcs_check.specs.declared.finding.Rule.TheVariants as rules;
+
+use crate::duplicates::same_telegram;
+use crate::finding::{Finding, Rule, Site, Spot, note};
+use crate::identities::{is_marked, mark};
+use etcs_bits::Memory;
+use etcs_group::Group;
+use etcs_telegram::Telegram;
+
+// Where the facts about a whole group or a message stand.
+pub(crate) fn whole(site: Site) -> Spot
+    ensures { result ≡ whole site }
+{
+    Spot { site, aspect: None }
+}
+
+// Where the facts about an aspect stand. It is told where there are two or more.
+pub(crate) fn aspect_of(site: Site, aspects: &[Group], place: usize) -> Spot
+    ensures { result ≡ aspect_of site aspects.now place }
+{
+    let aspect = if aspects.len() > 1 { Some(place) } else { None };
+    Spot { site, aspect }
+}
+
+// The first aspect.
+pub(crate) fn first_aspect(aspects: &[Group]) -> &[Telegram]
+    requires { 0 < length aspects.now }
+    ensures value { result.now ≡ first_aspect aspects.now }
+    ensures some { 0 < length result.now }
+    ensures few { length result.now ≤ 8 }
+{
+    aspects[0].telegrams()
+}
+
+// Whether an aspect has this very telegram at the place, and its counter is 255.
+fn is_steady_in(wanted: &Telegram, group: &[Telegram], place: usize) -> bool
+    ensures { result ≡ option_map_or (is_steady wanted.now) (slice_get group.now place) false }
+{
+    match group.get(place) {
+        Some(telegram) => {
+            telegram.header.counter.number() == 255 && same_telegram(wanted, telegram)
+        }
+        None => false,
+    }
+}
+
+// Whether all aspects have.
+fn is_steady(wanted: &Telegram, aspects: &[Group], place: usize) -> bool
+    ensures { result ≡ all_at (is_steady wanted.now) place aspects.now }
+{
+    'aspects: for aspect in aspects {
+        if !is_steady_in(wanted, aspect.telegrams(), place) {
+            return false;
+        }
+    }
+    true
+}
+
+// Whether an aspect has a counter below 254 at the place.
+fn is_counted_in(group: &[Telegram], place: usize) -> bool
+    ensures { result ≡ option_map_or is_counted (slice_get group.now place) false }
+{
+    match group.get(place) {
+        Some(telegram) => telegram.header.counter.number() < 254,
+        None => false,
+    }
+}
+
+// Whether all aspects have.
+fn is_counted(aspects: &[Group], place: usize) -> bool
+    ensures { result ≡ all_at is_counted place aspects.now }
+{
+    'aspects: for aspect in aspects {
+        if !is_counted_in(aspect.telegrams(), place) {
+            return false;
+        }
+    }
+    true
+}
+
+// Whether there are two or more aspects, and the place is neither steady nor counted in all of them.
+// Aspect 0 has this telegram there.
+fn is_untold(aspects: &[Group], place: usize, wanted: &Telegram) -> bool
+    ensures { result ≡ is_untold aspects.now place wanted.now }
+{
+    aspects.len() > 1 && !(is_steady(wanted, aspects, place) || is_counted(aspects, place))
+}
+
+// Appends a finding for each place that is.
+pub(crate) fn note_untold(
+    found: &mut Vec<Finding>,
+    site: Site,
+    aspects: &[Group],
+) -> Result<(), Memory>
+    requires some { 0 < length aspects.now }
+    ensures ok { OnOk result (found.new.items ≡ found.old.items
+        ++ balise_facts rules.NotToldApart (whole site) (is_untold aspects.now) (first_aspect aspects.now)) }
+    ensures memory { OnErr result (balise_facts rules.NotToldApart (whole site) (is_untold aspects.now)
+        (first_aspect aspects.now) ≢ []) }
+{
+    let first = first_aspect(aspects);
+    let spot = whole(site);
+    'places: for place in 0..first.len() {
+        let fact = is_untold(aspects, place, &first[place]);
+        note(
+            found,
+            fact,
+            Rule::NotToldApart,
+            spot,
+            None,
+            Some(place),
+            None,
+        )?;
+    }
+    Ok(())
+}
+
+// Whether a counter is below 254 and marked.
+fn is_taken(table: &[u64], telegram: &Telegram) -> bool
+    requires { length table.now ≡ 4 }
+    ensures { result ≡ is_taken table.now telegram.now }
+{
+    let counter = telegram.header.counter.number() as usize;
+    counter < 254 && is_marked(table, counter)
+}
+
+// Appends a finding for each balise of an aspect whose counter is.
+fn note_taken_in(
+    found: &mut Vec<Finding>,
+    spot: Spot,
+    table: &[u64],
+    group: &[Telegram],
+) -> Result<(), Memory>
+    requires { length table.now ≡ 4 }
+    ensures ok { OnOk result (found.new.items ≡ found.old.items ++ taken_facts spot table.now group.now) }
+    ensures memory { OnErr result (taken_facts spot table.now group.now ≢ []) }
+{
+    'places: for place in 0..group.len() {
+        let fact = is_taken(table, &group[place]);
+        note(
+            found,
+            fact,
+            Rule::NotToldApart,
+            spot,
+            None,
+            Some(place),
+            None,
+        )?;
+    }
+    Ok(())
+}
+
+// Marks the counters of an aspect.
+fn mark_counters(table: &mut [u64], group: &[Telegram])
+    requires { length table.now ≡ 4 }
+    ensures { (n : ℕ) → is_marked table.new n ≡ (has_counter n group.now || is_marked table.old n) }
+{
+    'places: for place in 0..group.len() {
+        let telegram = &group[place];
+        mark(table, telegram.header.counter.number() as usize);
+    }
+}
+
+// Appends a finding for each balise whose counter is below 254 and stands in an earlier aspect. The
+// counters that were seen are the bits of a table.
+pub(crate) fn note_taken(
+    found: &mut Vec<Finding>,
+    site: Site,
+    aspects: &[Group],
+) -> Result<(), Memory>
+    ensures ok { OnOk result (found.new.items ≡ found.old.items
+        ++ for_each aspects.now (aspect_facts site aspects.now rules.NotToldApart)) }
+    ensures memory { OnErr result (for_each aspects.now (aspect_facts site aspects.now rules.NotToldApart) ≢ []) }
+{
+    let mut table = [0u64; 4];
+    'aspects: for place in 0..aspects.len() {
+        let spot = aspect_of(site, aspects, place);
+        let group = aspects[place].telegrams();
+        note_taken_in(found, spot, &table, group)?;
+        mark_counters(&mut table, group);
+    }
+    Ok(())
+}
