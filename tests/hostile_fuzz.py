@@ -94,7 +94,7 @@ def mutated(choice, words, corpus):
     if words[0] == "encode":
         return renumbered(choice, line)
     if words == CHECK:
-        return turned_text(choice, line)
+        return turned_text(choice, line) if way < 0.85 else regrouped(choice, line)
     return turned(choice, line, 6 if words == DECODE_RADIO and way < 0.9 else 0)
 
 
@@ -108,6 +108,28 @@ def turned_text(choice, document):
     if choice.random() < 0.1:
         inner += b"," + found[0]
     return document[:found.start()] + inner + document[found.end():]
+
+
+def recounted(choice, balises):
+    """A list of balises with one counter in the place of theirs."""
+    counter = choice.choice((7, 8, 254, 255, choice.randrange(256)))
+
+    def changed(found):
+        return f"{int(found[0], 16) & ~(255 << 7) | counter << 7:08x}".encode()
+    return re.sub(rb'(?<=")[0-9a-fA-F]{8}', changed, balises)
+
+
+def regrouped(choice, document):
+    """The document with the balises of a group as an aspect, beside another aspect or another group."""
+    lists = list(re.finditer(rb'"balises":(\[[^\[\]]*\])', document))
+    if not lists:
+        return torn(choice, document, document)
+    found = choice.choice(lists)
+    other = choice.choice(lists)[1] if choice.random() < 0.2 else recounted(choice, found[1])
+    both = found[0] + b'},{"balises":' + other
+    if choice.random() < 0.6:
+        both = b'"aspects":[{' + both + b"}]"
+    return document[:found.start()] + both + document[found.end():]
 
 
 def timed(program, tests, jobs):

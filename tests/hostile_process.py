@@ -2,7 +2,7 @@
 import os
 import subprocess
 
-from hostile_program import DEVICE, MEMORY, PROGRAM, Job, alone, stops
+from hostile_program import DEVICE, MEMORY, PROGRAM, SECONDS, Job, alone, stops
 from hostile_runs import CHECK, COMMANDS, DECODE, DECODE_RADIO, ENCODE, ENCODE_RADIO, FORM, MESSAGE, SHORT, runs
 
 STACK = 512  # KiB of stack that README.md names
@@ -77,6 +77,15 @@ def system_devices(tests, known):
     tests.equal("a reader that goes away", ran.stdout.count(b"\n"), 1)
 
 
+def said_by(run):
+    """What a process wrote. One that takes too long is killed."""
+    try:
+        return run.communicate(timeout=SECONDS)
+    except subprocess.TimeoutExpired:
+        run.kill()
+        return run.communicate()
+
+
 def at_once(program, tests, known):
     """Two runs at once on one input, a file: each answers as alone."""
     for (words, data), wanted in known:
@@ -85,7 +94,7 @@ def at_once(program, tests, known):
         pipe = subprocess.PIPE
         both = [subprocess.Popen([PROGRAM, *words], stdin=file.open("rb"), stdout=pipe, stderr=pipe) for _ in range(2)]
         for run in both:
-            out, err = run.communicate(timeout=60)
+            out, err = said_by(run)
             tests.figures["runs beside another on the same input"] += 1
             tests.equal(f"{words} beside another", (run.returncode, out.decode(), err.decode()), tuple(wanted))
 

@@ -16,7 +16,7 @@ MEMORY, DEVICE = "balisecheck: memory\n", "balisecheck: device\n"
 NOTHING, ONE, FROM, EACH_NTH, ONE_IN_N = range(5)
 INTERRUPTED, EACH_INTERRUPTED, TAKES_NONE = 3, 4, 5
 JOB, ANSWER = struct.Struct("<11Q"), struct.Struct("<10Q")
-SECONDS = 60  # how long a run may take
+SECONDS = int(os.environ.get("HOSTILE_SECONDS", "60"))  # how long a run may take
 
 Device = collections.namedtuple("Device", "failing call piece", defaults=(NOTHING, 0, 0))
 Job = collections.namedtuple("Job", "words data refused request seed reader writer seconds",
@@ -42,10 +42,11 @@ class Program:
 
     def compiled(self):
         """The shim, or nothing where there is no C compiler."""
-        if not shutil.which("cc"):
+        compiler = os.environ.get("CC", "cc")
+        if not shutil.which(compiler):
             return None
         shim = self.room / "shim.so"
-        subprocess.run(["cc", "-O2", "-shared", "-fPIC", "-o", shim, HERE / "hostile_shim.c"], check=True)
+        subprocess.run([compiler, "-O2", "-shared", "-fPIC", "-o", shim, HERE / "hostile_shim.c"], check=True)
         return shim
 
     def close(self):
@@ -102,17 +103,17 @@ def alone(words, data, seconds=SECONDS, limits="", **files):
 class Tests:
     """How many tests passed and failed so far, and what was counted besides."""
 
-    def __init__(self):
-        self.passed, self.failed = 0, 0
+    def __init__(self, shown=100):
+        self.passed, self.failed, self.shown = 0, 0, shown
         self.figures = collections.Counter()
 
     def holds(self, name, holds, *seen):
-        """A test. The first hundred that fail are shown."""
+        """A test. The first ones that fail are shown."""
         if holds:
             self.passed += 1
             return
         self.failed += 1
-        if self.failed <= 100:
+        if self.failed <= self.shown:
             print(f"failed: {name}", *(f"  {str(one)[:1000]!r}" for one in seen), sep="\n", file=sys.stderr)
 
     def equal(self, name, found, wanted):

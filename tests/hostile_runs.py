@@ -15,6 +15,11 @@ FORM = answer(210, [])
 MESSAGE = "03048000001900080021e810901ff801f400"
 REPORT = "8807000000320000004000e480200081f450014002830832c00ed280"
 MESSAGE_FORM = json.dumps(json.loads((EXAMPLES / "radio-movement-authority.json").read_text()), separators=(",", ":"))
+ASPECTS = '{"groups":[{"aspects":[{"balises":["%s","%s"]},{"balises":["%s","%s"]}]}],"messages":[]}'
+PAIR = filled("a10283802000..f c0"), filled("a11303802000..f c0")
+TWO_ASPECTS = ASPECTS % (*PAIR, filled("a10284002000..f c0"), filled("a11304002000..f c0"))
+# the second aspect has no marks, and the counters of the first
+MIXED_UP = ASPECTS % (*PAIR, filled("a10203802000..f c0"), filled("a11203802000..f c0"))
 RAW = '{"nid_packet":44,"q_dir":2,"l_packet":%d,"body":"%s"}'
 
 
@@ -23,6 +28,8 @@ def documents():
     for name, line, *_ in blocks(HERE / "cases" / "documents.txt"):
         line = re.sub(r"<(.*?) (\d+)>", lambda found: found[1] * int(found[2]), line)
         yield name, re.sub(r"\w+\.{2,3}\w \w*", lambda found: filled(found[0]), line).encode()
+    yield "two aspects", TWO_ASPECTS.encode()
+    yield "two aspects that differ in their marks and are not told apart", MIXED_UP.encode()
     for file in sorted((EXAMPLES / "check").glob("*.json")):
         yield file.stem, file.read_bytes()
 

@@ -15,10 +15,10 @@
 #include <stdlib.h>
 #include <string.h>
 #include <sys/mman.h>
+#include <sys/resource.h>
 #include <sys/stat.h>
 #include <sys/syscall.h>
 #include <sys/wait.h>
-#include <time.h>
 #include <unistd.h>
 
 enum refused { NO_REQUEST, ONE_REQUEST, REQUESTS_FROM, EACH_NTH_REQUEST, ONE_IN_N_REQUESTS };
@@ -141,11 +141,7 @@ static void *mapped(int file, size_t size, int flags) {
     return place;
 }
 
-static uint64_t now(void) {
-    struct timespec time;
-    clock_gettime(CLOCK_MONOTONIC, &time);
-    return time.tv_sec * 1000000000ull + time.tv_nsec;
-}
+static uint64_t nanoseconds(struct timeval time) { return time.tv_sec * 1000000000ull + time.tv_usec * 1000ull; }
 
 static void begin(int out, int err) {
     dup2(out, 1);
@@ -169,19 +165,19 @@ __attribute__((constructor)) static void run_jobs(void) {
     counts = mapped(-1, sizeof *counts, MAP_SHARED | MAP_ANONYMOUS);
     while (next < end) {
         struct answer answer = {0};
+        struct rusage used;
         int status;
         memcpy(&job, next, sizeof job);
         input = next + sizeof job;
         next = input + job.length;
         memset(counts, 0, sizeof *counts);
-        uint64_t before = now();
         pid_t child = fork();
         if (child == 0) {
             begin(out, err);
             return;
         }
-        if (child < 0 || waitpid(child, &status, 0) != child) _exit(99);
-        answer.nanoseconds = now() - before;
+        if (child < 0 || wait4(child, &status, 0, &used) != child) _exit(99);
+        answer.nanoseconds = nanoseconds(used.ru_utime) + nanoseconds(used.ru_stime);
         answer.status = status;
         answer.stdout_end = lseek(out, 0, SEEK_END);
         answer.stderr_end = lseek(err, 0, SEEK_END);
