@@ -36,7 +36,9 @@ impl<T: Drop> Elements<T> {
     ghost use Rattle.std.specs.Prelude.{IfOk, IfErr, IsErr, ◌↔◌, ◌≤◌};
     ghost use Rattle.etcs_profile.specs.Elements.{profile};
 
-    /// Makes the body of these elements. `TooMany`: there are more than 31 after the first.
+    /// Makes the body of these elements. The call takes no memory.
+    ///
+    /// `TooMany`: there are more than 31 after the first. The elements are lost then.
     pub fn new(scale: Scale, first: T, further: Vec<T>) -> Result<Elements<T>, BuildError>
         ensures ok { IfOk result (λ e. e ≡ profile scale first further.items) }
         ensures many { IsErr result ↔ (32 ≤ length further.items) }

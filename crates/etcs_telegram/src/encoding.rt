@@ -48,7 +48,8 @@ fn write(alloc: Global, telegram: &Telegram) -> Result<Bits, Memory>
 /// (this project's rule).
 ///
 /// `TooBig`: the header, the packets and the end mark have more bits than the telegram's size. This
-/// is checked before the call asks for memory.
+/// is checked before the call asks for memory. After an error the record is as it was, and no bit is
+/// returned.
 pub fn encode(alloc: Global, telegram: &Telegram) -> Result<Bits, EncodeError>
     ensures ok { IfOk result (λ b. IsEncoding telegram.now b) }
     ensures too_big { IsErrOf result EncodeError.TooBig ↔ IsTooBig telegram.now }
