@@ -31,11 +31,12 @@ def status_of(waited):
 
 
 class Program:
-    """The built program. Its runs are counted."""
+    """The built program, or another one. Its runs are counted."""
 
-    def __init__(self):
-        if not os.access(PROGRAM, os.X_OK):
-            sys.exit(f"tests/hostile: no program at {PROGRAM}: build it, or name one by BALISECHECK")
+    def __init__(self, path=PROGRAM):
+        if not os.access(path, os.X_OK):
+            sys.exit(f"tests/hostile: no program at {path}: build it, or name one by BALISECHECK")
+        self.path = path
         self.room = pathlib.Path(tempfile.mkdtemp(prefix="hostile-"))
         self.runs = 0
         self.shim = self.compiled()
@@ -68,12 +69,12 @@ class Program:
         """The answers to jobs with the same words."""
         self.runs += len(jobs)
         if self.shim is None:
-            return [(alone(words, job.data, job.seconds), None) for job in jobs]
+            return [(alone(words, job.data, job.seconds, program=self.path), None) for job in jobs]
         with open(self.room / "jobs", "wb") as file:
             for job in jobs:
                 head = len(job.data), job.seconds, job.refused, job.request, job.seed, *job.reader, *job.writer
                 file.write(JOB.pack(*head) + job.data)
-        ran = subprocess.run([PROGRAM, *words], stdin=subprocess.DEVNULL, check=False,
+        ran = subprocess.run([self.path, *words], stdin=subprocess.DEVNULL, check=False,
                              env={**os.environ, "LD_PRELOAD": str(self.shim), "HOSTILE_ROOM": str(self.room)})
         answers = list(ANSWER.iter_unpack((self.room / "answers").read_bytes()))
         if ran.returncode != 0 or len(answers) != len(jobs):
@@ -90,9 +91,9 @@ def parted(answers, stdout, stderr):
         out, err = out_end, err_end
 
 
-def alone(words, data, seconds=SECONDS, limits="", **files):
+def alone(words, data, seconds=SECONDS, limits="", program=PROGRAM, **files):
     """The answer of a process without a shim, after these lines of a shell. One that takes too long is killed."""
-    command = ["sh", "-c", f'{limits} exec "$0" "$@"', PROGRAM, *words] if limits else [PROGRAM, *words]
+    command = ["sh", "-c", f'{limits} exec "$0" "$@"', program, *words] if limits else [program, *words]
     try:
         ran = subprocess.run(command, input=data, timeout=seconds, check=False, **(files or {"capture_output": True}))
     except subprocess.TimeoutExpired as late:

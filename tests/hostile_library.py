@@ -1,0 +1,48 @@
+"""Library calls whose requests for memory are refused: tests of calls, each in a process of its own."""
+import os
+import subprocess
+
+from hostile_program import EACH_NTH, FROM, ONE, PROGRAM, Answer, Job, Program
+
+# the tests of balisecheck's crate, which `rt ci` builds beside the program
+NAMED = os.environ.get("BALISECHECK_TESTS")
+TESTS = NAMED or f"{PROGRAM}_tests"
+# of these tests, those that pass whichever requests are refused
+FOLDER = "tests::refused_memory::"
+PASSED = Answer(0, "\ntest result: ok\n", "")
+
+
+def tests_are_there():
+    """Whether the tests are there. Where they are named they have to be."""
+    return bool(NAMED) or os.path.exists(TESTS)
+
+
+def names():
+    """The names of the tests."""
+    listed = subprocess.run([TESTS, "--list"], capture_output=True, text=True, check=True).stdout
+    return [line.removesuffix(": test") for line in listed.splitlines() if line.startswith(FOLDER)]
+
+
+def refusals(name, requests):
+    """The jobs of a test with so many requests: each refused in turn, alone and with all later ones, and every nth."""
+    for number in range(1, requests + 1):
+        yield Job((name,), b"", ONE, number)
+        yield Job((name,), b"", FROM, number)
+    for each in (1, 2, 3, 7):
+        yield Job((name,), b"", EACH_NTH, each)
+
+
+def library(_, tests, whole=True):
+    """Each test passes undisturbed, and whichever requests for memory are refused."""
+    program = Program(TESTS)
+    try:
+        known = program.play([Job((name,), b"") for name in names()])
+        tests.holds("there are tests of library calls", len(known) > 0)
+        jobs = [job for name, (_, counts) in zip(names(), known) for job in refusals(name, counts.requests)]
+        for name, (answer, _) in zip(names(), known):
+            tests.equal(f"{name}, nothing refused", answer, PASSED)
+        for job, (answer, counts) in zip(jobs, program.play(jobs)):
+            tests.figures["requests of library calls refused"] += counts.refused
+            tests.equal(f"{job.words[0]}, {job.refused} {job.request}", answer, PASSED)
+    finally:
+        program.close()
