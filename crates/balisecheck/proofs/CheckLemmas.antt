@@ -2,7 +2,7 @@
 use Rattle.std.proofs.Common.{◌≡◌, ◌≢◌, ◌∙◌, ℕ, List, Result, Ok, Err, IfOk, refl, sym, ap}
 use Rattle.etcs_form.specs.DocumentFault.{DocumentFault, Fails}
 use Rattle.etcs_form.specs.Refusal.{IsDocumentTold, document_words, refusal_words}
-use Rattle.etcs_form.specs.Verdict.{Judged, verdict_of_text}
+use Rattle.etcs_form.specs.Verdict.{Counted, counted_of_text}
 use Rattle.etcs_form.specs.declared.error.FormError.TheVariants as forms
 use Rattle.etcs_form.specs.declared.line_error.LineError.{LineError}
 use Rattle.etcs_form.specs.declared.line_error.LineError.TheVariants as errors
@@ -12,7 +12,7 @@ use Rattle.balisecheck.specs.Checking.{check_output, checked, refused_as, report
 use Rattle.balisecheck.specs.Output.{Output}
 
 -- a document that is refused, unless memory ran out, has this fault, in the same words
-pub document_refused : (why : LineError) (reading : Result Judged DocumentFault) → why ≢ errors.Memory → Fails why reading
+pub document_refused : (why : LineError) (reading : Result Counted DocumentFault) → why ≢ errors.Memory → Fails why reading
     → IsDocumentTold why × (checked reading ≡ refused_as why)
 unfolding refusal_words document_words
 document_refused errors.Memory reading other fails = absurd (other refl)
@@ -39,16 +39,16 @@ document_refused (errors.Message m radio.NotHex) reading other fails = (tt, ap c
 document_refused (errors.Message m (radio.Fault f)) reading other fails = (tt, ap checked fails)
 
 -- a line that was read is reported on
-pub is_reported : (document : List ℕ) {verdict : Judged} → verdict_of_text document ≡ Ok verdict
-    → reported verdict ≡ check_output document
+pub is_reported : (document : List ℕ) {line : Counted} → counted_of_text document ≡ Ok line
+    → reported line ≡ check_output document
 unfolding check_output
 is_reported document is = sym (ap checked is)
 
 -- a document that is refused is answered by its refusal
 pub is_refused : (why : LineError) (document : List ℕ) → why ≢ errors.Memory
-    → Fails why (verdict_of_text document) → refused_as why ≡ check_output document
+    → Fails why (counted_of_text document) → refused_as why ≡ check_output document
 unfolding check_output
-is_refused why document other fails = sym (document_refused why (verdict_of_text document) other fails).1
+is_refused why document other fails = sym (document_refused why (counted_of_text document) other fails).1
 
 -- what was made is an output, and so it is an equal one
 pub made_as : {X E : Type 0} (result : Result X E) (view : X → Output) {output other : Output}

@@ -1,6 +1,6 @@
 -- How the words of a refusal are those of what was read.
-use Rattle.std.proofs.Common.{◌≡◌, ◌≢◌, ◌++◌, ◌∙◌, ◌<◌, ◌≤◌, ℕ, Bool, true, false, List, codes, Some, None, Result, Ok, Err, refl, sym, ap, if◌then◌else◌, nat_lt}
-use Rattle.std.specs.Prelude.{IsUtf8}
+use Rattle.std.proofs.Common.{◌≡◌, ◌≢◌, ◌++◌, ◌∙◌, ◌<◌, ◌≤◌, ℕ, Bool, true, false, List, codes, Option, Some, None, Result, Ok, Err, refl, sym, ap, if◌then◌else◌, nat_lt}
+use Rattle.std.specs.Prelude.{IfSome, IsUtf8}
 use Rattle.std.specs.Str.{is_utf8}
 use Rattle.std.proofs.lemmas.Bool.{le-ltb, lt-ltb, ltb-false, ltb-true}
 use Rattle.std.proofs.lemmas.Str.{IsUtf8-from_is_utf8, is_utf8-from_IsUtf8}
@@ -11,6 +11,7 @@ use Rattle.etcs_radio.specs.Message.{IsTooBig as IsMessageTooBig, used_bits as m
 use Rattle.etcs_radio.specs.Text.{IsCanonicalText as IsMessageText}
 use Rattle.etcs_radio.proofs.EncodeLemmas.{encoding_message, never_too_big}
 use Rattle.etcs_form.specs.Fault.{Fault, Fails}
+use Rattle.etcs_form.specs.Shape.{Shape}
 use Rattle.etcs_form.specs.Refusal.{IsLineTold, line_words}
 use Rattle.etcs_form.specs.declared.error.FormError.{FormError}
 use Rattle.etcs_form.specs.declared.error.FormError.TheVariants as forms
@@ -21,7 +22,7 @@ use Rattle.etcs_telegram.specs.Telegram.{IsTooBig, used_bits}
 use Rattle.etcs_telegram.specs.Text.{IsCanonicalText, TextFails}
 use Rattle.etcs_telegram.specs.declared.error.TextError.{TextError}
 use Rattle.etcs_telegram.specs.declared.error.TextError.TheVariants as texts
-use Rattle.balisecheck.specs.FormLines.{message_line, or_fault, or_no_json, telegram_line, text_unless, value_in}
+use Rattle.balisecheck.specs.FormLines.{◌then◌, message_line, or_fault, or_no_json, record_in, telegram_line, text_unless, value_in}
 use Rattle.balisecheck.specs.HexText.{message_text, telegram_text}
 use Rattle.balisecheck.specs.TelegramLines.{line_for}
 use Rattle.balisecheck.proofs.HexTextLemmas.{canonical_message, canonical_telegram}
@@ -53,6 +54,20 @@ unfolding value_in
 value_read line d utf8 is =
     ap (λ (b : Bool). if b then or_no_json (read line) else Err (line_words Json)) (is_utf8-from_IsUtf8 line utf8)
     ∙ ap or_no_json is
+
+-- the bytes are UTF-8, they are read, and what is read is the form of a record
+record_read : {X : Type 0} (shape : Shape X) (line : List ℕ) (d : Data) (x : X) → IsUtf8 line → read line ≡ Some d
+    → shape.of d ≡ Ok x → record_in shape line ≡ Ok x
+record_read shape line d x utf8 is form =
+    ap (λ value. value then λ e. or_fault (shape.of e)) (value_read line d utf8 is) ∙ ap or_fault form
+
+-- what was read from the tokens of the line's text is the record of the line
+pub tokens_read : {X : Type 0} (shape : Shape X) (line text : List ℕ) (result : Option X) → text ≡ line → IsUtf8 line
+    → IfSome result (λ x. (d : Data) × (read text ≡ Some d) × (shape.of d ≡ Ok x))
+    → IfSome result (λ x. record_in shape line ≡ Ok x)
+tokens_read shape line text (Some x) same utf8 found =
+    record_read shape line found.0 x utf8 (ap read (sym same) ∙ found.1) found.2
+tokens_read shape line text None same utf8 found = tt
 
 no_value_by : (line : List ℕ) (b : Bool) → is_utf8 line ≡ b → (IsUtf8 line → read line ≡ None)
     → (if b then or_no_json (read line) else Err (line_words Json)) ≡ Err (line_words Json)

@@ -1,11 +1,11 @@
 -- What `check` writes for the document of a railway line: the report on the line, or why the bytes are
 -- no document.
-use Rattle.std.specs.Prelude.{◌++◌, ℕ, List, [], ◌∷◌, codes, length, Result, Ok, Err}
+use Rattle.std.specs.Prelude.{◌++◌, ℕ, List, [], ◌∷◌, codes, Result, Ok, Err}
 use Rattle.etcs_check.specs.declared.finding.Finding.{Finding}
 use Rattle.etcs_form.specs.DocumentFault.{DocumentFault, bad_aspect_telegram, bad_aspects, bad_count, bad_form, bad_message, bad_telegram, no_json}
 use Rattle.etcs_form.specs.Refusal.{fault_told, refusal_words}
 use Rattle.etcs_form.specs.ReportText.{report_words}
-use Rattle.etcs_form.specs.Verdict.{Judged, verdict_of_text}
+use Rattle.etcs_form.specs.Verdict.{Counted, counted_of_text}
 use Rattle.etcs_form.specs.declared.line_error.LineError.{LineError}
 use Rattle.etcs_form.specs.declared.line_error.LineError.TheVariants as errors
 use Rattle.etcs_form.specs.declared.refusal.Refusal.TheVariants.{Document}
@@ -35,16 +35,15 @@ abbrev pub status_for : List Finding → Status
 status_for [] = Done
 status_for (_ ∷ _) = Findings
 
--- the report on a line with all that is found about it, and the status
-abbrev pub reported : Judged → Answer
-reported verdict =
-    (report_words (length verdict.0.0) (length verdict.0.1) verdict.1, status_for verdict.1)
+-- the report on a line with so many groups and messages and these findings, and the status
+abbrev pub reported : Counted → Answer
+reported line = (report_words line.0.0 line.0.1 line.1, status_for line.1)
 
 -- the report, or the refusal
-abbrev pub checked : Result Judged DocumentFault → Answer
-checked (Ok verdict) = reported verdict
+abbrev pub checked : Result Counted DocumentFault → Answer
+checked (Ok line) = reported line
 checked (Err fault) = (refusal_for fault, Refused)
 
 -- what `check` writes for an input
 unfoldable pub check_output : List ℕ → Answer
-check_output document = checked (verdict_of_text document)
+check_output document = checked (counted_of_text document)

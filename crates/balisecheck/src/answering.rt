@@ -46,6 +46,10 @@ fn answer_lines<C: LineCommand, R: Read, W: Write>(
 
 /// Writes the command's answer to each line of the input, and to its end. Then it flushes the
 /// writer.
+///
+/// `Memory`: a request for memory was refused. `Device`: a read, a write or a flush failed, and the
+/// count of that reader or writer has risen by 1. In both cases the text written is a beginning of
+/// the answer.
 pub fn answer_input<C: LineCommand, R: Read, W: Write>(
     alloc: Global,
     command: C,

@@ -12,15 +12,16 @@ use crate::output::write_out;
 use crate::status::Status;
 use crate::whole_input::read_whole;
 use etcs_bits::Memory;
-use etcs_form::{LineError, Refusal, Verdict, check_text, refusal_text, report};
+use etcs_check::Finding;
+use etcs_form::{Checked, LineError, Refusal, check_in_order, refusal_text, report_counts};
 use std::alloc::Global;
 use std::io::{Read, Write};
 
 // The status of a check.
-fn status_of(verdict: &Verdict) -> Status
-    ensures { result ≡ status_for verdict.now.findings.items }
+fn status_of(findings: &[Finding]) -> Status
+    ensures { result ≡ status_for findings.now }
 {
-    if verdict.findings.is_empty() {
+    if findings.is_empty() {
         Status::Done
     } else {
         Status::Findings
@@ -28,17 +29,13 @@ fn status_of(verdict: &Verdict) -> Status
 }
 
 // The report on a line, and the status.
-fn report_on(alloc: Global, verdict: &Verdict) -> Result<(String, Status), Memory>
-    ensures { IfOk result (λ a. (string_bytes a.0, a.1) ≡ reported (
-      (
-        verdict.now.line.groups.items,
-        verdict.now.line.messages.items,
-      ),
-      verdict.now.findings.items,
-    )) }
+fn report_on(alloc: Global, checked: &Checked) -> Result<(String, Status), Memory>
+    ensures { IfOk result (λ a. (string_bytes a.0, a.1)
+        ≡ reported ((checked.now.groups, checked.now.messages), checked.now.findings.items)) }
 {
-    let text = report(alloc, &verdict.line, verdict.findings.as_slice())?;
-    let status = status_of(verdict);
+    let findings = checked.findings.as_slice();
+    let text = report_counts(alloc, checked.groups, checked.messages, findings)?;
+    let status = status_of(findings);
     Ok((text, status))
 }
 
@@ -55,8 +52,8 @@ fn refuse(alloc: Global, why: LineError) -> Result<(String, Status), Memory>
 fn answer_document(alloc: Global, document: &[u8]) -> Result<(String, Status), Memory>
     ensures { IfOk result (λ a. (string_bytes a.0, a.1) ≡ check_output document.now) }
 {
-    match check_text(alloc, document) {
-        Ok(verdict) => report_on(alloc, &verdict),
+    match check_in_order(alloc, document) {
+        Ok(checked) => report_on(alloc, &checked),
         Err(why) => match why {
             LineError::Memory => Err(Memory),
             _ => refuse(alloc, why),
@@ -67,6 +64,10 @@ fn answer_document(alloc: Global, document: &[u8]) -> Result<(String, Status), M
 /// Reads the document of a line to the end of the input, and writes the report on the line, or why
 /// the document is refused. Then it flushes the writer. Nothing is written before the end of the
 /// input was met.
+///
+/// `Memory`: a request for memory was refused. `Device`: a read, a write or a flush failed, and the
+/// count of that reader or writer has risen by 1. In both cases the text written is a beginning of
+/// the report or of the refusal.
 pub fn check_input<R: Read, W: Write>(
     alloc: Global,
     reader: &mut Counted<R>,

@@ -68,7 +68,7 @@ pub(crate) fn refuse_line<W: Write>(
 // Writes the text of a line, or its refusal. The room is that of an earlier text.
 fn answer_line<M: LineMeaning, W: Write>(
     alloc: Global,
-    meaning: &M,
+    meaning: &mut M,
     number: u64,
     line: &[u8],
     room: &mut Vec<u8>,
@@ -95,7 +95,7 @@ fn answer_line<M: LineMeaning, W: Write>(
 // Writes the answer to a line. An empty line is skipped.
 fn take_turn<M: LineMeaning, W: Write>(
     alloc: Global,
-    meaning: &M,
+    meaning: &mut M,
     number: u64,
     line: &[u8],
     room: &mut Vec<u8>,
@@ -147,7 +147,8 @@ impl<M: LineMeaning> LineCommand for EachLine<M> {
         line: &[u8],
         writer: &mut Counted<W>,
     ) -> Result<Turn, RunError> {
-        take_turn(alloc, &self.meaning, number, line, &mut self.room, writer)
+        let EachLine { meaning, room } = self;
+        take_turn(alloc, meaning, number, line, room, writer)
     }
 
     fn end<W: Write>(

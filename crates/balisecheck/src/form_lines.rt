@@ -1,16 +1,18 @@
 //! `EncodingTelegrams` and `EncodingMessages`: a line of JSON, the form of a telegram or of a radio
-//! message, becomes a line of hexadecimal text.
+//! message, becomes a line of hexadecimal text. A line in the spelling of `decode` is read from its
+//! tokens. Any other is read by a JSON value, which alone tells why a line is refused.
 
-ghost use Rattle.std.specs.Prelude.{◌≡◌, ◌++◌, [], codes, IfOk};
+ghost use Rattle.std.specs.Prelude.{◌≡◌, ◌++◌, [], codes, Ok, IfOk, IfSome};
 ghost use Rattle.serde_json.specs.View.{view};
 ghost use Rattle.balisecheck.specs.FormLines.{message_line, or_fault, record_in, telegram_line, value_in};
 ghost use Rattle.balisecheck.specs.LineMeaning.{Gives};
 
 use crate::line_meaning::{LineMeaning, Unwritten};
 use etcs_bits::Memory;
-use etcs_form::{Form, FormError, LineFault};
+use etcs_form::{Form, FormError, LineFault, TokenForm, read_quickly};
 use etcs_radio::Message;
 use etcs_telegram::Telegram;
+use json::Scratch;
 use serde_json::Value;
 use serde_json::error::Category;
 use std::alloc::Global;
@@ -41,10 +43,27 @@ fn record_of<T: Form>(alloc: Global, value: &Value) -> Result<T, Unwritten>
     }
 }
 
+// The record of which a line is the form, if its tokens suffice to tell.
+fn record_of_tokens<T: TokenForm>(alloc: Global, scratch: &mut Scratch, line: &[u8]) -> Option<T>
+    ensures { IfSome result (λ x. record_in T.shape line.now ≡ Ok x) }
+{
+    match str::from_utf8(line) {
+        Ok(text) => read_quickly(alloc, scratch, text),
+        Err(_) => None,
+    }
+}
+
 // The record of which a line is the form.
-fn record_in_line<T: Form>(alloc: Global, line: &[u8]) -> Result<T, Unwritten>
+fn record_in_line<T: TokenForm>(
+    alloc: Global,
+    scratch: &mut Scratch,
+    line: &[u8],
+) -> Result<T, Unwritten>
     ensures { Gives (λ x. x) result (record_in T.shape line.now) }
 {
+    if let Some(record) = record_of_tokens(alloc, scratch, line) {
+        return Ok(record);
+    }
     let value = value_of(alloc, line)?;
     record_of(alloc, &value)
 }
@@ -87,7 +106,19 @@ fn message_text(alloc: Global, room: Vec<u8>, message: &Message) -> Result<Vec<u
 /// A line is the JSON form of a telegram, and becomes its canonical text. A line that is no JSON, no
 /// such form, or the form of a telegram with more bits than its size is refused.
 #[derive(Drop)]
-pub struct EncodingTelegrams;
+pub struct EncodingTelegrams {
+    // Room for the keys and texts of a line.
+    scratch: Scratch,
+}
+
+impl EncodingTelegrams {
+    /// The meaning of each line. It takes no memory yet.
+    pub fn new(alloc: Global) -> EncodingTelegrams {
+        EncodingTelegrams {
+            scratch: Scratch::new(alloc),
+        }
+    }
+}
 
 #[tactic(auto, unfolding(crate::specs::FormLines::telegram_encoded))]
 impl LineMeaning for EncodingTelegrams {
@@ -95,8 +126,8 @@ impl LineMeaning for EncodingTelegrams {
 
     ghost meaning = { telegram_encoded };
 
-    fn text(&self, alloc: Global, room: Vec<u8>, line: &[u8]) -> Result<Vec<u8>, Unwritten> {
-        let telegram = record_in_line(alloc, line)?;
+    fn text(&mut self, alloc: Global, room: Vec<u8>, line: &[u8]) -> Result<Vec<u8>, Unwritten> {
+        let telegram = record_in_line(alloc, &mut self.scratch, line)?;
         telegram_text(alloc, room, &telegram)
     }
 }
@@ -104,7 +135,19 @@ impl LineMeaning for EncodingTelegrams {
 /// A line is the JSON form of a radio message, and becomes its canonical text. A line that is no
 /// JSON, no such form, or the form of a message of more than 1,023 bytes is refused.
 #[derive(Drop)]
-pub struct EncodingMessages;
+pub struct EncodingMessages {
+    // Room for the keys and texts of a line.
+    scratch: Scratch,
+}
+
+impl EncodingMessages {
+    /// The meaning of each line. It takes no memory yet.
+    pub fn new(alloc: Global) -> EncodingMessages {
+        EncodingMessages {
+            scratch: Scratch::new(alloc),
+        }
+    }
+}
 
 #[tactic(auto, unfolding(crate::specs::FormLines::message_encoded))]
 impl LineMeaning for EncodingMessages {
@@ -112,8 +155,8 @@ impl LineMeaning for EncodingMessages {
 
     ghost meaning = { message_encoded };
 
-    fn text(&self, alloc: Global, room: Vec<u8>, line: &[u8]) -> Result<Vec<u8>, Unwritten> {
-        let message = record_in_line(alloc, line)?;
+    fn text(&mut self, alloc: Global, room: Vec<u8>, line: &[u8]) -> Result<Vec<u8>, Unwritten> {
+        let message = record_in_line(alloc, &mut self.scratch, line)?;
         message_text(alloc, room, &message)
     }
 }

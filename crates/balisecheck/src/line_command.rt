@@ -23,6 +23,10 @@ pub trait LineCommand: Drop {
     ghost counted: { Self → ℕ };
 
     /// Writes the answer to the line with this number.
+    ///
+    /// `Memory`: a request for memory was refused. `Device`: a write failed, and the writer's count of
+    /// failures has risen by 1. In both cases what was written is a beginning of the answer, and the
+    /// command has no further use.
     fn answer<W: Write>(
         &mut self,
         alloc: Global,
@@ -38,6 +42,9 @@ pub trait LineCommand: Drop {
         ensures counts { CountsDevice result writer.old writer.new };
 
     /// Writes the answer to the end of the input.
+    ///
+    /// `Memory`: a request for memory was refused. `Device`: a write failed, and the writer's count of
+    /// failures has risen by 1. In both cases what was written is a beginning of the answer.
     fn end<W: Write>(&mut self, alloc: Global, writer: &mut Counted<W>) -> Result<Status, RunError>
         requires { CanCount writer.old }
         ensures writes { (number : ℕ) → Writes (W.contents (inner_of writer.old))

@@ -26,7 +26,8 @@ impl From<Memory> for Unwritten {
     }
 }
 
-/// What each line of the input means to a command, whatever lines stand before it.
+/// What each line of the input means to a command, whatever lines stand before it. A command may keep
+/// room from one line to the next, which has no part in the meaning.
 pub trait LineMeaning: Drop {
     /// The text that is written for a line, or the words that tell why the line is refused.
     ghost meaning: { Meaning };
@@ -35,7 +36,7 @@ pub trait LineMeaning: Drop {
     /// be empty.
     ///
     /// `Memory`: a request for memory was refused. Else the line is refused for a reason.
-    fn text(&self, alloc: Global, room: Vec<u8>, line: &[u8]) -> Result<Vec<u8>, Unwritten>
+    fn text(&mut self, alloc: Global, room: Vec<u8>, line: &[u8]) -> Result<Vec<u8>, Unwritten>
         requires { room.items ≡ [] }
         ensures { Gives (λ text. text.items) result (meaning line.now) };
 }

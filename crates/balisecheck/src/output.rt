@@ -33,6 +33,9 @@ pub fn put<W: Write>(writer: &mut Counted<W>, text: &[u8]) -> Result<(), RunErro
 }
 
 /// Flushes the writer at the end of a run.
+///
+/// `Device`: the flush failed, and the writer's count of failures has risen by 1. What was written
+/// stands.
 pub fn finish<W: Write>(writer: &mut Counted<W>) -> Result<(), RunError>
     requires { CanCount writer.old }
     ensures kept { Keeps (W.contents (inner_of writer.old)) (W.contents (inner_of writer.new)) }
@@ -47,6 +50,9 @@ pub fn finish<W: Write>(writer: &mut Counted<W>) -> Result<(), RunError>
 }
 
 /// Writes the text that is the whole output of a run, and flushes the writer. Returns the status.
+///
+/// `Device`: a write or the flush failed, and the writer's count of failures has risen by 1. What was
+/// written is a beginning of the text.
 pub fn write_out<W: Write>(
     writer: &mut Counted<W>,
     text: &[u8],

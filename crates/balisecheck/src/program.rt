@@ -77,8 +77,10 @@ fn obey<R: Read, W: Write>(
         Some(Command::DecodeRadio) => {
             answer_input(alloc, RadioDecoding::new(alloc), reader, writer)
         }
-        Some(Command::Encode) => answer_each(alloc, EncodingTelegrams, reader, writer),
-        Some(Command::EncodeRadio) => answer_each(alloc, EncodingMessages, reader, writer),
+        Some(Command::Encode) => answer_each(alloc, EncodingTelegrams::new(alloc), reader, writer),
+        Some(Command::EncodeRadio) => {
+            answer_each(alloc, EncodingMessages::new(alloc), reader, writer)
+        }
         None => refuse_words(writer),
     }
 }

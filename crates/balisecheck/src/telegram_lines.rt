@@ -17,7 +17,7 @@ impl LineMeaning for DecodingTelegrams {
 
     ghost meaning = { decoded_of };
 
-    fn text(&self, alloc: Global, room: Vec<u8>, line: &[u8]) -> Result<Vec<u8>, Unwritten> {
+    fn text(&mut self, alloc: Global, room: Vec<u8>, line: &[u8]) -> Result<Vec<u8>, Unwritten> {
         match from_hex(alloc, line) {
             Ok(telegram) => Ok(json_line(room, &telegram)?),
             Err(why) => match why {

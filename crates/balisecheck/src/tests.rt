@@ -6,6 +6,7 @@ mod documents;
 mod forms;
 mod radio;
 mod refused_memory;
+mod values;
 
 use crate::counted::Counted;
 use crate::error::RunError;

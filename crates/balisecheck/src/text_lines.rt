@@ -125,7 +125,9 @@ impl TextLines {
     /// Looks for the next line, and returns whether there is one. Nothing is read once the end of
     /// the input was met.
     ///
-    /// `Memory`: the line is longer than memory. `Device`: a read failed.
+    /// `Memory`: the line is longer than memory. `Device`: a read failed, and the reader's count of
+    /// failures has risen by 1. In both cases the bytes that were read are gone from the reader, and
+    /// the lines have no further use.
     pub fn next<R: Read>(&mut self, reader: &mut Counted<R>) -> Result<bool, RunError>
         requires { CanCount reader.old }
         ensures reads { Reads (R.remaining (inner_of reader.old)) (R.remaining (inner_of reader.new))

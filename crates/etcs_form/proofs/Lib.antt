@@ -3,6 +3,14 @@ pub mod SortedLemmas
 pub mod Objects
 pub mod ListLemmas
 pub mod SendingLemmas
+pub mod TokenLemmas
+pub mod TokenPackets
+pub mod TokenReports
+pub mod TokenMessages
+pub mod AuthorityTokenLemmas
+pub mod RawTokenLemmas
+pub mod DocumentTokenLemmas
+pub mod InOrderLemmas
 pub mod ReadLemmas
 pub mod AuthorityLemmas
 pub mod AuthorityWidth

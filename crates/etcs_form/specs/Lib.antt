@@ -4,6 +4,7 @@ pub mod EntryLemmas
 pub mod Reading
 pub mod Shape
 pub mod Sending
+pub mod Tokens
 pub mod Variables
 pub mod Profiles
 pub mod Choice
@@ -31,5 +32,8 @@ pub mod AnyMessage
 pub mod DocumentFault
 pub mod Document
 pub mod Verdict
+pub mod DocumentTokens
+pub mod AuthorityTokens
 pub mod ReportText
 pub mod Laws
+pub mod ReportTokens

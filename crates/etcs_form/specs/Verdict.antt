@@ -1,5 +1,5 @@
 -- What a yes says of bytes: they are the document of a line, and the line is sound.
-use Rattle.std.specs.Prelude.{◌≡◌, ◌↔◌, ℕ, Bool, List, [], Option, Some, Result, Ok, codes, filter, option_and_then, IsOkAnd, IsSomeAnd}
+use Rattle.std.specs.Prelude.{◌≡◌, ◌↔◌, ℕ, Bool, List, [], length, Option, Some, Result, Ok, codes, filter, option_and_then, IsOkAnd, IsSomeAnd}
 use Rattle.std.specs.Option.{option_map_or}
 use Rattle.serde_json.specs.Data.{Data}
 use Rattle.serde_json.specs.Find.{as_str, at, get}
@@ -39,6 +39,17 @@ judged line = (line, findings line.0 line.1)
 -- the line of bytes with all facts against it, or the first fault of the bytes
 abbrev pub verdict_of_text : List ℕ → Result Judged DocumentFault
 verdict_of_text bytes = line_of_text bytes then λ line. Ok (judged line)
+
+-- how many groups and messages a line has, and all its findings
+abbrev pub Counted : Type 0
+Counted = (ℕ × ℕ) × List Finding
+
+abbrev pub counted : Judged → Counted
+counted verdict = ((length verdict.0.0, length verdict.0.1), verdict.1)
+
+-- the counts and the findings of bytes, or the first fault of the bytes
+abbrev pub counted_of_text : List ℕ → Result Counted DocumentFault
+counted_of_text bytes = verdict_of_text bytes then λ verdict. Ok (counted verdict)
 
 -- the answer is yes: there is a verdict, and no fact stands against the line
 abbrev pub IsYes : Result Verdict LineError → Type 0

@@ -78,8 +78,8 @@ fn read_controlled(alloc: Global, place: usize, value: &Value) -> Result<Control
     }
 }
 
-// The controlled group with this one aspect.
-fn alone(alloc: Global, group: Group) -> Result<Controlled, LineError>
+/// The controlled group with this one aspect.
+pub(crate) fn alone(alloc: Global, group: Group) -> Result<Controlled, LineError>
     ensures { Gives (λ c. c) result (Ok (group ∷ [])) }
 {
     let Ok(aspects) = (vec![in alloc; group]) else {

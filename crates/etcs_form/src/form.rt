@@ -37,7 +37,8 @@ pub trait Form: Drop {
 
 /// A value whose form can be sent piece by piece, so that no value is built for it.
 pub trait InPieces: Form {
-    /// Sends the form to a writer of JSON. The only error is that the writer's buffer can't grow.
+    /// Sends the form to a writer of JSON. The only error is that the writer's buffer can't grow. After
+    /// an error a part of the form may have been sent.
     fn send(&self, out: &mut Writer) -> Result<(), Memory>
         ensures { OnOk result (SendsValue (Self.shape.to self.now) out.old out.new) };
 }

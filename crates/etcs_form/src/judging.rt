@@ -21,7 +21,8 @@ use std::alloc::Global;
 /// says that a mixture is accepted exactly where it is covered and one aspect has, at their places, all
 /// the telegrams that it shows. Its packets are then those of that aspect with nothing missed.
 ///
-/// The error is that of [`read_line`]. Findings take memory too.
+/// The error is that of [`read_line`]. Findings take memory too. After an error neither line nor
+/// findings are returned.
 pub fn check_text(alloc: Global, bytes: &[u8]) -> Result<Verdict, LineError>
     ensures exact { Gives (λ v. ((v.line.groups.items, v.line.messages.items), v.findings.items)) result
         (verdict_of_text bytes.now) }

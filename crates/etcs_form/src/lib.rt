@@ -9,6 +9,10 @@
 //! facts against that line: of these read `document.rt` first, with `specs/Document.antt`, and then
 //! `specs/Verdict.antt`, which states what a yes says. [`report`] tells what is found about a line,
 //! and [`refusal_text`] why an input is refused.
+//!
+//! Two quick readers build no JSON value: [`read_quickly`] reads a record from the tokens of its form,
+//! and [`check_in_order`] checks a document group by group. They know one spelling, and leave any other
+//! to the readers above, whose answer theirs is. Read `token_form.rt` first, with `specs/Tokens.antt`.
 #![tactic(auto)]
 
 mod authority_form;
@@ -26,6 +30,8 @@ mod error;
 mod form;
 mod gradient_form;
 mod head_form;
+mod identities;
+mod in_order;
 mod integrity_form;
 mod judging;
 mod known_keys;
@@ -51,8 +57,24 @@ mod sending;
 mod speed_form;
 mod telegram_form;
 mod terms_form;
-#[cfg(test)]
-mod tests;
+mod token_authority;
+mod token_form;
+mod token_groups;
+mod token_members;
+mod token_messages;
+mod token_numbers;
+mod token_packets;
+mod token_parts;
+mod token_profiles;
+mod token_raw;
+mod token_raw_train;
+mod token_reading;
+mod token_report;
+mod token_telegram;
+mod token_text;
+mod token_track;
+mod token_train;
+mod token_transition;
 mod track_form;
 mod train_form;
 mod transition_form;
@@ -61,9 +83,12 @@ mod verdict;
 pub use document::read_line;
 pub use error::{FormError, Step};
 pub use form::{Form, InPieces};
+pub use in_order::{Checked, check_in_order};
 pub use judging::check_text;
 pub use line_error::LineError;
 pub use record::Record;
 pub use refusal::{LineFault, Refusal, StreamFault, refusal_text};
-pub use report_text::report;
+pub use report_text::{report, report_counts};
+pub use token_form::TokenForm;
+pub use token_text::read_quickly;
 pub use verdict::Verdict;

@@ -151,20 +151,30 @@ fn findings_text(alloc: Global, findings: &[Finding]) -> Result<String, AllocErr
     Ok(text)
 }
 
-/// The report on a line, given what a check found: `yes` and how many groups and messages the line
-/// has, or `no`, how many findings there are, and then a line for each finding. Each line ends with
-/// `\n`. The only error is that memory runs out.
+/// The report on a line with so many groups and messages, given what a check found: `yes` and how many
+/// groups and messages the line has, or `no`, how many findings there are, and then a line for each
+/// finding. Each line ends with `\n`. The only error is that memory runs out.
 #[tactic(auto, unfolding(crate::specs::ReportText::report_words))]
-pub fn report(alloc: Global, line: &Line, findings: &[Finding]) -> Result<String, Memory>
-    ensures { IfOk result (λ s. string_bytes s
-        ≡ report_words (length line.now.groups.items) (length line.now.messages.items) findings.now) }
+pub fn report_counts(
+    alloc: Global,
+    groups: usize,
+    messages: usize,
+    findings: &[Finding],
+) -> Result<String, Memory>
+    ensures { IfOk result (λ s. string_bytes s ≡ report_words groups messages findings.now) }
 {
     if findings.is_empty() {
-        let groups = line.groups.len();
-        let messages = line.messages.len();
         return Ok(format!(in alloc; "yes: groups {groups}, messages {messages}\n")?);
     }
     let count = findings.len();
     let lines = findings_text(alloc, findings)?;
     Ok(format!(in alloc; "no: findings {count}\n{lines}")?)
+}
+
+/// The report on a line, as [`report_counts`] gives it for the counts of its groups and messages.
+pub fn report(alloc: Global, line: &Line, findings: &[Finding]) -> Result<String, Memory>
+    ensures { IfOk result (λ s. string_bytes s
+        ≡ report_words (length line.now.groups.items) (length line.now.messages.items) findings.now) }
+{
+    report_counts(alloc, line.groups.len(), line.messages.len(), findings)
 }

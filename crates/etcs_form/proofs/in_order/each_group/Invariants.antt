@@ -1,0 +1,11 @@
+use Rattle.std.proofs.Common.{length}
+use Rattle.etcs_form.specs.DocumentTokens.{AreSeen}
+use Rattle.etcs_form.proofs.in_order.each_group.Given as goal
+
+-- the groups so far are read, checked and marked
+abbrev pub invariant-groups : goal.invariant-groups
+invariant-groups l = AreSeen l.depth l.initial.reader l.count l.initial.findings.items l.findings.items l.table.items l.reader
+
+-- each of them takes a token at least
+abbrev pub decreases-groups : goal.decreases-groups
+decreases-groups l = length l.reader
