@@ -1,11 +1,13 @@
 """The whole process, without a shim: limits of memory and stack, devices of the system, two runs at once."""
 import os
 import subprocess
+import sys
 
-from hostile_program import DEVICE, MEMORY, PROGRAM, SECONDS, Job, alone, stops
+from hostile_program import DEVICE, HERE, MEMORY, PROGRAM, SECONDS, Answer, Job, alone, stops
 from hostile_runs import CHECK, COMMANDS, DECODE, DECODE_RADIO, ENCODE, ENCODE_RADIO, FORM, MESSAGE, SHORT, runs
 
 STACK = 512  # KiB of stack that README.md names
+LONG = 20000  # groups of a long document
 
 
 def least(low, high, holds):
@@ -44,6 +46,14 @@ def memory_limits(tests, known, step):
             tests.figures["runs with little memory that answered memory"] += answer.status == 3
             fine = answer == wanted or stops(answer, wanted, MEMORY)
             tests.holds(f"{words} with {size} KiB", fine, answer, wanted.stdout[:200])
+
+
+def long_document(tests):
+    """A long document is checked group by group, in an address space that has no room for a JSON value of it."""
+    command = [sys.executable, HERE.parent / "bench" / "documents.py", str(LONG)]
+    document = subprocess.run(command, capture_output=True, check=True).stdout
+    answer = limited("v", 4 * len(document) // 1024 + 10000, CHECK, document)
+    tests.equal("a long document in little memory", answer, Answer(0, f"yes: groups {LONG}, messages 0\n", ""))
 
 
 def stack_limit(tests, known):
@@ -107,6 +117,7 @@ def process(program, tests, whole=True):
     system_devices(tests, known)
     at_once(program, tests, known)
     memory_limits(tests, known[::16], 500 if whole else 13000)
+    long_document(tests)
     if whole:
         stack_limit(tests, known)
     else:
