@@ -6,8 +6,7 @@
 # 10,000 groups with two aspects each. `check` has to say yes. Beside it a `serde_json::Value` is made of the
 # same bytes, by the program of bench/json, which is proved and built first. The first failure ends the run
 # with status 1. The rates are by processor time, which the load of the machine changes less than the time
-# elapsed. 100,000 groups take 44 MB of the temporary folder, which TMPDIR names, and eight to nine times
-# that of memory.
+# elapsed. 100,000 groups take 44 MB of the temporary folder, which TMPDIR names, and twice that of memory.
 #
 # BALISECHECK names another program to measure.
 set -euo pipefail
