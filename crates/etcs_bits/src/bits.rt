@@ -131,7 +131,8 @@ impl Bits {
     }
 
     /// The first `len` bits of the bytes. Each byte has eight bits, most significant first. The
-    /// bytes must have at least `len` bits. Fails only if memory runs out.
+    /// bytes must have at least `len` bits. The only error is that memory runs out; then nothing is
+    /// returned.
     pub fn from_bytes(alloc: Global, bytes: &[u8], len: usize) -> Result<Bits, Memory>
         requires { len ≤ 8 * length bytes.now }
         ensures bits { IfOk result (λ b. b ≡ take len (bits_of_bytes bytes.now)) }
@@ -142,8 +143,8 @@ impl Bits {
         Ok(Bits { bytes: kept, len })
     }
 
-    /// The bits as bytes, eight in each, most significant first. Zeros fill the last byte. Fails
-    /// only if memory runs out.
+    /// The bits as bytes, eight in each, most significant first. Zeros fill the last byte. The only
+    /// error is that memory runs out; then nothing is returned.
     pub fn to_bytes(&self, alloc: Global) -> Result<Vec<u8>, Memory>
         ensures bits { IfOk result (λ v. bits_of_bytes v.items
             ≡ self.now ++ replicate (8 * length v.items - length self.now) false) }

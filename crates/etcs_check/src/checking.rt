@@ -294,7 +294,8 @@ pub(crate) fn note_message(
 /// `used` says whether an earlier group of the line has its identity: only then is there a finding
 /// [`Rule::IdentityUsed`].
 ///
-/// Memory is asked for only if there is a finding.
+/// Memory is asked for only if there is a finding. The only error is that it runs out; then no finding is
+/// returned.
 pub fn check_group(
     alloc: Global,
     place: usize,
@@ -321,7 +322,8 @@ pub fn check_group(
 /// The findings about one radio message, which stands at this place of its line: by rule, then by
 /// running direction, nominal first, then by packet. A message 136 has none.
 ///
-/// Memory is asked for only if there is a finding.
+/// Memory is asked for only if there is a finding. The only error is that it runs out; then no finding is
+/// returned.
 pub fn check_message(alloc: Global, place: usize, message: &Message) -> Result<Vec<Finding>, Memory>
     ensures ok { IfOk result (λ found. found.items ≡ message_findings (whole (sites.Message place)) message.now) }
     ensures memory { OnErr result (message_findings (whole (sites.Message place)) message.now ≢ []) }

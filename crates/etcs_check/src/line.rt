@@ -99,7 +99,8 @@ fn note_messages(found: &mut Vec<Finding>, messages: &[Message]) -> Result<(), M
 /// where a group is switched while a train passes, the train refuses what it reads unless one aspect has
 /// all of it (this project's rules, after SUBSET-026, 3.16.2).
 ///
-/// Memory is asked for only if there is a finding.
+/// Memory is asked for only if there is a finding. The only error is that it runs out; then no finding is
+/// returned.
 pub fn check(alloc: Global, line: &Line) -> Result<Vec<Finding>, Memory>
     ensures ok { IfOk result (λ found. found.items ≡ findings line.now.groups.items line.now.messages.items) }
     ensures memory { OnErr result (findings line.now.groups.items line.now.messages.items ≢ []) }

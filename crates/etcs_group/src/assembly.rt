@@ -68,7 +68,8 @@ fn packets<'a>(
 /// copied. (This project's rule, after SUBSET-026, 3.16.2.)
 ///
 /// Telegrams that make no message are refused for the first reason of [`Refused`] that holds, even if no
-/// memory is left. Memory is asked for only if there are packets to give.
+/// memory is left. Memory is asked for only if there are packets to give. After an error no list is
+/// returned.
 pub fn assemble<'a>(
     alloc: Global,
     run: Run,

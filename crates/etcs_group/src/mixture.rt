@@ -93,7 +93,8 @@ impl Controlled {
     /// rising index in nominal running, by falling index in reverse (SUBSET-026, 3.4.2). The mixture has to
     /// fit.
     ///
-    /// Memory is asked for only if something is shown.
+    /// Memory is asked for only if something is shown. The only error is that it runs out; then no list is
+    /// returned.
     pub fn mixed(&self, alloc: Global, mixture: &Mixture) -> Result<Vec<&Telegram>, Memory>
         requires { Fits self.now (shown_in mixture.now.shown) }
         ensures ok { IfOk result (λ read. pointed read.items

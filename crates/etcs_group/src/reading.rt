@@ -17,7 +17,8 @@ impl Group {
     /// in nominal running, by falling index in reverse (SUBSET-026, 3.4.2). Bits of `missed` past the
     /// group's end count for nothing.
     ///
-    /// Memory is asked for only if something is read.
+    /// Memory is asked for only if something is read. The only error is that it runs out; then no list is
+    /// returned.
     pub fn reading(&self, alloc: Global, run: Run, missed: Missed) -> Result<Vec<&Telegram>, Memory>
         ensures ok { IfOk result (λ read. pointed read.items ≡ reading_of run (is_missed missed.0) self.now) }
         ensures memory { OnErr result (reading_of run (is_missed missed.0) self.now ≢ []) }

@@ -50,7 +50,8 @@ pub fn next_whole<H: Layout, T: Layout>(
 /// packets end is ignored.
 ///
 /// A reported fault is the first one of the bits. No input of the same length with the same first
-/// `end` bits begins with such a head and packets. If memory runs out, a fault may go unseen.
+/// `end` bits begins with such a head and packets. If memory runs out, a fault may go unseen. After an
+/// error nothing is returned of what was read.
 pub fn read_whole<H: Layout, T: Layout>(
     alloc: Global,
     bits: &Bits,

@@ -83,7 +83,8 @@ fn message(alloc: Global, fields: Fields, cur: &mut Cursor<'_>) -> Result<Messag
 /// and 8.7). No copy of the bits is made, except of bodies that are kept as bits.
 ///
 /// A fault that is returned is the first one in the bytes. Then no bytes of the same number with the
-/// same first `end` bits are a message. If memory runs out, a fault may go unseen.
+/// same first `end` bits are a message. If memory runs out, a fault may go unseen. After an error
+/// nothing is returned of what was read.
 pub fn decode(alloc: Global, bytes: &[u8]) -> Result<Message, DecodeError>
     ensures ok { IfOk result (λ m. IsMessage m bytes.now) }
 

@@ -30,7 +30,8 @@ fn is_hexadecimal(text: &[u8]) -> bool
 /// Reads a message from its text, which is an even number of hexadecimal digits of either case.
 ///
 /// `NotHex` and the first fault of the bytes are checked in this order. If memory runs out, a fault
-/// may go unseen: the bytes take memory, and the check before them takes none.
+/// may go unseen: the bytes take memory, and the check before them takes none. After an error nothing
+/// is returned of what was read.
 pub fn from_hex(alloc: Global, text: &[u8]) -> Result<Message, RadioTextError>
     ensures ok { IfOk result (λ m. IsMessageText m text.now) }
     ensures reason { IfErr result (λ e. IsReason e text.now) }

@@ -45,7 +45,7 @@ pub(crate) fn decode_slice(alloc: Global, bits: BitSlice<'_>) -> Result<Telegram
 ///
 /// A fault that is returned is the first one in the bits. Then no input of the same length with the
 /// same first `end` bits spells a telegram. Only packets take memory. If it runs out, a fault after
-/// the header may go unseen.
+/// the header may go unseen. After an error nothing is returned of what was read.
 pub fn decode(alloc: Global, bits: &Bits) -> Result<Telegram, DecodeError>
     requires { AreUserBits bits.now }
     ensures ok { IfOk result (λ t. IsTelegram t bits.now) }

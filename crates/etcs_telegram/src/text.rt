@@ -103,7 +103,7 @@ fn telegram_of_digits<const N: usize>(alloc: Global, text: &[u8]) -> Result<Tele
 ///
 /// `NotHex`, `WrongSize`, `PadBits` and the first fault of the user bits are checked in this order.
 /// The call returns the first of them that holds. Only packets take memory. If it runs out, a fault
-/// after the header may go unseen.
+/// after the header may go unseen. After an error nothing is returned of what was read.
 pub fn from_hex(alloc: Global, text: &[u8]) -> Result<Telegram, TextError>
     ensures ok { IfOk result (λ t. IsTelegramText t text.now) }
     ensures reason { IfErr result (λ e. IsReason e text.now) }

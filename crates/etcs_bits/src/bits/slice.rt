@@ -112,7 +112,8 @@ impl<'a> BitSlice<'a> {
         left == 0 || self.num(at, left) == other.num(at, left)
     }
 
-    /// A copy of the bits, as a list of its own. Fails only if memory runs out.
+    /// A copy of the bits, as a list of its own. The only error is that memory runs out; then nothing
+    /// is returned.
     pub fn to_bits(&self, alloc: Global) -> Result<Bits, Memory>
         ensures bits { IfOk result (λ b. b ≡ self.now) }
         ensures len { IfOk result (λ b. length b ≡ length self.now) }
