@@ -100,7 +100,8 @@ fn entered_command(matches: &ArgMatches<'_>) -> Option<Command>
 /// The command that the words of a command line give, or `None` if they are no command. The first
 /// word is the program's name.
 ///
-/// A request for help is no command, so the texts of `clap` are never printed.
+/// A request for help is no command, so the texts of `clap` are never printed. The only error is that
+/// memory runs out; then no command is returned.
 pub fn read_command<'a>(alloc: Global, words: &'a [&'a str]) -> Result<Option<Command>, AllocError>
     ensures { IfOk result (λ c. c ≡ command_of (map (λ w. w.now) words.entry.now)) }
 {

@@ -8,7 +8,7 @@ use etcs_form::InPieces;
 use json::Writer;
 
 /// The JSON line of a value, with its `\n`, in the room of an earlier line. The only error is that
-/// memory runs out.
+/// memory runs out; then the room is lost.
 pub fn json_line<T: InPieces>(room: Vec<u8>, value: &T) -> Result<Vec<u8>, Memory>
     requires { room.items ≡ [] }
     ensures { IfOk result (λ line. line.items ≡ json_line_of T.shape value.now) }

@@ -35,7 +35,8 @@ pub trait LineMeaning: Drop {
     /// The text of a line, with its `\n`. It is made in the room of an earlier text, which has to
     /// be empty.
     ///
-    /// `Memory`: a request for memory was refused. Else the line is refused for a reason.
+    /// `Memory`: a request for memory was refused. Else the line is refused for a reason. After either
+    /// error the room is lost.
     fn text(&mut self, alloc: Global, room: Vec<u8>, line: &[u8]) -> Result<Vec<u8>, Unwritten>
         requires { room.items ≡ [] }
         ensures { Gives (λ text. text.items) result (meaning line.now) };

@@ -13,7 +13,8 @@ use std::io::Write;
 
 /// Writes the text.
 ///
-/// `Device`: the writer failed. What it took before that is a beginning of the text.
+/// `Device`: a write failed, and the writer's count of failures has risen by 1. What it took before
+/// that is a beginning of the text.
 // This is not `write_all`: its contract does not say what was written before a failure.
 pub fn put<W: Write>(writer: &mut Counted<W>, text: &[u8]) -> Result<(), RunError>
     requires { CanCount writer.old }

@@ -35,7 +35,8 @@ impl TextLines {
     ghost use Rattle.balisecheck.specs.LineReading.{CountsDevice, IsEndMet, MovesTo, Reads};
     ghost use Rattle.balisecheck.specs.LineReading.{has_ended, held_of, line_of};
 
-    /// Nothing is read yet.
+    /// The lines of an input of which nothing is read yet. The only error is that memory runs out; then
+    /// nothing is returned.
     pub fn new(alloc: Global) -> Result<TextLines, AllocError>
         ensures { IfOk result (λ l. (held_of l ≡ []) × (has_ended l ≡ false)) }
     {

@@ -51,7 +51,9 @@ fn read_more<R: Read>(
 
 /// Reads to the end of the input, and returns all its bytes.
 ///
-/// `Memory`: the input is longer than memory. `Device`: a read failed.
+/// `Memory`: the input is longer than memory. `Device`: a read failed, and the reader's count of
+/// failures has risen by 1. In both cases the bytes that were read are gone from the reader, and none
+/// of them is returned.
 pub fn read_whole<R: Read>(alloc: Global, reader: &mut Counted<R>) -> Result<Vec<u8>, RunError>
     requires { CanCount reader.old }
     ensures read { ReadsWhole vec_items (R.remaining (inner_of reader.old))

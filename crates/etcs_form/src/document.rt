@@ -45,7 +45,7 @@ fn read_document(alloc: Global, value: &Value) -> Result<Line, LineError>
 /// whole before the next, which is its form, the count of its balises and each of these, or its list
 /// of aspects, each whole before the next; and only then the messages. An aspect's count is compared
 /// with that of aspect 0 before its balises are looked at. The one error besides is that memory ran
-/// out: a fault may then go unseen.
+/// out: a fault may then go unseen. After an error nothing is returned of what was read.
 #[tactic(auto, unfolding(crate::specs::Document::line_of_text))]
 pub fn read_line(alloc: Global, bytes: &[u8]) -> Result<Line, LineError>
     ensures { Gives (λ l. (l.groups.items, l.messages.items)) result (line_of_text bytes.now) }

@@ -23,14 +23,14 @@ pub trait Form: Drop {
     ghost in_range: { Self → Type 0 } = { λ _. Unit {0} };
 
     /// The form as a JSON value, which is read as this value again if the value is in range. The
-    /// only error is that memory runs out.
+    /// only error is that memory runs out; then no form is returned.
     fn to_form(&self, alloc: Global) -> Result<Value, Memory>
         ensures form { IfOk result (λ v. view v ≡ shape.to self.now) }
         ensures again { IfOk result
             (λ v. in_range self.now → shape.of (view v) ≡ Ok self.now) };
 
     /// Reads a form. The error is its first fault, in the order in which the form is read, with the
-    /// way to it.
+    /// way to it. After an error nothing is returned of what was read.
     fn of_form(alloc: Global, value: &Value) -> Result<Self, FormError>
         ensures { Gives (λ x. x) result (shape.of (view value.now)) };
 }

@@ -223,8 +223,8 @@ pub(crate) fn quick_check(alloc: Global, bytes: &[u8]) -> Option<Checked>
 /// Checks the document of a railway line as [`check_text`] does, and keeps how many groups and messages
 /// there are and what is found about them, but no record. A document whose keys stand in the order
 /// `groups`, `messages` takes no more memory than one byte for each of its bytes, 2 MiB for the
-/// identities, and the findings. Any other document, and one that is refused, is read as by
-/// [`check_text`].
+/// identities, the records of one group or message at a time, and the findings. Any other document, and
+/// one that is refused, is read as by [`check_text`].
 ///
 /// The error is that of [`check_text`]. After an error neither counts nor findings are returned.
 pub fn check_in_order(alloc: Global, bytes: &[u8]) -> Result<Checked, LineError>

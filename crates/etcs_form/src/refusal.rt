@@ -183,7 +183,7 @@ fn document_reason(alloc: Global, why: &LineError) -> Result<String, AllocError>
 }
 
 /// The line that tells a refusal, with its `\n`. Want of memory is no reason to refuse an input. The
-/// only error is that memory runs out.
+/// only error is that memory runs out; then no text is returned.
 #[tactic(auto, unfolding(crate::specs::Refusal::refusal_words))]
 pub fn refusal_text(alloc: Global, refusal: &Refusal) -> Result<String, Memory>
     requires { IsTold refusal.now }

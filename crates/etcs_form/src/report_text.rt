@@ -153,7 +153,7 @@ fn findings_text(alloc: Global, findings: &[Finding]) -> Result<String, AllocErr
 
 /// The report on a line with so many groups and messages, given what a check found: `yes` and how many
 /// groups and messages the line has, or `no`, how many findings there are, and then a line for each
-/// finding. Each line ends with `\n`. The only error is that memory runs out.
+/// finding. Each line ends with `\n`. The only error is that memory runs out; then no text is returned.
 #[tactic(auto, unfolding(crate::specs::ReportText::report_words))]
 pub fn report_counts(
     alloc: Global,
@@ -171,7 +171,8 @@ pub fn report_counts(
     Ok(format!(in alloc; "no: findings {count}\n{lines}")?)
 }
 
-/// The report on a line, as [`report_counts`] gives it for the counts of its groups and messages.
+/// The report on a line, as [`report_counts`] gives it for the counts of its groups and messages. The
+/// only error is that memory runs out; then no text is returned.
 pub fn report(alloc: Global, line: &Line, findings: &[Finding]) -> Result<String, Memory>
     ensures { IfOk result (λ s. string_bytes s
         ≡ report_words (length line.now.groups.items) (length line.now.messages.items) findings.now) }

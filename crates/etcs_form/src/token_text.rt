@@ -12,7 +12,7 @@ use std::alloc::Global;
 const MAX_DEPTH: usize = 127;
 
 /// Reads the record of which a text is the form, with no value built for it. None says nothing of
-/// the text: it may be such a form or not.
+/// the text: it may be such a form or not. The scratch may be used for another text after either answer.
 pub fn read_quickly<T: TokenForm>(alloc: Global, scratch: &mut Scratch, text: &str) -> Option<T>
     ensures { IfSome result (λ x. (d : Data) × (read text.now ≡ Some d) × (T.shape.of d ≡ Ok x)) }
 {

@@ -1,5 +1,6 @@
-//! The form of a packet from track to train, read from tokens. Its first key tells which packet it is,
-//! or, where two have the same first key, the first key of its first element.
+//! The form of a packet from track to train, read from tokens. Its first key tells which packet it is.
+//! Packets 21 and 27 have the same first key: the first key of their first element tells them apart.
+//! Packets 12 and 15 are told apart by their number, which comes later.
 
 ghost use Rattle.std.specs.Prelude.{◌≡◌, ◌∷◌, codes, Some, IfSome};
 ghost use Rattle.json.specs.Token.{key as key_token};
