@@ -46,13 +46,13 @@ pub trait Layout: Drop {
     fn width(&self) -> u64
         ensures { result ≡ min (width (format.rows self.now)) u64.MAX };
 
-    /// Appends the spelling. If memory runs out, a part of it may be appended, so users call
-    /// `write`.
+    /// Appends the spelling. If memory runs out, the bits still begin with what they held, and no
+    /// more is promised of them. So users call `write`.
     fn put(&self, out: &mut Bits) -> Result<(), Memory>
         requires { AreAllowed (format.rows self.now) }
         ensures { Puts (join (format.rows self.now)) result out.old out.new };
 
-    /// Reads a record at the cursor. After an error the cursor may stand anywhere, so users call
+    /// Reads a record at the cursor. After an error nothing is promised of the cursor. So users call
     /// `read`.
     fn scan(alloc: Global, cur: &mut Cursor<'_>) -> Result<Self, DecodeError>
         ensures gives { Gives format.rows result (rows_at format.fields cur.old) cur.new }

@@ -13,7 +13,7 @@ use etcs_packet::Run;
 pub enum Rule {
     /// F1: the position of a balise, N_PIG, is not its place in the group.
     PositionWrong,
-    /// F2: the total of a balise, N_TOTAL, and one is not the number of balises of the group.
+    /// F2: the number of balises that a balise gives, N_TOTAL plus one, is not that of the group.
     TotalWrong,
     /// F3: the version, the identity or the link flag of a balise differs from that of balise 0 of
     /// aspect 0.

@@ -220,8 +220,8 @@ impl Authority {
     }
 
     /// How far the train may run, in decimetres: the length of all sections and the end section
-    /// together. It counts from the balise group that sends packet 12, and from the LRBG of the
-    /// message that has packet 15. At most 104,854,400.
+    /// together. It counts from the balise group that sends packet 12. For packet 15 it counts from the
+    /// last relevant balise group (LRBG), which the message names. At most 104,854,400.
     pub fn end(&self) -> u64
         ensures sum { result ≡ authority_end self.now }
         ensures bound { result ≤ 104854400 }

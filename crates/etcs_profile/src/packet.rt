@@ -31,7 +31,7 @@ impl<const N: u32, T: Layout> Packet<N, T> {
     ghost use Rattle.etcs_profile.specs.Packet.{rest};
 
     /// Makes the packet with this record, for this direction. None if the record is not allowed or
-    /// the packet has more than 8,191 bits.
+    /// the packet has more than 8,191 bits. The record is lost then. The call takes no memory.
     #[inline]
     pub fn of(dir: Dir, body: T) -> Option<Self>
         ensures some { IfSome result (λ p. p ≡ (dir, body)) }

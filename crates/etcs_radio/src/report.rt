@@ -33,7 +33,8 @@ pub struct Report {
     pub doubt_under: Distance,
     /// Q_LENGTH, 2 bits, and L_TRAININT, 15 bits: whether the train is whole, and its length.
     pub length: Integrity,
-    /// V_TRAIN, 7 bits: the train's speed, in steps of 5 km/h.
+    /// V_TRAIN, 7 bits: the train's speed, in steps of 5 km/h. All 128 numbers are accepted, those
+    /// above 120 too, which stand for no speed up to 600 km/h.
     pub speed: Plain<7>,
     /// Q_DIRTRAIN, 2 bits: in which direction the train runs, as seen from the group.
     pub running: Train3,

@@ -128,7 +128,8 @@ impl<'a> Cursor<'a> {
     /// A copy of the next `width` bits, as they are. The cursor then stands after them.
     ///
     /// If fewer bits are left, the error is a Short fault at the cursor, whose `end` is the length
-    /// of the bits. After an error the cursor has not moved.
+    /// of the bits, and no memory is asked for. If memory runs out, the error is Memory. After an
+    /// error the cursor has not moved.
     pub fn take_bits(&mut self, alloc: Global, width: usize) -> Result<Bits, DecodeError>
         ensures gives { Gives num_of_bits result (field_at (free width) self.old) self.new }
         ensures len { IfOk result (λ bits. length bits ≡ width) }
