@@ -38,12 +38,12 @@ each_counted g n i (d ∷ ds) xs is (suc k) x h =
     let rest = first_ok one.0 (each_from (aspect_at g (Some n)) (i + 1) ds) xs one.2 in
     each_counted g n (i + 1) ds rest.0 rest.1 k x (subst (λ (l : List (List Telegram)). At l (suc k) x) (sym rest.2) h)
 
-as_first : (first : List Telegram) (others : List (List Telegram)) → ((k : ℕ) (x : List Telegram) → At others k x → length x ≡ length first)
+pub as_first : (first : List Telegram) (others : List (List Telegram)) → ((k : ℕ) (x : List Telegram) → At others k x → length x ≡ length first)
     → (k : ℕ) (x : List Telegram) → At (first ∷ others) k x → length x ≡ length first
 as_first first others counted zero x h = ap length (sym (same_Some first x h))
 as_first first others counted (suc k) x h = counted k x h
 
-controlled_first : (g : ℕ) (first : List Telegram) (ds : List Data) (aspects : List (List Telegram)) → 0 < length first
+pub controlled_first : (g : ℕ) (first : List Telegram) (ds : List Data) (aspects : List (List Telegram)) → 0 < length first
     → with_first first (others_of g (length first) ds) ≡ Ok aspects → IsControlled aspects
 controlled_first g first ds aspects some is =
     let rest = first_ok first (others_of g (length first) ds) aspects is in

@@ -25,6 +25,7 @@ pub mod AspectLemmas
 pub mod ValueLemmas
 pub mod BaliseLemmas
 pub mod VerdictLemmas
+pub mod SoundLemmas
 pub mod ReportLemmas
 pub mod RangeLemmas
 pub mod TrackRanges

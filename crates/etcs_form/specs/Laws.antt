@@ -1,5 +1,6 @@
--- The laws of forms: each telegram and each radio message is what its form is read as.
-use Rattle.std.specs.Prelude.{◌≡◌, true, List, Ok}
+-- The laws of forms: each telegram and each radio message is what its form is read as, and a document
+-- without findings is that of a sound line.
+use Rattle.std.specs.Prelude.{◌≡◌, ◌↔◌, ℕ, true, List, [], Ok, IsOkAnd}
 use Rattle.std.specs.List.{flat_map}
 use Rattle.etcs_bits.specs.layout.Rows.{AreAllowed, Row}
 use Rattle.etcs_packet.specs.Track.{track_packet}
@@ -12,6 +13,7 @@ use Rattle.etcs_radio.specs.declared.message.Message.TheVariants as messages
 use Rattle.etcs_form.specs.AnyMessage.{message}
 use Rattle.etcs_form.specs.Shape.{object}
 use Rattle.etcs_form.specs.Telegrams.{telegram}
+use Rattle.etcs_form.specs.Verdict.{IsSoundText, counted_of_text}
 
 -- ---- telegrams
 
@@ -52,3 +54,9 @@ MessagesAreReadAgain = (m : Message) → IsMessageInRange m → message.of (mess
 abbrev pub MessagesHaveFormsOfTheirOwn : Type 0
 MessagesHaveFormsOfTheirOwn = (m n : Message) → IsMessageInRange m → IsMessageInRange n
     → message.to m ≡ message.to n → m ≡ n
+
+-- ---- documents
+
+-- Bytes are read as a line without a finding exactly where they are the document of a sound line.
+abbrev pub NoFindingMeansSoundText : Type 0
+NoFindingMeansSoundText = (bytes : List ℕ) → IsOkAnd (counted_of_text bytes) (λ checked. checked.1 ≡ []) ↔ IsSoundText bytes

@@ -1,7 +1,9 @@
-//! Laws of forms, for users. They hold for any reader and any writer. Each law is the contract of a
-//! function that does nothing.
+//! Laws of forms and of documents, for users. They hold for any reader and any writer. Each law is the
+//! contract of a function that does nothing.
 
-ghost use Rattle.etcs_form.specs.Laws.{MessagesAreReadAgain, MessagesHaveFormsOfTheirOwn, TelegramsAreReadAgain, TelegramsHaveFormsOfTheirOwn};
+ghost use Rattle.etcs_form.specs.Laws.{MessagesAreReadAgain, MessagesHaveFormsOfTheirOwn, NoFindingMeansSoundText, TelegramsAreReadAgain, TelegramsHaveFormsOfTheirOwn};
+
+use etcs_check::laws::no_finding_means_sound_line;
 
 /// The form of a telegram is read as that telegram, if none of its numbers is spare. Each value of
 /// `etcs_telegram::Telegram` is such a telegram.
@@ -25,3 +27,12 @@ pub fn messages_are_read_again()
 pub fn messages_have_forms_of_their_own()
     ensures { MessagesHaveFormsOfTheirOwn }
 {}
+
+/// Bytes are read as a line without a finding exactly if they are the document of a sound line.
+/// [`check_text`](crate::check_text) and [`check_in_order`](crate::check_in_order) answer what this
+/// reading gives, unless memory runs out.
+pub fn no_finding_means_sound_text()
+    ensures { NoFindingMeansSoundText }
+{
+    no_finding_means_sound_line();
+}
