@@ -21,6 +21,7 @@ pub mod RunLemmas
 pub mod AnyList
 pub mod ResultLemmas
 pub mod DocumentLemmas
+pub mod EmptyLemmas
 pub mod AspectLemmas
 pub mod ValueLemmas
 pub mod BaliseLemmas

@@ -67,6 +67,19 @@ abbrev pub Gives : {X Y : Type 0} → (X → Y) → Result X FormError → Resul
 Gives view (Ok x) read = read ≡ Ok (view x)
 Gives view (Err e) read = Fails e read
 
+-- what has to hold if the error is that memory ran out
+abbrev pub OfMemory : FormError → Type 0 → Type 0
+OfMemory errors.Memory P = P
+OfMemory (errors.Missing path) P = Unit {0}
+OfMemory (errors.Unknown path) P = Unit {0}
+OfMemory (errors.Kind path) P = Unit {0}
+OfMemory (errors.Range path) P = Unit {0}
+
+-- what has to hold if the call reports that memory ran out
+abbrev pub IfMemory : {X : Type 0} → Result X FormError → Type 0 → Type 0
+IfMemory (Ok x) P = Unit {0}
+IfMemory (Err e) P = OfMemory e P
+
 -- the first is the second fault, seen from around the step
 abbrev pub IsAround : Step → Fault → Option Fault → Type 0
 IsAround step f None = ⊥

@@ -1,7 +1,7 @@
 //! Why a JSON value is the form of no record, and where in the value.
 
 ghost use Rattle.std.specs.Prelude.{◌≡◌, ◌∷◌, IfOk};
-ghost use Rattle.etcs_form.specs.Fault.{IsDeeper, IsFault, Kind, Missing, Range, Unknown, at_once, here, key, step_of};
+ghost use Rattle.etcs_form.specs.Fault.{IsDeeper, IsFault, Kind, Missing, OfMemory, Range, Unknown, at_once, here, key, step_of};
 
 use etcs_bits::Memory;
 use std::alloc::Global;
@@ -56,21 +56,24 @@ fn longer(path: Vec<Step>, step: Step) -> Result<Vec<Step>, Memory>
 impl FormError {
     /// The value itself is of another kind.
     pub(crate) fn kind(alloc: Global) -> FormError
-        ensures { IsFault result (here Kind) }
+        ensures fault { IsFault result (here Kind) }
+        ensures memory { OfMemory result ⊥ }
     {
         FormError::Kind(Vec::new(alloc))
     }
 
     /// The value itself is not allowed.
     pub(crate) fn range(alloc: Global) -> FormError
-        ensures { IsFault result (here Range) }
+        ensures fault { IsFault result (here Range) }
+        ensures memory { OfMemory result ⊥ }
     {
         FormError::Range(Vec::new(alloc))
     }
 
     /// The value is an object with a key that its form does not have.
     pub(crate) fn unknown(alloc: Global) -> FormError
-        ensures { IsFault result (here Unknown) }
+        ensures fault { IsFault result (here Unknown) }
+        ensures memory { OfMemory result ⊥ }
     {
         FormError::Unknown(Vec::new(alloc))
     }

@@ -1,8 +1,8 @@
 //! What has a JSON form.
 
-ghost use Rattle.std.specs.Prelude.{◌≡◌, Ok, IfOk, OnOk};
+ghost use Rattle.std.specs.Prelude.{◌≡◌, Ok, IfOk, OnErr, OnOk};
 ghost use Rattle.serde_json.specs.View.{view};
-ghost use Rattle.etcs_form.specs.Fault.{Gives};
+ghost use Rattle.etcs_form.specs.Fault.{Gives, IfMemory};
 ghost use Rattle.etcs_form.specs.Sending.{SendsValue};
 ghost use Rattle.etcs_form.specs.Shape.{Shape};
 
@@ -22,17 +22,27 @@ pub trait Form: Drop {
     /// if the value's type keeps its numbers and lists in range.
     ghost in_range: { Self → Type 0 } = { λ _. Unit {0} };
 
+    /// Whether making or reading the form may ask for memory: not if the form is a number. (The way to
+    /// a fault of the value itself has no step.)
+    ghost builds: { Type 0 } = { Unit {0} };
+
     /// The form as a JSON value, which is read as this value again if the value is in range. The
     /// only error is that memory runs out; then no form is returned.
     fn to_form(&self, alloc: Global) -> Result<Value, Memory>
         ensures form { IfOk result (λ v. view v ≡ shape.to self.now) }
         ensures again { IfOk result
-            (λ v. in_range self.now → shape.of (view v) ≡ Ok self.now) };
+            (λ v. in_range self.now → shape.of (view v) ≡ Ok self.now) }
+
+        // Making a form that builds nothing never reports that memory ran out.
+        ensures memory { OnErr result builds };
 
     /// Reads a form. The error is its first fault, in the order in which the form is read, with the
     /// way to it. After an error nothing is returned of what was read.
     fn of_form(alloc: Global, value: &Value) -> Result<Self, FormError>
-        ensures { Gives (λ x. x) result (shape.of (view value.now)) };
+        ensures gives { Gives (λ x. x) result (shape.of (view value.now)) }
+
+        // Nor does reading one.
+        ensures memory { IfMemory result builds };
 }
 
 /// A value whose form can be sent piece by piece, so that no value is built for it.

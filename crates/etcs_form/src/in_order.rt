@@ -228,7 +228,11 @@ pub(crate) fn quick_check(alloc: Global, bytes: &[u8]) -> Option<Checked>
 ///
 /// The error is that of [`check_text`]. After an error neither counts nor findings are returned.
 pub fn check_in_order(alloc: Global, bytes: &[u8]) -> Result<Checked, LineError>
-    ensures { Gives (λ c. ((c.groups, c.messages), c.findings.items)) result (counted_of_text bytes.now) }
+    ensures exact { Gives (λ c. ((c.groups, c.messages), c.findings.items)) result
+        (counted_of_text bytes.now) }
+
+    // No bytes are no JSON, whatever memory there is.
+    ensures empty { bytes.now ≡ [] → result ≡ Err LineError.NotJson }
 {
     if let Some(checked) = quick_check(alloc, bytes) {
         return Ok(checked);

@@ -63,6 +63,8 @@ impl Form for Train3 {
 
     ghost shape = { side };
 
+    ghost builds = { ⊥ };
+
     fn to_form(&self, _alloc: Global) -> Result<Value, Memory> {
         Ok(Value::from(u64::from(self.number())))
     }

@@ -31,6 +31,9 @@ pub fn check_text(alloc: Global, bytes: &[u8]) -> Result<Verdict, LineError>
     ensures yes { result ≢ Err LineError.Memory → IsYes result ↔ IsSoundText bytes.now }
     ensures says { IfOk result (λ v. v.findings.items ≡ []
         → SaysYes bytes.now v.line.groups.items v.line.messages.items) }
+
+    // No memory is asked for.
+    ensures empty { bytes.now ≡ [] → result ≡ Err LineError.NotJson }
 {
     let line = read_line(alloc, bytes)?;
     let findings = check(alloc, &line)?;

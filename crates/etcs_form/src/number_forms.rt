@@ -15,6 +15,8 @@ impl<const W: u32> Form for Plain<W> {
 
     ghost shape = { number W };
 
+    ghost builds = { ⊥ };
+
     fn to_form(&self, _alloc: Global) -> Result<Value, Memory> {
         Ok(Value::from(u64::from(self.number())))
     }
@@ -45,6 +47,8 @@ impl<const W: u32, const LAST: u32, const FROM: u32> Form for Ranged<W, LAST, FR
     ghost use Rattle.etcs_form.specs.Variables.{ranges};
 
     ghost shape = { ranges W LAST FROM };
+
+    ghost builds = { ⊥ };
 
     fn to_form(&self, _alloc: Global) -> Result<Value, Memory> {
         Ok(Value::from(u64::from(self.number())))
@@ -77,6 +81,8 @@ impl Form for bool {
 
     ghost shape = { flag };
 
+    ghost builds = { ⊥ };
+
     fn to_form(&self, _alloc: Global) -> Result<Value, Memory> {
         Ok(Value::from(if *self { 1u64 } else { 0u64 }))
     }
@@ -103,6 +109,8 @@ impl Form for Dir {
     ghost use Rattle.etcs_form.specs.Variables.{direction};
 
     ghost shape = { direction };
+
+    ghost builds = { ⊥ };
 
     fn to_form(&self, _alloc: Global) -> Result<Value, Memory> {
         Ok(Value::from(u64::from(self.number())))
@@ -135,6 +143,8 @@ impl Form for Scale {
 
     ghost shape = { scale };
 
+    ghost builds = { ⊥ };
+
     fn to_form(&self, _alloc: Global) -> Result<Value, Memory> {
         Ok(Value::from(u64::from(self.number())))
     }
@@ -166,6 +176,8 @@ impl Form for Dup {
 
     ghost shape = { duplicate };
 
+    ghost builds = { ⊥ };
+
     fn to_form(&self, _alloc: Global) -> Result<Value, Memory> {
         Ok(Value::from(u64::from(self.number())))
     }
@@ -196,6 +208,8 @@ impl Form for Version {
     ghost use Rattle.etcs_form.specs.Variables.{version};
 
     ghost shape = { version };
+
+    ghost builds = { ⊥ };
 
     fn to_form(&self, _alloc: Global) -> Result<Value, Memory> {
         Ok(Value::from(u64::from(self.number())))

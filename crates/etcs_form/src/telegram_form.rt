@@ -37,6 +37,8 @@ impl Form for Size {
 
     ghost shape = { size };
 
+    ghost builds = { ⊥ };
+
     fn to_form(&self, _alloc: Global) -> Result<Value, Memory> {
         Ok(Value::from(user_bit_count(*self)))
     }

@@ -5,4 +5,4 @@ use Rattle.balisecheck.proofs.form_lines.record_of.Goals as goal
 -- the form's first fault, in words
 pub returns-in_default : goal.returns-in_default
 returns-in_default g c =
-    form_refused c.in-Err.why (g.T.Form.shape.of (view c.args.value.now)) c.in_default.not-Memory c.in-Err.ensures
+    form_refused c.in-Err.why (g.T.Form.shape.of (view c.args.value.now)) c.in_default.not-Memory c.in-Err.ensures.gives

@@ -22,4 +22,4 @@ returns-else-low-count g c =
     let n = length c.in-Some.items.now.items in
     let out : (n < c.args.low) ⊎ (c.args.high < n) = grind (arith, c.else-low-count.either, c.len-count.ensures) in
     let fits : (nat_le c.args.low n && nat_le n c.args.high) ≡ false = grind (arith, nat_tests, out) in
-    fails_as _ _ _ c.range.ensures (list_misfits g.T.Form.shape.of c.args.low c.args.high _ _ c.in-Some.ensures fits)
+    fails_as _ _ _ c.range.ensures.fault (list_misfits g.T.Form.shape.of c.args.low c.args.high _ _ c.in-Some.ensures fits)
