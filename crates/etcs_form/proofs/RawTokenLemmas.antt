@@ -51,8 +51,8 @@ pub allowed_taken : (allowed : ℕ → Bool) (n : ℕ) (name : List ℕ) (depth 
     → allowed n ≡ true → HasKey (number_of allowed) name depth old n new
 allowed_taken allowed n name depth old mid new named e is = record { found = whole n; stands = key_stands depth name (whole n) old mid new named e; reads = number_again allowed n is }
 
-pub length_fits : (n : ℕ) → 23 ≤ n → n < 8192 → is_length 23 n ≡ true
-length_fits n least small = and_from _ _ (lt-ltb n 8192 small) (le-leb 23 n least)
+pub length_fits : (head n : ℕ) → head ≤ n → n < 8192 → is_length head n ≡ true
+length_fits head n least small = and_from _ _ (lt-ltb n 8192 small) (le-leb head n least)
 
 pub number_fits : (n : ℕ) → n < 256 → is_other n ≡ true → is_allowed nid_raw n ≡ true
 number_fits n small other = and_from _ _ (lt-ltb n 256 small) other

@@ -2,10 +2,10 @@
 use Rattle.std.proofs.Common.{◌≡◌, ◌++◌, ◌+◌, ◌<◌, ℕ, List, [], ◌∷◌, length, take, Option, Some, None, refl, ap, sym, ◌∙◌, append_assoc, append-nil, get_or, Ok}
 use Rattle.std.proofs.lemmas.List.{take_more}
 use Rattle.json.specs.Token.{Token, begin_array, begin_object, end_array, end_object, key}
-use Rattle.json.specs.Tree.{json_tokens, items_tokens, members_tokens}
+use Rattle.json.specs.Tree.{items_tokens, members_tokens}
 use Rattle.json.specs.Written.{Written, Writes}
 use Rattle.serde_json.specs.Data.{Data, array, object}
-use Rattle.serde_json.specs.Written.{outline, items_outline, members_outline}
+use Rattle.serde_json.specs.Written.{items_outline, members_outline}
 use Rattle.etcs_form.specs.Entries.{Entry, are_apart, object_of}
 use Rattle.etcs_form.specs.Sending.{Adds, SendsMembers, SendsValue, each_tokens, entries_tokens, entry_tokens, members_of, sorted, tokens_of}
 use Rattle.etcs_form.specs.Shape.{Object, items_of}

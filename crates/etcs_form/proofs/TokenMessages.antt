@@ -1,7 +1,7 @@
 -- Packets from train to track whose layout is not known, and radio messages, taken from tokens.
-use Rattle.std.proofs.Common.{◌≡◌, ◌-◌, ◌<◌, ◌≤◌, ◌==◌, ◌||◌, ℕ, Bool, true, false, List, [], ◌∷◌, Some, Result, Ok, refl, ap, ◌∙◌}
+use Rattle.std.proofs.Common.{◌≡◌, ◌-◌, ◌<◌, ◌≤◌, ◌==◌, ◌||◌, ℕ, Bool, true, false, List, [], ◌∷◌, Some, Ok, refl, ap, ◌∙◌}
 use Rattle.std.specs.Prelude.{codes, not}
-use Rattle.std.proofs.lemmas.Bool.{and_from, and_parts, le-leb, lt-ltb, ltb-true}
+use Rattle.std.proofs.lemmas.Bool.{and_from, and_parts, lt-ltb, ltb-true}
 use Rattle.json.specs.Token.{Token}
 use Rattle.serde_json.specs.Data.{Data}
 use Rattle.etcs_bits.specs.variables.Variables.{ranged}
@@ -33,9 +33,6 @@ use Rattle.etcs_form.proofs.TokenPackets.{first_of, kind_members, kind_of_member
 use Rattle.etcs_form.proofs.TokenReports.{starts_fixed}
 
 -- ---- packets whose layout is not known
-
-pub length_fits : (n : ℕ) → 21 ≤ n → n < 8192 → is_length 21 n ≡ true
-length_fits n least small = and_from _ _ (lt-ltb n 8192 small) (le-leb 21 n least)
 
 pub number_fits : (n : ℕ) → n < 256 → is_other n ≡ true → is_allowed nid_raw n ≡ true
 number_fits n small other = and_from _ _ (lt-ltb n 256 small) other

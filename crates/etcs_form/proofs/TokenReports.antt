@@ -1,5 +1,5 @@
 -- The members of packets 0 and 1, taken from tokens.
-use Rattle.std.proofs.Common.{◌≡◌, ℕ, ◌==◌, Bool, true, false, List, [], ◌∷◌, Option, Some, None, Result, Ok, Err, refl, ap, ◌∙◌}
+use Rattle.std.proofs.Common.{◌≡◌, ℕ, ◌==◌, Bool, true, List, [], ◌∷◌, Option, Some, None, Result, Ok, Err, refl, ap, ◌∙◌}
 use Rattle.std.specs.Prelude.{codes, is_some}
 use Rattle.json.specs.Token.{Token}
 use Rattle.serde_json.specs.Data.{Data}
@@ -16,7 +16,7 @@ use Rattle.etcs_form.specs.Choice.{decided_of, wanted_or}
 use Rattle.etcs_form.specs.Chosen.{as_kind}
 use Rattle.etcs_form.specs.Fault.{Fault, key as key_step, under}
 use Rattle.etcs_form.specs.Reading.{◌>>=◌, as_some, at_key, at_key_if, key_or, no_key, number_of, option_or, unwanted_or}
-use Rattle.etcs_form.specs.Report.{identity, integrity, integrity_with, is_confirmed, place, side, state, with_one, with_two}
+use Rattle.etcs_form.specs.Report.{identity, integrity_with, is_confirmed, place, side, state, with_one, with_two}
 use Rattle.etcs_form.specs.ReportTokens.{AreSettled, HasFirstRun, HasPrevious, HasSecondRun, HasThirdRun, place_by, state_by}
 use Rattle.etcs_form.specs.Reports.{of_one, of_two}
 use Rattle.etcs_form.specs.Shape.{both_of, fixed, key, ◌then◌}

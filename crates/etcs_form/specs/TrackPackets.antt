@@ -1,15 +1,14 @@
 -- The form of a packet from track to train, by its number (SUBSET-026, 7.4.2).
-use Rattle.std.specs.Prelude.{◌≡◌, ℕ, ◌==◌, ◌||◌, Bool, false, true, Option, Some, None, codes, Result, Ok, if◌then◌else◌, length, refl}
+use Rattle.std.specs.Prelude.{◌≡◌, ℕ, ◌==◌, ◌||◌, Bool, true, codes, Result, Ok, if◌then◌else◌, refl}
 use Rattle.std.proofs.Common.{◌⊎◌, inl, inr, ap, ◌∙◌}
 use Rattle.std.proofs.lemmas.Bool.{and_parts}
 use Rattle.serde_json.specs.Data.{Data}
 use Rattle.etcs_bits.specs.variables.Variables.{ranged}
-use Rattle.etcs_packet.specs.PacketNumbers.{is_kept, is_other}
-use Rattle.etcs_packet.specs.declared.raw.RawPacket.{RawPacket}
+use Rattle.etcs_packet.specs.PacketNumbers.{is_other}
 use Rattle.etcs_packet.specs.declared.track.TrackPacket.{TrackPacket}
 use Rattle.etcs_packet.specs.declared.track.TrackPacket.TheVariants as packets
-use Rattle.etcs_profile.specs.Authority.{Permission, WithMain, WithoutMain, again, authority_number, numbered, numbered_of}
-use Rattle.etcs_form.specs.Authority.{authority, authority_fits, authority_again, authority_has, authority_members, authority_of}
+use Rattle.etcs_profile.specs.Authority.{WithMain, WithoutMain, again, authority_number, numbered, numbered_of}
+use Rattle.etcs_form.specs.Authority.{authority_fits, authority_again, authority_has, authority_members, authority_of}
 use Rattle.etcs_form.specs.Chosen.{HasNumber, as_kind, begins_with, chosen, kind_again}
 use Rattle.etcs_form.specs.Cover.{cover_marker}
 use Rattle.etcs_form.specs.Entries.{object_of}

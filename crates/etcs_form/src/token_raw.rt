@@ -17,17 +17,20 @@ use etcs_packet::RawPacket;
 use json::{Reader, Token};
 use std::alloc::Global;
 
-// Reads the member `l_packet`, which counts the 23 bits of the head too.
-fn packet_length(reader: &mut Reader<'_>, depth: usize) -> Option<u32>
+// The bits of a track packet before its body: NID_PACKET, Q_DIR and L_PACKET.
+const HEAD: u32 = 23;
+
+/// Reads the member `l_packet`, which counts so many bits of the head too.
+pub(crate) fn packet_length(reader: &mut Reader<'_>, depth: usize, head: u32) -> Option<u32>
     ensures reads { IfSome result
-        (λ n. HasKey (number_of (is_length 23)) (codes "l_packet") depth reader.old n reader.new) }
-    ensures in_range { IfSome result (λ n. (23 ≤ n) × (n < 8192)) }
+        (λ n. HasKey (number_of (is_length head)) (codes "l_packet") depth reader.old n reader.new) }
+    ensures in_range { IfSome result (λ n. (head ≤ n) × (n < 8192)) }
 {
     if !pass_key(reader, "l_packet") {
         return None;
     }
     let length = number(reader, depth)?;
-    if 23 <= length && length < 8192 {
+    if head <= length && length < 8192 {
         Some(length)
     } else {
         None
@@ -79,8 +82,8 @@ impl TokenMembers for RawPacket {
         let Some(Token::String(text)) = reader.next() else {
             return None;
         };
-        let length = packet_length(reader, depth)?;
-        let body = body_of_text(alloc, text, (length - 23) as usize)?;
+        let length = packet_length(reader, depth, HEAD)?;
+        let body = body_of_text(alloc, text, (length - HEAD) as usize)?;
         let number = packet_number(reader, depth)?;
         let dir = key(alloc, reader, depth, "q_dir")?;
         match RawPacket::new(number, dir, body) {
