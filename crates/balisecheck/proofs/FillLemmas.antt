@@ -1,12 +1,12 @@
 -- How the search for the end of a line goes on, block by block.
-use Rattle.std.proofs.Common.{◌≡◌, ◌++◌, ◌==◌, ℕ, Bool, true, false, not, List, [], ◌∷◌, length, Option, Ok, refl, sym, ap, ◌∙◌, append_assoc, arith}
+use Rattle.std.proofs.Common.{◌≡◌, ◌++◌, ◌==◌, ◌↔◌, ℕ, Bool, true, false, not, List, [], ◌∷◌, length, Option, Some, None, Ok, IfSome, refl, sym, ap, ◌∙◌, append_assoc, arith}
 use Rattle.std.proofs.lemmas.List.{append-nil}
 use Rattle.std.proofs.lemmas.Bool.Decides.{nat_tests}
-use Rattle.std.specs.Io.KnownBytes.{Consumes}
+use Rattle.std.specs.Io.KnownBytes.{Consumes, IsAtEnd}
 use Rattle.balisecheck.specs.TextLines.{IsLine, lines_of}
 use Rattle.balisecheck.specs.LineReading.{GivesLine, Grows, MovesTo, Reads, held_of}
 use Rattle.balisecheck.specs.declared.text_lines.TextLines.{TextLines}
-use Rattle.balisecheck.proofs.LineLemmas.{IsLine-append, lines_of-last, lines_of-line}
+use Rattle.balisecheck.proofs.LineLemmas.{IsLine-append, lines_of-last, lines_of-line, no_first}
 use Rattle.balisecheck.proofs.StreamLemmas.{Consumes-then}
 
 -- The state while a line is looked for. These bytes were read, none if the end was met before. The
@@ -100,3 +100,29 @@ moved_cut {b = false} is moved = cc
 pub nil_from_none : (xs : List ℕ) → length xs ≡ 0 → xs ≡ []
 nil_from_none [] none = refl
 nil_from_none (x ∷ xs) none = absurd (omega arith)
+
+-- where there is no line, the line is empty
+pub empty_unless_found : (line : List ℕ) (empty : Bool) → empty ≡ (length line == 0)
+    → not empty ≡ false → line ≡ []
+empty_unless_found [] empty is none = refl
+empty_unless_found (x ∷ line) empty is none =
+    let found : not empty ≡ true = ap not is ∙ is_long x line in cc
+
+-- where the bytes left are known, there is no line exactly if no byte is held or left
+pub found_exactly : (remaining after : Option (List ℕ)) {had_ended ended : Bool} {held line now : List ℕ}
+    (found : Bool) → Reads remaining after had_ended held line now ended (Ok found)
+    → (ended ≡ true → IsAtEnd after) → IfSome remaining (λ left. (found ≡ false) ↔ (held ++ left ≡ []))
+found_exactly None after found reads met = tt
+found_exactly (Some left) None found reads met = absurd reads.consumed
+found_exactly (Some left) (Some rest) {held} false reads met = (
+  λ none. ap (λ s. held ++ s) reads.consumed ∙ sym (append_assoc held reads.bytes rest)
+      ∙ ap (λ s. s ++ rest) reads.gives.1 ∙ met reads.gives.0,
+  λ nothing. refl,
+)
+found_exactly (Some left) (Some rest) {held} true reads met = (
+  λ none. cc none,
+  λ nothing.
+      let all : (held ++ reads.bytes) ++ rest ≡ [] =
+      append_assoc held reads.bytes rest ∙ ap (λ s. held ++ s) (sym reads.consumed) ∙ nothing in
+      absurd (no_first (sym (ap lines_of all) ∙ reads.gives rest met)),
+)

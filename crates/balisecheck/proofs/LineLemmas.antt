@@ -3,7 +3,7 @@ use Rattle.std.proofs.Common.{◌≡◌, ◌<◌, ◌≤◌, ◌+◌, ◌-◌, �
 use Rattle.std.proofs.lemmas.List.{drop-take, drop-drop}
 use Rattle.std.proofs.Math.Seq.{take-length}
 use Rattle.memchr.specs.Find.{NoneBefore}
-use Rattle.balisecheck.specs.TextLines.{IsLine, lines_of, onto_first}
+use Rattle.balisecheck.specs.TextLines.{HasLine, IsLine, lines_of, onto_first}
 
 false_unless_true : (b : Bool) → (b ≡ true → ⊥) → b ≡ false
 false_unless_true true not_true = absurd (not_true refl)
@@ -91,3 +91,16 @@ pub lines_of-last : (x : ℕ) (a : List ℕ) → IsLine (x ∷ a) → lines_of (
 unfolding lines_of
 lines_of-last x [] plain = rw plain.0 refl
 lines_of-last x (y ∷ a) plain = rw plain.0 (ap (onto_first x) (lines_of-last y a plain.1))
+
+-- bytes without a `\n` have no whole line
+no_line_end : (front rest : List ℕ) → IsLine (front ++ 10 ∷ rest) → ⊥
+no_line_end [] rest plain = cc plain.0
+no_line_end (x ∷ front) rest plain = no_line_end front rest plain.1
+
+pub no_line_in : {start held : List ℕ} → HasLine start → held ≡ start → IsLine held → ⊥
+no_line_in has same plain = no_line_end has.0 has.1 (subst IsLine (same ∙ has.2) plain)
+
+-- an input without a byte has no line
+pub no_first : {line : List ℕ} {lines : List (List ℕ)} → lines_of [] ≡ line ∷ lines → ⊥
+unfolding lines_of
+no_first is = cc is

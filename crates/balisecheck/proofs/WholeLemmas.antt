@@ -1,11 +1,15 @@
 -- How an input is read to its end, and what is written for it then.
-use Rattle.std.proofs.Common.{◌≡◌, ◌∙◌, ◌++◌, ℕ, true, false, List, [], Option, Result, Ok, Err, refl, sym, ap, subst}
+use Rattle.std.proofs.Common.{◌≡◌, ◌∙◌, ◌++◌, ℕ, true, false, List, [], Option, Result, Ok, Err, IfErr, OnErr, OnOk, refl, sym, ap, subst, arith}
 use Rattle.std.proofs.lemmas.List.{append-nil}
 use Rattle.std.specs.Io.KnownBytes.{Consumes}
+use Rattle.balisecheck.specs.Counted.{CountsNone}
+use Rattle.balisecheck.specs.LineReading.{CountsDevice}
 use Rattle.balisecheck.specs.Output.{Output}
 use Rattle.balisecheck.specs.Ran.{IsOutputSoFar, Ran, Writes}
 use Rattle.balisecheck.specs.WholeInput.{ReadsMore, ReadsWhole}
+use Rattle.balisecheck.specs.declared.counted.Counted.{Counted}
 use Rattle.balisecheck.specs.declared.error.RunError.{RunError}
+use Rattle.balisecheck.specs.declared.error.RunError.TheVariants.{Memory, Device}
 use Rattle.balisecheck.specs.declared.status.Status.{Status}
 use Rattle.balisecheck.proofs.StreamLemmas.{Appends-none, Consumes-then}
 
@@ -49,3 +53,15 @@ Ran-whole {output} {result} read is writes = record {
       let P : Output → Type 0 = IsOutputSoFar result writes.text in
       subst P (is ∙ ap output read.whole.0 ∙ sym same) writes.says;
 }
+
+-- what holds anyway holds of an Ok
+pub on_ok_anyway : {X E P : Type 0} (result : Result X E) → P → OnOk result P
+on_ok_anyway (Ok x) holds = holds
+on_ok_anyway (Err e) holds = tt
+
+-- where only a device fails, and it was not counted, nothing has failed
+pub not_failed : {X T : Type 0} (P : Type 0) (result : Result X RunError) (old new : Counted T)
+    → IfErr result (λ e. e ≡ Device) → CountsDevice result old new → OnErr result (CountsNone old new → P)
+not_failed P (Ok x) old new device counts = tt
+not_failed P (Err Memory) old new device counts = cc device
+not_failed P (Err Device) old new device counts = λ none. absurd (omega (arith, none, counts))

@@ -1,6 +1,6 @@
 -- The lines of a text. A line ends at a `\n`, which is not part of it, or at the end of the text.
 -- After a last `\n` there is no further line.
-use Rattle.std.specs.Prelude.{◌≡◌, ◌==◌, ℕ, false, List, [], ◌∷◌, if◌then◌else◌}
+use Rattle.std.specs.Prelude.{◌≡◌, ◌==◌, ◌++◌, ℕ, false, List, [], ◌∷◌, if◌then◌else◌}
 use Rattle.std.specs.Io.BufRead.{strip_last}
 
 -- the lines, with the byte at the front of the first one
@@ -21,3 +21,7 @@ trimmed line = strip_last 13 line
 abbrev pub IsLine : List ℕ → Type 0
 IsLine [] = Unit {0}
 IsLine (byte ∷ line) = ((byte == 10) ≡ false) × IsLine line
+
+-- a `\n` ends a line among the bytes
+abbrev pub HasLine : List ℕ → Type 0
+HasLine bytes = (line : List ℕ) × (rest : List ℕ) × (bytes ≡ line ++ 10 ∷ rest)

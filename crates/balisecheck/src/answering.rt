@@ -47,9 +47,10 @@ fn answer_lines<C: LineCommand, R: Read, W: Write>(
 /// Writes the command's answer to each line of the input, and to its end. Then it flushes the
 /// writer.
 ///
-/// `Memory`: a request for memory was refused. `Device`: a read, a write or a flush failed, and the
-/// count of that reader or writer has risen by 1. In both cases the text written is a beginning of
-/// the answer.
+/// `Memory`: a request for memory was refused, and no count has risen. `Device`: a read, a write or a
+/// flush failed, the count of that reader or writer has risen by 1, and the other has not. In both
+/// cases what was read is gone from the reader, which may be more than was answered. The text written
+/// is a beginning of the answer, perhaps not flushed.
 pub fn answer_input<C: LineCommand, R: Read, W: Write>(
     alloc: Global,
     command: C,

@@ -1,9 +1,10 @@
 //! `check`: the document of a railway line, to the report on it.
 
-ghost use Rattle.std.specs.Prelude.{◌≡◌, string_bytes, IfOk};
+ghost use Rattle.std.specs.Prelude.{◌≡◌, string_bytes, IfOk, OnErr, OnOk};
+ghost use Rattle.std.specs.Io.KnownBytes.{IsAtEnd};
 ghost use Rattle.etcs_form.specs.Refusal.{IsDocumentTold};
 ghost use Rattle.balisecheck.specs.Checking.{check_output, refused_as, reported, status_for};
-ghost use Rattle.balisecheck.specs.Counted.{CanCount, inner_of};
+ghost use Rattle.balisecheck.specs.Counted.{CanCount, CountsNone, CountsOne, inner_of};
 ghost use Rattle.balisecheck.specs.Ran.{CountsOneDevice, EndsFlushed, Runs};
 
 use crate::counted::Counted;
@@ -65,9 +66,10 @@ fn answer_document(alloc: Global, document: &[u8]) -> Result<(String, Status), M
 /// the document is refused. Then it flushes the writer. Nothing is written before the end of the
 /// input was met.
 ///
-/// `Memory`: a request for memory was refused. `Device`: a read, a write or a flush failed, and the
-/// count of that reader or writer has risen by 1. In both cases the text written is a beginning of
-/// the report or of the refusal.
+/// `Memory`: a request for memory was refused, and no count has risen. `Device`: a read, a write or a
+/// flush failed, the count of that reader or writer has risen by 1, and the other has not. In both
+/// cases what was read is gone from the reader. If the writer has failed, the text written is a
+/// beginning of the report or of the refusal, perhaps not flushed. Else the writer is as it was.
 pub fn check_input<R: Read, W: Write>(
     alloc: Global,
     reader: &mut Counted<R>,
@@ -79,6 +81,11 @@ pub fn check_input<R: Read, W: Write>(
         check_output result }
     ensures flushed { EndsFlushed result writer.new }
     ensures counts { CountsOneDevice result reader.old reader.new writer.old writer.new }
+
+    // The writer is called only once the end of the input was met.
+    ensures to_end { OnOk result (IsAtEnd (R.remaining (inner_of reader.new))) }
+    ensures cut_off { CountsOne writer.old writer.new → IsAtEnd (R.remaining (inner_of reader.new)) }
+    ensures unwritten { OnErr result (CountsNone writer.old writer.new → writer.new ≡ writer.old) }
 {
     let document = read_whole(alloc, reader)?;
     let Ok((text, status)) = answer_document(alloc, document.as_slice()) else {

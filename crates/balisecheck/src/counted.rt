@@ -15,6 +15,8 @@ use std::io::{Error, ErrorKind, Read, Result, Write};
 /// it. So a loop that reads as long as bytes come ends on every reader.
 ///
 /// A writer also records whether everything written through it has been flushed.
+///
+/// After an error no byte was given or taken, and the count has risen by 1, up to 2^64 - 1.
 #[derive(Drop)]
 pub struct Counted<T> {
     inner: T,
@@ -78,7 +80,8 @@ impl<T> Counted<T> {
 impl<R: Read> Read for Counted<R> {
     ghost remaining = { λ c. R.remaining (inner_of c) };
 
-    /// Reads once. If the budget does not suffice, the read fails and the reader is not called.
+    /// Reads once. If the budget does not suffice, the read fails and the reader is not called. Any
+    /// other read that fails is paid for as well.
     #[inline]
     fn read(&mut self, buf: &mut [u8]) -> Result<usize>
         ensures bound { ReadsAtMost result buf.new }
@@ -92,6 +95,7 @@ impl<R: Read> Read for Counted<R> {
         ensures spent { budget_of self.old < max (length buf.old) 1
             → IsErr result × (inner_of self.new ≡ inner_of self.old)
             × (budget_of self.new ≡ budget_of self.old) }
+        ensures same_flushed { is_flushed self.new ≡ is_flushed self.old }
     {
         let cost = (buf.len() as u64).max(1);
         if self.budget < cost {
@@ -110,7 +114,8 @@ impl<R: Read> Read for Counted<R> {
 impl<W: Write> Write for Counted<W> {
     ghost contents = { λ c. W.contents (inner_of c) };
 
-    /// Writes once. A write fails if it takes no byte of a piece that is not empty.
+    /// Writes once. A write fails if it takes no byte of a piece that is not empty. After any write,
+    /// failed or not, the writer counts as not flushed.
     #[inline]
     fn write(&mut self, buf: &[u8]) -> Result<usize>
         ensures bound { WritesAtMost result buf.now }
@@ -119,6 +124,7 @@ impl<W: Write> Write for Counted<W> {
         ensures counts { CountsFailure (failures_of self.old) (failures_of self.new) result }
         ensures takes { IfOk result (λ n. 0 < length buf.now → 0 < n) }
         ensures unflushed { is_flushed self.new ≡ false }
+        ensures same_budget { budget_of self.new ≡ budget_of self.old }
     {
         self.is_flushed = false;
         match self.inner.write(buf) {
@@ -134,12 +140,14 @@ impl<W: Write> Write for Counted<W> {
         }
     }
 
-    /// Passes on what the writer holds back.
+    /// Passes on what the writer holds back. After an error the writer counts as not flushed, and
+    /// what was written stands.
     #[inline]
     fn flush(&mut self) -> Result<()>
         ensures bytes { Keeps (W.contents (inner_of self.old)) (W.contents (inner_of self.new)) }
         ensures counts { CountsFailure (failures_of self.old) (failures_of self.new) result }
         ensures flushed { is_flushed self.new ≡ is_ok result }
+        ensures same_budget { budget_of self.new ≡ budget_of self.old }
     {
         let result = self.inner.flush();
         self.is_flushed = result.is_ok();

@@ -1,13 +1,13 @@
 //! `EachLine`: a command that answers each line by what the line means.
 
-ghost use Rattle.std.specs.Prelude.{◌≡◌, Err, IfOk, string_bytes};
+ghost use Rattle.std.specs.Prelude.{◌≡◌, [], Err, IfOk, string_bytes};
 ghost use Rattle.etcs_form.specs.Refusal.{IsLineTold, line_words};
 ghost use Rattle.balisecheck.specs.Counted.{CanCount, inner_of};
 ghost use Rattle.balisecheck.specs.LineMeaning.{refusal_of};
 ghost use Rattle.balisecheck.specs.LineReading.{CountsDevice};
 ghost use Rattle.balisecheck.specs.TextLines.{trimmed};
 ghost use Rattle.balisecheck.specs.Output.{after_line, answered};
-ghost use Rattle.balisecheck.specs.Ran.{Turns};
+ghost use Rattle.balisecheck.specs.Ran.{TakesTurn, Turns};
 
 use crate::counted::Counted;
 use crate::error::RunError;
@@ -92,7 +92,7 @@ fn answer_line<M: LineMeaning, W: Write>(
     }
 }
 
-// Writes the answer to a line. An empty line is skipped.
+// Writes the answer to a line. An empty line is skipped: it asks for nothing.
 fn take_turn<M: LineMeaning, W: Write>(
     alloc: Global,
     meaning: &mut M,
@@ -105,6 +105,7 @@ fn take_turn<M: LineMeaning, W: Write>(
     ensures turns { Turns (W.contents (inner_of writer.old)) (W.contents (inner_of writer.new))
         (after_line M.meaning number (trimmed line.now)) result }
     ensures counts { CountsDevice result writer.old writer.new }
+    ensures empty { trimmed line.now ≡ [] → (result ≡ Ok Turn.Next) × (writer.new ≡ writer.old) }
 {
     let line = trim(line);
     if line.is_empty() {
@@ -140,13 +141,25 @@ impl<M: LineMeaning> LineCommand for EachLine<M> {
 
     ghost counted = { λ _. 0 };
 
+    /// Writes the text of the line, or its refusal. An empty line leaves the writer as it was, and
+    /// never fails. A line with a `\r` alone is empty.
+    ///
+    /// `Memory`: a request for memory was refused. `Device`: a write failed, and the writer's count of
+    /// failures has risen by 1. In both cases what was written is a beginning of the text or of the
+    /// refusal.
     fn answer<W: Write>(
         &mut self,
         alloc: Global,
         number: u64,
         line: &[u8],
         writer: &mut Counted<W>,
-    ) -> Result<Turn, RunError> {
+    ) -> Result<Turn, RunError>
+        requires { CanCount writer.old }
+        ensures turns { TakesTurn (W.contents (inner_of writer.old)) (W.contents (inner_of writer.new))
+            (answers M.meaning) (answers M.meaning) number line.now result }
+        ensures counts { CountsDevice result writer.old writer.new }
+        ensures empty { trimmed line.now ≡ [] → (result ≡ Ok Turn.Next) × (writer.new ≡ writer.old) }
+    {
         let EachLine { meaning, room } = self;
         take_turn(alloc, meaning, number, line, room, writer)
     }

@@ -93,9 +93,10 @@ fn obey<R: Read, W: Write>(
 /// input, once met, counts as read. With a status, the last call of the writer was a flush that
 /// succeeded.
 ///
-/// `Memory`: a request for memory was refused. `Device`: a read, a write or a flush failed, and the
-/// count of that reader or writer has risen by 1. In both cases the text written is a beginning of
-/// the output.
+/// `Memory`: a request for memory was refused, and no count has risen. `Device`: a read, a write or a
+/// flush failed, the count of that reader or writer has risen by 1, and the other has not. In both
+/// cases what was read is gone from the reader, and the text written is a beginning of the output,
+/// perhaps not flushed.
 pub fn run<'a, R: Read, W: Write>(
     alloc: Global,
     words: &'a [&'a str],

@@ -29,11 +29,12 @@ pub struct TextLines {
 }
 
 impl TextLines {
-    ghost use Rattle.std.specs.Prelude.{◌≡◌, ◌+◌, ◌≤◌, ◌<◌, true, false, [], length, IfOk, OnErr, OnOk, IfErr};
+    ghost use Rattle.std.specs.Prelude.{◌≡◌, ◌+◌, ◌++◌, ◌≤◌, ◌<◌, ◌↔◌, true, false, [], length, IfOk, IfSome, OnErr, OnOk, IfErr};
     ghost use Rattle.std.specs.Io.KnownBytes.{Consumes, Keeps};
     ghost use Rattle.balisecheck.specs.Counted.{CanCount, budget_of, inner_of};
     ghost use Rattle.balisecheck.specs.LineReading.{CountsDevice, IsEndMet, MovesTo, Reads};
     ghost use Rattle.balisecheck.specs.LineReading.{has_ended, held_of, line_of};
+    ghost use Rattle.balisecheck.specs.TextLines.{HasLine};
 
     /// The lines of an input of which nothing is read yet. The only error is that memory runs out; then
     /// nothing is returned.
@@ -103,6 +104,7 @@ impl TextLines {
 
         // Only a reader that has no byte left meets its end.
         ensures quiet { has_ended self.old ≡ true → IfOk result (λ n. n ≡ 0) }
+        ensures unread { has_ended self.old ≡ true → reader.new ≡ reader.old }
         ensures ended { has_ended self.old ≡ true → has_ended self.new ≡ true }
         ensures met { IsEndMet R.remaining (has_ended self.old) reader.old
             → IsEndMet R.remaining (has_ended self.new) reader.new }
@@ -123,8 +125,8 @@ impl TextLines {
         }
     }
 
-    /// Looks for the next line, and returns whether there is one. Nothing is read once the end of
-    /// the input was met.
+    /// Looks for the next line, and returns whether there is one. If not, the line is empty. The reader
+    /// is not called if a whole line is held already, nor once the end of the input was met.
     ///
     /// `Memory`: the line is longer than memory. `Device`: a read failed, and the reader's count of
     /// failures has risen by 1. In both cases the bytes that were read are gone from the reader, and
@@ -134,6 +136,16 @@ impl TextLines {
         ensures reads { Reads (R.remaining (inner_of reader.old)) (R.remaining (inner_of reader.new))
             (has_ended self.old) (held_of self.old) (line_of self.new) (held_of self.new)
             (has_ended self.new) result }
+
+        // Where the reader's bytes are known, there is no line exactly if no byte is held or left.
+        ensures no_line { IsEndMet R.remaining (has_ended self.old) reader.old
+            → IfOk result (λ found. IfSome (R.remaining (inner_of reader.old))
+            (λ left. (found ≡ false) ↔ (held_of self.old ++ left ≡ []))) }
+        ensures empty { IfOk result (λ found. found ≡ false → line_of self.new ≡ []) }
+
+        // The reader is not called for a line that is held, nor after the end.
+        ensures held { HasLine (held_of self.old) → reader.new ≡ reader.old }
+        ensures unread { has_ended self.old ≡ true → reader.new ≡ reader.old }
         ensures counts { CountsDevice result reader.old reader.new }
         ensures ended { has_ended self.old ≡ true → has_ended self.new ≡ true }
         ensures met { IsEndMet R.remaining (has_ended self.old) reader.old

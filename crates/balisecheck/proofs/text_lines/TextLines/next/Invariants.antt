@@ -1,6 +1,7 @@
 use Rattle.std.proofs.Common.{◌≤◌, ◌≡◌, ◌+◌, true, length}
 use Rattle.balisecheck.specs.Counted.{budget_of, failures_of, inner_of}
 use Rattle.balisecheck.specs.LineReading.{IsEndMet, has_ended, held_of, line_of}
+use Rattle.balisecheck.specs.TextLines.{HasLine}
 use Rattle.balisecheck.proofs.FillLemmas.{Filling}
 use Rattle.balisecheck.proofs.text_lines.TextLines.next.Given as goal
 
@@ -13,6 +14,9 @@ invariant-filling g l = record {
   ended : has_ended l.fn.self ≡ true → has_ended l.self ≡ true;
   met : IsEndMet g.R.Read.remaining (has_ended l.fn.self) l.fn.reader
       → IsEndMet g.R.Read.remaining (has_ended l.self) l.reader;
+  held : HasLine (held_of l.fn.self)
+      → (l.reader ≡ l.fn.reader) × (held_of l.self ≡ held_of l.fn.self);
+  unread : has_ended l.fn.self ≡ true → l.reader ≡ l.fn.reader;
   spends : length (line_of l.self) + length (held_of l.self) + budget_of l.reader
       ≤ length (held_of l.fn.self) + budget_of l.fn.reader;
 }
