@@ -1,8 +1,10 @@
 //! What no clause says: what is read and flushed, and devices that fail at each call in turn. Lines
 //! and what is written for them are cases of `tests/` at the top.
 
+mod ample_memory;
 mod devices;
 mod documents;
+mod failing;
 mod forms;
 mod radio;
 mod refused_memory;
@@ -126,18 +128,6 @@ fn expect_each_failure(alloc: Global, rt: &impl Abort, words: &[&str], input: &s
 fn each_call_that_fails_ends_the_run(rt: HostRuntime) {
     expect_each_failure(rt.alloc(), &rt, DECODE, LINES, ANSWERS);
     expect_each_failure(rt.alloc(), &rt, DECODE, TELEGRAM, JSON);
-}
-
-#[test]
-fn a_write_that_takes_nothing_has_failed(rt: HostRuntime) {
-    let to = Device::new(9, Failure::Never);
-    let whole = decode_between(rt.alloc(), LINES, Device::sound(), to);
-    // The last call is the flush, which has nothing to take.
-    for call in 0..whole.writes.saturating_sub(1) {
-        let to = Device::new(9, Failure::MovesNothing(call));
-        let outcome = decode_between(rt.alloc(), LINES, Device::sound(), to);
-        expect_device(&rt, &outcome, ANSWERS, (0, 1));
-    }
 }
 
 #[test]

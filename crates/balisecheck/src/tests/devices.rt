@@ -14,6 +14,7 @@ use std::io::{self, Read, Write};
 pub enum Failure {
     Never,
     Error(u64),
+    Interrupted(u64),
     MovesNothing(u64),
 }
 
@@ -47,6 +48,9 @@ impl Device {
         self.calls = call.saturating_add(1);
         match self.failure {
             Failure::Error(at) if at == call => Err(io::Error::other("broken")),
+            Failure::Interrupted(at) if at == call => {
+                Err(io::Error::new(io::ErrorKind::Interrupted, "interrupted"))
+            }
             Failure::MovesNothing(at) if at == call => Ok(0),
             _ => Ok(self.piece.min(len)),
         }
