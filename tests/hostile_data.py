@@ -5,7 +5,7 @@ import re
 from hostile_lists import radio_messages, telegrams
 from hostile_program import Job
 from hostile_runs import (CHECK, DECODE, DECODE_RADIO, ENCODE, ENCODE_RADIO, FORM, LONG, MESSAGE, MESSAGE_FORM, REPORT,
-                          REPORT_FORM, SHORT, example, flipped)
+                          REPORT_FORM, SHORT, example, flipped, greatest)
 from hostile_texts import CANONICAL, is_documented
 
 REPLACING = (b'"', b"{", b"[", b",", b"0", b"\x01", b"\xff")
@@ -104,6 +104,11 @@ def fronts(program, tests):
             tests.equal("the front of a form", answer.stdout, "refused: line 1: not JSON\n")
 
 
+def all_telegrams():
+    """The telegrams with the greatest lists, and their forms."""
+    return [*greatest(), *telegrams()]
+
+
 def spelled_as(form):
     """The line of the record of which an accepted line is the form."""
     return CANONICAL.encode(json.loads(form)).lower() + "\n"
@@ -133,7 +138,7 @@ def replaced_form(program, tests, words, decode, form, step):
 
 def replaced_forms(program, tests, step):
     """Each form that the runs have: of telegrams, with the greatest lists, and of messages."""
-    forms = [FORM, example("authority-with-profiles.json").strip(), *(form for _, _, form in telegrams())]
+    forms = [FORM, example("authority-with-profiles.json").strip(), *(form for _, _, form in all_telegrams())]
     for form in forms:
         replaced_form(program, tests, ENCODE, DECODE, form, step)
     for form in (MESSAGE_FORM, REPORT_FORM):
@@ -195,7 +200,7 @@ def data(program, tests, whole=True):
     turned_bits(program, tests, DECODE, ENCODE, LONG, 1 if whole else 97)
     for message in (MESSAGE, REPORT):
         turned_bits(program, tests, DECODE_RADIO, ENCODE_RADIO, message, 1 if whole else 7)
-    for _, line, _ in telegrams() if whole else ():
+    for _, line, _ in all_telegrams() if whole else ():
         turned_bits(program, tests, DECODE, ENCODE, line, 31)
     for _, message, _ in radio_messages() if whole else ():
         turned_bits(program, tests, DECODE_RADIO, ENCODE_RADIO, message, 997, 5)

@@ -229,5 +229,6 @@ def devices(program, tests, whole=True):
     for given, taken in ((1, 1), (1, 0), (0, 1), (7, 3)):
         in_pieces(program, tests, some + long, given, taken)
     interrupted_devices(program, tests, some, 0)
-    interrupted_devices(program, tests, some + long, 100 if whole else 1000)
+    interrupted_devices(program, tests, some, 100 if whole else 1000)
+    interrupted_devices(program, tests, long, 1000 if whole else 20000)
     ends_in_between(program, tests, some)

@@ -1,6 +1,6 @@
 """The greatest lists, and inputs and outputs longer than a buffer of the program. Nothing of them is random."""
 from cases import FORM as CANONICAL
-from cases import HEAD, accepted, authority, differences, filler, greatest_lists, levels, packet, spelled, text
+from cases import HEAD, accepted, authority, differences, filler, levels, packet, spelled, text
 
 MOST = 31  # what N_ITER counts at most
 TELEGRAM_BITS, MESSAGE_BITS = 830 - 50 - 8, 8 * 1023  # of the packets of a telegram, and of a message
@@ -43,12 +43,10 @@ def room_for(made, bits):
 
 
 def telegrams():
-    """Names, lines and forms of the telegrams with the greatest lists. Some lists have no room for all of 31."""
-    cases = list(greatest_lists())
+    """Names, lines and forms of telegrams with the greatest lists for which there is room, where it is not for 31."""
     for name, made in (("packet 5", links), ("packet 21", gradients), ("packet 27", speeds)):
         count = room_for(made, TELEGRAM_BITS)
-        cases += accepted(f"{name}, {count} further items", *made(count))
-    return [(name, line, form) for name, line, form in cases if not form.startswith("refused")]
+        yield from accepted(f"{name}, {count} further items", *made(count))
 
 
 def message(number, head, bits, forms, **fields):

@@ -1,7 +1,7 @@
 """The runs that are disturbed: words and input of each. Nothing of them is random."""
 import re
 
-from cases import answer, blocks, filled
+from cases import answer, blocks, filled, greatest_lists
 from hostile_lists import long_inputs, radio_messages, telegrams
 from hostile_program import HERE
 
@@ -64,6 +64,11 @@ def example(name):
     return (EXAMPLES / name).read_text()
 
 
+def greatest():
+    """The telegrams with the greatest lists, and their forms."""
+    return [(name, line, form) for name, line, form in greatest_lists() if not form.startswith("refused")]
+
+
 def decodes():
     """Runs of `decode`: of telegrams that are read, and of each kind of line that is not."""
     yield "a short telegram", SHORT
@@ -72,7 +77,7 @@ def decodes():
     for file in sorted(EXAMPLES.glob("*.txt")):
         if not file.stem.startswith("radio-"):
             yield f"the example {file.stem}", file.read_text()
-    for name, line, _ in telegrams():
+    for name, line, _ in greatest():
         yield name, line
     yield "a text that is not hexadecimal", SHORT[:-1]
     yield "a text of a wrong size", SHORT + "00"
@@ -104,7 +109,7 @@ def encodes():
     yield "the form of a short telegram", FORM
     for name in sorted(file.stem for file in EXAMPLES.glob("*.json") if not file.stem.startswith("radio-")):
         yield f"the form of the example {name}", example(f"{name}.json")
-    for name, _, form in telegrams():
+    for name, _, form in greatest():
         yield f"the form of {name}", form
     yield from faulty_forms()
     yield "a form, and half a form", f"{FORM}\n{FORM[:60]}"
@@ -118,8 +123,6 @@ def streams():
     yield "a message, and one with a fault", f"{MESSAGE}\n0300c0"
     yield "a message, and a line that is not hexadecimal", f"{MESSAGE}\n0g"
     yield from faulty_messages()
-    for name, line, _ in radio_messages():
-        yield name, line
     for file in sorted(EXAMPLES.glob("radio-*.txt")):
         yield f"the example {file.stem}", file.read_text()
 
@@ -128,19 +131,25 @@ def messages():
     """Runs of `encode --radio`."""
     for file in sorted(EXAMPLES.glob("radio-*.json")):
         yield f"the form of the example {file.stem}", file.read_text()
-    for name, _, form in radio_messages():
-        yield f"the form of {name}", form
     yield "no JSON", MESSAGE_FORM[:-1]
     yield "no object", "[]"
     yield "no message kind", '{"x":1}'
     yield "another message kind", '{"nid_message":4}'
     yield "another key", MESSAGE_FORM.replace('"m_ack"', '"m_akk"')
     yield "a number out of range", MESSAGE_FORM.replace('"m_ack":0', '"m_ack":2')
-    yield "a form, and half a form", f"{MESSAGE_FORM}\n{MESSAGE_FORM[:60]}"
     yield "no authority", re.sub(r'"packets":\[.*\]', '"packets":[]', MESSAGE_FORM)
     for name, bits in (("the greatest message", 8020), ("too great a message", 8021)):
         raw = RAW % (bits + 23, "0" * ((bits + 7) // 8 * 2))
         yield name, MESSAGE_FORM.replace("}],", f"}},{raw}],")
+
+
+def lists():
+    """Runs of what has the greatest lists for which a telegram or a message has room: words, name and input."""
+    for name, line, form in telegrams():
+        yield from ((DECODE, name, line), (ENCODE, f"the form of {name}", form))
+    for name, text, form in radio_messages():
+        yield from ((DECODE_RADIO, name, text), (ENCODE_RADIO, f"the form of {name}", form))
+    yield ENCODE_RADIO, "a form, and half a form", f"{MESSAGE_FORM}\n{MESSAGE_FORM[:60]}"
 
 
 def runs():
@@ -148,6 +157,8 @@ def runs():
     for words, those in ((DECODE, decodes), (ENCODE, encodes), (DECODE_RADIO, streams), (ENCODE_RADIO, messages)):
         for name, line in those():
             yield f"{' '.join(words)}: {name}", words, line.encode()
+    for words, name, line in lists():
+        yield f"{' '.join(words)}: {name}", words, line.encode()
     for name, document in (*documents(), *refused_documents()):
         yield f"check: {name}", CHECK, document
     for words in ((), ("help",), ("decode", "more"), ("check", "--radio")):
