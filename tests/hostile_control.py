@@ -10,11 +10,12 @@ import subprocess
 import sys
 
 from hostile_data import answers_to, come_back
-from hostile_failing import failing_devices, refuse_each, undisturbed
+from hostile_failing import undisturbed
 from hostile_process import at_once, system_devices
-from hostile_program import DEVICE, HERE, MEMORY, ONE, PROGRAM, alone
+from hostile_program import HERE, PROGRAM, alone
 from hostile_runs import (CHECK, DECODE, DECODE_RADIO, ENCODE, ENCODE_RADIO, FORM, LONG, MESSAGE, MESSAGE_FORM, SHORT,
                           TWO_ASPECTS)
+from hostile_wrong import PARTS, WRONG, WRONG_PROCESSES
 
 SECONDS = 2  # how long a run of a wrapper may take
 INPUTS = ((DECODE, f"{SHORT}\n{LONG}"), (DECODE, SHORT[:-1]), (ENCODE, FORM), (ENCODE, "{"), (DECODE_RADIO, MESSAGE),
@@ -27,9 +28,12 @@ program='{program}'
 {wrong}
 """
 EACH_THIRD, FIFTH = "$((count % 3)) = 1", "$count = 4"
+UNSEEN = """"$program" "$@" >"$0.out"; status=$?; cat "$0.out" 2>/dev/null; exit $status"""
+ALONE = """mkdir "$0.lock" 2>/dev/null || exec "$program" help
+"$program" "$@"; status=$?; sleep 0.05; rmdir "$0.lock"; exit $status"""
 # what a wrapper does wrong, and in which runs; the text is written again with its own status where it is changed
 CHANGED = """"$program" "$@" >"$0.out"; status=$?; sed '{}' "$0.out"; exit $status"""
-WRONG = {
+WRAPPERS = {
     "a byte": (EACH_THIRD, CHANGED.format("s/0/1/")),
     "the last line is lost": (EACH_THIRD, CHANGED.format("$d")),
     "a line too many": (EACH_THIRD, CHANGED.format("$p")),
@@ -37,17 +41,9 @@ WRONG = {
     "a message": (EACH_THIRD, '"$program" "$@"; status=$?; echo a message >&2; exit $status'),
     "a signal": (EACH_THIRD, "kill -SEGV $$"),
     "a hang": (FIFTH, "exec sleep 100"),
+    "a full device unseen": ("1 = 1", UNSEEN),
+    "the other one of two at once": ("1 = 1", ALONE),
 }
-# what is made of the answer of a run that was disturbed
-DISTURBED = {
-    "status 0": lambda answer: answer._replace(status=0),
-    "a signal": lambda answer: answer._replace(status=-11),
-    "no message": lambda answer: answer._replace(stderr=""),
-    "the other message": lambda answer: answer._replace(stderr=MEMORY if answer.stderr == DEVICE else DEVICE),
-    "a text that was not to come": lambda answer: answer._replace(stdout=answer.stdout + "x"),
-}
-
-
 def few(program, tests):
     """A few tests of each kind that needs no shim."""
     for words, line in INPUTS:
@@ -73,40 +69,62 @@ def reported(program, name, where, wrong):
 
 
 class Changed:
-    """The program, the answers of whose disturbed runs are changed."""
+    """The program, whose answers and counts are changed."""
 
     def __init__(self, program, change):
         self.program, self.change = program, change
 
     def play(self, jobs):
         """The answers to these jobs."""
-        return [(self.change(answer) if counts.refused + counts.failed_reads + counts.failed_writes else answer, counts)
-                for answer, counts in self.program.play(jobs)]
+        return [self.change(job, *found) for job, found in zip(jobs, self.program.play(jobs))]
 
 
 def wrong_wrappers(program, tests):
     """Each wrapper is reported, and the one that does nothing wrong is not."""
     tests.equal("control: a wrapper that is never wrong", reported(program, "nothing", "1 = 0", ""), 0)
-    for name, (where, wrong) in WRONG.items():
+    for name, (where, wrong) in WRAPPERS.items():
         failed = reported(program, name, where, wrong)
-        tests.figures["wrong programs that were tried"] += 1
+        tests.figures["wrong programs that were reported"] += bool(failed)
         tests.holds(f"control: {name} is wrong, and this is reported", bool(failed), failed)
 
 
-def wrong_answers(program, tests):
-    """Each run that was disturbed and is answered wrongly is reported."""
-    known = undisturbed(program, tests, [("decode", DECODE, SHORT.encode())])
-    for name, change in DISTURBED.items():
-        for part, how in ((refuse_each, ONE), (failing_devices, (0,))):
-            judged = type(tests)(shown=0)
-            part(Changed(program, change), judged, known, how)
-            tests.figures["wrong programs that were tried"] += 1
-            tests.holds(f"control: {part.__name__} reports {name}", judged.failed > 0, judged.passed)
+def judged_by(tests, judge):
+    """How many tests fail in a part, apart from those that are counted here."""
+    judged = type(tests)(shown=0)
+    judge(judged)
+    return judged.failed
+
+
+def right_answers(program, tests, known):
+    """No part reports the program as it is."""
+    for part, judge in PARTS.items():
+        failed = judged_by(tests, lambda judged, judge=judge: judge(program, judged, known))
+        tests.equal(f"control: {part}, and nothing is wrong", failed, 0)
+
+
+def wrong_answers(program, tests, known):
+    """Each program that answers wrongly is reported."""
+    for name, part, change in WRONG:
+        changed = Changed(program, change)
+        failed = judged_by(tests, lambda judged, part=part, changed=changed: PARTS[part](changed, judged, known))
+        tests.figures["wrong programs that were reported"] += failed > 0
+        tests.holds(f"control: {part} reports {name}", failed > 0)
+
+
+def wrong_processes(tests):
+    """Each process that answers wrongly without a shim is reported."""
+    for name, judge in WRONG_PROCESSES:
+        failed = judged_by(tests, judge)
+        tests.figures["wrong programs that were reported"] += failed > 0
+        tests.holds(f"control: {name} is reported", failed > 0)
 
 
 def control(program, tests, whole=True):
     """All of the above, as in the gate."""
     del whole
     wrong_wrappers(program, tests)
+    wrong_processes(tests)
     if program.shim is not None:
-        wrong_answers(program, tests)
+        known = undisturbed(program, tests, [("decode", DECODE, SHORT.encode())])
+        right_answers(program, tests, known)
+        wrong_answers(program, tests, known)

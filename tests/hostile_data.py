@@ -1,19 +1,35 @@
 """Inputs that are cut, turned and replaced, and what has to come of them."""
+import json
 import re
 
-from hostile_program import Job, alone
+from hostile_lists import radio_messages, telegrams
+from hostile_program import Job
 from hostile_runs import (CHECK, DECODE, DECODE_RADIO, ENCODE, ENCODE_RADIO, FORM, LONG, MESSAGE, MESSAGE_FORM, REPORT,
-                          SHORT, documents, flipped, greatest)
-from hostile_texts import is_documented
+                          REPORT_FORM, SHORT, example, flipped, greatest)
+from hostile_texts import CANONICAL, is_documented
 
 REPLACING = (b'"', b"{", b"[", b",", b"0", b"\x01", b"\xff")
 NOT_JSON = "refused: not JSON\n"
+SLOW, START = 100, 2000  # a run is slow past so many times the median a byte; what a start counts for, in bytes
+LONGEST = 1000  # nanoseconds a byte that a long input may take
+
+
+def timed(program, tests, jobs):
+    """The answers to these jobs. One that is slow is tried again, since something else may have run meanwhile."""
+    found = program.play(jobs)
+    costs = sorted(counts.nanoseconds / (len(job.data) + START) for job, (_, counts) in zip(jobs, found) if counts)
+    for job, (_, counts) in zip(jobs, found):
+        limit = counts and SLOW * costs[len(costs) // 2] * (len(job.data) + START)
+        if counts and counts.nanoseconds > limit:
+            again = min(one.nanoseconds for _, one in program.play([job] * 3))
+            tests.holds(f"{job.words} of {job.data[:500]} is slow", again <= limit, again)
+    return [answer for answer, _ in found]
 
 
 def answers_to(program, tests, words, lines):
-    """The answers to these inputs, each of which has to be one of the documented texts."""
+    """The answers to these inputs, each of which has to be a documented text, within the time of its length."""
     jobs = [Job(words, line if isinstance(line, bytes) else line.encode()) for line in lines]
-    found = [answer for answer, _ in program.play(jobs)]
+    found = timed(program, tests, jobs)
     tests.figures["inputs that were cut, turned or replaced"] += len(jobs)
     for job, answer in zip(jobs, found):
         tests.holds(f"{' '.join(words)} of {job.data[:500]}", is_documented(words, answer), answer)
@@ -23,7 +39,6 @@ def answers_to(program, tests, words, lines):
 def come_back(program, tests, decode, encode, lines):
     """Each of these lines of JSON encodes to a text that decodes to the same line."""
     lines = sorted(set(lines))
-    tests.figures["records that came back"] += len(lines)
     forms = "".join(line + "\n" for line in lines)
     encoded, _ = program.play([Job(encode, forms.encode())])[0]
     count = encoded.stdout.count("\n")
@@ -31,6 +46,7 @@ def come_back(program, tests, decode, encode, lines):
     tests.holds(f"{' '.join(encode)} of {len(lines)} records", complete, encoded.stdout[-200:], lines[count - 1:][:1])
     decoded, _ = program.play([Job(decode, encoded.stdout.encode())])[0]
     same = (decoded.status, decoded.stdout) == (0, forms)
+    tests.figures["records that came back"] += len(lines) if same else 0
     tests.holds(f"{len(lines)} records come back", same, first_difference(forms, decoded.stdout))
 
 
@@ -40,21 +56,19 @@ def first_difference(wanted, found):
     return next(((one, other) for one, other in pairs if one != other), "one is longer")
 
 
-def turned_bits(program, tests, words, encode, digits, step):
-    """Each bit is turned. Records come back; no bit at or past a fault's end makes a record."""
+def turned_bits(program, tests, words, encode, digits, step, each=1):
+    """Each bit is turned, or one in so many. Records come back; no bit at or past a fault's end makes a record."""
     size = len(digits) * 4
-    lines = [flipped(digits, place) for place in range(size)]
+    lines = [flipped(digits, place) for place in range(0, size, each)]
     answers = answers_to(program, tests, words, lines)
-    come_back(program, tests, words, encode, [answer.stdout[:-1] for answer in answers if answer.status == 0])
-    further, number = [], 0
-    for line, answer in zip(lines, answers):
-        fault = re.fullmatch(r"refused: \w+ \d+: [a-z -]+ at \d+ end (\d+)\n", answer.stdout)
-        if fault:
-            for place in range(int(fault[1]), size):
-                number += 1
-                if number % step == 0:
-                    further.append(flipped(line, place))
-    tests.figures["bits turned past a fault"] += len(further)
+    records = [line for answer in answers for line in answer.stdout.splitlines() if not line.startswith("refused: ")]
+    come_back(program, tests, words, encode, records)
+    further = []
+    for number, (line, answer) in enumerate(zip(lines, answers)):
+        fault = re.fullmatch(r"refused: (?:line 1|message 0): [a-z -]+ at \d+ end (\d+)\n", answer.stdout)
+        places = range(int(fault[1]) + number % step, size, step) if fault else ()
+        further += [flipped(line, place) for place in places]
+    tests.figures["bits turned past the end of a fault"] += len(further)
     for line, answer in zip(further, answers_to(program, tests, words, further)):
         tests.holds(f"no record from {line}", answer.stdout.startswith("refused: "), answer)
 
@@ -76,7 +90,7 @@ def worked_telegram(program, tests):
 
 def fronts(program, tests):
     """Each front of telegrams, messages and forms."""
-    lines = [LONG[:count] for count in range(1, len(LONG))]
+    lines = [line[:count] for line in (LONG, SHORT) for count in range(1, len(line))]
     for front, answer in zip(lines, answers_to(program, tests, DECODE, lines)):
         why = "pad bits set" if len(front) == 54 else "not hexadecimal" if len(front) % 2 else "wrong size"
         tests.equal(f"the front of {len(front)} digits", answer.stdout, f"refused: line 1: {why}\n")
@@ -85,38 +99,52 @@ def fronts(program, tests):
         for front, answer in zip(lines, answers_to(program, tests, DECODE_RADIO, lines)):
             why = "line 1: not hexadecimal" if len(front) % 2 else "message 0: cut off"
             tests.equal(f"the message's front of {len(front)} digits", answer.stdout, f"refused: {why}\n")
-    for words, form in ((ENCODE, FORM), (ENCODE_RADIO, MESSAGE_FORM)):
+    for words, form in ((ENCODE, FORM), (ENCODE_RADIO, MESSAGE_FORM), (ENCODE_RADIO, REPORT_FORM)):
         for answer in answers_to(program, tests, words, [form[:count] for count in range(1, len(form))]):
             tests.equal("the front of a form", answer.stdout, "refused: line 1: not JSON\n")
 
 
-def turned_documents(program, tests, step):
-    """Each bit of each document turned, each front of each, and each of its bytes replaced."""
-    number = 0
-    for name, document in documents():
-        changed = [document[:count] for count in range(len(document))]
-        for place, byte in enumerate(document):
-            others = [bytes([byte ^ 1 << bit]) for bit in range(8)] + list(REPLACING)
-            changed += [document[:place] + other + document[place + 1:] for other in others]
-        number += 1
-        answers_to(program, tests, CHECK, changed[number % step::step])
-        for count in (0, len(document) // 2):
-            tests.holds(f"a front of {name}", alone(CHECK, document[:count]).status in (0, 1, 2))
+def all_telegrams():
+    """The telegrams with the greatest lists, and their forms."""
+    return [*greatest(), *telegrams()]
+
+
+def spelled_as(form):
+    """The line of the record of which an accepted line is the form."""
+    return CANONICAL.encode(json.loads(form)).lower() + "\n"
+
+
+def kept_forms(program, tests, decode, words, forms):
+    """What these forms, which are accepted, are encoded to is read as what they say."""
+    encoded, _ = program.play([Job(words, "".join(form + "\n" for form in forms).encode())])[0]
+    decoded, _ = program.play([Job(decode, encoded.stdout.encode())])[0]
+    wanted = "".join(spelled_as(form) for form in forms)
+    tests.figures["forms that were kept"] += len(forms)
+    same = (encoded.status, decoded.status, decoded.stdout) == (0, 0, wanted)
+    tests.holds(f"{' '.join(words)} keeps {len(forms)} forms", same, first_difference(wanted, decoded.stdout))
+    come_back(program, tests, decode, words, decoded.stdout.splitlines())
+
+
+def replaced_form(program, tests, words, decode, form, step):
+    """Each bit of the form turned, and each of its bytes replaced. What is encoded is what the form says."""
+    bits = [(place, bytes([ord(form[place]) ^ 1 << bit])) for place in range(len(form)) for bit in range(8)]
+    others = bits + [(place, other) for place in range(len(form)) for other in REPLACING]
+    changed = [form[:place].encode() + other + form[place + 1:].encode() for place, other in others[::step]]
+    changed = [line for line in changed if b"\n" not in line]
+    answers = answers_to(program, tests, words, changed)
+    accepted = [line.decode() for line, answer in zip(changed, answers) if answer.status == 0 and answer.stdout]
+    kept_forms(program, tests, decode, words, [form, *accepted])
 
 
 def replaced_forms(program, tests, step):
-    """Each bit of each form turned, and each of its bytes replaced. What is encoded comes back."""
-    forms = [(ENCODE, DECODE, form) for form in (FORM, *(form for _, _, form in greatest()))]
-    for words, decode, form in [*forms, (ENCODE_RADIO, DECODE_RADIO, MESSAGE_FORM)]:
-        changed = []
-        for place in range(len(form)):
-            for other in (*(chr(ord(form[place]) ^ 1 << bit).encode("latin-1") for bit in range(8)), *REPLACING):
-                changed.append(form[:place].encode() + other + form[place + 1:].encode())
-        answers = answers_to(program, tests, words, changed[::step])
-        texts = "".join(sorted({answer.stdout for answer in answers if answer.status == 0}))
-        decoded, _ = program.play([Job(decode, texts.encode())])[0]
-        tests.equal(f"what {' '.join(words)} writes is read", decoded.status, 0)
-        come_back(program, tests, decode, words, decoded.stdout.split("\n")[:-1])
+    """Each form that the runs have: of telegrams, with the greatest lists, and of messages."""
+    forms = [FORM, example("authority-with-profiles.json").strip(), *(form for _, _, form in all_telegrams())]
+    for form in forms:
+        replaced_form(program, tests, ENCODE, DECODE, form, step)
+    for form in (MESSAGE_FORM, REPORT_FORM):
+        replaced_form(program, tests, ENCODE_RADIO, DECODE_RADIO, form, step)
+    for _, _, form in radio_messages():
+        replaced_form(program, tests, ENCODE_RADIO, DECODE_RADIO, form, 31 * step)
 
 
 def long_lines():
@@ -151,11 +179,12 @@ def long_lines():
     yield "2^20 bytes", ENCODE, b"1" * 2 ** 20, line("not JSON")
 
 
-def test_long_lines(program, tests):
-    """Inputs that are deep or long, each within a minute."""
-    cases = list(long_lines())
+def test_long_lines(program, tests, cases):
+    """Inputs that are deep or long, each within the time of its length."""
     found = program.play([Job(words, data) for _, words, data, _ in cases])
-    for (name, words, _, wanted), (answer, _) in zip(cases, found):
+    for (name, words, data, wanted), (answer, counts) in zip(cases, found):
+        spent = counts.nanoseconds if counts else 0
+        tests.holds(f"{' '.join(words)}, {name}: the time", spent <= LONGEST * (len(data) + 1000 * START), spent)
         tests.figures["inputs that are deep or long"] += 1
         tests.holds(f"{' '.join(words)}, {name}", is_documented(words, answer), answer)
         if wanted is not None:
@@ -166,12 +195,13 @@ def data(program, tests, whole=True):
     """All of the above; where it is not the whole of it, not each of the changes."""
     worked_telegram(program, tests)
     fronts(program, tests)
-    test_long_lines(program, tests)
+    test_long_lines(program, tests, list(long_lines()))
     turned_bits(program, tests, DECODE, ENCODE, SHORT, 1)
     turned_bits(program, tests, DECODE, ENCODE, LONG, 1 if whole else 97)
-    for _, line, _ in greatest() if whole else ():
-        turned_bits(program, tests, DECODE, ENCODE, line, 31)
     for message in (MESSAGE, REPORT):
         turned_bits(program, tests, DECODE_RADIO, ENCODE_RADIO, message, 1 if whole else 7)
-    turned_documents(program, tests, 1 if whole else 61)
-    replaced_forms(program, tests, 1 if whole else 53)
+    for _, line, _ in all_telegrams() if whole else ():
+        turned_bits(program, tests, DECODE, ENCODE, line, 31)
+    for _, message, _ in radio_messages() if whole else ():
+        turned_bits(program, tests, DECODE_RADIO, ENCODE_RADIO, message, 997, 5)
+    replaced_forms(program, tests, 1 if whole else 101)

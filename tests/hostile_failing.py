@@ -1,20 +1,35 @@
 """Runs whose requests for memory are refused, and whose devices fail."""
+import itertools
 import random
 
 from hostile_program import (DEVICE, EACH_INTERRUPTED, EACH_NTH, FROM, INTERRUPTED, MEMORY, NOTHING, ONE, ONE_IN_N,
                              TAKES_NONE, Device, Job, stops)
-from hostile_runs import COMMANDS, runs
+from hostile_runs import COMMANDS, long_runs, runs
+from hostile_texts import KINDS, is_documented, is_of_kind
 
 MANY = 1000  # runs a command with requests refused at random
+SHORTEST, MOST_ENDS = 16, 60  # how many bytes a reader gives before it ends, at least, and at how many places at most
 
 
 def undisturbed(program, tests, all_runs):
     """The jobs of these runs, each with its answer and its counts where nothing fails."""
     jobs = [Job(words, data) for _, words, data in all_runs]
     known = program.play(jobs)
-    for (name, _, _), (answer, _) in zip(all_runs, known):
-        tests.holds(f"{name} has an answer", answer.status in (0, 1, 2), answer)
+    for (name, words, _), (answer, _) in zip(all_runs, known):
+        fine = is_documented(words, answer) if words in COMMANDS else answer.status == 2
+        tests.holds(f"{name} has an answer", fine, answer)
     return [(name, job, *answers) for (name, _, _), job, answers in zip(all_runs, jobs, known)]
+
+
+def one_of_each_kind(tests, known):
+    """The first run of each kind of answer that the documents name. Each kind has one."""
+    chosen = {}
+    for words, kind in KINDS:
+        found = next((one for one in known if is_of_kind(one[1].words, one[2], words, kind)), None)
+        tests.holds(f"{' '.join(words)}: some run is answered by {kind}", found is not None)
+        if found is not None:
+            chosen[found[0]] = found
+    return list(chosen.values())
 
 
 def test_memory(tests, name, wanted, answer, counts):
@@ -41,112 +56,179 @@ def how_refused(job):
     return words[job.refused] + " refused"
 
 
-def refuse_each(program, tests, known, how):
+def refuse_each(program, tests, known, how, step=1):
     """The requests of each run are refused in turn, until a run meets no refusal."""
-    cases = [(name, wanted, job._replace(refused=how, request=number))
-             for name, job, wanted, counts in known for number in range(1, counts.requests + 2)]
-    answers = disturb(program, tests, cases)
-    for (name, _, job), (_, counts), last in zip(cases, answers, [*(one[2].request for one in cases[1:]), 1]):
-        tests.holds(f"{name}, {how_refused(job)}: the count", (counts.refused > 0) == (last != 1), counts)
+    cases = [(name, wanted, job._replace(refused=how, request=number), counts.requests)
+             for name, job, wanted, counts in known
+             for number in (*range(1, counts.requests + 1, step), counts.requests + 1)]
+    answers = disturb(program, tests, [case[:3] for case in cases])
+    for (name, _, job, requests), (_, counts) in zip(cases, answers):
+        met = counts.refused > 0
+        tests.holds(f"{name}, {how_refused(job)}: the count", met == (job.request <= requests), counts)
+
+
+def refuse_every(program, tests, known):
+    """Every request of each run is refused, every second one, every third one and every seventh one."""
+    disturb(program, tests, [(name, wanted, job._replace(refused=EACH_NTH, request=each))
+                             for (name, job, wanted, _), each in itertools.product(known, (1, 2, 3, 7))])
+
+
+def refused_at_random(choice, known, seed, many):
+    """So many of these runs, each with its own seed, in which on an average one request is refused at the least."""
+    for number in range(many):
+        name, job, wanted, counts = choice.choice(known)
+        shares = [share for share in (2, 3, 5, 10, 30, 100, 300) if share <= max(2, counts.requests)]
+        yield name, wanted, job._replace(refused=ONE_IN_N, request=choice.choice(shares), seed=seed + number)
 
 
 def refuse_at_random(program, tests, known, seed, many):
     """Many runs of each command, with requests refused at random."""
     choice = random.Random(seed)
-    for words in (*COMMANDS, ()):
+    for words in sorted({job.words for _, job, *_ in known}):
         of_command = [one for one in known if one[1].words == words]
-        cases = []
-        for number in range(many):
-            name, job, wanted, _ = choice.choice(of_command)
-            share = choice.choice((2, 3, 5, 10, 30, 100, 300))
-            cases.append((name, wanted, job._replace(refused=ONE_IN_N, request=share, seed=seed + number)))
-        disturb(program, tests, cases)
+        disturb(program, tests, list(refused_at_random(choice, of_command, seed, many)))
 
 
 def memory(program, tests, seed=1, whole=True):
-    """All of the above. Where it is not the whole of it, every seventh run and fewer random ones."""
-    known = undisturbed(program, tests, list(runs())[::1 if whole else 7])
+    """All of the above. Where it is not the whole of it, a run of each kind, and fewer random ones."""
+    all_known = undisturbed(program, tests, list(runs()))
+    each_kind = one_of_each_kind(tests, all_known)
+    known = all_known if whole else each_kind
     refuse_each(program, tests, known, ONE)
     refuse_each(program, tests, known, FROM)
-    for each in (1, 2, 3, 7):
-        disturb(program, tests, [(name, wanted, job._replace(refused=EACH_NTH, request=each))
-                                 for name, job, wanted, _ in known])
-    refuse_at_random(program, tests, undisturbed(program, tests, list(runs())), seed, MANY if whole else 100)
+    refuse_every(program, tests, known)
+    refuse_at_random(program, tests, all_known, seed, MANY if whole else 100)
+    for run in undisturbed(program, tests, long_runs()):
+        step = max(1, run[3].requests // (400 if whole else 10))
+        refuse_each(program, tests, [run], ONE, step)
+        refuse_each(program, tests, [run], FROM, step)
+        refuse_every(program, tests, [run])
 
 
-def test_device(tests, name, wanted, answer, failed):
-    """A run with a device that failed says so; any other one answers."""
-    tests.figures["calls of devices that failed"] += failed
-    fine = stops(answer, wanted, DEVICE) if failed else answer == wanted
-    tests.holds(name, fine, f"found:  {answer}", f"wanted: {wanted}")
-
-
-def device_jobs(known, pieces):
-    """Each run with devices that take or give so many bytes a call, one of which fails at each call."""
-    for name, job, wanted, _ in known:
-        for piece in pieces:
-            calls = len(job.data) // piece + 2 if piece else 3
-            for number in range(1, calls + 1):
-                for how in (ONE, FROM):
-                    yield f"{name}, read {number} of {piece}", wanted, job._replace(reader=Device(how, number, piece))
-            calls = len(wanted.stdout) // piece + 2 if piece else 2
-            for number in range(1, calls + 1):
-                for how in (ONE, FROM, TAKES_NONE):
-                    yield f"{name}, write {number} of {piece}", wanted, job._replace(writer=Device(how, number, piece))
-
-
-def failing_devices(program, tests, known, pieces):
-    """Each call of a device fails in turn."""
-    cases = list(device_jobs(known, pieces))
-    for (name, wanted, _), (answer, counts) in zip(cases, program.play([job for _, _, job in cases])):
-        test_device(tests, name, wanted, answer, counts.failed_reads + counts.failed_writes)
-
-
-def slow_devices(program, tests, known):
-    """Devices that give and take one byte a call, or a few, say the same as others."""
-    cases = [(f"{name}, pieces of {given} and {taken}", wanted,
-              job._replace(reader=Device(piece=given), writer=Device(piece=taken)))
-             for name, job, wanted, _ in known for given, taken in ((1, 1), (1, 0), (0, 1), (7, 3))]
-    for (name, wanted, _), (answer, counts) in zip(cases, program.play([job for _, _, job in cases])):
+def in_pieces(program, tests, known, given, taken):
+    """The runs with devices that give and take so many bytes a call, or any number. They answer as with others."""
+    jobs = [job._replace(reader=Device(piece=given), writer=Device(piece=taken)) for _, job, *_ in known]
+    found = []
+    for (name, _, wanted, _), job, (answer, counts) in zip(known, jobs, program.play(jobs)):
         tests.figures["calls of slow devices"] += counts.reads + counts.writes
-        tests.equal(name, answer, wanted)
+        tests.equal(f"{name}, pieces of {given} and {taken}", answer, wanted)
+        fewest = len(wanted.stdout) / taken if taken else 0
+        tests.holds(f"{name}, pieces of {given} and {taken}: the count", counts.writes >= fewest, counts)
+        found.append((name, job, wanted, counts))
+    return found
 
 
-def interrupted_devices(program, tests, known):
+def failing_reads(name, job, wanted, counts):
+    """The jobs in which a read of this run fails, alone or with all later ones, and one past the last read."""
+    for call, how in itertools.product(range(1, counts.reads + 2), (ONE, FROM)):
+        failing = job._replace(reader=job.reader._replace(failing=how, call=call))
+        yield f"{name}, read {call} fails, {how}", wanted, failing, call <= counts.reads
+
+
+def failing_writes(name, job, wanted, counts):
+    """The same of its writes, which may take no byte as well."""
+    for call, how in itertools.product(range(1, counts.writes + 2), (ONE, FROM, TAKES_NONE)):
+        failing = job._replace(writer=job.writer._replace(failing=how, call=call))
+        yield f"{name}, write {call} fails, {how}", wanted, failing, call <= counts.writes
+
+
+def failing_both(name, job, wanted, counts):
+    """The jobs in which both devices fail, the reader from one of its calls on."""
+    for call in range(1, counts.reads + 1):
+        failing = job._replace(reader=job.reader._replace(failing=FROM, call=call), writer=Device(FROM, 1))
+        yield f"{name}, read {call} fails, and each write", wanted, failing, True
+
+
+def test_device(tests, case, answer, counts):
+    """A run with a device that failed says so, and reads no more; any other one answers."""
+    name, wanted, job, fails = case
+    failed = counts.failed_reads + counts.failed_writes
+    tests.figures["device calls that failed"] += failed
+    stopped = stops(answer, wanted, DEVICE) and counts.failed_reads in (0, 1)
+    last = counts.failed_reads == 0 or counts.reads == job.reader.call
+    fine = failed > 0 and stopped and last if fails else failed == 0 and answer == wanted
+    tests.holds(name, fine, f"found:  {answer}", f"wanted: {wanted}", counts)
+
+
+def failing_devices(program, tests, known, pieces=(0,)):
+    """Each call of a device fails in turn, until a run meets no failure."""
+    for piece in pieces:
+        cases = [case for one in in_pieces(program, tests, known, piece, piece)
+                 for jobs in (failing_reads, failing_writes, failing_both) for case in jobs(*one)]
+        for case, (answer, counts) in zip(cases, program.play([job for _, _, job, _ in cases])):
+            test_device(tests, case, answer, counts)
+
+
+def failing_flushes(program, tests, known):
+    """A writer fails only where the program passes on what it has held back, at the end."""
+    cases = [(f"{name}, the last write fails, {how}", wanted, job._replace(writer=Device(how, counts.writes)), True)
+             for (name, job, wanted, counts), how in itertools.product(known, (ONE, FROM, TAKES_NONE)) if counts.writes]
+    for case, (answer, counts) in zip(cases, program.play([job for _, _, job, _ in cases])):
+        tests.figures["writers that failed only at the flush"] += 1
+        test_device(tests, case, answer, counts)
+        earlier = case[2].writer.call == 1 or answer.stdout != ""
+        tests.holds(f"{case[0]}: what was taken before stands", earlier, counts)
+
+
+def more_than_one_write(tests, known):
+    """Whether each of these runs writes before its end."""
+    for name, _, _, counts in known:
+        tests.holds(f"{name}: more than one write", counts.writes > 1, counts)
+
+
+def interrupted_jobs(name, job, wanted, counts):
+    """The jobs in which one of the calls of this run is interrupted, or each of them twice."""
+    calls = [("reader", call) for call in range(1, counts.reads + 1)]
+    for device, call in calls + [("writer", call) for call in range(1, counts.writes + 1)]:
+        interrupted = {device: getattr(job, device)._replace(failing=INTERRUPTED, call=call)}
+        yield f"{name}, call {call} of the {device} is interrupted", wanted, job._replace(**interrupted)
+    yield f"{name}, each write is interrupted", wanted, job._replace(writer=Device(EACH_INTERRUPTED, 0, 20))
+    yield f"{name}, each read is interrupted", wanted, job._replace(reader=Device(EACH_INTERRUPTED, 0, 20))
+
+
+def interrupted_devices(program, tests, known, piece):
     """A read that a signal interrupts is made again, or has failed. A write that it interrupts is made again."""
-    cases = []
-    for name, job, wanted, _ in known:
-        for reader, writer in ((Device(INTERRUPTED, 1), Device()), (Device(INTERRUPTED, 2), Device()),
-                               (Device(EACH_INTERRUPTED, 0, 20), Device()), (Device(), Device(INTERRUPTED, 1)),
-                               (Device(), Device(EACH_INTERRUPTED, 0, 20))):
-            cases.append((f"{name}, interrupted {reader} {writer}", wanted, job._replace(reader=reader, writer=writer)))
-    for (name, wanted, _), (answer, counts) in zip(cases, program.play([job for _, _, job in cases])):
-        tests.figures["calls that were interrupted"] += counts.failed_reads + counts.failed_writes
-        fine = answer == wanted or counts.failed_reads > 0 and stops(answer, wanted, DEVICE)
-        tests.holds(name, fine, f"found:  {answer}", f"wanted: {wanted}")
+    cases = [case for one in in_pieces(program, tests, known, piece, piece) for case in interrupted_jobs(*one)]
+    for (name, wanted, job), (answer, counts) in zip(cases, program.play([job for _, _, job in cases])):
+        interrupted = counts.failed_reads + counts.failed_writes
+        tests.figures["device calls that were interrupted"] += interrupted
+        stopped = counts.failed_reads == 1 and stops(answer, wanted, DEVICE) and counts.reads == max(1, job.reader.call)
+        fine = answer == wanted or stopped
+        tests.holds(name, fine and (interrupted > 0 or not wanted.stdout or not job.data), answer, wanted, counts)
 
 
-def ends_in_between(program, tests, known, piece):
-    """A reader that gives bytes after an end: the answer is that of what it gave before, or of all of it."""
-    cases = []
-    for name, job, wanted, _ in known:
-        for number in range(1, len(job.data) // piece + 2):
-            before = job._replace(data=job.data[:(number - 1) * piece])
-            cases.append((name, wanted, before, job._replace(reader=Device(TAKES_NONE, number, piece))))
-    fronts = program.play([case[2] for case in cases])
-    answers = program.play([case[3] for case in cases])
-    for (name, wanted, _, job), (front, _), (answer, _) in zip(cases, fronts, answers):
-        tests.figures["ends with bytes after them"] += 1
-        tests.holds(f"{name}, an end at read {job.reader.call}", answer in (front, wanted), answer, front, wanted)
+def ending_reader(name, job, *_):
+    """The jobs in which the reader of this run ends after each of its pieces, and what it gave by then."""
+    piece = max(SHORTEST, len(job.data) // MOST_ENDS)
+    for call in range(1, len(job.data) // piece + 2):
+        front = job._replace(data=job.data[:(call - 1) * piece])
+        yield f"{name}, an end at read {call}", front, job._replace(reader=Device(TAKES_NONE, call, piece))
+
+
+def ends_in_between(program, tests, known):
+    """A reader that gives bytes after an end: the answer is that of what it gave before, and nothing more is read."""
+    cases = [case for one in known for case in ending_reader(*one)]
+    fronts = program.play([front for _, front, _ in cases])
+    answers = program.play([job for _, _, job in cases])
+    for (name, _, job), (front, _), (answer, counts) in zip(cases, fronts, answers):
+        tests.figures["readers that gave bytes after an end"] += 1
+        tests.holds(name, answer == front and counts.reads <= job.reader.call, answer, front, counts)
 
 
 def devices(program, tests, whole=True):
-    """All of the above; where it is not the whole of it, on fewer runs."""
+    """All of the above; where it is not the whole of it, on a run of each kind."""
     known = undisturbed(program, tests, list(runs()))
-    some = known if whole else known[::9]
-    failing_devices(program, tests, some, (0, 64, 7) if whole else (0, 200))
-    if whole:
-        failing_devices(program, tests, known[::9], (1,))
-    slow_devices(program, tests, known if whole else some)
-    interrupted_devices(program, tests, some)
-    ends_in_between(program, tests, some, 16 if whole else 100)
+    long = undisturbed(program, tests, long_runs())
+    some = known if whole else one_of_each_kind(tests, known)
+    failing_devices(program, tests, some, (0, 64) if whole else (0, 400))
+    failing_devices(program, tests, [one for one in some if len(one[1].data) < (3000 if whole else 100)], (7,))
+    failing_devices(program, tests, [one for one in some if len(one[1].data) < (250 if whole else 50)], (1,))
+    failing_devices(program, tests, long, (0, 20000))
+    more_than_one_write(tests, long)
+    failing_flushes(program, tests, some + long)
+    for given, taken in ((1, 1), (1, 0), (0, 1), (7, 3)):
+        in_pieces(program, tests, some + long, given, taken)
+    interrupted_devices(program, tests, some, 0)
+    interrupted_devices(program, tests, some, 100 if whole else 1000)
+    interrupted_devices(program, tests, long, 1000 if whole else 20000)
+    ends_in_between(program, tests, some)

@@ -9,7 +9,8 @@ import random
 import re
 import time
 
-from hostile_data import come_back
+from hostile_data import come_back, timed
+from hostile_documents import TEXT, records_in
 from hostile_program import Job
 from hostile_runs import (CHECK, COMMANDS, DECODE, DECODE_RADIO, ENCODE, ENCODE_RADIO, decodes, documents, encodes,
                           messages, streams)
@@ -22,7 +23,6 @@ NUMBERS = (b"0", b"1", b"2", b"3", b"7", b"31", b"32", b"120", b"127", b"255", b
 PIECES = (b'"', b"{", b"}", b"[", b"]", b",", b":", b"0", b"\\", b"\\u0000", b"\\ud800", b"\x00", b"\x7f", b"\xff",
           b"\xc3\xa9", b" ", b"\r", b'"x":0,', b"null", b"g", b"-")
 LINES, CHUNK, KEPT = 6000, 10, 3000  # of a batch, of a process at first, and of what new inputs are made from
-SLOW, START = 100, 2000  # a run is slow past so many times the median a byte; what a start counts for, in bytes
 
 
 def accepted_of(program, words):
@@ -132,18 +132,6 @@ def regrouped(choice, document):
     return document[:found.start()] + both + document[found.end():]
 
 
-def timed(program, tests, jobs):
-    """The answers to these jobs. One that is slow is tried again, since something else may have run meanwhile."""
-    found = program.play(jobs)
-    costs = sorted(counts.nanoseconds / (len(job.data) + START) for job, (_, counts) in zip(jobs, found) if counts)
-    for job, (_, counts) in zip(jobs, found):
-        limit = counts and SLOW * costs[len(costs) // 2] * (len(job.data) + START)
-        if counts and counts.nanoseconds > limit:
-            again = min(one.nanoseconds for _, one in program.play([job] * 3))
-            tests.holds(f"{job.words} of {job.data[:500]} is slow", again <= limit, again)
-    return [answer for answer, _ in found]
-
-
 def test_lines(program, tests, words, lines):
     """The lines that are accepted, and what is written for them."""
     waiting, accepted = [lines[place:place + CHUNK] for place in range(0, len(lines), CHUNK)], []
@@ -155,7 +143,7 @@ def test_lines(program, tests, words, lines):
             count = len(written) - refused
             tests.figures[f"{' '.join(words)}: inputs"] += count + refused
             tests.figures[f"{' '.join(words)}: refused"] += refused
-            number = re.match(r"refused: (?:line (\d+)|message (\d+))", written[-1] if refused else "")
+            number = re.match(r"refused: (?:line (\d+)|message (\d+))", written[-1] if refused and written else "")
             stands = number is not None and count + 1 == (int(number[1]) if number[1] else int(number[2]) + 1)
             fine = is_documented(words, answer) and (stands if refused else count == len(chunk))
             tests.holds(f"{' '.join(words)} of {job.data[:2000]}", fine, answer)
@@ -198,6 +186,7 @@ def batch(program, tests, words, choice, corpus):
     inputs = [mutated(choice, words, corpus) for _ in range(LINES)]
     if words == CHECK:
         accepted = test_whole(program, tests, words, inputs)
+        records_in(program, tests, sorted({text.decode() for data, _ in accepted for text in TEXT.findall(data)}))
     else:
         lines = [data for data in inputs if b"\n" not in data and data not in (b"", b"\r")]
         whole = [data for data in lines if words == DECODE_RADIO and not is_one_message(data)][:LINES // 20]

@@ -1,10 +1,12 @@
 """The whole process, without a shim: limits of memory and stack, devices of the system, two runs at once."""
+import itertools
 import os
 import subprocess
 import sys
 
 from hostile_program import DEVICE, HERE, MEMORY, PROGRAM, SECONDS, Answer, Job, alone, stops
-from hostile_runs import CHECK, COMMANDS, DECODE, DECODE_RADIO, ENCODE, ENCODE_RADIO, FORM, MESSAGE, SHORT, runs
+from hostile_runs import (CHECK, COMMANDS, DECODE, DECODE_RADIO, ENCODE, ENCODE_RADIO, FORM, MESSAGE, SHORT, long_runs,
+                          runs)
 
 STACK = 512  # KiB of stack that README.md names
 LONG = 20000  # groups of a long document
@@ -33,19 +35,22 @@ def great_inputs():
     yield ENCODE_RADIO, b'{"nid_message":3,"x":"' + b"a" * 4000000 + b'"}'
 
 
+def test_limited(tests, words, size, wanted, answer):
+    """A run with little memory says so, or answers as with more."""
+    tests.figures["runs with little memory"] += 1
+    tests.figures["runs with little memory that answered memory"] += answer.status == 3
+    fine = answer == wanted or stops(answer, wanted, MEMORY)
+    tests.holds(f"{words} with {size} KiB", fine, answer, wanted.stdout[:200])
+
+
 def memory_limits(tests, known, step):
     """Above the least limit with which the system starts the program and its stack, each limit gives the expected
     text, or memory. Below it the system ends the program, before or while its stack grows."""
     start = least(0, 100000, lambda size: all(limited("v", size, *run) == wanted for run, wanted in known * 3))
     tests.figures["KiB of address space with which each run answers"] = start
     great = [(run, alone(*run)) for run in great_inputs()]
-    for size in range(start + 128, start + 40000, step):
-        for (words, data), wanted in great:
-            answer = limited("v", size, words, data)
-            tests.figures["runs with little memory"] += 1
-            tests.figures["runs with little memory that answered memory"] += answer.status == 3
-            fine = answer == wanted or stops(answer, wanted, MEMORY)
-            tests.holds(f"{words} with {size} KiB", fine, answer, wanted.stdout[:200])
+    for size, ((words, data), wanted) in itertools.product(range(start + 128, start + 40000, step), great):
+        test_limited(tests, words, size, wanted, limited("v", size, words, data))
 
 
 def long_document(tests):
@@ -67,19 +72,39 @@ def stack_limit(tests, known):
         tests.holds(f"each run answers with {more} KiB of stack", suffices(more))
 
 
+def unread_pipe():
+    """The end to write to of a pipe that nobody reads."""
+    read, write = os.pipe()
+    os.close(read)
+    return write
+
+
+def test_full(tests, name, words, wanted, answer):
+    """What takes nothing: who wants to write says so, and who has nothing to write answers."""
+    tests.figures["runs with a full or closed device"] += 1
+    fine = stops(answer, wanted, DEVICE) if wanted.stdout else answer == wanted
+    tests.holds(f"{words} with standard output {name}", fine, answer)
+
+
 def system_devices(tests, known):
-    """A full device, a closed one, a folder, and pipes that nobody reads."""
+    """A full device, a closed one, a folder, and a pipe that nobody reads."""
     for (words, data), wanted in known:
         for name, limits in (("full", "exec >/dev/full;"), ("closed", "exec >&-;")):
-            answer = alone(words, data, limits=limits)
-            tests.figures["runs with a full or closed device"] += 1
-            fine = stops(answer, wanted, DEVICE) if wanted.stdout else answer.status in (wanted.status, 3)
-            tests.holds(f"{words} with standard output {name}", fine, answer)
+            test_full(tests, name, words, wanted, alone(words, data, limits=limits))
+        pipe = unread_pipe()
+        answer = alone(words, data, stdout=pipe, stderr=subprocess.PIPE)
+        os.close(pipe)
+        test_full(tests, "a pipe that nobody reads", words, wanted, answer)
         answer = alone(words, data, limits="exec </;")
         fine = stops(answer, wanted, DEVICE) if words in COMMANDS else answer == wanted
         tests.holds(f"{words} of a folder", fine, answer)
         answer = alone(words, data, limits="exec 2>&-; exec <&-;")
-        tests.holds(f"{words} with nothing to read or to say", answer.status in (2, 3), answer)
+        fine = answer.status == (3 if words in COMMANDS else 2) and wanted.stdout.startswith(answer.stdout)
+        tests.holds(f"{words} with nothing to read or to say", fine, answer)
+
+
+def going_reader(tests):
+    """A reader of the pipe that goes away after the first line."""
     lines = (SHORT + "\n").encode() * 10000
     with open(os.devnull, "wb") as nowhere:
         ran = subprocess.run(["sh", "-c", '"$0" decode | head -n 1; exit 0', PROGRAM], input=lines, check=False,
@@ -109,13 +134,21 @@ def at_once(program, tests, known):
             tests.equal(f"{words} beside another", (run.returncode, out.decode(), err.decode()), tuple(wanted))
 
 
+def some_of(step):
+    """Of the runs of each command, and of other words, one in so many."""
+    all_runs = [(words, data) for _, words, data in runs()]
+    commands = dict.fromkeys(words for words, _ in all_runs)
+    return [run for words in commands for run in [one for one in all_runs if one[0] == words][::step]]
+
+
 def process(program, tests, whole=True):
     """All of the above; where it is not the whole of it, on fewer runs."""
-    all_runs = [(words, data) for _, words, data in runs()]
-    some = [run for run in all_runs if len(run[1]) < 10000][::1 if whole else 24]
+    some = some_of(1 if whole else 24)
     known = [(run, answer) for run, (answer, _) in zip(some, program.play([Job(*run) for run in some]))]
-    system_devices(tests, known)
-    at_once(program, tests, known)
+    long = [((words, data), program.play([Job(words, data)])[0][0]) for _, words, data in long_runs()]
+    system_devices(tests, known + long)
+    going_reader(tests)
+    at_once(program, tests, known + long)
     memory_limits(tests, known[::16], 500 if whole else 13000)
     long_document(tests)
     if whole:

@@ -1,8 +1,8 @@
 """The runs that are disturbed: words and input of each. Nothing of them is random."""
-import json
 import re
 
-from cases import answer, blocks, filled, greatest_lists, text
+from cases import answer, blocks, filled, greatest_lists
+from hostile_lists import long_inputs, radio_messages, telegrams
 from hostile_program import HERE
 
 EXAMPLES = HERE.parent / "examples"
@@ -14,7 +14,8 @@ LONG = filled("a1007f802000c31024a5007fe007d002a813a000105080647f8da056000014002
 FORM = answer(210, [])
 MESSAGE = "03048000001900080021e810901ff801f400"
 REPORT = "8807000000320000004000e480200081f450014002830832c00ed280"
-MESSAGE_FORM = json.dumps(json.loads((EXAMPLES / "radio-movement-authority.json").read_text()), separators=(",", ":"))
+MESSAGE_FORM = (EXAMPLES / "radio-movement-authority.json").read_text().strip()
+REPORT_FORM = (EXAMPLES / "radio-position-report.json").read_text().strip()
 ASPECTS = '{"groups":[{"aspects":[{"balises":["%s","%s"]},{"balises":["%s","%s"]}]}],"messages":[]}'
 PAIR = filled("a10283802000..f c0"), filled("a11303802000..f c0")
 TWO_ASPECTS = ASPECTS % (*PAIR, filled("a10284002000..f c0"), filled("a11304002000..f c0"))
@@ -32,6 +33,30 @@ def documents():
     yield "two aspects that differ in their marks and are not told apart", MIXED_UP.encode()
     for file in sorted((EXAMPLES / "check").glob("*.json")):
         yield file.stem, file.read_bytes()
+    yield "200 levels", b"[" * 200 + b"]" * 200
+    yield "a byte ff", b"\xff"
+
+
+def refused_documents():
+    """A document of each telegram and each message that is refused."""
+    for name, line, why in blocks(HERE / "cases" / "telegrams.txt"):
+        if why.startswith("refused"):
+            yield f"a group of {name}", ('{"groups":[{"balises":["%s"]}],"messages":[]}' % filled(line)).encode()
+    for name, line in faulty_messages():
+        yield f"a list of {name}", ('{"groups":[],"messages":["%s"]}' % line).encode()
+
+
+def faulty_messages():
+    """Texts that are no message, one of each kind."""
+    yield "a message of less than three bytes", "030080"
+    yield "a message of an unknown kind", "0400c0"
+    yield "a message whose length is not that of its bytes", "0300c000"
+    yield "a message with a fault", "0300c0"
+    yield "a report with a spare number", REPORT.replace("028308", "028318")
+    yield "an authority whose L_PACKET is too great", MESSAGE.replace("0021e810", "0021e818")
+    yield "a message without an authority", "03028000001900080021"
+    yield "a report without a position", "88028000003200000040"
+    yield "the greatest message without an authority", "03ffc0" + "00" * 1020
 
 
 def example(name):
@@ -96,25 +121,35 @@ def streams():
     yield "two messages, in three lines", f"{MESSAGE}{REPORT[:22]}\r\n{REPORT[22:30]}\n\n{REPORT[30:]}"
     yield "a message that is cut off", MESSAGE + MESSAGE[:20]
     yield "a message, and one with a fault", f"{MESSAGE}\n0300c0"
-    yield "a report with a spare number", REPORT.replace("028308", "028318")
-    yield "a message of an unknown kind", "0400c0"
-    yield "a message of less than three bytes", "030080"
     yield "a message, and a line that is not hexadecimal", f"{MESSAGE}\n0g"
+    yield from faulty_messages()
     for file in sorted(EXAMPLES.glob("radio-*.txt")):
         yield f"the example {file.stem}", file.read_text()
-    yield "the greatest message without an authority", "03ffc0" + "00" * 1020
 
 
 def messages():
     """Runs of `encode --radio`."""
     for file in sorted(EXAMPLES.glob("radio-*.json")):
         yield f"the form of the example {file.stem}", file.read_text()
+    yield "no JSON", MESSAGE_FORM[:-1]
+    yield "no object", "[]"
     yield "no message kind", '{"x":1}'
     yield "another message kind", '{"nid_message":4}'
+    yield "another key", MESSAGE_FORM.replace('"m_ack"', '"m_akk"')
+    yield "a number out of range", MESSAGE_FORM.replace('"m_ack":0', '"m_ack":2')
     yield "no authority", re.sub(r'"packets":\[.*\]', '"packets":[]', MESSAGE_FORM)
     for name, bits in (("the greatest message", 8020), ("too great a message", 8021)):
         raw = RAW % (bits + 23, "0" * ((bits + 7) // 8 * 2))
         yield name, MESSAGE_FORM.replace("}],", f"}},{raw}],")
+
+
+def lists():
+    """Runs of what has the greatest lists for which a telegram or a message has room: words, name and input."""
+    for name, line, form in telegrams():
+        yield from ((DECODE, name, line), (ENCODE, f"the form of {name}", form))
+    for name, text, form in radio_messages():
+        yield from ((DECODE_RADIO, name, text), (ENCODE_RADIO, f"the form of {name}", form))
+    yield ENCODE_RADIO, "a form, and half a form", f"{MESSAGE_FORM}\n{MESSAGE_FORM[:60]}"
 
 
 def runs():
@@ -122,18 +157,20 @@ def runs():
     for words, those in ((DECODE, decodes), (ENCODE, encodes), (DECODE_RADIO, streams), (ENCODE_RADIO, messages)):
         for name, line in those():
             yield f"{' '.join(words)}: {name}", words, line.encode()
-    for name, document in documents():
+    for words, name, line in lists():
+        yield f"{' '.join(words)}: {name}", words, line.encode()
+    for name, document in (*documents(), *refused_documents()):
         yield f"check: {name}", CHECK, document
     for words in ((), ("help",), ("decode", "more"), ("check", "--radio")):
         yield f"the words {' '.join(words)}", words, b""
 
 
-def bits_of(digits):
-    """The bits of hexadecimal digits."""
-    return f"{int(digits, 16):0{len(digits) * 4}b}"
+def long_runs():
+    """Runs whose input and output have more bytes than a buffer of the program: name, words and input."""
+    return [(name, words, data.encode()) for name, words, data in long_inputs()]
 
 
 def flipped(digits, place):
     """The digits with one of their bits turned."""
-    bits = bits_of(digits)
-    return text(bits[:place] + "01"[bits[place] == "0"] + bits[place + 1:])
+    at, bit = divmod(place, 4)
+    return f"{digits[:at]}{int(digits[at], 16) ^ 8 >> bit:x}{digits[at + 1:]}"

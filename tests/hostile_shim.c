@@ -18,6 +18,7 @@
 #include <sys/resource.h>
 #include <sys/stat.h>
 #include <sys/syscall.h>
+#include <sys/uio.h>
 #include <sys/wait.h>
 #include <unistd.h>
 
@@ -120,6 +121,22 @@ ssize_t write(int file, const void *buffer, size_t size) {
     if (!runs || file != 1 || size == 0) return syscall(SYS_write, file, buffer, size);
     ssize_t failed = failure(&job.writer, ++counts->writes, &counts->failed_writes);
     return failed <= 0 ? failed : syscall(SYS_write, file, buffer, piece_of(&job.writer, size));
+}
+
+/* The first piece that is not empty: a device may give or take less than it is asked for. */
+static struct iovec first_of(const struct iovec *pieces, int count) {
+    while (count > 1 && pieces->iov_len == 0) pieces++, count--;
+    return count > 0 ? *pieces : (struct iovec){NULL, 0};
+}
+
+ssize_t readv(int file, const struct iovec *pieces, int count) {
+    struct iovec first = first_of(pieces, count);
+    return read(file, first.iov_base, first.iov_len);
+}
+
+ssize_t writev(int file, const struct iovec *pieces, int count) {
+    struct iovec first = first_of(pieces, count);
+    return write(file, first.iov_base, first.iov_len);
 }
 
 ssize_t __write(int file, const void *buffer, size_t size) { return write(file, buffer, size); }

@@ -25,6 +25,26 @@ REFUSALS = {
 TELEGRAM_TEXT = re.compile(r"a[01][0-9a-f]{50}[048c]0\n|a[01][0-9a-f]{205}[048c]\n")
 MESSAGE_TEXT = re.compile(r"(?:03|88)(?:[0-9a-f]{2}){2,1022}\n")
 CANONICAL = json.JSONEncoder(separators=(",", ":"), sort_keys=True)
+# the kinds of answers: the first words of a record, of a report's line or of a refusal
+FAULTS = ("short", "spare", "length")
+TELEGRAM_KINDS = ("not hexadecimal", "wrong size", "pad bits set", *FAULTS, "no end", "version", "loop", "down-link")
+MESSAGE_KINDS = (*FAULTS, "message kind", "no authority", "no report")
+FORM_KINDS = ("not JSON", *(f"form {why}" for why in ("missing key", "unknown key", "kind", "range")), "too big")
+DOCUMENT_KINDS = ("not JSON", *(f"form {why}" for why in ("missing key", "unknown key", "kind")), r"group \d+: count",
+                  r"group \d+: aspects", *(rf"group \d+ balise \d: {why}" for why in TELEGRAM_KINDS),
+                  r"group \d+ aspect \d+ balise \d: ", *(rf"message \d+: {why}" for why in MESSAGE_KINDS),
+                  r"message \d+: not hexadecimal")
+KINDS = (
+    *((("decode",), kind) for kind in (r"\{", *(rf"refused: line \d+: {why}" for why in TELEGRAM_KINDS))),
+    *((words, kind) for words in (("encode",), ("encode", "--radio"))
+      for kind in ("[0-9a-f]{12}", *(rf"refused: line \d+: {why}" for why in FORM_KINDS))),
+    *((("decode", "--radio"), rf"refused: message \d+: {why}") for why in MESSAGE_KINDS),
+    *((("decode", "--radio"), rf"refused: message \d+: {why}") for why in ("length below 3", "cut off")),
+    *((("decode", "--radio"), kind) for kind in (r"\{", r"refused: line \d+: not hexadecimal")),
+    *((("check",), kind) for kind in ("yes: ", *(rf"F{number} " for number in range(1, len(NAMES) + 1)))),
+    *((("check",), f"refused: {why}") for why in DOCUMENT_KINDS),
+    ((), USAGE),
+)
 
 
 def is_report(stdout, status):
@@ -50,6 +70,11 @@ def is_line(words, line):
     if words[0] == "decode":
         return is_record(line)
     return bool((MESSAGE_TEXT if "--radio" in words else TELEGRAM_TEXT).fullmatch(line))
+
+
+def is_of_kind(words, answer, wanted, kind):
+    """Whether this is an answer to these words, a line of which is of this kind."""
+    return words == wanted and any(re.match(kind, line) for line in answer.stdout.splitlines(keepends=True))
 
 
 def is_documented(words, answer):
