@@ -3,12 +3,12 @@
 //!
 //! [`Bits`] is a list of bits. [`Cursor`] is a place in such a list. [`Layout`] is a record of
 //! variables, such as [`Version`] or [`Identity`]. Pairs, options, [`Items`] and [`Body`] make
-//! records of others (`specs/Combined.antt`). Layers above rely on the contract of
+//! records of others (`specs/layout/Combined.antt`). Layers above rely on the contract of
 //! [`Layout::scan`]: it reads the record at the cursor, or reports the first [`Fault`] if no record
-//! stands there. [`Same`] compares two values. Read `layout.rt` first, with `specs/Rows.antt`,
-//! `Fields.antt` and `Fault.antt`. The laws of every record and variable are in [`laws`]. This
-//! crate leaves out packets, whole telegrams and their text, and the channel coding of the user
-//! bits (SUBSET-036, 4.3).
+//! stands there. [`Same`] compares two values. Read `layout.rt` first, with `Rows.antt`,
+//! `Fields.antt` and `Fault.antt` of `specs/layout/`. The laws of every record and variable are in
+//! [`laws`]. This crate leaves out packets, whole telegrams and their text, and the channel coding
+//! of the user bits (SUBSET-036, 4.3).
 #![tactic(auto)]
 
 mod bits;

@@ -93,11 +93,19 @@ fn note_messages(found: &mut Vec<Finding>, messages: &[Message]) -> Result<(), M
 
 /// All facts against a line: by group, then by message; within each by rule, then by aspect (those about
 /// the whole group first), by running direction, nominal first, then by balise and packet. No finding
-/// hides another. An empty list says that the line is sound: over each aspect of every group, running
-/// direction and set of missed balises whose duplicates are read, a train makes the same message, in
-/// which every movement authority has gradient and speed profiles up to its supervised location; and
-/// where a group is switched while a train passes, the train refuses what it reads unless one aspect has
-/// all of it (this project's rules, after SUBSET-026, 3.16.2).
+/// hides another.
+///
+/// An empty list says exactly that the line is sound (this project's rules, after SUBSET-026, 3.16.2):
+///
+/// - Each aspect of a group is well formed: the positions, totals, versions, identities, link flags and
+///   marks of its balises fit together. No two groups have one identity. No group and no message 3 has
+///   a packet 0, 136 or 254.
+/// - For each aspect of every group, running direction and set of missed balises whose duplicates are
+///   read, a train makes the same message.
+/// - In that message, and in each message 3 for either direction, every movement authority has a gradient
+///   and a speed profile, and all such profiles reach its supervised location.
+/// - The aspects of a group are contents of one group, and their counters tell them apart. So a train
+///   that passes while the group is switched refuses what it reads, unless one aspect has all of it.
 ///
 /// Memory is asked for only if there is a finding. The only error is that it runs out; then no finding is
 /// returned.

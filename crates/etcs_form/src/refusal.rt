@@ -14,13 +14,13 @@ use std::alloc::{AllocError, Global};
 /// Why a line of the input is refused.
 #[derive(Debug, Drop)]
 pub enum LineFault {
-    /// The line is no telegram's text.
+    /// The line is no telegram's text. Of a line of radio data, only that it is not hexadecimal.
     Text(TextError),
     /// The line is no JSON value.
     Json,
-    /// The JSON value is no telegram's form.
+    /// The JSON value is not the form of what was to be encoded, a telegram or a radio message.
     Form(FormError),
-    /// The telegram has more bits than its size.
+    /// The telegram has more bits than its size, or the radio message more bytes than L_MESSAGE can count.
     TooBig,
 }
 

@@ -13,7 +13,7 @@ use std::alloc::Global;
 use std::marker::Model;
 
 /// The place where a reader stands: borrowed bits, and the place of the next bit. Contracts see it
-/// as such a place. None of its calls takes memory.
+/// as such a place. Of its calls, [`Cursor::take_bits`] alone takes memory.
 #[derive(Drop)]
 pub struct Cursor<'a> {
     bits: BitSlice<'a>,
