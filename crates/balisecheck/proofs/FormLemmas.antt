@@ -1,11 +1,12 @@
 -- How the words of a refusal are those of what was read.
-use Rattle.std.proofs.Common.{◌≡◌, ◌≢◌, ◌++◌, ◌∙◌, ◌<◌, ◌≤◌, ℕ, Bool, true, false, List, codes, Option, Some, None, Result, Ok, Err, refl, sym, ap, if◌then◌else◌, nat_lt}
-use Rattle.std.specs.Prelude.{IfSome, IsUtf8}
+use Rattle.std.proofs.Common.{◌≡◌, ◌≢◌, ◌↔◌, ◌++◌, ◌∙◌, ◌<◌, ◌≤◌, ℕ, Bool, true, false, List, codes, Option, Some, None, Result, Ok, Err, refl, sym, ap, if◌then◌else◌, nat_lt}
+use Rattle.std.specs.Prelude.{IfSome, IsErrOf, IsUtf8}
 use Rattle.std.specs.Str.{is_utf8}
 use Rattle.std.proofs.lemmas.Bool.{le-ltb, lt-ltb, ltb-false, ltb-true}
 use Rattle.std.proofs.lemmas.Str.{IsUtf8-from_is_utf8, is_utf8-from_IsUtf8}
 use Rattle.serde_json.specs.Data.{Data}
 use Rattle.serde_json.specs.Read.{read}
+use Rattle.etcs_bits.specs.declared.layout.fault.Fault.{Fault as BitFault}
 use Rattle.etcs_radio.specs.declared.message.Message.{Message}
 use Rattle.etcs_radio.specs.Message.{IsTooBig as IsMessageTooBig, used_bits as message_bits}
 use Rattle.etcs_radio.specs.Text.{IsCanonicalText as IsMessageText}
@@ -19,12 +20,12 @@ use Rattle.etcs_form.specs.declared.refusal.LineFault.TheVariants.{Form, Json, T
 use Rattle.etcs_telegram.specs.Record.{Telegram}
 use Rattle.etcs_telegram.specs.Sizes.{user_bits}
 use Rattle.etcs_telegram.specs.Telegram.{IsTooBig, used_bits}
-use Rattle.etcs_telegram.specs.Text.{IsCanonicalText, TextFails}
+use Rattle.etcs_telegram.specs.Text.{HasHeaderFault, IsCanonicalText, IsHexadecimal, IsReasonDecoded, TextFails}
 use Rattle.etcs_telegram.specs.declared.error.TextError.{TextError}
 use Rattle.etcs_telegram.specs.declared.error.TextError.TheVariants as texts
 use Rattle.balisecheck.specs.FormLines.{◌then◌, message_line, or_fault, or_no_json, record_in, telegram_line, text_unless, value_in}
 use Rattle.balisecheck.specs.HexText.{message_text, telegram_text}
-use Rattle.balisecheck.specs.TelegramLines.{line_for}
+use Rattle.balisecheck.specs.TelegramLines.{IsEarly, line_for}
 use Rattle.balisecheck.proofs.HexTextLemmas.{canonical_message, canonical_telegram}
 
 -- a text that is refused, unless memory ran out, has this reason
@@ -35,6 +36,18 @@ text_refused texts.NotHex meaning other fails = (tt, ap line_for fails)
 text_refused texts.WrongSize meaning other fails = (tt, ap line_for fails)
 text_refused texts.PadBits meaning other fails = (tt, ap line_for fails)
 text_refused (texts.Fault f) meaning other fails = (tt, ap line_for fails)
+
+-- a reason that is found before any packet is read is the one that is answered
+pub refused_early : (result : Result Telegram TextError) (text : List ℕ) (why : TextError) → IsEarly why text
+    → (IsErrOf result texts.NotHex ↔ (IsHexadecimal text → ⊥))
+    → (IsErrOf result texts.WrongSize ↔ IsReasonDecoded texts.WrongSize text)
+    → (IsErrOf result texts.PadBits ↔ IsReasonDecoded texts.PadBits text)
+    → ((f : BitFault) → HasHeaderFault text f → result ≡ Err (texts.Fault f)) → result ≡ Err why
+refused_early result text texts.Memory early not_hex wrong_size pad_bits header = absurd early
+refused_early result text texts.NotHex early not_hex wrong_size pad_bits header = not_hex.1 early
+refused_early result text texts.WrongSize early not_hex wrong_size pad_bits header = wrong_size.1 early
+refused_early result text texts.PadBits early not_hex wrong_size pad_bits header = pad_bits.1 early
+refused_early result text (texts.Fault f) early not_hex wrong_size pad_bits header = header f early
 
 -- a form that is refused, unless memory ran out, has this fault, in the same words
 pub form_refused : {X : Type 0} (why : FormError) (read : Result X Fault) → why ≢ forms.Memory → Fails why read

@@ -15,7 +15,7 @@ use Rattle.etcs_radio.specs.Splitter.{IsTaken, state_of}
 use Rattle.etcs_radio.specs.declared.splitter.State.TheVariants.{Failed, More, Ready}
 use Rattle.etcs_radio.proofs.CuttingLemmas.{call-others, call-ready}
 use Rattle.etcs_radio.proofs.StateLemmas.{ready-whole, ready_is_not_more}
-use Rattle.etcs_form.specs.Refusal.{line_words}
+use Rattle.etcs_form.specs.Refusal.{line_words, refusal_words}
 use Rattle.etcs_form.specs.declared.refusal.LineFault.TheVariants.{Text}
 use Rattle.etcs_form.specs.declared.refusal.StreamFault.TheVariants.{BelowThree, CutOff}
 use Rattle.etcs_telegram.specs.declared.error.TextError.TheVariants.{NotHex}
@@ -288,6 +288,19 @@ pub ends_cut_off : {c c1 : Option (List ℕ)} (n : ℕ) (held : List ℕ) (numbe
 unfolding stream_answers
 ends_cut_off n [] number some writes = absurd (some refl)
 ends_cut_off n (byte ∷ held) number some writes = writes
+
+-- nothing is held, so nothing is refused
+pub ends_silent : (n : ℕ) (held : List ℕ) (number : ℕ) → held ≡ []
+    → (stream_answers n held number []).1 ≡ Done
+unfolding stream_answers
+ends_silent n held number none = rw none refl
+
+-- the refusal of a message that has begun is a text
+pub ends_told : (n : ℕ) (held : List ℕ) (number : ℕ) → held ≢ []
+    → (stream_answers n held number []).0 ≡ [] → ⊥
+unfolding stream_answers refusal_words
+ends_told n [] number some none = some refl
+ends_told n (byte ∷ held) number some none = cc none
 
 -- the line of a message is a beginning of the answer to the message
 pub begins_told : (n : ℕ) {meaning : Result (List ℕ) Fault} {line : List ℕ} → meaning ≡ Ok line

@@ -1,6 +1,6 @@
 //! `LineCommand`: what a command does with an input, line by line.
 
-ghost use Rattle.std.specs.Prelude.{ℕ, ◌+◌, ◌<◌, ◌≤◌, ◌^◌, List, [], length, OnOk};
+ghost use Rattle.std.specs.Prelude.{◌≡◌, ℕ, ◌+◌, ◌<◌, ◌≤◌, ◌^◌, List, [], length, OnOk};
 ghost use Rattle.balisecheck.specs.Counted.{CanCount, inner_of};
 ghost use Rattle.balisecheck.specs.LineReading.{CountsDevice};
 ghost use Rattle.balisecheck.specs.Output.{Output};
@@ -41,13 +41,19 @@ pub trait LineCommand: Drop {
         ensures pays { OnOk result (counted self.new ≤ counted self.old + length line.now) }
         ensures counts { CountsDevice result writer.old writer.new };
 
-    /// Writes the answer to the end of the input.
+    /// Writes the answer to the end of the input. An answer without a text leaves the writer as it was,
+    /// and never fails.
     ///
     /// `Memory`: a request for memory was refused. `Device`: a write failed, and the writer's count of
-    /// failures has risen by 1. In both cases what was written is a beginning of the answer.
+    /// failures has risen by 1. In both cases what was written is a beginning of the answer. With or
+    /// without an error, it need not be flushed.
     fn end<W: Write>(&mut self, alloc: Global, writer: &mut Counted<W>) -> Result<Status, RunError>
         requires { CanCount writer.old }
         ensures writes { (number : ℕ) → Writes (W.contents (inner_of writer.old))
             (W.contents (inner_of writer.new)) (answers self.old number []) result }
-        ensures counts { CountsDevice result writer.old writer.new };
+        ensures counts { CountsDevice result writer.old writer.new }
+
+        // An answer without a text asks for nothing.
+        ensures silent { (number : ℕ) → (answers self.old number []).0 ≡ []
+            → (result ≡ Ok (answers self.old number []).1) × (writer.new ≡ writer.old) };
 }

@@ -3,7 +3,11 @@ use Rattle.balisecheck.specs.Output.{answers}
 use Rattle.balisecheck.proofs.StreamLemmas.{Appends-none}
 use Rattle.balisecheck.proofs.each_line.EachLineLineCommand.end.Goals as goal
 
--- nothing is written at the end
+-- nothing is written at the end, and nothing fails
 pub returns-clause-writes : goal.returns-clause-writes
 unfolding answers
 returns-clause-writes g c number = record { text = []; appended = Appends-none _; says = refl }
+
+pub returns-clause-silent : goal.returns-clause-silent
+unfolding answers
+returns-clause-silent g c number none = (refl, refl)

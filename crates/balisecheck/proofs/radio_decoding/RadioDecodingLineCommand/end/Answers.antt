@@ -1,7 +1,7 @@
-use Rattle.std.proofs.Common.{◌≢◌, ◌∙◌, [], ap, length, sym}
+use Rattle.std.proofs.Common.{◌≢◌, ◌∙◌, [], Ok, ap, length, refl, sym}
 use Rattle.std.proofs.lemmas.List.{nil_from_length}
 use Rattle.balisecheck.specs.RadioHeld.{kept_by, number_of}
-use Rattle.balisecheck.proofs.RadioLemmas.{ends_cut_off, ends_done}
+use Rattle.balisecheck.proofs.RadioLemmas.{ends_cut_off, ends_done, ends_silent, ends_told}
 use Rattle.balisecheck.proofs.radio_decoding.RadioDecodingLineCommand.end.Goals as goal
 
 -- nothing is held
@@ -16,3 +16,16 @@ returns-else-held-eq0-clause-writes g c number =
     let some : kept_by c.args.self.now ≢ [] =
     λ none. c.if-held-eq0.false (c.held.ensures.value ∙ ap length none) in
     ends_cut_off (number_of c.args.self.now) (kept_by c.args.self.now) number some c.refuse.ensures.writes
+
+-- nothing is written if nothing is held, and nothing fails
+pub returns-then-held-eq0-clause-silent : goal.returns-then-held-eq0-clause-silent
+returns-then-held-eq0-clause-silent g c number silent =
+    let none = nil_from_length (kept_by c.args.self.now) (sym c.held.ensures.value ∙ c.if-held-eq0.true) in
+    (ap Ok (sym (ends_silent (number_of c.args.self.now) (kept_by c.args.self.now) number none)), refl)
+
+-- a message that has begun is never passed over in silence
+pub returns-else-held-eq0-clause-silent : goal.returns-else-held-eq0-clause-silent
+returns-else-held-eq0-clause-silent g c number silent =
+    let some : kept_by c.args.self.now ≢ [] =
+    λ none. c.if-held-eq0.false (c.held.ensures.value ∙ ap length none) in
+    absurd (ends_told (number_of c.args.self.now) (kept_by c.args.self.now) number some silent)
