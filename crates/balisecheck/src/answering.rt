@@ -1,7 +1,7 @@
 //! How a command answers a whole input.
 
 ghost use Rattle.std.specs.Prelude.{◌≡◌, [], false};
-ghost use Rattle.balisecheck.specs.Counted.{CanCount, inner_of};
+ghost use Rattle.balisecheck.specs.Counted.{CanCount};
 ghost use Rattle.balisecheck.specs.LineReading.{has_ended, held_of};
 ghost use Rattle.balisecheck.specs.Output.{line_by_line};
 ghost use Rattle.balisecheck.specs.Ran.{CountsOneDevice, EndsFlushed, Runs};

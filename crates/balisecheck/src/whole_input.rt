@@ -1,6 +1,6 @@
 //! `read_whole`: an input, read to its end.
 
-ghost use Rattle.std.specs.Prelude.{◌≡◌, ◌<◌, ◌≤◌, ◌+◌, true, false, length, vec_items, IfOk, IfErr};
+ghost use Rattle.std.specs.Prelude.{◌≡◌, ◌<◌, true, length, vec_items, IfOk, IfErr};
 ghost use Rattle.balisecheck.specs.Counted.{CanCount, budget_of, inner_of};
 ghost use Rattle.balisecheck.specs.LineReading.{CountsDevice};
 ghost use Rattle.balisecheck.specs.WholeInput.{ReadsMore, ReadsWhole};

@@ -9,7 +9,7 @@ use Rattle.etcs_form.proofs.DocumentLemmas.{is_no_json}
 use Rattle.etcs_form.proofs.ResultLemmas.{not_ok}
 use Rattle.etcs_form.specs.Document.{◌then◌, line_of, line_of_text}
 use Rattle.etcs_form.specs.DocumentFault.{no_json}
-use Rattle.etcs_form.specs.Verdict.{Counted, counted, counted_of_text, judged}
+use Rattle.etcs_form.specs.Verdict.{Counted, counted_of_text}
 
 read_none : read_text [] ≡ None
 unfolding lex punctuate value

@@ -1,6 +1,6 @@
 //! The forms of movement authorities, packets 12 and 15.
 
-ghost use Rattle.std.specs.Prelude.{◌≡◌, IfOk, OnOk};
+ghost use Rattle.std.specs.Prelude.{◌≡◌, OnOk};
 ghost use Rattle.serde_json.specs.View.{members_view, view};
 ghost use Rattle.etcs_profile.specs.Authority.{authority_number, numbered_of};
 ghost use Rattle.etcs_form.specs.Authority.{authority_members, with_main, with_main_of, without_main, without_main_of};

@@ -1,7 +1,5 @@
 //! The forms of the parts of movement authorities: sections and timers, danger point and overlap.
 
-ghost use Rattle.std.specs.Prelude.{◌≡◌, IfOk, OnOk};
-
 use crate::building::{put_key, put_key_if};
 use crate::error::FormError;
 use crate::reading::{read_key, read_key_if};

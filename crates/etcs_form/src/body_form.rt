@@ -1,7 +1,7 @@
 //! L_PACKET and the body that it counts, in the forms of packets whose layout is not known.
 
 ghost use Rattle.std.specs.Prelude.{◌≡◌, ◌+◌, ◌∷◌, ◌≤◌, ◌<◌, [], codes, length, Some, IfOk, OnOk};
-ghost use Rattle.serde_json.specs.Data.{put as with_member, string};
+ghost use Rattle.serde_json.specs.Data.{string};
 ghost use Rattle.serde_json.specs.View.{members_view, view};
 ghost use Rattle.etcs_form.specs.BodyText.{body_of, body_text};
 ghost use Rattle.etcs_form.specs.Entries.{members_onto};

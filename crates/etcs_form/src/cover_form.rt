@@ -1,7 +1,5 @@
 //! The form of virtual balise cover markers, packet 0.
 
-ghost use Rattle.std.specs.Prelude.{◌≡◌, IfOk, OnOk};
-
 use crate::building::{put_key, put_number};
 use crate::error::FormError;
 use crate::reading::{read_fixed, read_key};

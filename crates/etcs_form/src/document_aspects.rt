@@ -1,8 +1,8 @@
 //! The aspects of a group, each with its balises.
 
-ghost use Rattle.std.specs.Prelude.{◌≡◌, ◌∷◌, [], ◌<◌, ◌≤◌, codes, length, map, IfOk};
+ghost use Rattle.std.specs.Prelude.{◌≡◌, ◌<◌, map};
 ghost use Rattle.serde_json.specs.View.{view};
-ghost use Rattle.etcs_form.specs.Document.{aspect_at, bad_balise, balise_path, balises_of, each_from, has_count, telegram_at, telegrams_of};
+ghost use Rattle.etcs_form.specs.Document.{aspect_at, balise_path, balises_of, each_from, has_count, telegram_at, telegrams_of};
 ghost use Rattle.etcs_form.specs.DocumentFault.{Gives, IsFault, bad_form};
 ghost use Rattle.etcs_form.specs.Fault.{Gives as GivesForm, Kind, fault};
 

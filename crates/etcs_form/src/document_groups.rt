@@ -1,6 +1,6 @@
 //! The groups of a document.
 
-ghost use Rattle.std.specs.Prelude.{◌≡◌, ◌∷◌, [], ◌<◌, ◌≤◌, codes, length, map, IfOk};
+ghost use Rattle.std.specs.Prelude.{◌∷◌, [], ◌<◌, map};
 ghost use Rattle.serde_json.specs.View.{view};
 ghost use Rattle.etcs_form.specs.Document.{aspects_of, controlled_at, each_from, group_at, groups_of, list_of_aspects, only_aspect, others_of, with_first};
 ghost use Rattle.etcs_form.specs.DocumentFault.{Gives};

@@ -1,6 +1,6 @@
 //! The radio messages of a document.
 
-ghost use Rattle.std.specs.Prelude.{◌≡◌, ◌∷◌, [], codes, map};
+ghost use Rattle.std.specs.Prelude.{map};
 ghost use Rattle.serde_json.specs.View.{view};
 ghost use Rattle.etcs_form.specs.Document.{each_from, message_at, messages_of};
 ghost use Rattle.etcs_form.specs.DocumentFault.{Gives};

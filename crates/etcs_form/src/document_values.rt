@@ -1,6 +1,6 @@
 //! The lists of a document, before their values are looked at.
 
-ghost use Rattle.std.specs.Prelude.{◌≡◌, map};
+ghost use Rattle.std.specs.Prelude.{map};
 ghost use Rattle.serde_json.specs.View.{view};
 ghost use Rattle.etcs_form.specs.Document.{values_of};
 ghost use Rattle.etcs_form.specs.Fault.{Gives};

@@ -1,7 +1,5 @@
 //! The form of gradient profiles, packet 21.
 
-ghost use Rattle.std.specs.Prelude.{◌≡◌, IfOk, OnOk};
-
 use crate::building::put_key;
 use crate::error::FormError;
 use crate::profile_form::{put_profile, read_profile, send_profile};

@@ -1,11 +1,11 @@
 //! The document of a railway line, checked group by group as it is read.
 
-ghost use Rattle.std.specs.Prelude.{◌≡◌, ◌+◌, ◌++◌, ◌∷◌, ℕ, [], List, Ok, Some, length, IfSome, IsTrue, OnOk};
+ghost use Rattle.std.specs.Prelude.{◌≡◌, ◌+◌, ◌++◌, [], List, Ok, Some, length, IfSome, IsTrue};
 ghost use Rattle.json.specs.Json.{after_end_array};
 ghost use Rattle.json.specs.Token.{Token as JsonToken};
 ghost use Rattle.etcs_check.specs.Line.{message_at};
 ghost use Rattle.etcs_form.specs.DocumentFault.{Gives};
-ghost use Rattle.etcs_form.specs.DocumentTokens.{AreGroups, AreMessages, HasLine, IsChecked, IsFirst, IsGroup, IsGroupList, IsMessage, IsMessageList, IsNextGroup};
+ghost use Rattle.etcs_form.specs.DocumentTokens.{AreGroups, AreMessages, HasLine, IsChecked, IsFirst, IsGroupList, IsMessage, IsMessageList, IsNextGroup};
 ghost use Rattle.etcs_form.specs.Verdict.{counted_of_text};
 
 use crate::identities::{identity_number, mark};

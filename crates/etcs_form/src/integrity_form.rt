@@ -1,9 +1,8 @@
 //! The form of a train's integrity, with the length that is confirmed.
 
-ghost use Rattle.std.specs.Prelude.{◌≡◌, IfOk, OnOk};
+ghost use Rattle.std.specs.Prelude.{◌≡◌};
 ghost use Rattle.serde_json.specs.View.{view};
 ghost use Rattle.etcs_form.specs.Fault.{Gives};
-ghost use Rattle.etcs_form.specs.Reading.{no_key};
 ghost use Rattle.etcs_form.specs.Report.{confirmed, integrity, length_number as number_of_length};
 
 use crate::error::FormError;

@@ -3,8 +3,7 @@
 ghost use Rattle.std.specs.Prelude.{◌≡◌};
 ghost use Rattle.serde_json.specs.View.{view};
 ghost use Rattle.etcs_form.specs.Fault.{Gives};
-ghost use Rattle.etcs_form.specs.Reading.{no_key};
-ghost use Rattle.etcs_form.specs.Transition.{level, level_with, national_system};
+ghost use Rattle.etcs_form.specs.Transition.{level, national_system};
 
 use crate::error::FormError;
 use crate::reading::{check_absent, read_key};

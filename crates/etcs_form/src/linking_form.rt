@@ -1,7 +1,5 @@
 //! The form of linking, packet 5.
 
-ghost use Rattle.std.specs.Prelude.{◌≡◌, IfOk, OnOk};
-
 use crate::building::{put_key, put_key_if};
 use crate::error::FormError;
 use crate::profile_form::{put_profile, read_profile, send_profile};

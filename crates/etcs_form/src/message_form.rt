@@ -1,6 +1,6 @@
 //! The form of a radio message, whose number decides it.
 
-ghost use Rattle.std.specs.Prelude.{◌≡◌, codes, IfOk, OnOk};
+ghost use Rattle.std.specs.Prelude.{codes};
 ghost use Rattle.serde_json.specs.View.{view};
 ghost use Rattle.etcs_form.specs.AnyMessage.{is_message};
 ghost use Rattle.etcs_form.specs.Chosen.{first_at};

@@ -1,7 +1,5 @@
 //! The form of message 3, the movement authority.
 
-ghost use Rattle.std.specs.Prelude.{◌≡◌, IfOk, OnOk};
-
 use crate::building::{put_key, put_list_at, put_number};
 use crate::error::FormError;
 use crate::packets_form::read_all_at;

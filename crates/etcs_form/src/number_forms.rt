@@ -1,7 +1,5 @@
 //! Variables as whole numbers.
 
-ghost use Rattle.std.specs.Prelude.{◌≡◌, OnOk, IfOk};
-
 use crate::error::FormError;
 use crate::form::{Form, InPieces};
 use etcs_bits::{Dir, Dup, Memory, Plain, Ranged, Scale, Version};

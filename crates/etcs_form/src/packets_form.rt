@@ -1,6 +1,5 @@
 //! The list of a message's packets.
 
-ghost use Rattle.std.specs.Prelude.{◌≡◌};
 ghost use Rattle.serde_json.specs.View.{view};
 ghost use Rattle.etcs_form.specs.Fault.{Gives};
 ghost use Rattle.etcs_form.specs.Listed.{all_of};

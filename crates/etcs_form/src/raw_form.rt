@@ -1,6 +1,6 @@
 //! The form of track packets whose layout is not known. Their bodies are kept as bits.
 
-ghost use Rattle.std.specs.Prelude.{◌≡◌, codes, true, IfOk, OnOk};
+ghost use Rattle.std.specs.Prelude.{◌≡◌, codes, true, IfOk};
 ghost use Rattle.serde_json.specs.View.{view};
 ghost use Rattle.etcs_packet.specs.PacketNumbers.{is_other, nid_raw};
 ghost use Rattle.etcs_form.specs.Fault.{Gives};

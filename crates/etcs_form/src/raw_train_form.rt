@@ -1,6 +1,6 @@
 //! The form of packets from train to track whose layout is not known. Their bodies are kept as bits.
 
-ghost use Rattle.std.specs.Prelude.{◌≡◌, codes, true, IfOk, OnOk};
+ghost use Rattle.std.specs.Prelude.{◌≡◌, codes, true, IfOk};
 ghost use Rattle.serde_json.specs.View.{view};
 ghost use Rattle.etcs_radio.specs.TrainNumbers.{is_other, nid_raw};
 ghost use Rattle.etcs_form.specs.Fault.{Gives};

@@ -1,6 +1,6 @@
 //! How the parts of a form are read.
 
-ghost use Rattle.std.specs.Prelude.{◌≡◌, ◌==◌, map};
+ghost use Rattle.std.specs.Prelude.{◌==◌, map};
 ghost use Rattle.serde_json.specs.View.{view};
 ghost use Rattle.etcs_form.specs.Chosen.{any_object, first_at};
 ghost use Rattle.etcs_form.specs.Fault.{Gives};

@@ -1,6 +1,6 @@
 //! The forms of position reports, train packets 0 and 1.
 
-ghost use Rattle.std.specs.Prelude.{◌≡◌, IfOk, OnOk};
+ghost use Rattle.std.specs.Prelude.{◌≡◌, OnOk};
 ghost use Rattle.serde_json.specs.View.{members_view, view};
 ghost use Rattle.etcs_form.specs.Entries.{members_onto};
 ghost use Rattle.etcs_form.specs.Fault.{Gives};

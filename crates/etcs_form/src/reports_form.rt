@@ -1,6 +1,6 @@
 //! The form of a position report, whose number tells whether it has the group before.
 
-ghost use Rattle.std.specs.Prelude.{◌≡◌, IfOk, OnOk};
+ghost use Rattle.std.specs.Prelude.{◌≡◌};
 ghost use Rattle.serde_json.specs.View.{view};
 ghost use Rattle.etcs_form.specs.Fault.{Gives};
 ghost use Rattle.etcs_form.specs.Reports.{one_of, place_of, read_one as what_is_one, read_two as what_is_two, report_of, state_of, two_of};

@@ -1,6 +1,6 @@
 //! How the parts of a form are sent.
 
-ghost use Rattle.std.specs.Prelude.{◌≡◌, ◌∷◌, [], Some, OnOk};
+ghost use Rattle.std.specs.Prelude.{◌∷◌, [], Some, OnOk};
 ghost use Rattle.serde_json.specs.Data.{array};
 ghost use Rattle.etcs_form.specs.Sending.{Adds, SendsMembers, each_tokens};
 ghost use Rattle.etcs_form.specs.Shape.{items_of, optional, whole};

@@ -1,7 +1,5 @@
 //! The form of static speed profiles, packet 27.
 
-ghost use Rattle.std.specs.Prelude.{◌≡◌, IfOk, OnOk};
-
 use crate::building::{put_key, put_list_at};
 use crate::error::FormError;
 use crate::profile_form::{put_profile, read_profile, send_profile};

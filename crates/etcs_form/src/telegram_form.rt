@@ -1,6 +1,6 @@
 //! The form of a telegram.
 
-ghost use Rattle.std.specs.Prelude.{◌≡◌, IfOk, OnOk};
+ghost use Rattle.std.specs.Prelude.{◌≡◌, OnOk};
 ghost use Rattle.serde_json.specs.View.{members_view, view};
 ghost use Rattle.etcs_telegram.specs.Sizes.{user_bits};
 ghost use Rattle.etcs_form.specs.Entries.{members_onto};

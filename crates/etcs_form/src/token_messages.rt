@@ -1,8 +1,8 @@
 //! Radio messages, 3 and 136, read from tokens. Their first key tells which one it is.
 
-ghost use Rattle.std.specs.Prelude.{◌≡◌, ◌∷◌, codes, Some, IfSome, IsTrue};
+ghost use Rattle.std.specs.Prelude.{codes, Some, IfSome};
 ghost use Rattle.etcs_form.specs.AnyMessage.{message};
-ghost use Rattle.etcs_form.specs.Tokens.{HasObject, first_record};
+ghost use Rattle.etcs_form.specs.Tokens.{HasObject};
 
 use crate::token_form::TokenForm;
 use crate::token_members::{TokenMembers, pass_begin, pass_end};

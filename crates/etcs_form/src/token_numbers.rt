@@ -1,6 +1,6 @@
 //! Variables read from tokens.
 
-ghost use Rattle.std.specs.Prelude.{◌≡◌, Some, IfSome};
+ghost use Rattle.std.specs.Prelude.{Some};
 
 use crate::token_form::TokenForm;
 use crate::token_reading::number;

@@ -1,6 +1,6 @@
 //! The parts of movement authorities, read from tokens.
 
-ghost use Rattle.std.specs.Prelude.{◌≡◌, ◌∷◌, codes, IfSome, IsTrue};
+ghost use Rattle.std.specs.Prelude.{codes};
 
 use crate::token_form::TokenForm;
 use crate::token_members::{TokenMembers, pass_begin};

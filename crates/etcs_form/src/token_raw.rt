@@ -1,6 +1,6 @@
 //! Track packets whose layout is not known, read from tokens.
 
-ghost use Rattle.std.specs.Prelude.{◌≡◌, ◌∷◌, ◌≤◌, ◌<◌, codes, Ok, IfSome, IsTrue};
+ghost use Rattle.std.specs.Prelude.{◌≡◌, ◌≤◌, ◌<◌, codes, Ok, IfSome};
 ghost use Rattle.hex.specs.Hex.{decode_of};
 ghost use Rattle.etcs_packet.specs.PacketNumbers.{is_other, nid_raw};
 ghost use Rattle.etcs_form.specs.BodyText.{decoded_or};

@@ -1,6 +1,6 @@
 //! Train packets whose layout is not known, read from tokens.
 
-ghost use Rattle.std.specs.Prelude.{◌≡◌, ◌∷◌, ◌≤◌, ◌<◌, codes, IfSome, IsTrue};
+ghost use Rattle.std.specs.Prelude.{◌≡◌, ◌<◌, codes, IfSome};
 ghost use Rattle.etcs_radio.specs.TrainNumbers.{is_other, nid_raw};
 ghost use Rattle.etcs_form.specs.Reading.{number_of};
 ghost use Rattle.etcs_form.specs.Tokens.{HasKey};

@@ -2,9 +2,9 @@
 //! Packets 21 and 27 have the same first key: the first key of their first element tells them apart.
 //! Packets 12 and 15 are told apart by their number, which comes later.
 
-ghost use Rattle.std.specs.Prelude.{◌≡◌, ◌∷◌, codes, Some, IfSome};
+ghost use Rattle.std.specs.Prelude.{◌∷◌, codes, Some, IfSome};
 ghost use Rattle.json.specs.Token.{key as key_token};
-ghost use Rattle.etcs_form.specs.Tokens.{HasObject, first_record};
+ghost use Rattle.etcs_form.specs.Tokens.{HasObject};
 ghost use Rattle.etcs_form.specs.TrackPackets.{track_packet};
 
 use crate::token_authority::authority_after;

@@ -1,8 +1,8 @@
 //! The form of a packet from train to track, read from tokens. Its first key tells whether it is a
 //! position report.
 
-ghost use Rattle.std.specs.Prelude.{◌≡◌, ◌∷◌, codes, Some, IfSome};
-ghost use Rattle.etcs_form.specs.Tokens.{HasObject, first_record};
+ghost use Rattle.std.specs.Prelude.{Some, IfSome};
+ghost use Rattle.etcs_form.specs.Tokens.{HasObject};
 ghost use Rattle.etcs_form.specs.TrainPackets.{train_packet};
 
 use crate::token_form::TokenForm;

@@ -1,6 +1,6 @@
 //! Level transition orders, packet 41, read from tokens.
 
-ghost use Rattle.std.specs.Prelude.{◌≡◌, ◌≢◌, ◌∷◌, None, codes, IfSome, IsTrue};
+ghost use Rattle.std.specs.Prelude.{◌≡◌, None, codes};
 ghost use Rattle.etcs_form.specs.Transition.{level_with};
 
 use crate::token_form::TokenForm;

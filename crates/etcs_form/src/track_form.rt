@@ -1,7 +1,5 @@
 //! The form of a packet from track to train, whose number decides it.
 
-ghost use Rattle.std.specs.Prelude.{◌≡◌, OnOk, IfOk};
-
 use crate::authority_form::{read_with_main, read_without_main};
 use crate::error::FormError;
 use crate::form::{Form, InPieces};

@@ -1,7 +1,5 @@
 //! The form of a packet from train to track, whose number decides it.
 
-ghost use Rattle.std.specs.Prelude.{◌≡◌, IfOk, OnOk};
-
 use crate::error::FormError;
 use crate::form::{Form, InPieces};
 use crate::reading::read_first;

@@ -1,7 +1,5 @@
 //! The form of level transition orders, packet 41.
 
-ghost use Rattle.std.specs.Prelude.{◌≡◌, IfOk, OnOk};
-
 use crate::building::{put_first_and, put_key, put_key_if, put_number};
 use crate::error::FormError;
 use crate::level_form::{national_system_of, read_level};

@@ -1,8 +1,8 @@
 //! Documents of lines, and forms of records: they are answered as ever, or memory ran out.
 
 use super::{Answer, Halt, expect_answers, unless_cut};
+use crate::tests::JSON;
 use crate::tests::forms::MESSAGE_JSON;
-use crate::tests::{JSON, TELEGRAM};
 use etcs_form::{
     Form, InPieces, LineError, LineFault, Refusal, TokenForm, check_in_order, check_text,
     read_line, read_quickly, refusal_text, report,
