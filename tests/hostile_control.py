@@ -11,7 +11,7 @@ import sys
 
 from hostile_data import answers_to, come_back
 from hostile_failing import undisturbed
-from hostile_process import at_once, system_devices
+from hostile_process import at_once, going_reader, long_document, system_devices, test_stack
 from hostile_program import HERE, PROGRAM, alone
 from hostile_runs import (CHECK, DECODE, DECODE_RADIO, ENCODE, ENCODE_RADIO, FORM, LONG, MESSAGE, MESSAGE_FORM, SHORT,
                           TWO_ASPECTS)
@@ -28,6 +28,8 @@ program='{program}'
 {wrong}
 """
 EACH_THIRD, FIFTH = "$((count % 3)) = 1", "$count = 4"
+LITTLE_STACK, LITTLE_MEMORY = '"$(ulimit -s)" = 512', '"$(ulimit -v)" != unlimited'
+GOING_READER = '-n "$(grep -a "head -n 1" /proc/$PPID/cmdline)"'
 UNSEEN = """"$program" "$@" >"$0.out"; status=$?; cat "$0.out" 2>/dev/null; exit $status"""
 ALONE = """mkdir "$0.lock" 2>/dev/null || exec "$program" help
 "$program" "$@"; status=$?; sleep 0.05; rmdir "$0.lock"; exit $status"""
@@ -43,7 +45,12 @@ WRAPPERS = {
     "a hang": (FIFTH, "exec sleep 100"),
     "a full device unseen": ("1 = 1", UNSEEN),
     "the other one of two at once": ("1 = 1", ALONE),
+    "a signal with little stack": (LITTLE_STACK, "kill -SEGV $$"),
+    "no room for a long document": (LITTLE_MEMORY, 'echo "balisecheck: memory" >&2; exit 3'),
+    "a wait once the reader has gone": (GOING_READER, '"$program" "$@"; exec sleep 100'),
 }
+
+
 def few(program, tests):
     """A few tests of each kind that needs no shim."""
     for words, line in INPUTS:
@@ -54,6 +61,9 @@ def few(program, tests):
     known = [(run, alone(*run)) for run in runs]
     at_once(program, tests, known)
     system_devices(tests, known[:1])
+    test_stack(tests, known[:1])
+    long_document(tests, 500)
+    going_reader(tests)
 
 
 def reported(program, name, where, wrong):

@@ -53,12 +53,18 @@ def memory_limits(tests, known, step):
         test_limited(tests, words, size, wanted, limited("v", size, words, data))
 
 
-def long_document(tests):
+def long_document(tests, groups=LONG):
     """A long document is checked group by group, in an address space that has no room for a JSON value of it."""
-    command = [sys.executable, HERE.parent / "bench" / "documents.py", str(LONG)]
+    command = [sys.executable, HERE.parent / "bench" / "documents.py", str(groups)]
     document = subprocess.run(command, capture_output=True, check=True).stdout
     answer = limited("v", 4 * len(document) // 1024 + 10000, CHECK, document)
-    tests.equal("a long document in little memory", answer, Answer(0, f"yes: groups {LONG}, messages 0\n", ""))
+    tests.equal("a long document in little memory", answer, Answer(0, f"yes: groups {groups}, messages 0\n", ""))
+
+
+def test_stack(tests, known, size=STACK):
+    """Each run answers with so little stack."""
+    for run, wanted in known:
+        tests.equal(f"{run[0]} with {size} KiB of stack", limited("s", size, *run), wanted)
 
 
 def stack_limit(tests, known):
@@ -104,12 +110,10 @@ def system_devices(tests, known):
 
 
 def going_reader(tests):
-    """A reader of the pipe that goes away after the first line."""
+    """A reader of the pipe that goes away after the first line. The program ends too, and doesn't wait for another."""
     lines = (SHORT + "\n").encode() * 10000
-    with open(os.devnull, "wb") as nowhere:
-        ran = subprocess.run(["sh", "-c", '"$0" decode | head -n 1; exit 0', PROGRAM], input=lines, check=False,
-                             stdout=subprocess.PIPE, stderr=nowhere, timeout=60)
-    tests.equal("a reader that goes away", ran.stdout.count(b"\n"), 1)
+    ran = alone(["-c", '"$0" decode | head -n 1', PROGRAM], lines, program="sh")
+    tests.equal("a reader that goes away", (ran.status, ran.stdout), (0, FORM + "\n"))
 
 
 def said_by(run):
@@ -154,5 +158,4 @@ def process(program, tests, whole=True):
     if whole:
         stack_limit(tests, known)
     else:
-        for run, wanted in known:
-            tests.equal(f"{run[0]} with {STACK} KiB of stack", limited("s", STACK, *run), wanted)
+        test_stack(tests, known)
