@@ -1,24 +1,20 @@
 #!/usr/bin/env bash
-# Tests of the start script `balisecheck`: what it writes where, and when it builds.
+# Tests of the scripts that start, build and install the program, over a tiny tree with stand-ins for the program and
+# for the toolchain: which program answers, what is said where none does, and what is written where.
 #
-#     tests/start.sh            a stand-in for the toolchain's `rt` hands over a program that was built before
-#     tests/start.sh --build    the toolchain itself proves and builds, in a copy of the tree with what earlier
-#                               checks kept
-#
-# BALISECHECK names the program that was built before, else it is the one that `rt ci` has built. The last
-# line is 'N passed, M failed'. The exit status is 1 if a test failed.
+# START_FROM names the folder that has the scripts, else it is this checkout; tests/start-test puts wrong ones there.
+# The last line is 'the start script: N passed, M failed'. The exit status is 1 if a test failed.
 set -uo pipefail
 
-here=$(cd "$(dirname "${BASH_SOURCE[0]}")" && pwd)
+from=${START_FROM:-$(cd "$(dirname "${BASH_SOURCE[0]}")/.." && pwd)}
 room=$(mktemp -d)
-trap 'rm -rf "$room"' EXIT
+trap 'chmod -R u+w "$room" 2>/dev/null; rm -rf "$room"' EXIT
+tree=$room/tree
+stored=$tree/dist/x86_64-linux
+# The usual commands, and no toolchain.
+bare=$room/usual
 passed=0
 failed=0
-ones=ffffffffffffffffffffffffffffffffffffff
-telegram=a1007f802000ff${ones}c0
-json='{"m_dup":0,"m_mcount":255,"m_version":33,"n_pig":0,"n_total":0,"nid_bg":1,"nid_c":1,'
-json+='"packets":[],"q_link":1,"user_bits":210}'
-version=$(sed -n "s/^## \([0-9]\)/\1/p" "$here/../CHANGELOG.md" | head -n 1)
 
 # count NAME DIFFERENCE: an empty difference is a pass.
 count() {
@@ -30,121 +26,265 @@ count() {
     fi
 }
 
-# starts STATUS STDOUT: calls the start script with a telegram, and prints how its status and its standard
-# output differ.
-starts() {
-    local got
-    "$room/tree/balisecheck" decode <<<"$telegram" >"$room/stdout" 2>"$room/stderr"
+# ---- the tree, and stand-ins
+
+# usual_commands: a folder of links to the commands that the scripts use.
+usual_commands() {
+    local name
+    mkdir "$bare"
+    for name in sh dirname readlink find sort xargs sha256sum grep sed awk cat cp mv rm mkdir install sleep tail wc chmod kill; do
+        ln -s "$(command -v "$name")" "$bare/$name"
+    done
+}
+
+# program FILE WORDS: a program that writes the words before each line of its input.
+program() {
+    mkdir -p "${1%/*}"
+    printf '#!/bin/sh\nwhile read -r line; do echo "%s $line"; done\n' "$2" >"$1"
+    chmod 755 "$1"
+}
+
+# papers FOLDER: writes the papers of the program there, as of the sources that stand here.
+papers() {
+    local sum
+    sum=$(sha256sum <"$1/balisecheck")
+    printf '%s\n' 'version 1.0' "sources $("$tree/dist/sources")" "program ${sum%% *}" >"$1/ABOUT"
+}
+
+# begin: a tree with a stored program of its sources, and none that was built.
+begin() {
+    local crate
+    chmod -R u+w "$tree" 2>/dev/null
+    rm -rf "$tree"
+    mkdir -p "$tree/dist" "$room/elsewhere"
+    cp "$from/balisecheck" "$from/build" "$from/install.sh" "$tree"
+    cp "$from/dist/sources" "$from/dist/hand-over" "$tree/dist"
+    echo 1.0 >"$tree/VERSION"
+    echo 'a manual page' >"$tree/balisecheck.1"
+    echo 'Handles allowed: none.' >"$tree/HANDLES"
+    printf '%s\n' '# crates' 'etcs_low:' 'etcs_high: etcs_low' 'trials_low: etcs_low' 'balisecheck: etcs_high' >"$tree/crates.txt"
+    for crate in etcs_low etcs_high trials_low balisecheck; do
+        mkdir -p "$tree/crates/$crate/"{src,specs,proofs}
+        touch "$tree/crates/$crate/src/lib.rt" "$tree/crates/$crate/specs/Lib.antt" "$tree/crates/$crate/proofs/Lib.antt"
+    done
+    program "$stored/balisecheck" stored
+    papers "$stored"
+}
+
+# is_built [WORDS]: a program of these sources stands in out/.
+is_built() {
+    program "$tree/out/balisecheck" "${1:-built}"
+    papers "$tree/out"
+}
+
+# ---- which program answers
+
+# answers STATUS STDOUT STDERR [COMMAND..]: calls the start script, with the usual commands alone, and prints how its
+# status and output differ. Standard error needs to have the text, or to be empty with the text.
+answers() {
+    local status=$1 stdout=$2 stderr=$3 got
+    shift 3
+    [ "$#" -gt 0 ] || set -- "$tree/balisecheck"
+    PATH=$bare "$@" decode <<<a1 >"$room/stdout" 2>"$room/stderr"
     got=$?
-    [ "$got" -eq "$1" ] || echo "status $got in place of $1"
-    printf '%s' "$2" | diff - "$room/stdout"
+    [ "$got" -eq "$status" ] || echo "status $got in place of $status"
+    diff <(printf '%s' "$stdout") "$room/stdout"
+    if [ -z "$stderr" ]; then cat "$room/stderr"; else grep -qF "$stderr" "$room/stderr" || echo "it said: $(cat "$room/stderr")"; fi
 }
 
-# says_nothing: prints what went to standard error.
-says_nothing() {
-    [ ! -s "$room/stderr" ] || { echo 'standard error:' && cat "$room/stderr"; }
+# answers_none NAME TEXT: no program is run, and why is said in one line.
+answers_none() {
+    count "$1" "$(answers 3 '' 'balisecheck: not built: '; grep -F "$2" "$room/stderr" >/dev/null || echo "no text '$2' in: $(cat "$room/stderr")"; [ "$(wc -l <"$room/stderr")" -eq 1 ] || echo 'not one line')"
 }
 
-# copy: copies the tree, but neither its history nor a program that was built before. Kept work is
-# copied for the toolchain alone.
-copy() {
-    mkdir -p "$room/tree"
-    cp -a "$here/../balisecheck" "$here/../install.sh" "$here/../balisecheck.1" "$here/../crates.txt" "$room/tree"
-    [ ! -f "$here/../HANDLES" ] || cp -a "$here/../HANDLES" "$room/tree"
-    if [ "$1" = --build ]; then
-        cp -a "$here/../crates" "$room/tree"
-        rm -f "$room/tree/crates/balisecheck/out/balisecheck"
-    else
-        tar -c -C "$here/.." --exclude='crates/*/out' crates | tar -x -C "$room/tree"
-    fi
+answers_at_once() {
+    begin
+    count 'the stored program of these sources answers' "$(answers 0 $'stored a1\n' '')"
+    count 'nothing is written' "$([ ! -e "$tree/out" ] || ls "$tree/out")"
+    count 'its path is written where it is asked for' "$(BALISECHECK_PATH=1 answers 0 "$(readlink -f "$stored")/balisecheck"$'\n' '')"
+    ln -sf "$tree/balisecheck" "$room/link"
+    count 'through a link, from another folder' "$(cd "$room/elsewhere" && answers 0 $'stored a1\n' '' "$room/link")"
+    is_built
+    count 'a program that was built here answers before the stored one' "$(answers 0 $'built a1\n' '')"
+    rm -r "$stored"
+    count 'and where none is stored' "$(answers 0 $'built a1\n' '')"
 }
 
-# stand_in: puts a stand-in for `rt` on the path. It knows the two commands of a build, in this order and in
-# their folders, and no other.
-stand_in() {
-    built=$(readlink -f -- "${BALISECHECK:-$here/../crates/balisecheck/out/balisecheck}")
-    [ -x "$built" ] || { echo "no program was built: $built"; echo '0 passed, 1 failed'; exit 1; }
-    mkdir -p "$room/bin"
-    cat >"$room/bin/rt" <<END
-#!/bin/sh
-case "\$PWD \$*" in
-"$room/tree all check")
-    echo '== etcs_bits'
-    touch "$room/proved"
-    ;;
-"$room/tree/crates/balisecheck run -- decode")
-    [ -f "$room/proved" ] || exit 9
-    rm "$room/proved"
-    mkdir -p out
-    cp "$built" out/balisecheck
-    exec out/balisecheck decode
-    ;;
-*)
-    exit 9
-    ;;
-esac
-END
-    chmod +x "$room/bin/rt"
-    PATH=$room/bin:$PATH
-}
-
-needs_the_toolchain() {
-    local difference
-    difference=$(PATH=/usr/bin:/bin starts 3 '')
-    grep -q "^balisecheck: not built: .*rt" "$room/stderr" || difference+="it said: $(cat "$room/stderr")"
-    count 'without the toolchain nothing is built, and nothing answered' "$difference"
-}
-
-builds_once() {
-    local difference began
-    difference=$(starts 0 "$json"$'\n')
-    [ "$(tail -n 1 "$room/stderr")" = "balisecheck: version $version is built" ] || difference+="it said: $(tail -n 3 "$room/stderr")"
-    count 'the first use builds; standard output has the answer alone' "$difference"
-    began=$SECONDS
-    difference=$(starts 0 "$json"$'\n'; says_nothing)
-    [ $((SECONDS - began)) -le 2 ] || difference+="it took $((SECONDS - began)) seconds"
-    count 'the second use starts at once' "$difference"
-}
-
-installs() {
-    "$room/tree/install.sh" "$room/prefix" 2>"$room/stderr"
-    local manual=share/man/man1/balisecheck.1
-    count 'the program and its manual page are put where they are wanted' "$(
-        "$room/prefix/bin/balisecheck" decode <<<"$telegram" | diff - <(echo "$json")
-        cmp "$here/../balisecheck.1" "$room/prefix/$manual" 2>&1
-        printf 'installed: %s\n' "$room/prefix/bin/balisecheck" "$room/prefix/$manual" | diff - "$room/stderr"
-    )"
-}
-
-# changed NAME COMMAND..: after the command, which changes a source, no older program answers.
+# changed NAME COMMAND..: after the command in the tree, neither the stored program nor the one that was built answers.
 changed() {
     local name=$1
     shift
-    sleep 1
-    (cd "$room/tree" && "$@")
-    count "$name" "$(PATH=/usr/bin:/bin starts 3 '')"
-    sleep 1
-    touch "$room/tree/out/balisecheck"
-    count "$name, and a newer one does" "$(starts 0 "$json"$'\n'; says_nothing)"
+    begin
+    is_built
+    (cd "$tree" && "$@")
+    answers_none "$name" 'out/balisecheck is of other sources; dist/x86_64-linux/balisecheck is of other sources; run ./build'
 }
 
-builds_again() {
-    changed 'a source is saved' touch crates/etcs_bits/src/lib.rt
-    changed 'a definition is saved' touch crates/etcs_bits/specs/Lib.antt
-    changed 'a proof is removed' rm crates/etcs_bits/proofs/Lib.antt
-    changed 'the list of crates is saved' touch crates.txt
-    changed 'a source is put back with its old time' cp -p crates/etcs_bits/src/lib.rt crates/etcs_bits/src/variables/flag.rt
+takes_no_other_sources() {
+    changed 'a source changed' sh -c 'echo "//" >>crates/etcs_low/src/lib.rt'
+    changed 'a source added' touch crates/etcs_low/src/more.rt
+    changed 'a source removed' rm crates/etcs_high/proofs/Lib.antt
+    changed 'a source renamed' mv crates/etcs_high/specs/Lib.antt crates/etcs_high/specs/Other.antt
+    changed 'the list of crates changed' sh -c 'echo "more:" >>crates.txt'
+    changed 'HANDLES changed' sh -c 'echo Net >>HANDLES'
+    begin
+    touch -d '+1 day' "$tree/crates/etcs_low/src/lib.rt"
+    mkdir -p "$tree/crates/etcs_low/out" && touch "$tree/crates/etcs_low/out/more" "$tree/README.md"
+    count 'a source saved unchanged, and what is no source' "$(answers 0 $'stored a1\n' '')"
+    is_built
+    echo '//' >>"$tree/crates/etcs_low/src/lib.rt"
+    papers "$stored"
+    count 'what was built before a change gives way to what is stored after it' "$(answers 0 $'stored a1\n' '')"
 }
 
-copy "${1:-}"
-[ "${1:-}" = --build ] || stand_in
-if PATH=/usr/bin:/bin command -v rt >/dev/null; then
-    count 'the tests that need a path without the toolchain' 'rt stands in /usr/bin or /bin'
-else
-    needs_the_toolchain
-fi
-builds_once
+takes_no_damaged_one() {
+    begin
+    echo '# more' >>"$stored/balisecheck"
+    answers_none 'a damaged stored program' 'dist/x86_64-linux/balisecheck is damaged'
+    begin
+    rm "$stored/ABOUT"
+    answers_none 'no papers' 'dist/x86_64-linux/balisecheck is of other sources'
+    begin
+    rm -r "$stored"
+    answers_none 'no program' 'out/balisecheck is not there; dist/x86_64-linux/balisecheck is not there'
+    begin
+    is_built
+    program "$tree/out/balisecheck" newer
+    count 'a copy that was interrupted before its papers' "$(answers 0 $'stored a1\n' '')"
+    begin
+    is_built
+    head -c 9 "$tree/out/balisecheck" >"$room/part" && cp "$room/part" "$tree/out/balisecheck"
+    count 'an interrupted copy' "$(answers 0 $'stored a1\n' '')"
+}
+
+# does_not_start NAME SCRIPT: the stored program is whole, but ends so.
+does_not_start() {
+    begin
+    printf '#!/bin/sh\n%s\n' "$2" >"$stored/balisecheck"
+    papers "$stored"
+    answers_none "$1" 'dist/x86_64-linux/balisecheck does not start here'
+}
+
+takes_none_that_does_not_start() {
+    does_not_start 'a loader that refuses' 'echo "version GLIBC_2.34 not found" >&2; exit 1'
+    does_not_start 'a processor that refuses' 'kill -ILL $$'
+    does_not_start 'one that talks' 'echo a warning'
+    begin
+    chmod -x "$stored/balisecheck"
+    answers_none 'one without its mode' 'dist/x86_64-linux/balisecheck does not start here'
+}
+
+needs_its_tools() {
+    begin
+    mv "$bare/sha256sum" "$room/sha256sum"
+    count 'no sha256sum' "$(answers 3 '' 'balisecheck: not built: the sources cannot be summed up')"
+    mv "$room/sha256sum" "$bare/sha256sum"
+}
+
+writes_nothing() {
+    local number
+    begin
+    echo 'no folder' >"$tree/out"
+    count 'out/ is a file' "$(answers 0 $'stored a1\n' '')"
+    begin
+    chmod -R a+rX "$room"
+    chmod -R a-w "$tree"
+    if [ "$(id -u)" = 0 ] && command -v setpriv >/dev/null; then
+        count 'a checkout that cannot be written, as another user' "$(cd / && answers 0 $'stored a1\n' '' "$(command -v setpriv)" --reuid 65534 --regid 65534 --clear-groups "$tree/balisecheck")"
+    else
+        count 'a checkout that cannot be written' "$(answers 0 $'stored a1\n' '')"
+    fi
+    begin
+    for number in {1..12}; do
+        (PATH=$bare "$tree/balisecheck" decode <<<a1 >"$room/many.$number" 2>&1; echo "$?" >>"$room/many.$number") &
+    done
+    wait
+    count 'twelve at once' "$(for number in {1..12}; do diff "$room/many.$number" <(printf '%s\n' 'stored a1' 0); done; ls "$tree/out" 2>/dev/null)"
+}
+
+# ---- the build, with a stand-in for the toolchain
+
+# toolchain [COMMAND]: puts a stand-in for `rt` on the path, which knows the calls of a build, in their order, and does
+# the command before it builds the program.
+toolchain() {
+    mkdir -p "$room/toolchain"
+    rm -f "$room/proved"
+    cat >"$room/toolchain/rt" <<END
+#!/bin/sh
+echo "\${PWD##*/} \$*" >>"$room/proved"
+case "\${PWD##*/} \$*" in
+"etcs_low lib" | "etcs_high lib") ;;
+"balisecheck run -- decode") cd "$tree" && { ${1:-:}; } && mkdir -p crates/balisecheck/out && cp "$room/made" crates/balisecheck/out/balisecheck ;;
+*) exit 9 ;;
+esac
+END
+    chmod +x "$room/toolchain/rt"
+    program "$room/made" made
+}
+
+# builds STATUS TEXT: calls ./build, and prints how its status differs, or that standard error has not the text.
+builds() {
+    local got
+    PATH=$room/toolchain:$bare "$tree/build" >"$room/stdout" 2>"$room/stderr" &
+    echo "$!" >"$room/build"
+    wait "$!"
+    got=$?
+    [ "$got" -eq "$1" ] || echo "status $got in place of $1"
+    cat "$room/stdout"
+    tail -n 1 "$room/stderr" | grep -qF "$2" || echo "it said: $(cat "$room/stderr")"
+}
+
+builds_each_crate_once() {
+    begin
+    rm -r "$stored"
+    rm -rf "$room/toolchain"
+    count 'no toolchain' "$(builds 3 'balisecheck: not built: the toolchain is not here')"
+    toolchain
+    count 'a build' "$(builds 0 'balisecheck: version 1.0 is built: out/balisecheck'; diff <(printf '%s\n' 'etcs_low lib' 'etcs_high lib' 'balisecheck run -- decode') "$room/proved")"
+    count 'its program answers' "$(answers 0 $'made a1\n' '')"
+    count 'it leaves the program, its papers and a log' "$(ls "$tree/out" | diff <(printf '%s\n' ABOUT balisecheck build.log) -)"
+}
+
+# keeps_the_old NAME STATUS TEXT: the build ends so, and the program that was built before still answers.
+keeps_the_old() {
+    count "$1" "$(builds "$2" "$3"; answers 0 $'built a1\n' ''; ls "$tree/out" | diff <(printf '%s\n' ABOUT balisecheck build.log) -)"
+}
+
+builds_in_trouble() {
+    begin; is_built; toolchain 'echo "the lines of a refused proof"; exit 1'
+    keeps_the_old 'a proof that is refused' 3 'balisecheck: not built: the lines above end out/build.log'
+    begin; is_built; toolchain 'read -r build <'"$room/build"'; kill -TERM "$build"; sleep 1'
+    keeps_the_old 'an interruption' 3 'balisecheck: not built: interrupted'
+    begin; is_built; toolchain 'echo "//" >>crates/etcs_low/src/lib.rt; cp out/ABOUT old'
+    count 'a source saved meanwhile' "$(builds 3 'a source was saved meanwhile'; diff "$tree/old" "$tree/out/ABOUT"; grep -q 'echo "built' "$tree/out/balisecheck" || echo 'another program stands in out/')"
+    begin; toolchain; echo 'no folder' >"$tree/out"
+    count 'out/ is a file, for a build' "$(builds 3 'balisecheck: not built: out/ cannot be written'; answers 0 $'stored a1\n' '')"
+    begin; toolchain; mkdir "$tree/out"; ln -s /dev/full "$tree/out/part"
+    sed -i 's|^part=.*|part=out/part|' "$tree/dist/hand-over"
+    count 'out/ is full' "$(builds 3 'balisecheck: not built: '; answers 0 $'stored a1\n' '')"
+}
+
+installs() {
+    begin
+    count 'the program and its manual page are installed' "$(
+        PATH=$bare "$tree/install.sh" "$room/prefix" 2>&1 |
+            diff <(printf 'installed: %s\n' "$room/prefix/bin/balisecheck" "$room/prefix/share/man/man1/balisecheck.1") -
+        cmp "$stored/balisecheck" "$room/prefix/bin/balisecheck" 2>&1
+        cmp "$tree/balisecheck.1" "$room/prefix/share/man/man1/balisecheck.1" 2>&1
+    )"
+    rm -r "$stored"
+    count 'where there is none, none is installed' "$(PATH=$bare "$tree/install.sh" "$room/other" >"$room/stdout" 2>&1 && echo 'status 0'; [ ! -e "$room/other" ] || ls "$room/other")"
+}
+
+usual_commands
+answers_at_once
+takes_no_other_sources
+takes_no_damaged_one
+takes_none_that_does_not_start
+needs_its_tools
+writes_nothing
+builds_each_crate_once
+builds_in_trouble
 installs
-builds_again
 echo "the start script: $passed passed, $failed failed"
 [ "$failed" -eq 0 ]
