@@ -1,9 +1,9 @@
 #!/usr/bin/env bash
 # Runs the commands of README.md, examples/README.md, docs/REFUSALS.md, docs/FORMATS.md and docs/FINDINGS.md as
-# they stand there, on the examples and on files made here: the functions (blocks marked `bash`), the commands with
-# what they have to write (blocks marked `console`), and the commands of the table that mend files. Each document has
-# to have commands, and each file made here has to be used there. The sums of L_PACKET in docs/FORMATS.md are compared
-# with the examples, and the functions are tried with what they have to refuse.
+# they stand there, on the examples and on files made here, after the functions of examples/find-field.sh: the commands
+# with what they have to write (blocks marked `console`), and the commands of the table that mend files. Each document
+# has to have commands, and each file made here has to be used there. The sums of L_PACKET in docs/FORMATS.md are
+# compared with the examples, and the functions are tried with what they have to refuse.
 #
 # BALISECHECK names the program. The exit status is 1 if a recipe failed.
 set -uo pipefail
@@ -18,11 +18,13 @@ program=$(readlink -f -- "$program")
 room=$(mktemp -d)
 trap 'rm -rf "$room"' EXIT
 files=$room/files
-functions=$room/functions
+functions=$here/../examples/find-field.sh
 commands=$room/commands
 mkdir "$files"
 ln -s "$program" "$files/balisecheck"
-ln -s "$here/../examples" "$files/examples"
+for name in examples balisekit companion; do
+    [ ! -e "$here/../$name" ] || ln -s "$here/../$name" "$files/$name"
+done
 passed=0
 failed=0
 
@@ -279,7 +281,6 @@ makes_files_to_mend
 to_mend=(*.txt)
 makes_other_files
 cd "$here" || exit 1
-blocks bash "${documents[@]}" >"$functions"
 blocks console "${documents[@]}" >"$commands"
 for text in "${documents[@]}"; do
     has_commands "$text"
