@@ -1,10 +1,13 @@
 """Writes the cases of tests/cases/, one a line: a name, a line of input and what is written for it, between tabs.
 
-Nothing here asks the program: each answer stands in the files, or follows from numbers that were put into the fields.
+With the word `--radio` they are those of `decode --radio`, each with one column more, the text that `encode --radio`
+writes. Nothing here asks the program: each answer stands in the files, or follows from numbers that were put into the
+fields.
 """
 import json
 import pathlib
 import re
+import sys
 
 HERE = pathlib.Path(__file__).parent / "cases"
 SHORT, LONG, END_MARK = 210, 830, "11111111"
@@ -82,6 +85,31 @@ def faults(name, ahead, fields, others):
         yield f"{name}: field {place + 1} is {digits}", text(telegram), refusal(why, len(HEAD + ahead))
 
 
+def replaced(form, path, number):
+    """The form with the number at the end of these keys and places."""
+    value = json.loads(form)
+    *outer, last = [int(step) if step.isdigit() else step for step in path.split("/")]
+    inner = value
+    for step in outer:
+        inner = inner[step]
+    inner[last] = number
+    return FORM.encode(value)
+
+
+def each_number(name, fields, form, allowed):
+    """The packet, alone in a telegram, with each number that a field of its width may spell."""
+    for place, path, numbers in allowed:
+        front, width = "".join(fields[:place]), len(fields[place])
+        ranges = [[int(end) for end in one.split("-")] for one in numbers.split()]
+        known = {number for one in ranges for number in range(one[0], one[-1] + 1)}
+        for number in range(2 ** width):
+            bits = front + spelled((width, number)) + "".join(fields[place + 1:])
+            size = SHORT if len(HEAD + bits + END_MARK) <= SHORT else LONG
+            why = refusal(f"spare at {len(front)} end {len(front) + width}", len(HEAD))
+            wanted = answer(size, [replaced(form, path, number)]) if number in known else why
+            yield f"{name}: {path} {number}", text((HEAD + bits + END_MARK).ljust(size, "1")), wanted
+
+
 def blocks(path):
     """The blocks of lines between empty lines, without comments."""
     lines = [line for line in path.read_text().split("\n") if not line.startswith("#")]
@@ -92,12 +120,14 @@ def packets():
     """The packets of packets.txt, whole, with other digits and cut."""
     known = {}
     for name, *lines in blocks(HERE / "packets.txt"):
-        ahead, fields, others, forms = "", [], [], []
+        ahead, fields, others, allowed, forms = "", [], [], [], []
         for line in map(str.strip, lines):
             if line.startswith("+ "):
                 ahead, forms = ahead + known[line[2:]][0], forms + known[line[2:]][1]
             elif line.startswith("not "):
                 others.append((len(fields) - 1, *line[4:].split(": ")))
+            elif line.startswith("each "):
+                allowed.append((len(fields) - 1, *line[5:].split(": ")))
             elif line.startswith("{"):
                 forms.append(line)
             else:
@@ -105,6 +135,7 @@ def packets():
         known[name] = ahead + "".join(fields), forms
         yield from accepted(name, *known[name])
         yield from faults(name, ahead, fields, others)
+        yield from each_number(name, fields, forms[-1], allowed)
         yield from cut(name, fields)
 
 
@@ -141,6 +172,28 @@ def turned_header(place):
     if key == "q_media":
         return refusal("loop at 8 end 9")
     return FORM.encode(header_form(SHORT, **{key: number}))
+
+
+def each_header():
+    """Each number of M_VERSION and of M_DUP in a telegram without packets."""
+    for key, at, width, why, known in (("m_version", 1, 7, "version", (32, 33)), ("m_dup", 15, 2, "spare", (0, 1, 2))):
+        for number in range(2 ** width):
+            bits = (HEAD[:at] + spelled((width, number)) + HEAD[at + width:] + END_MARK).ljust(SHORT, "1")
+            wanted = refusal(f"{why} at {at} end {at + width}")
+            if number in known:
+                wanted = FORM.encode(header_form(SHORT, **{key: number}))
+            yield f"{key} {number}", text(bits), wanted
+
+
+def no_digits():
+    """Bytes beside the digits, each at each place of a short telegram, and one at each place of a long one."""
+    beside = "/:@G`g"
+    alone = [text((HEAD + END_MARK).ljust(size, "1")) for size in (SHORT, LONG)]
+    places = [(alone[0], place, byte) for place in range(len(alone[0])) for byte in beside]
+    places += [(alone[1], place, beside[place % len(beside)]) for place in range(len(alone[1]))]
+    for line, place, byte in places:
+        other = line[:place] + byte + line[place + 1:]
+        yield f"{byte} as digit {place} of {len(line)}", other, refusal("not hexadecimal")
 
 
 def turned_bits():
@@ -203,11 +256,46 @@ def last_bits():
         yield f"a bit less, {size} bits", text(telegram), refusal(f"no end at {size - 7} end {size - 7}")
 
 
+def message(bits, forms):
+    """The text and the JSON of a message 3 with these packets and what stands behind them, up to a whole byte."""
+    head = spelled((32, 100), (1, 0), (10, 1), (14, 1))
+    whole = spelled((8, 3), (10, (18 + len(head + bits) + 7) // 8)) + head + bits
+    keys = {"m_ack": 0, "nid_bg": 1, "nid_c": 1, "nid_message": 3, "packets": [], "t_train": 100}
+    return text(whole), FORM.encode(keys).replace('"packets":[]', f'"packets":[{",".join(forms)}]')
+
+
+def message_ends():
+    """Packets behind which up to seven bits are left, all of which are ones or zeros."""
+    bits, form = packet(15, spelled((7, 0), (10, 1023), (5, 0), (15, 1000), (4, 0)), end_speed=0, end_timeout=1023,
+                        l_endsection=1000, sections=[])
+    for body in range(8):
+        raw = {"body": "00" if body else "", "l_packet": 23 + body, "nid_packet": 44, "q_dir": 2}
+        packets, forms = bits + filler(23 + body), form + [FORM.encode(raw)]
+        wanted, line = message(packets, forms)
+        left = -(75 + len(packets)) % 8
+        ones, _ = message(packets + "1" * left, forms)
+        yield f"{left} zeros behind the packets", wanted, line, wanted
+        yield f"{left} ones behind the packets", ones, line, wanted
+        more, _ = message(packets + END_MARK + "1" * left + "0" * 16, forms)
+        yield f"an end mark, {left} ones and 16 zeros behind the packets", more, line, wanted
+
+
+def radio():
+    """Writes the cases of `--radio`; each with what `encode` writes for its JSON."""
+    for name, line, wanted, *again in blocks(HERE / "messages.txt"):
+        print(name, line, wanted, *(again or [line]), sep="\t")
+    for case in message_ends():
+        print(*case, sep="\t")
+
+
 def main():
     """Writes all cases."""
+    if sys.argv[1:] == ["--radio"]:
+        radio()
+        return
     for name, line, wanted in blocks(HERE / "telegrams.txt"):
         print(name, filled(line), wanted, sep="\t")
-    for cases in (packets, turned_bits, greatest_lists, last_bits):
+    for cases in (packets, each_header, no_digits, turned_bits, greatest_lists, last_bits):
         for case in cases():
             print(*case, sep="\t")
 

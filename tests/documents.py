@@ -1,10 +1,10 @@
 #!/usr/bin/env python3
 """Tests of `balisecheck check` from outside, of the documents in examples/check, and of docs/FINDINGS.md.
 
-Each document of tests/cases/documents.txt has to be answered as it says there. Each one of examples/check has to be
-answered as the report beside it says, and each mended one by yes. With one aspect in the place of the balises of a
-group the answer has to be the same. The page has to have a section for each rule, with an example and its report as
-they stand in the folder.
+Each document of tests/cases/documents.txt has to be answered as it says there, and so has the same in another spelling:
+keys in another order, blanks and escapes. Each one of examples/check has to be answered as the report beside it says,
+and each mended one by yes. With one aspect in the place of the balises of a group the answer has to be the same. The
+page has to have a section for each rule, with an example and its report as they stand in the folder.
 
 BALISECHECK names the program. The last line is `the documents: N passed, M failed`, and the exit status is 1 if a
 test failed.
@@ -17,7 +17,8 @@ import subprocess
 import sys
 
 sys.dont_write_bytecode = True  # so that no folder of it comes into being beside the tests
-from cases import blocks, filled  # noqa: E402
+from cases import END_MARK, HEAD, LONG, blocks, spelled as bits_of, text  # noqa: E402
+from spelled import respelled, spelled  # noqa: E402
 
 HERE = pathlib.Path(__file__).resolve().parent
 TOP = HERE.parent
@@ -26,6 +27,13 @@ PAGE = (TOP / "docs" / "FINDINGS.md").read_text()
 PROGRAM = os.environ.get("BALISECHECK", str(TOP / "crates" / "balisecheck" / "out" / "balisecheck"))
 MENDED = "-mended"
 RULES = range(1, 17)
+# messages, and how many of them with one bit turned are messages still
+MESSAGES = (("03048000001900080021e810901ff801f400", 94),
+            ("8807000000320000004000e480200081f450014002830832c00ed280", 165),
+            ("8806c000003200000040411480200080200101f450014002830830", 169))
+# blocks of packets.txt with a packet of each layout
+LAYOUTS = ("packet 0", "packet 5, one group", "packet 12, the shortest", "packet 15, the shortest",
+           "packet 21, one element", "packet 27, one element", "packet 41, one level", "packet 254, nine bits")
 
 
 class Tests:
@@ -54,20 +62,73 @@ def answered(report):
     return {"y": 0, "n": 1, "r": 2}[report[0]], report
 
 
-def spelled(line):
-    """The document of a line in tests/cases/documents.txt, without what stands there for longer texts."""
-    line = re.sub(r"<(.*?) (\d+)>", lambda found: found[1] * int(found[2]), line)
-    return re.sub(r"\w+\.{2,3}\w \w*", lambda found: filled(found[0]), line)
-
-
 def test_cases(tests):
     """Each document is answered as it says; so are bytes that cannot stand in a line of text."""
     for name, line, *report in blocks(HERE / "cases" / "documents.txt"):
         document = spelled(line)
         tests.equal(name, answer(document.encode()), answered("\n".join(report) + "\n"))
         tests.equal(f"{name}, and a line end", answer(document.encode() + b"\r\n"), answered("\n".join(report) + "\n"))
+        if report != ["refused: not JSON"]:
+            found = answer(respelled(document).encode())
+            tests.equal(f"{name}, spelled in another way", found, answered("\n".join(report) + "\n"))
     for document in (b"", b" ", b"\xff", b'{"groups":[],"messages":[]}\xff', b'{"groups":["\xff"],"messages":[]}'):
         tests.equal(f"{document} is no JSON", answer(document), answered("refused: not JSON\n"))
+
+
+def answer_to_message(digits):
+    """The report of a document with this message alone."""
+    return answer(f'{{"groups":[],"messages":["{digits}"]}}'.encode())[1]
+
+
+def test_messages(tests):
+    """L_MESSAGE counts the bytes; of the messages with one bit turned so many are messages still."""
+    for count in range(3, len(MESSAGES[0][0]) // 2):
+        found = answer_to_message(MESSAGES[0][0][:2 * count])
+        tests.equal(f"the first {count} bytes of a message", found, "refused: message 0: length at 8 end 18\n")
+    for digits, wanted in MESSAGES:
+        width, number = 4 * len(digits), int(digits, 16)
+        others = [f"{number ^ 1 << place:0{len(digits)}x}" for place in range(width)]
+        found = sum(not answer_to_message(other).startswith("refused") for other in others)
+        tests.equal(f"so many messages of {digits} with one bit turned", found, wanted)
+
+
+def one_of_each_layout():
+    """Numbers, and digits of a packet of each layout; those with Q_DIR for the nominal direction."""
+    for name, *lines in blocks(HERE / "cases" / "packets.txt"):
+        if name in LAYOUTS:
+            fields = [line.split()[0] for line in map(str.strip, lines) if line[0] in "01"]
+            yield int(fields[0], 2), "".join(fields)
+
+
+def test_directions(tests):
+    """Where one balise of a pair has a packet, F8 names the directions of its Q_DIR; packet 0 is for both."""
+    found = list(one_of_each_layout())
+    tests.equal("a packet of each layout", [number for number, _ in found], [0, 5, 12, 15, 21, 27, 41, 254])
+    second = text((HEAD[:9] + bits_of((3, 1), (3, 1), (2, 2)) + HEAD[17:] + END_MARK).ljust(LONG, "1"))
+    for number, bits in found:
+        for q_dir, names in enumerate((("reverse",), ("nominal",), ("nominal", "reverse"))):
+            if number == 0:
+                other, names = bits, ("nominal", "reverse")
+            else:
+                other = bits[:8] + bits_of((2, q_dir)) + bits[10:]
+            head = HEAD[:9] + bits_of((3, 0), (3, 1), (2, 1)) + HEAD[17:]
+            first = text((head + other + END_MARK).ljust(LONG, "1"))
+            report = answer(f'{{"groups":[{{"balises":["{first}","{second}"]}}],"messages":[]}}'.encode())[1]
+            wanted = [f"F8 group 0 balise 0 {run}: packets of duplicates differ" for run in names]
+            lines = [line for line in report.split("\n") if line.startswith("F8 ")]
+            tests.equal(f"packet {number} with Q_DIR {q_dir} in one balise of a pair", lines, wanted)
+
+
+def test_many(tests):
+    """A thousand groups, each the second balise of a pair, have 3,999 findings: the first has one less."""
+    balise = spelled("a1137f802000..f c0")
+    document = {"groups": [{"balises": [balise]} for _ in range(1000)], "messages": []}
+    lines = ["no: findings 3999"]
+    for group in range(1000):
+        place = f"group {group} balise 0"
+        lines += [f"F1 {place}: position wrong", f"F2 {place}: total wrong", f"F4 {place}: mark points outside"]
+        lines += [f"F14 group {group}: identity used before"] * (group > 0)
+    tests.equal("a thousand groups", answer(json.dumps(document).encode()), answered("\n".join(lines) + "\n"))
 
 
 def yes_of(document):
@@ -137,6 +198,9 @@ def main():
         sys.exit(f"tests/documents.py: no program at {PROGRAM}: build it, or name one by BALISECHECK")
     tests = Tests()
     test_cases(tests)
+    test_messages(tests)
+    test_directions(tests)
+    test_many(tests)
     test_answers(tests)
     test_one_aspect(tests)
     test_sections(tests)

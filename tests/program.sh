@@ -73,7 +73,7 @@ memory='balisecheck: memory
 makes_cases() {
     python3 "$here/cases.py" >"$room/cases"
     count 'the cases are made' "$([ $? -eq 0 ] || echo 'tests/cases.py failed')"
-    count 'there are as many cases as ever' "$([ "$(wc -l <"$room/cases")" -ge 3394 ] || echo fewer)"
+    count 'there are as many cases as ever' "$([ "$(wc -l <"$room/cases")" -ge 4831 ] || echo fewer)"
     grep -v $'\trefused: ' "$room/cases" >"$room/accepted"
     count 'there are telegrams' "$([ $? -eq 0 ] || echo none)"
     grep $'\trefused: ' "$room/cases" >"$room/refused"
@@ -111,6 +111,27 @@ refuses_cases() {
         got=$("$program" decode <<<"$line" 2>&1; echo "status $?")
         compares "$name" "$wanted"$'\nstatus 2' "$got"
     done <"$room/refused"
+}
+
+# All radio messages of the cases in one stream, and their forms, each with the text that it is written as.
+codes_messages() {
+    python3 "$here/cases.py" --radio >"$room/messages"
+    count 'the radio messages are made' "$([ $? -eq 0 ] && [ "$(wc -l <"$room/messages")" -ge 34 ] || echo fewer)"
+    cut -f 2 "$room/messages" | "$program" decode --radio 2>&1 | diff <(cut -f 3 "$room/messages") - >"$room/stdout"
+    count 'the radio messages of the cases' "$(cat "$room/stdout")"
+    cut -f 3 "$room/messages" | "$program" encode --radio 2>&1 | diff <(cut -f 4 "$room/messages") - >"$room/stdout"
+    count 'the forms of the radio messages' "$(cat "$room/stdout")"
+}
+
+# Bytes that stand in no line of text, each at each place of a telegram.
+refuses_bytes() {
+    local byte place
+    for byte in '\0' '\377'; do
+        for ((place = 0; place < 54; place++)); do
+            answers "byte $byte as digit $place" 2 'refused: line 1: not hexadecimal'$'\n' '' \
+                decode < <(printf "%s$byte%s" "${telegram:0:place}" "${telegram:place+1}")
+        done
+    done
 }
 
 # flag_of EXAMPLE: the flag of the command that reads it.
@@ -177,6 +198,7 @@ encodes_lines() {
     refuses_form 'form kind at /' '[]'
     refuses_form 'form unknown key at /' '{"x":1}'
     refuses_form 'not JSON' '{} {}'
+    refuses_form 'not JSON' '{'
     refuses_form 'not JSON' $'"\xff"'
     refuses_form 'not JSON' "$(printf '[%.0s' {1..128})$(printf ']%.0s' {1..128})"
     refuses_form 'form kind at /' "$(printf '[%.0s' {1..127})$(printf ']%.0s' {1..127})"
@@ -203,8 +225,12 @@ form range at /packets/0/body	{"nid_packet":44,"q_dir":2,"l_packet":24,"body":"4
 form missing key at /packets/0/transitions/0/nid_ntc	{"nid_packet":41,"q_dir":1,"q_scale":1,"d_leveltr":0,"transitions":[{"m_leveltr":1,"l_ackleveltr":0}]}
 form range at /packets/0/transitions/0/nid_ntc	{"nid_packet":41,"q_dir":1,"q_scale":1,"d_leveltr":0,"transitions":[{"m_leveltr":2,"nid_ntc":"x","l_ackleveltr":0}]}
 form range at /packets/0/transitions	{"nid_packet":41,"q_dir":1,"q_scale":1,"d_leveltr":0,"transitions":[]}
-too big	{"nid_packet":44,"q_dir":2,"l_packet":159,"body":"0000000000000000000000000000000000"}
+too big	{"nid_packet":44,"q_dir":2,"l_packet":153,"body":"0000000000000000000000000000000000"}
 END
+    packet="{\"nid_packet\":44,\"q_dir\":2,\"l_packet\":773,\"body\":\"$(printf '00%.0s' {1..94})\"}"
+    refuses_form 'too big' "$(sed "s/\[\]/[$packet]/; s/210/830/" <<<"${json%$'\n'}")"
+    packet=$(printf ',{"nid_packet":0,"nid_vbcmk":37}%.0s' {1..56})
+    refuses_form 'too big' "$(sed "s/\[\]/[${packet:1}]/; s/210/830/" <<<"${json%$'\n'}")"
     local differences element elements
     differences=$(printf ',{"q_diff":0,"nc":0,"v_diff":0}%.0s' {1..31})
     element="{\"d_static\":0,\"v_static\":0,\"q_front\":0,\"differences\":[${differences:1}]}"
@@ -239,7 +265,23 @@ message_with() {
     printf '%s' "${message_json%%]\}],*}]},$raw],\"t_train\":100}"
 }
 
+# position_with BITS: a position report, and a packet 44 that has a body of so many bits.
+position_with() {
+    local digits
+    digits=$(printf '0%.0s' $(seq $((($1 + 7) / 8 * 2))))
+    sed "s/\"body\":\"[0-9a-f]*\",\"l_packet\":29/\"body\":\"$digits\",\"l_packet\":$(($1 + 21))/" \
+        <<<"$position_json"
+}
+
 encodes_messages() {
+    local position_json
+    position_json=$("$program" decode --radio <<<8807000000320000004000e480200081f450014002830832c00ed280)
+    refuses_message 'form range at /packets' '{"nid_engine":1,"nid_message":136,"packets":[],"t_train":200}'
+    refuses_message 'form range at /packets' \
+        '{"nid_engine":1,"nid_message":136,"packets":[{"body":"","l_packet":21,"nid_packet":5}],"t_train":200}'
+    refuses_message 'too big' "$(position_with 7976)"
+    count 'the greatest position report has 1,023 bytes' \
+        "$("$program" encode --radio <<<"$(position_with 7975)" | awk '{ if (length != 2046) print length }')"
     answers 'a message' 0 "$message"$'\n' '' encode --radio <<<"$message_json"
     refuses_message 'form range at /packets' "$(sed 's/"packets":.*,"t_train"/"packets":[],"t_train"/' <<<"$message_json")"
     refuses_message 'too big' "$(message_with 8021)"
@@ -253,16 +295,16 @@ refuses_stream() {
 }
 
 decodes_streams() {
-    local json=$message_json$'\n' cut
+    local json=$message_json$'\n' two=$message$message cut
     answers 'no radio message' 0 '' '' decode --radio </dev/null
     answers 'empty lines of a stream' 0 '' '' decode --radio <<<$'\n\r\n'
-    answers 'two messages on a line' 0 "$json$json" '' decode --radio <<<"$message$message"
+    answers 'two messages on a line' 0 "$json$json" '' decode --radio <<<"$two"
     answers 'a message in upper case, no line end' 0 "$json" '' decode --radio < <(printf '%s' "${message^^}")
-    answers 'two messages in lines of a byte' 0 "$json$json" '' \
-        decode --radio < <(fold -w 2 <<<"$message$message")
-    for ((cut = 2; cut < 36; cut += 2)); do
-        answers "a message cut after $cut digits" 0 "$json" '' \
-            decode --radio <<<"${message:0:cut}"$'\r\n\n'"${message:cut}"
+    for ((cut = 2; cut <= 72; cut += 2)); do
+        answers "two messages in lines of $cut digits" 0 "$json$json" '' \
+            decode --radio < <(fold -w "$cut" <<<"$two")
+        answers "two messages cut after $cut digits" 0 "$json$json" '' \
+            decode --radio <<<"${two:0:cut}"$'\r\n\n'"${two:cut}"
     done
     refuses_stream 'message 0: length below 3' 030080
     refuses_stream 'message 0: length below 3' 040080
@@ -270,10 +312,14 @@ decodes_streams() {
     refuses_stream 'message 0: cut off' 04
     refuses_stream 'message 0: message kind at 0 end 8' 0400c0
     refuses_stream 'message 0: no authority at 8181 end 8184' "03ffc0$(printf '00%.0s' {1..1020})"
+    refuses_stream 'message 0: short at 18 end 24' 0300c0
     refuses_stream 'message 1: short at 18 end 24' "${message}0300c0" "$json"
     refuses_stream 'message 2: cut off' "$message"$'\n'"$message"$'\n03' "$json$json"
     refuses_stream 'line 2: not hexadecimal' "${message:0:18}"$'\n0g'
     refuses_stream 'line 1: not hexadecimal' "${message}0"
+    refuses_stream 'line 1: not hexadecimal' "${message}0g"
+    refuses_stream 'line 2: not hexadecimal' "$message"$'\n0300c00g' "$json"
+    refuses_stream 'line 3: not hexadecimal' $'\n\n '
     refuses_stream 'line 3: not hexadecimal' "$message"$'\n\n'"${message}030080 " "$json"
     refuses_stream 'message 1: length below 3' "$message"$'\n030080\nzz' "$json"
     refuses_stream 'message 0: spare at 179 end 181' 8807000000320000004000e480200081f450014002831832c00ed280
@@ -449,6 +495,8 @@ memory_is_refused() {
 makes_cases
 decodes_cases
 refuses_cases
+refuses_bytes
+codes_messages
 decodes_examples
 encodes_forms
 encodes_lines
