@@ -11,8 +11,8 @@ from typing import Any, Iterator, List, Mapping, Tuple, Union
 from balisekit.places import Here, place_notes
 from balisekit.values import Around, Form, ORDER, value_words, variable_name
 
-WIDTH = 116
-LABEL_WIDTH = 20
+WIDTH = 118
+LABEL_WIDTH = 22
 LABELS: Mapping[str, str] = {
     "packets": "packet", "links": "link", "sections": "section", "elements": "element", "differences": "difference",
     "transitions": "choice", "section_timer": "section timer", "end_timer": "end timer", "danger_point": "danger point",
