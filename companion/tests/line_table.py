@@ -65,7 +65,8 @@ def speeds(at: int, reach: int) -> Form:
 def authority(length: int, speed: int) -> Form:
     """The authority up to a signal, with an overlap behind it."""
     overlap = {"d_startol": 300, "t_ol": 60, "d_ol": OVERLAP, "v_releaseol": 126}
-    return packet(12, v_main=speed // 5, end_speed=0, end_timeout=1023, sections=[], l_endsection=length, overlap=overlap)
+    return packet(12, v_main=speed // 5, end_speed=0, end_timeout=1023, sections=[], l_endsection=length,
+                  overlap=overlap)
 
 
 def linking(signal: int) -> Form:
@@ -107,7 +108,8 @@ def items() -> Iterator[Item]:
 def infill(at: int, identity: int) -> Iterator[Item]:
     """A group ahead of a signal, whose packet 136 names the signal's group."""
     body = f"{identity << 1:04x}"
-    for counter, (aspect, packets) in enumerate((("red", []), ("green", [authority(1350, 120)])), 1):
+    contents: List[Tuple[str, List[Form]]] = [("red", []), ("green", [authority(1350, 120)])]
+    for counter, (aspect, packets) in enumerate(contents, 1):
         profiles = [gradients(at + 400, 1550), speeds(at + 400, 1550)] if packets else []
         reference = {"nid_packet": 136, "q_dir": 1, "l_packet": 38, "body": body}
         form = telegram(201, 0, 0, counter, reference, *packets, *profiles)
@@ -128,11 +130,12 @@ def table(program: Program) -> str:
     rows = csv.writer(out, lineterminator="\n")
     rows.writerow(HEADING)
     made = list(items())
-    for item, text in zip(made, program.encode([form for *_, form in made])):
+    for item, text in zip(made, program.encode([item[5] for item in made])):
         if not isinstance(text, Text):
             raise ValueError(f"{item}: {text.line}")
         spoilt = item[0] == "Signal F" and item[3] == "yellow"
-        rows.writerow([*item[:5], with_spare_direction(text.line) if spoilt else text.line])
+        digits = with_spare_direction(text.line) if spoilt else text.line
+        rows.writerow([str(cell) for cell in item[:5]] + [digits])
     return out.getvalue()
 
 

@@ -27,7 +27,7 @@ def read(content: bytes) -> Sheet:
 
 def _separator(text: str) -> str:
     """The one by which the heading has the needed columns, and the most that are known."""
-    best, most = ",", -1
+    best, most = ",", 0
     for separator in SEPARATORS:
         try:
             found = set(headings(next(_reader(text, separator), [])))

@@ -161,6 +161,8 @@ class Program:
                 line = _text(raw)
                 if refusal is not None:
                     raise self._no_answer(f"{command}: a line stands behind a refusal")
+                if read == left:
+                    raise self._no_answer(f"{command}: it writes more lines than it was given")
                 if not line.startswith("refused: "):
                     read += 1
                     yield line
