@@ -1,0 +1,41 @@
+"""Cells of a table, be it CSV or a workbook, and the digits in a cell."""
+from __future__ import annotations
+
+import re
+from dataclasses import dataclass, field
+from typing import Dict, List, Tuple
+
+COLUMNS = ("group", "telegram", "name", "km", "track", "aspect", "balise", "nominal")
+"""The headings that are known."""
+NEEDED = COLUMNS[:2]
+BLANKS = " \t\u00a0\u2000-\u200b\u202f\u3000"
+QUOTES = "\"'\u2018\u2019\u201c\u201d\u201e\u00ab\u00bb"
+PAIRS = re.compile(r"[^:-]{2}(?:([:-])[^:-]{2})(?:\1[^:-]{2})*")
+
+
+@dataclass(frozen=True)
+class Sheet:
+    """The cells of a table, its heading the first row."""
+
+    encoding: str
+    separator: str
+    rows: List[List[str]]
+    """The first one is row 1. A row may be shorter than the heading."""
+    kinds: Dict[Tuple[int, int], str] = field(default_factory=dict)
+    """What a cell of a workbook is if it is no text, by row and column from 0: `number` or `date`."""
+    notes: Tuple[str, ...] = ()
+
+
+def headings(row: List[str]) -> List[str]:
+    """The headings of a row as they are compared."""
+    return [cell.strip().lower() for cell in row]
+
+
+def digits(cell: str) -> str:
+    """The cell without what stands around and between digits: blanks, quotes, 0x, h, colons and hyphens of pairs."""
+    text = re.sub(f"[{BLANKS}]", "", cell).strip(QUOTES)
+    if text[:2] in ("0x", "0X"):
+        text = text[2:]
+    if text[-1:] in ("h", "H"):
+        text = text[:-1]
+    return re.sub("[:-]", "", text) if PAIRS.fullmatch(text) else text

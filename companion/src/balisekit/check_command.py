@@ -1,0 +1,177 @@
+"""`balisekit check`: every refused telegram, then the program's findings, by row, name and kilometre."""
+from __future__ import annotations
+
+import argparse
+import json
+import sys
+import textwrap
+from typing import Any, Dict, Iterator, TextIO
+
+from balisekit import checking, files
+from balisekit.checking import Checked, LeftOut, Place, Refused, RefusedMessage
+from balisekit.commands import Command, add_input_words, inputs
+from balisekit.errors import NoAnswer
+from balisekit.explain import explanations
+from balisekit.model import Group
+from balisekit.wording import (balise_words, clean, group_words, message_refused, message_words,
+                               telegram_refused)
+
+WIDTH = 116
+
+
+def add_words(parser: argparse.ArgumentParser) -> None:
+    """The words of this command."""
+    add_input_words(parser)
+    parser.add_argument("--explain", action="store_true", help="show cause and remedy of each finding")
+    parser.add_argument("--all", action="store_true",
+                        help=f"go on after {checking.GREATEST_REFUSED:,} refused telegrams")
+    parser.add_argument("--json", metavar="FILE", help="write all of the answer as JSON; - is standard output")
+    parser.add_argument("--document", metavar="FILE",
+                        help="write the document that the program has checked; - is standard output")
+
+
+def run(words: argparse.Namespace) -> int:
+    """Does it. The answer is the exit status."""
+    targets = [path for path in (words.json, words.document) if path]
+    if targets.count("-") > 1:
+        raise NoAnswer("standard output is named twice")
+    for path in targets:
+        files.look_at_target(path)
+    program, table, messages = inputs(words)
+    checked = checking.check(program, table, messages, words.by_position, words.all)
+    if words.document:
+        with files.writing(words.document) as file:
+            for piece in checking.document(checked.kept, checked.accepted_messages):
+                file.write(piece.encode("utf-8"))
+    if words.json:
+        with files.writing(words.json) as file:
+            file.write(json.dumps(as_json(checked), indent=1, ensure_ascii=False).encode("utf-8", "backslashreplace"))
+            file.write(b"\n")
+    out: TextIO = sys.stderr if "-" in targets else sys.stdout
+    for line in lines(checked, words.explain, words.by_position):
+        print(line, file=out)
+    return checked.status
+
+
+def lines(checked: Checked, explain: bool = False, by_position: bool = False) -> Iterator[str]:
+    """The answer in words. The last line is the program's, or says that the answer is not whole."""
+    table = checked.table
+    yield f"{clean(table.path)}: {len(table.rows)} telegrams of {len(table.groups)} groups"
+    if table.passed_over:
+        yield f"columns passed over: {', '.join(clean(name) for name in table.passed_over)}"
+    if by_position:
+        yield "balises are ordered by N_PIG, as --by-position says"
+    yield from (f"note: {clean(note)}" for note in table.notes)
+    groups = {row.number: group for group in table.groups for row in group.rows()}
+    for refused in checked.refused:
+        yield from _refused(refused, groups)
+    for message in checked.refused_messages:
+        yield f"{message_words(message.message)}: {message_refused(message.message.text, message.refusal)}"
+        yield f"    program: {message.refusal.text}"
+    yield from (f"left out: {group_words(one.group)}: {one.why}" for one in checked.left_out)
+    if checked.not_looked_at:
+        yield f"and {checked.not_looked_at} rows not looked at: --all goes on"
+    for place in checked.findings:
+        yield f"{finding_words(place)}"
+        yield f"    program: {place.finding.line}"
+    if explain:
+        yield from _explained(checked)
+    yield last_line(checked)
+
+
+def _refused(refused: Refused, groups: Dict[int, Group]) -> Iterator[str]:
+    words = balise_words(groups.get(refused.row.number), refused.row)
+    yield f"{words}: {telegram_refused(refused.row.telegram, refused.refusal)}"
+    yield f"    program: {refused.refusal.text}"
+
+
+def finding_words(place: Place) -> str:
+    """A finding by the names of what it is about."""
+    finding = place.finding
+    if place.message:
+        words = f"message of {message_words(place.message)}"
+    elif place.group is None:
+        words = ""
+    elif place.row is None:
+        words = group_words(place.group, place.aspect)
+    else:
+        words = balise_words(place.group, place.row)
+    parts = [f"packet {finding.packet}"] if finding.packet is not None else []
+    parts += [finding.direction] if finding.direction else []
+    name = finding.name + (f" by {group_words(place.earlier)}" if place.earlier else "")
+    return "  ".join([words, *parts]) + f": {name}"
+
+
+def _explained(checked: Checked) -> Iterator[str]:
+    """The lines of docs/FINDINGS.md on each rule that has a finding."""
+    known = explanations()
+    for rule in sorted({place.finding.rule for place in checked.findings}):
+        one = known[rule]
+        yield f"F{rule}: {one.name}"
+        for head, text in (("What it says", one.says), ("How urgent", one.urgent), ("Usual cause", one.cause),
+                           ("How to correct it", one.remedy)):
+            yield from textwrap.wrap(f"{head}. {text}", WIDTH, initial_indent="    ", subsequent_indent="    ")
+
+
+def last_line(checked: Checked) -> str:
+    """The program's verdict, or that something was left out."""
+    if checked.whole and checked.verdict:
+        return f"program: {checked.verdict.line}"
+    rows, groups = checked.table.rows, checked.table.groups
+    parts = [f"{len(checked.refused)} of {len(rows)} telegrams refused"]
+    if checked.messages and checked.refused_messages:
+        parts.append(f"{len(checked.refused_messages)} of {len(checked.messages.messages)} messages refused")
+    parts.append(f"{len(checked.left_out)} of {len(groups)} groups left out")
+    parts += [f"{checked.not_looked_at} rows not looked at"] if checked.not_looked_at else []
+    return "INCOMPLETE: " + ", ".join(parts)
+
+
+def as_json(checked: Checked) -> Dict[str, Any]:
+    """All of the answer for other tools."""
+    verdict = checked.verdict.line if checked.verdict else None
+    return {
+        "status": checked.status,
+        "last_line": last_line(checked),
+        "verdict" if checked.whole else "rest": verdict,
+        "program": {"path": checked.program.path, "sha256": checked.program.sha256, **dict(checked.program.about)},
+        "table": {"path": checked.table.path, "sha256": checked.table.sha256, "encoding": checked.table.encoding,
+                  "passed_over": list(checked.table.passed_over), "notes": list(checked.table.notes)},
+        "messages": None if checked.messages is None else {"path": checked.messages.path,
+                                                           "sha256": checked.messages.sha256},
+        "counts": {"telegrams": len(checked.table.rows), "groups": len(checked.table.groups),
+                   "not_looked_at": checked.not_looked_at},
+        "refused": [_refused_json(one) for one in checked.refused],
+        "refused_messages": [_refused_message_json(one) for one in checked.refused_messages],
+        "left_out": [_left_out_json(one) for one in checked.left_out],
+        "kept": [group.name for group in checked.kept],
+        "findings": [_finding_json(one) for one in checked.findings],
+    }
+
+
+def _refused_json(one: Refused) -> Dict[str, Any]:
+    row = one.row
+    return {"row": row.number, "group": row.group, "name": row.name, "km": None if row.km is None else str(row.km),
+            "aspect": row.aspect, "telegram": row.telegram, "text": one.refusal.text, "line": one.refusal.line,
+            "first_row_of_run": one.first, "sentence": telegram_refused(row.telegram, one.refusal)}
+
+
+def _refused_message_json(one: RefusedMessage) -> Dict[str, Any]:
+    message = one.message
+    return {"line_of_file": message.number, "name": message.name, "text": one.refusal.text, "line": one.refusal.line,
+            "sentence": message_refused(message.text, one.refusal)}
+
+
+def _left_out_json(one: LeftOut) -> Dict[str, Any]:
+    return {"group": one.group.name, "rows": sorted({row.number for row in one.group.rows()}), "why": one.why}
+
+
+def _finding_json(place: Place) -> Dict[str, Any]:
+    finding, row = place.finding, place.row
+    return {"line": finding.line, "rule": finding.rule, "name": finding.name,
+            "group": place.group.name if place.group else None, "aspect": place.aspect,
+            "row": row.number if row else None, "balise": finding.balise, "packet": finding.packet,
+            "direction": finding.direction, "message": place.message.number if place.message else None,
+            "earlier_group": place.earlier.name if place.earlier else None, "words": finding_words(place)}
+
+
+COMMAND = Command("check", "check the telegrams and groups of a table", add_words, run)

@@ -1,0 +1,346 @@
+"""A group as a picture: shapes with their coordinates, out of the places of authorities and profiles.
+
+Metres from the group go from left to right in nominal direction, and to the left in reverse. Coordinates are whole
+tenths of a pixel. The template draws what stands here and computes nothing.
+"""
+from __future__ import annotations
+
+from dataclasses import dataclass, field
+from itertools import zip_longest
+from typing import Iterable, Iterator, List, Optional, Sequence, Tuple
+
+from balisekit.geometry import (DIRECTIONS, Authority, Element, Kilometres, NOMINAL, Profile, REVERSE, Site, Way,
+                                kilometre, way)
+from balisekit.values import Around, Form, metres, value_words
+from balisekit.wording import clean
+
+WIDTH, LEFT, RIGHT = 1000, 96, 34
+SPEED_HEIGHT, GRADIENT_HEIGHT, AUTHORITY_HEIGHT = 58, 20, 50
+LETTER = 62
+"""The width of a letter, in tenths of a pixel."""
+
+
+@dataclass(frozen=True)
+class Shape:
+    """A rectangle, a path or a text, and the numbers that its title says."""
+
+    kind: str
+    look: str
+    title: str = ""
+    x: str = ""
+    y: str = ""
+    width: str = ""
+    height: str = ""
+    path: str = ""
+    text: str = ""
+
+
+@dataclass(frozen=True)
+class Short:
+    """A profile that the program has found too short, F11 or F13, or missing, F10 or F12."""
+
+    rule: int
+    direction: str
+    site: Optional[Site]
+    """Which packet. A profile that is missing has none."""
+
+
+@dataclass(frozen=True)
+class Content:
+    """What one row of the picture is about: the telegrams of an aspect in nominal order, and their findings."""
+
+    title: str
+    forms: Sequence[Form]
+    short: Tuple[Short, ...] = ()
+    infill: bool = False
+
+
+@dataclass(frozen=True)
+class Picture:
+    """Shapes, and the size that they need."""
+
+    title: str
+    width: int
+    height: int
+    shapes: Tuple[Shape, ...]
+
+
+def tenths(number: int) -> str:
+    """A coordinate of whole tenths, as SVG has it."""
+    return f"{number / 10:.1f}"
+
+
+@dataclass
+class _Sheet:
+    """The shapes drawn so far, and the scale of the places."""
+
+    least: int
+    greatest: int
+    kilometres: Kilometres
+    y: int = 0
+    top: int = 0
+    height: int = 0
+    shapes: List[Shape] = field(default_factory=list)
+
+    def edge(self, direction: str) -> int:
+        """The farthest place that is drawn in this direction."""
+        return self.greatest if direction == NOMINAL else -self.least
+
+    def x(self, place: int) -> int:
+        """Where a place is, in tenths of a pixel. A place of the reverse direction is negative."""
+        room = (WIDTH - LEFT - RIGHT) * 10
+        return LEFT * 10 + (place - self.least) * room // (self.greatest - self.least)
+
+    def rect(self, look: str, title: str, places: Tuple[int, int], y: int, height: int) -> Tuple[int, int]:
+        """A rectangle between two places, at least a pixel wide. The answer is where it begins and ends."""
+        begin, end = sorted(map(self.x, places))
+        end = max(end, begin + 10)
+        self.shapes.append(Shape("rect", look, title, tenths(begin), str(y), tenths(end - begin), str(height)))
+        return begin, end
+
+    def path(self, look: str, title: str, path: str) -> None:
+        """A line through points."""
+        self.shapes.append(Shape("path", look, title, path=path))
+
+    def mark(self, look: str, title: str, place: int, y: int, height: int) -> None:
+        """An upright line at a place."""
+        self.path(look, title, f"M{tenths(self.x(place))} {y}v{height}")
+
+    def text(self, look: str, text: str, x: int, y: int) -> None:
+        """A text at a coordinate."""
+        self.shapes.append(Shape("text", look, x=tenths(x), y=str(y), text=text))
+
+    def inside(self, look: str, text: str, begin: int, end: int, y: int) -> None:
+        """A text in the middle between two coordinates, if it fits there."""
+        if len(text) * LETTER <= end - begin:
+            self.text(f"{look} middle", text, (begin + end) // 2, y)
+
+    def place(self, place: int, direction: str) -> str:
+        """A place in words."""
+        km = self.kilometres.at(abs(place), direction)
+        return metres(abs(place)) + (f", km {kilometre(km)}" if km is not None else "")
+
+
+def _sign(direction: str) -> int:
+    return 1 if direction == NOMINAL else -1
+
+
+def _reach(one: Way) -> Iterable[int]:
+    """All places of a way that the picture has to show."""
+    for authority in one.authorities:
+        yield from (authority.end, authority.supervised, authority.danger_point or 0)
+    for profile in (*one.gradients, *one.speeds):
+        places = [element.begin for element in (*profile.elements, *profile.beyond)]
+        yield from places
+        yield profile.reach if profile.reach is not None else max(places) * 11 // 10 + 1000
+
+
+def draw(title: str, contents: Sequence[Content], kilometres: Kilometres) -> Picture:
+    """The picture of a group: a row for each content."""
+    rows = [(one, [way(one.forms, direction, one.infill) for direction in DIRECTIONS]) for one in contents]
+    ends = {direction: max((place for _, ways in rows for place in _reach(ways[index])), default=0)
+            for index, direction in enumerate(DIRECTIONS)}
+    least, greatest = -ends[REVERSE], ends[NOMINAL]
+    greatest = max(greatest, least + 1000)
+    sheet = _Sheet(least, greatest, kilometres)
+    top = _speed_top(ways for _, ways in rows)
+    for content, ways in rows:
+        sheet.kilometres = Kilometres() if content.infill else kilometres
+        _row(sheet, content, ways, top)
+    return Picture(clean(title), WIDTH, sheet.y + 6, tuple(sheet.shapes))
+
+
+def _speed_top(ways: Iterable[Sequence[Way]]) -> int:
+    """The speed at the upper edge: the greatest one, rounded up to 20 km/h."""
+    speeds = [element.value * 5 for some in ways for one in some for profile in one.speeds
+              for element in profile.elements]
+    return max(20, -(-max(speeds, default=20) // 20) * 20)
+
+
+def _row(sheet: _Sheet, content: Content, ways: Sequence[Way], top: int) -> None:
+    sheet.y += 18
+    sheet.text("head", clean(content.title), 40, sheet.y)
+    sheet.y += 8
+    if not any(ways):
+        sheet.text("small", "no authority, gradient or speed profile", LEFT * 10, sheet.y + 10)
+        sheet.y += 20
+        return
+    start = sheet.y
+    for some in zip_longest(*[one.speeds for one in ways]):
+        _lane(sheet, "speed, km/h", SPEED_HEIGHT)
+        for direction, profile in zip(DIRECTIONS, some):
+            if profile:
+                _speed(sheet, profile, direction, top)
+                _gap(sheet, content, profile, ways)
+    _missing(sheet, content, ways, 12)
+    for some in zip_longest(*[one.gradients for one in ways]):
+        _lane(sheet, "gradient, ‰", GRADIENT_HEIGHT)
+        for direction, profile in zip(DIRECTIONS, some):
+            if profile:
+                _gradient(sheet, profile, direction)
+                _gap(sheet, content, profile, ways)
+    _missing(sheet, content, ways, 10)
+    for few in zip_longest(*[one.authorities for one in ways]):
+        _lane(sheet, "authority", AUTHORITY_HEIGHT)
+        for direction, authority in zip(DIRECTIONS, few):
+            if authority:
+                _authority(sheet, authority, direction)
+    _axis(sheet, content, start)
+
+
+def _lane(sheet: _Sheet, label: str, height: int) -> None:
+    """Room for the next packet of either direction, below what is drawn."""
+    sheet.top, sheet.height = sheet.y + 6, height
+    sheet.y = sheet.top + height
+    sheet.text("small", label, 40, sheet.top + height // 2 + 4)
+
+
+def _elements(sheet: _Sheet, profile: Profile, direction: str) -> Iterator[Tuple[Element, int, int, str]]:
+    """Each element with its two places in the picture, and where it is in words."""
+    edge = sheet.edge(direction)
+    for element in profile.elements:
+        end = edge if element.end is None else element.end
+        words = f"from {sheet.place(element.begin, direction)}"
+        words += f" to {sheet.place(element.end, direction)}" if element.end is not None else " on: an open profile"
+        yield element, _sign(direction) * element.begin, _sign(direction) * end, f"{words}, {direction}"
+    if profile.first > 0 and profile.elements:
+        sheet.rect("none", f"not given here: up to {sheet.place(profile.first, direction)}, {direction}",
+                   (0, _sign(direction) * profile.first), sheet.top, sheet.height)
+
+
+def _speed(sheet: _Sheet, profile: Profile, direction: str, most: int) -> None:
+    for element, begin, end, where in _elements(sheet, profile, direction):
+        tall = max(1, element.value * 5 * (sheet.height - 12) // most)
+        title = f"{element.value * 5} km/h {where}"
+        y = sheet.top + sheet.height - tall
+        left, right = sheet.rect("speed", title, (begin, end), y, tall)
+        open_end = " open" if element.end is None else ""
+        sheet.path(f"step{open_end}", title, f"M{tenths(left)} {y}H{tenths(right)}")
+        sheet.inside("small", str(element.value * 5), left, right, y - 3)
+    _ending(sheet, profile, direction, "speed profile")
+
+
+def _gradient(sheet: _Sheet, profile: Profile, direction: str) -> None:
+    for element, begin, end, where in _elements(sheet, profile, direction):
+        up = bool(element.form["q_gdir"])
+        words = value_words("g_a", element.value, Around({}, element.form))
+        look = "level" if element.value == 0 else "up" if up else "down"
+        left, right = sheet.rect(look, f"{words} {where}", (begin, end), sheet.top, sheet.height)
+        sheet.inside("small", words, left, right, sheet.top + 14)
+    _ending(sheet, profile, direction, "gradient profile")
+
+
+def _ending(sheet: _Sheet, profile: Profile, direction: str, name: str) -> None:
+    """An end mark as a bar, elements behind it pale, and an open profile as an arrow."""
+    sign = _sign(direction)
+    if profile.reach is not None:
+        sheet.mark("endmark", f"end mark: the {name} reaches {sheet.place(profile.reach, direction)}, {direction}",
+                   sign * profile.reach, sheet.top, sheet.height)
+    else:
+        tip, middle = sheet.x(sign * sheet.edge(direction)), sheet.top + sheet.height - 6
+        sheet.path("arrow", f"the {name} has no end mark: it is open, {direction}",
+                   f"M{tenths(tip - sign * 80)} {middle - 5}L{tenths(tip)} {middle}"
+                   f"L{tenths(tip - sign * 80)} {middle + 5}")
+    for element in profile.beyond:
+        sheet.mark("pale", f"behind the end mark: an element at {sheet.place(element.begin, direction)}",
+                   sign * element.begin, sheet.top, sheet.height)
+
+
+def _gap(sheet: _Sheet, content: Content, profile: Profile, ways: Sequence[Way]) -> None:
+    """The track between a profile that the program has found too short and the greatest supervised location."""
+    for short in content.short:
+        supervised = ways[DIRECTIONS.index(short.direction)].supervised
+        rule = 11 if profile.number == 21 else 13
+        if (short.rule, short.site) != (rule, profile.site) or supervised is None or profile.reach is None:
+            continue
+        sign = _sign(short.direction)
+        length = metres(supervised - profile.reach)
+        title = (f"F{rule}: {length} are missing, from {sheet.place(profile.reach, short.direction)} "
+                 f"to {sheet.place(supervised, short.direction)}, {short.direction}")
+        left, right = sheet.rect("gap", title, (sign * profile.reach, sign * supervised), sheet.top, sheet.height)
+        words = f"F{rule}: {length}"
+        anchor = "ending" if right + len(words) * LETTER > (WIDTH - 4) * 10 else "begin"
+        sheet.text(f"red {anchor}", words, left - 30 if anchor == "ending" else right + 30, sheet.top + 12)
+
+
+def _missing(sheet: _Sheet, content: Content, ways: Sequence[Way], rule: int) -> None:
+    """A lane for a profile that the program has found missing, F10 or F12."""
+    found = [short for short in content.short if short.rule == rule]
+    if not found:
+        return
+    name = "no gradient" if rule == 10 else "no speed profile"
+    _lane(sheet, "gradient, ‰" if rule == 10 else "speed, km/h", GRADIENT_HEIGHT)
+    for short in found:
+        supervised = ways[DIRECTIONS.index(short.direction)].supervised
+        if supervised is not None:
+            title = f"F{rule}: {name} up to {sheet.place(supervised, short.direction)}, {short.direction}"
+            _, right = sheet.rect("gap", title, (0, _sign(short.direction) * supervised), sheet.top, sheet.height)
+            sheet.text("red begin", f"F{rule}: {name}", min(right + 30, (WIDTH - 110) * 10), sheet.top + 14)
+
+
+def _authority(sheet: _Sheet, authority: Authority, direction: str) -> None:
+    sign, top, begin = _sign(direction), sheet.top + 12, 0
+    cuts = [*authority.cuts, authority.end]
+    for place, cut in enumerate(cuts):
+        name = f"section {place}" if place < len(authority.cuts) else "end section"
+        title = f"{name}: {metres(cut - begin)}, to {sheet.place(cut, direction)}, {direction}"
+        left, right = sheet.rect(f"section{place % 2}", title, (sign * begin, sign * cut), top, 14)
+        sheet.inside("light", metres(cut - begin), left, right, top + 11)
+        begin = cut
+    if authority.overlap is not None:
+        length = metres(authority.overlap - authority.end)
+        sheet.rect("overlap", f"overlap: {length}, to {sheet.place(authority.overlap, direction)}, {direction}",
+                   (sign * authority.end, sign * authority.overlap), top, 14)
+    sheet.mark("end", f"end of the authority: {sheet.place(authority.end, direction)}, {direction}",
+               sign * authority.end, top - 4, 22)
+    labels = [f"end {metres(authority.end)}"]
+    if authority.danger_point is not None:
+        x = tenths(sheet.x(sign * authority.danger_point))
+        title = f"danger point: {sheet.place(authority.danger_point, direction)}, {direction}"
+        sheet.path("danger", title, f"M{x} {top - 1}l5 8l-5 8l-5 -8z")
+        labels.append(f"DP {metres(authority.danger_point)}")
+    if authority.overlap is not None:
+        labels.append(f"OL {metres(authority.overlap)}")
+    sheet.mark("supervised", f"supervised location: {sheet.place(authority.supervised, direction)}, {direction}",
+               sign * authority.supervised, top - 10, 34)
+    labels.append(f"SvL {metres(authority.supervised)}")
+    main = authority.form.get("v_main")
+    if main is not None:
+        labels.insert(0, f"V_MAIN {value_words('v_main', main, Around())}")
+    labels.insert(1, f"V_LOA {value_words('end_speed', authority.form['end_speed'], Around())}")
+    sheet.text("small begin" if sign > 0 else "small ending", "; ".join(labels), sheet.x(0), top + 28)
+
+
+def _axis(sheet: _Sheet, content: Content, start: int) -> None:
+    """Metres, and kilometres where the table has them; a line at the group."""
+    sheet.y += 8
+    base, step = sheet.y, _tick(sheet.greatest - sheet.least)
+    sheet.path("axis", "metres from the group", f"M{tenths(sheet.x(sheet.least))} {base}"
+               f"H{tenths(sheet.x(sheet.greatest))}")
+    sheet.path("group", "the infill's group" if content.infill else "the group",
+               f"M{tenths(sheet.x(0))} {start}V{base + 4}")
+    has_km = False
+    for place in range(-(-sheet.least // step) * step, sheet.greatest + 1, step):
+        direction = REVERSE if place < 0 else NOMINAL
+        sheet.mark("axis", "", place, base, 4)
+        sheet.text("tick", metres(abs(place)), sheet.x(place), base + 14)
+        km = sheet.kilometres.at(abs(place), direction)
+        if km is not None:
+            has_km = True
+            sheet.text("tick", kilometre(km), sheet.x(place), base + 25)
+    if has_km:
+        sheet.text("small", "km", 40, base + 25)
+    if sheet.least < 0:
+        sheet.text("small ending", "← reverse", sheet.x(0) - 60, start)
+        sheet.text("small begin", "nominal →", sheet.x(0) + 60, start)
+    sheet.y = base + (32 if has_km else 20)
+
+
+def _tick(length: int) -> int:
+    """A distance between ticks of 1, 2 or 5 times a power of ten, so that there are ten at most."""
+    power = 10
+    while True:
+        for step in (power, 2 * power, 5 * power):
+            if length // step < 11:
+                return step
+        power *= 10

@@ -1,0 +1,219 @@
+"""Where authorities and profiles of a group lie: whole decimetres from the group, in the direction of passage.
+
+The places are balisekit's own sums of the program's numbers. A place in kilometres needs the kilometre of the group's
+first balise, and whether the kilometres rise in nominal direction.
+"""
+from __future__ import annotations
+
+from dataclasses import dataclass
+from decimal import Decimal
+from typing import Dict, FrozenSet, Iterator, List, Mapping, Optional, Sequence, Tuple
+
+from balisekit.model import Group
+from balisekit.values import Form, unit_dm
+
+NOMINAL, REVERSE = "nominal", "reverse"
+DIRECTIONS = (NOMINAL, REVERSE)
+ELEMENT_KEYS: Mapping[int, Tuple[str, str, int]] = {21: ("d_gradient", "g_a", 255), 27: ("d_static", "v_static", 127)}
+"""Of each profile: the keys of distance and value, and the value that is its end mark."""
+
+
+@dataclass(frozen=True)
+class Site:
+    """Where a packet stands: its balise in the group, and its place in the telegram, both counted from 0."""
+
+    balise: int
+    packet: int
+
+
+@dataclass(frozen=True)
+class Authority:
+    """A movement authority, packet 12 or 15."""
+
+    site: Site
+    form: Form
+    cuts: Tuple[int, ...]
+    """Where each section but the end section ends."""
+    end: int
+    danger_point: Optional[int]
+    overlap: Optional[int]
+    """Where the overlap ends."""
+    timer_stops: Tuple[int, ...]
+    """Where the timers of sections stop, that of the end section last."""
+    end_timer: Optional[int]
+    overlap_timer: Optional[int]
+
+    @property
+    def supervised(self) -> int:
+        """The supervised location: the overlap's end, else the danger point, else the end of the authority."""
+        if self.overlap is not None:
+            return self.overlap
+        return self.end if self.danger_point is None else self.danger_point
+
+
+@dataclass(frozen=True)
+class Element:
+    """What holds from one place of a profile on. Without `end` it holds on and on."""
+
+    begin: int
+    end: Optional[int]
+    form: Form
+    value: int
+    """The value as it is sent."""
+
+
+@dataclass(frozen=True)
+class Profile:
+    """A gradient profile or a static speed profile, packet 21 or 27."""
+
+    site: Site
+    number: int
+    elements: Tuple[Element, ...]
+    """The elements before the first end mark."""
+    beyond: Tuple[Element, ...]
+    """The elements behind it, which say nothing."""
+    first: int
+    """Where the first element lies. The profile says nothing of the track before it."""
+    reach: Optional[int]
+    """Where the first end mark lies. A profile without one is open."""
+
+
+@dataclass(frozen=True)
+class Way:
+    """What a group or message says in one direction."""
+
+    direction: str
+    authorities: Tuple[Authority, ...]
+    gradients: Tuple[Profile, ...]
+    speeds: Tuple[Profile, ...]
+
+    @property
+    def supervised(self) -> Optional[int]:
+        """The greatest supervised location of all its authorities."""
+        return max((one.supervised for one in self.authorities), default=None)
+
+    def __bool__(self) -> bool:
+        return bool(self.authorities or self.gradients or self.speeds)
+
+
+@dataclass(frozen=True)
+class Kilometres:
+    """The kilometre of a group, and how the kilometres go: 1 if they rise in nominal direction, -1 if they fall."""
+
+    group: Optional[Decimal] = None
+    rising: Optional[int] = None
+
+    def at(self, place_dm: int, direction: str) -> Optional[Decimal]:
+        """The kilometre of a place, or None if it is not known."""
+        if self.group is None or (self.rising is None and place_dm != 0):
+            return None
+        along = (self.rising or 1) * (1 if direction == NOMINAL else -1)
+        return self.group + Decimal(along * place_dm).scaleb(-4)
+
+
+def kilometre(km: Decimal) -> str:
+    """A kilometre with three places behind the point, and more where it has more."""
+    places = -int(km.normalize().as_tuple().exponent)
+    return f"{km:.{max(3, places)}f}"
+
+
+def kilometres(group: Group) -> Kilometres:
+    """What the table says of the group's place: the kilometres of its balises, else the column `nominal`."""
+    known: Dict[int, Decimal] = {}
+    for aspect in group.aspects:
+        for place, row in enumerate(aspect.rows):
+            if row.km is not None:
+                known.setdefault(place, row.km)
+    along = [known[place] for place in sorted(known)]
+    rises = all(one <= other for one, other in zip(along, along[1:]))
+    falls = all(one >= other for one, other in zip(along, along[1:]))
+    if rises != falls:
+        return Kilometres(known.get(0), 1 if rises else -1)
+    words = {row.nominal for row in group.rows()} - {""}
+    rising = {"rising": 1, "falling": -1}.get(words.pop()) if rises and len(words) == 1 else None
+    return Kilometres(known.get(0), rising)
+
+
+def authority(site: Site, packet: Form) -> Authority:
+    """The places of a packet 12 or 15."""
+    unit, at = unit_dm(packet), 0
+    cuts: List[int] = []
+    stops: List[int] = []
+    for section in packet["sections"]:
+        if "section_timer" in section:
+            stops.append((at + section["section_timer"]["d_sectiontimerstoploc"]) * unit)
+        at += section["l_section"]
+        cuts.append(at * unit)
+    if "section_timer" in packet:
+        stops.append((at + packet["section_timer"]["d_sectiontimerstoploc"]) * unit)
+    end = at + packet["l_endsection"]
+
+    def beyond(part: str, key: str, sign: int = 1) -> Optional[int]:
+        return (end + sign * packet[part][key]) * unit if part in packet else None
+
+    return Authority(
+        site, packet, tuple(cuts), end * unit, beyond("danger_point", "d_dp"), beyond("overlap", "d_ol"), tuple(stops),
+        beyond("end_timer", "d_endtimerstartloc", -1), beyond("overlap", "d_startol", -1))
+
+
+def profile(site: Site, packet: Form) -> Profile:
+    """The places of a packet 21 or 27."""
+    distance, value, mark = ELEMENT_KEYS[packet["nid_packet"]]
+    unit, at = unit_dm(packet), 0
+    places: List[int] = []
+    for element in packet["elements"]:
+        at += element[distance] * unit
+        places.append(at)
+    ends: List[Optional[int]] = [*places[1:], None]
+    elements = [Element(place, end, element, element[value])
+                for place, end, element in zip(places, ends, packet["elements"])]
+    marks = [index for index, element in enumerate(elements) if element.value == mark]
+    before = marks[0] if marks else len(elements)
+    beyond = tuple(element for element in elements[before + 1:] if element.value != mark)
+    reach = places[before] if marks else None
+    return Profile(site, packet["nid_packet"], tuple(elements[:before]), beyond, places[0], reach)
+
+
+def is_silent(forms: Sequence[Form], balise: int, direction: str) -> bool:
+    """Whether a balise is passed behind the one that its duplicate flag names, whose packets are the same."""
+    flag = forms[balise].get("m_dup", 0)
+    if direction == NOMINAL:
+        return bool(flag == 2 and balise > 0)
+    return bool(flag == 1 and balise + 1 < len(forms))
+
+
+def holds(packet: Form, direction: str) -> bool:
+    """Whether a packet from track to train is for this direction. Packet 0, which has no Q_DIR, is for both."""
+    return packet.get("q_dir", 2) in (2, 1 if direction == NOMINAL else 0)
+
+
+def passed(forms: Sequence[Form], direction: str) -> Iterator[Tuple[Site, Form]]:
+    """The packets of a group for one direction in passing order, without those of silent balises."""
+    order = range(len(forms)) if direction == NOMINAL else range(len(forms) - 1, -1, -1)
+    for balise in order:
+        if not is_silent(forms, balise, direction):
+            for place, packet in enumerate(forms[balise]["packets"]):
+                if holds(packet, direction):
+                    yield Site(balise, place), packet
+
+
+def infill(forms: Sequence[Form], direction: str) -> FrozenSet[Site]:
+    """The packets that are passed behind a packet 136: their distances count from another group."""
+    behind, sites = False, set()
+    for site, packet in passed(forms, direction):
+        if behind:
+            sites.add(site)
+        behind = behind or packet["nid_packet"] == 136
+    return frozenset(sites)
+
+
+def way(forms: Sequence[Form], direction: str, of_infill: bool = False) -> Way:
+    """What the telegrams of a group say in one direction: of the group's own places, or of the infill's."""
+    elsewhere = infill(forms, direction)
+    packets = [(site, packet) for site, packet in passed(forms, direction) if (site in elsewhere) == of_infill]
+    profiles = [profile(site, packet) for site, packet in packets if packet["nid_packet"] in ELEMENT_KEYS]
+    return Way(
+        direction,
+        tuple(authority(site, packet) for site, packet in packets if packet["nid_packet"] in (12, 15)),
+        tuple(one for one in profiles if one.number == 21),
+        tuple(one for one in profiles if one.number == 27))

@@ -1,0 +1,130 @@
+"""Rows become groups and aspects, in the order of the table."""
+from __future__ import annotations
+
+import re
+from typing import Dict, Iterable, List, Sequence, Tuple
+
+from balisekit.errors import TableError, TableErrors
+from balisekit.model import Aspect, Group, Row
+
+EVERY = "*"
+"""In the column `aspect`: the balise sends this telegram in every aspect."""
+GREATEST_COUNT = 8
+
+
+def groups_of(rows: Sequence[Row], by_position: bool = False) -> Tuple[Tuple[Group, ...], Tuple[str, ...]]:
+    """The groups of these rows, and notes on names that look alike."""
+    blocks: Dict[str, List[Row]] = {}
+    last, faults = "", []
+    for row in rows:
+        if row.group in blocks and row.group != last:
+            earlier = blocks[row.group]
+            faults.append(TableError(f'group "{row.group}" is in rows {earlier[0].number} to {earlier[-1].number} '
+                                     "already: put its rows together", row=row.number, column="group"))
+        blocks.setdefault(row.group, []).append(row)
+        last = row.group
+    groups, notes = [], _alike(blocks)
+    for name, block in blocks.items():
+        try:
+            aspects, gaps = _aspects(name, block, by_position)
+            groups.append(Group(name, aspects))
+            notes += gaps
+        except TableError as fault:
+            faults.append(fault)
+    if faults:
+        raise TableErrors(faults)
+    return tuple(groups), tuple(notes)
+
+
+def _alike(names: Iterable[str]) -> List[str]:
+    """A note for names that differ in case or inner blanks alone."""
+    seen: Dict[str, str] = {}
+    notes = []
+    for name in names:
+        key = re.sub(r"\s+", " ", name).casefold()
+        if key in seen:
+            notes.append(f'groups "{seen[key]}" and "{name}" differ in case or blanks alone')
+        seen.setdefault(key, name)
+    return notes
+
+
+def _aspects(name: str, block: List[Row], by_position: bool) -> Tuple[Tuple[Aspect, ...], List[str]]:
+    names = list(dict.fromkeys(row.aspect for row in block if row.aspect != EVERY))
+    if len(names) > 1 and "" in names or names == [""] and any(row.aspect == EVERY for row in block):
+        empty = next(row for row in block if not row.aspect)
+        raise TableError("empty beside named aspects: write * for a telegram that is sent in every aspect",
+                         row=empty.number, column="aspect")
+    aspects, notes = [], []
+    for aspect in names or [""]:
+        rows, gaps = _order([row for row in block if row.aspect in (aspect, EVERY)])
+        aspects.append(Aspect(aspect, rows))
+        notes += gaps
+    _look_at_counts(name, aspects)
+    _look_at_places(aspects)
+    _look_at_nominal(block)
+    if not by_position:
+        _look_at_kilometres(aspects)
+    return tuple(aspects), notes
+
+
+def _order(rows: List[Row]) -> Tuple[Tuple[Row, ...], List[str]]:
+    """The balises of an aspect by the column `balise`, else by row."""
+    unnumbered = [row for row in rows if row.balise is None]
+    if unnumbered and len(unnumbered) < len(rows):
+        raise TableError("empty beside numbered balises", row=unnumbered[0].number, column="balise")
+    if unnumbered:
+        return tuple(rows), []
+    ordered = sorted(rows, key=lambda row: row.balise or 0)
+    numbers = [row.balise or 0 for row in ordered]
+    for before, row in zip(ordered, ordered[1:]):
+        if before.balise == row.balise:
+            raise TableError(f"row {before.number} has balise {row.balise} too", row=row.number, column="balise")
+    gap = numbers[-1] - numbers[0] + 1 != len(numbers)
+    shown = ", ".join(map(str, numbers))
+    return tuple(ordered), [f'group "{rows[0].group}": the balises are numbered {shown}'] if gap else []
+
+
+def _look_at_counts(name: str, aspects: List[Aspect]) -> None:
+    first = aspects[0]
+    for aspect in aspects:
+        count = len(aspect.rows)
+        if count > GREATEST_COUNT:
+            raise TableError(f'group "{name}" has {count} balises, and at most {GREATEST_COUNT} are possible: '
+                             "are they of several aspects?", row=aspect.rows[GREATEST_COUNT].number)
+        if count != len(first.rows):
+            raise TableError(f'aspect "{aspect.name}" of group "{name}" has {count} balises, and aspect '
+                             f'"{first.name}" has {len(first.rows)}', row=aspect.rows[0].number)
+
+
+def _look_at_places(aspects: List[Aspect]) -> None:
+    """A row that is in every aspect is at one place in all of them."""
+    places: Dict[int, int] = {}
+    for aspect in aspects:
+        for place, row in enumerate(aspect.rows):
+            if places.setdefault(row.number, place) != place:
+                raise TableError("its place differs between aspects: number the balises in the column balise",
+                                 row=row.number)
+
+
+def _look_at_nominal(block: List[Row]) -> None:
+    said = [row for row in block if row.nominal]
+    for row in said:
+        if row.nominal != said[0].nominal:
+            raise TableError(f"{row.nominal}, and row {said[0].number} of the group says {said[0].nominal}",
+                             row=row.number, column="nominal")
+
+
+def _look_at_kilometres(aspects: List[Aspect]) -> None:
+    """A balise has one kilometre, and those of a group rise or fall."""
+    for place in range(len(aspects[0].rows)):
+        first = None
+        for aspect in aspects:
+            row = aspect.rows[place]
+            if row.km is not None and first is not None and first.km != row.km:
+                raise TableError(f"{row.km}, and row {first.number}, the same balise, has {first.km}",
+                                 row=row.number, column="km")
+            first = first or (row if row.km is not None else None)
+    known = [row for row in aspects[0].rows if row.km is not None]
+    steps = [(after.km or 0) - (before.km or 0) for before, after in zip(known, known[1:])]
+    if any(step > 0 for step in steps) and any(step < 0 for step in steps):
+        raise TableError("the kilometres of the group rise and fall", row=known[-1].number, column="km")

@@ -1,0 +1,91 @@
+"""The data of a line as a table has it: rows, aspects, groups and messages."""
+from __future__ import annotations
+
+from dataclasses import dataclass
+from decimal import Decimal
+from typing import Iterator, Optional, Tuple
+
+
+@dataclass(frozen=True)
+class Row:
+    """One telegram of the table."""
+
+    number: int
+    """As a spreadsheet counts: the heading is row 1."""
+    group: str
+    """The group's name, with which lines about it begin."""
+    telegram: str
+    """The digits that are handed to the program."""
+    cell: str = ""
+    """What the table has in the telegram's cell."""
+    aspect: str = ""
+    balise: Optional[int] = None
+    """The number in the column `balise`, if the table has it."""
+    name: str = ""
+    """The balise's own name."""
+    km: Optional[Decimal] = None
+    track: str = ""
+    nominal: str = ""
+    """How the kilometres go in nominal direction: `rising`, `falling` or nothing."""
+
+
+@dataclass(frozen=True)
+class Aspect:
+    """One content of a group: its balises in nominal order."""
+
+    name: str
+    rows: Tuple[Row, ...]
+
+
+@dataclass(frozen=True)
+class Group:
+    """A balise group. One that no signal controls has one aspect."""
+
+    name: str
+    aspects: Tuple[Aspect, ...]
+
+    def rows(self) -> Iterator[Row]:
+        """All rows of the group. A row that stands in every aspect comes once for each."""
+        for aspect in self.aspects:
+            yield from aspect.rows
+
+
+@dataclass(frozen=True)
+class Table:
+    """A table as it was read."""
+
+    path: str
+    sha256: str
+    encoding: str
+    """`utf-8`, `utf-16`, `windows-1252` or `xlsx`."""
+    separator: str
+    passed_over: Tuple[str, ...]
+    """Headings of the columns that say nothing here."""
+    rows: Tuple[Row, ...]
+    """The table's rows in their order."""
+    groups: Tuple[Group, ...]
+    notes: Tuple[str, ...] = ()
+    """What the user should know of how the table was read."""
+
+
+@dataclass(frozen=True)
+class Message:
+    """One radio message of a file of messages."""
+
+    number: int
+    """The number of its line, counted from 1."""
+    text: str
+    """The digits that are handed to the program."""
+    cell: str = ""
+    """What the line has before the name."""
+    name: str = ""
+
+
+@dataclass(frozen=True)
+class Messages:
+    """A file of radio messages as it was read."""
+
+    path: str
+    sha256: str
+    encoding: str
+    messages: Tuple[Message, ...]

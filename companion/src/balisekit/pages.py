@@ -1,0 +1,33 @@
+"""Templates: the one place that imports jinja2."""
+from __future__ import annotations
+
+import base64
+import hashlib
+from pathlib import Path
+from typing import Any, Iterator
+
+from balisekit.errors import NoAnswer
+
+TEMPLATES = Path(__file__).with_name("templates")
+
+
+def pieces(template: str, **values: Any) -> Iterator[str]:
+    """The page in pieces, so that it never stands in memory whole. All values are escaped."""
+    try:
+        from jinja2 import Environment, FileSystemLoader, StrictUndefined
+    except ImportError as error:
+        raise NoAnswer("pictures and reports need jinja2 (Debian: python3-jinja2)") from error
+    environment = Environment(loader=FileSystemLoader(str(TEMPLATES)), autoescape=True, undefined=StrictUndefined,
+                              trim_blocks=True, lstrip_blocks=True)
+    yield from environment.get_template(template).generate(**values)
+
+
+def style(name: str) -> Any:
+    """A style sheet of the package, which is not escaped."""
+    from markupsafe import Markup
+    return Markup((TEMPLATES / name).read_text("utf-8"))
+
+
+def hash_of(text: str) -> str:
+    """The checksum by which a page's policy allows a style sheet."""
+    return "sha256-" + base64.b64encode(hashlib.sha256(text.encode("utf-8")).digest()).decode()

@@ -1,0 +1,95 @@
+"""Places in words: in metres from the group, and in kilometres where the table has them."""
+from __future__ import annotations
+
+from dataclasses import dataclass
+from typing import Callable, Dict, Iterator, Mapping, Tuple
+
+from balisekit.geometry import DIRECTIONS, ELEMENT_KEYS, Kilometres, NOMINAL, Site, authority, holds, kilometre, profile
+from balisekit.values import Form, metres, unit_dm
+
+Notes = Iterator[Tuple[str, str]]
+
+
+@dataclass(frozen=True)
+class Here:
+    """From where distances count: the group's kilometres. `elsewhere` has the packets that count from another group."""
+
+    kilometres: Kilometres = Kilometres()
+    elsewhere: Tuple[int, ...] = ()
+    """Packets of the telegram that are passed behind a packet 136, by their places in it."""
+
+    def place(self, place_dm: int, packet: Form) -> str:
+        """A place as "850 m, km 13.050", for a packet in both directions with the kilometre of either."""
+        ways = [direction for direction in DIRECTIONS if holds(packet, direction)]
+        known = [(direction, self.kilometres.at(place_dm, direction)) for direction in ways]
+        words = [f"km {kilometre(km)}" for _, km in known if km is not None]
+        if len(words) == 2:
+            words = words[:1] if words[0] == words[1] else [f"{words[0]} ({NOMINAL})", f"{words[1]} (reverse)"]
+        return ", ".join([metres(place_dm), *words])
+
+
+def place_notes(form: Form, here: Here) -> Dict[str, str]:
+    """What balisekit works out of a telegram or a message 3, by the path of the object that it is about."""
+    found: Dict[str, str] = {}
+    for index, packet in enumerate(form["packets"]):
+        there = Here() if index in here.elsewhere else here
+        path = f"/packets/{index}"
+        if packet["nid_packet"] in NOTES:
+            found.update((path + below, note) for below, note in NOTES[packet["nid_packet"]](packet, there))
+        if index in here.elsewhere:
+            found[path] = "; ".join(filter(None, ["infill: counted from the group of packet 136", found.get(path)]))
+    return found
+
+
+def _authority_notes(packet: Form, here: Here) -> Notes:
+    """Where sections end and timers stop, and where the authority ends."""
+    found = authority(Site(0, 0), packet)
+    stops = list(found.timer_stops)
+    for index, (section, cut) in enumerate(zip(packet["sections"], found.cuts)):
+        yield f"/sections/{index}", f"to {here.place(cut, packet)}"
+        if "section_timer" in section:
+            yield f"/sections/{index}/section_timer", f"stops at {here.place(stops.pop(0), packet)}"
+    if stops:
+        yield "/section_timer", f"stops at {here.place(stops[0], packet)}"
+    if found.end_timer is not None:
+        yield "/end_timer", f"starts at {here.place(found.end_timer, packet)}"
+    if found.danger_point is not None:
+        yield "/danger_point", f"at {here.place(found.danger_point, packet)}"
+    if found.overlap is not None and found.overlap_timer is not None:
+        yield "/overlap", (f"ends at {here.place(found.overlap, packet)}; "
+                           f"timer starts at {here.place(found.overlap_timer, packet)}")
+    yield "/l_endsection", (f"end of the authority at {here.place(found.end, packet)}; "
+                            f"supervised location at {here.place(found.supervised, packet)}")
+
+
+def _profile_notes(packet: Form, here: Here) -> Notes:
+    """Where each element begins, and how far the profile reaches."""
+    found = profile(Site(0, 0), packet)
+    distance = ELEMENT_KEYS[packet["nid_packet"]][0]
+    at = 0
+    for index, element in enumerate(packet["elements"]):
+        at += element[distance] * unit_dm(packet)
+        behind = found.reach is not None and index > len(found.elements)
+        word = "at" if index == len(found.elements) else "from"
+        yield f"/elements/{index}", f"{word} {here.place(at, packet)}{', behind the end' if behind else ''}"
+    yield "", ("no end mark: an open profile" if found.reach is None else f"reaches {here.place(found.reach, packet)}")
+
+
+def _linking_notes(packet: Form, here: Here) -> Notes:
+    """Where each group of a linking packet is."""
+    at = 0
+    for index, link in enumerate(packet["links"]):
+        at += link["d_link"] * unit_dm(packet)
+        yield f"/links/{index}", f"at {here.place(at, packet)}"
+
+
+def _level_notes(packet: Form, here: Here) -> Notes:
+    """Where the level changes."""
+    if packet["d_leveltr"] != 32_767:
+        yield "", f"at {here.place(packet['d_leveltr'] * unit_dm(packet), packet)}"
+
+
+NOTES: Mapping[int, Callable[[Form, Here], Notes]] = {
+    5: _linking_notes, 12: _authority_notes, 15: _authority_notes, 21: _profile_notes, 27: _profile_notes,
+    41: _level_notes,
+}

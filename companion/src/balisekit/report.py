@@ -1,0 +1,193 @@
+"""What a report is made of: the cover, the findings, and a block for each group and message."""
+from __future__ import annotations
+
+import os
+from dataclasses import dataclass
+from datetime import datetime, timezone
+from typing import Dict, Iterator, List, Mapping, Optional, Sequence, Tuple
+
+from balisekit import __version__
+from balisekit.check_command import finding_words, last_line
+from balisekit.checking import Checked, Place
+from balisekit.drawing import Picture
+from balisekit.explain import Explanation, explanations
+from balisekit.geometry import kilometre
+from balisekit.grammar import Finding
+from balisekit.model import Group, Row
+from balisekit.pictures import picture_of
+from balisekit.places import Here
+from balisekit.show_command import places_of_rows
+from balisekit.showing import text
+from balisekit.values import Form
+from balisekit.wording import (balise_words, clean, group_words, message_refused, message_words, telegram_refused)
+
+
+@dataclass(frozen=True)
+class Telegram:
+    """A telegram of a block."""
+
+    id: str
+    heading: str
+    digits: str
+    text: str
+    refused: str = ""
+    """The program's words, if it has refused the telegram."""
+
+
+@dataclass(frozen=True)
+class Told:
+    """A finding, and where the page has what it is about."""
+
+    words: str
+    line: str
+    target: str
+    rule: int
+
+
+@dataclass(frozen=True)
+class Block:
+    """A group, or a message."""
+
+    id: str
+    title: str
+    where: str
+    left_out: str
+    picture: Optional[Picture]
+    findings: Tuple[Told, ...]
+    telegrams: Tuple[Telegram, ...]
+
+
+@dataclass(frozen=True)
+class Cover:
+    """The first page."""
+
+    date: str
+    inputs: Tuple[Tuple[str, str, str], ...]
+    """Name, SHA-256 and what was read of each input."""
+    program: Tuple[Tuple[str, str], ...]
+    version: str
+    last_line: str
+    yes: bool
+    refused: Tuple[Tuple[str, str, str], ...]
+    """Of each refused telegram or message: where it is, the program's words, and its link."""
+    left_out: Tuple[Tuple[str, str], ...]
+    notes: Tuple[str, ...]
+
+
+def date() -> str:
+    """The time of the run, or of SOURCE_DATE_EPOCH."""
+    fixed = os.environ.get("SOURCE_DATE_EPOCH", "")
+    now = datetime.fromtimestamp(int(fixed), timezone.utc) if fixed.isdigit() else datetime.now(timezone.utc)
+    return now.strftime("%Y-%m-%d %H:%M UTC")
+
+
+def cover(checked: Checked) -> Cover:
+    """What the first page says."""
+    table, messages, program = checked.table, checked.messages, checked.program
+    read = f"{len(table.rows)} telegrams of {len(table.groups)} groups; {table.encoding}"
+    inputs = [(clean(table.path), table.sha256, read)]
+    if messages:
+        inputs.append((clean(messages.path), messages.sha256, f"{len(messages.messages)} radio messages"))
+    groups = {row.number: group for group in table.groups for row in group.rows()}
+    refused = [(f"{balise_words(groups.get(one.row.number), one.row)}: "
+                f"{telegram_refused(one.row.telegram, one.refusal)}", one.refusal.text, f"r{one.row.number}")
+               for one in checked.refused]
+    refused += [(f"message of {message_words(one.message)}: {message_refused(one.message.text, one.refusal)}",
+                 one.refusal.text, f"m{one.message.number}") for one in checked.refused_messages]
+    notes = [clean(note) for note in table.notes]
+    notes += [f"columns passed over: {', '.join(map(clean, table.passed_over))}"] if table.passed_over else []
+    notes += [f"{checked.not_looked_at} rows were not looked at"] if checked.not_looked_at else []
+    papers = [("file", clean(program.path)), ("SHA-256", program.sha256)]
+    papers += [(key, value) for key, value in program.about.items() if key != "program"]
+    papers += [] if program.about else [("version", "not a released program")]
+    return Cover(date(), tuple(inputs), tuple(papers), __version__, last_line(checked), checked.status == 0,
+                 tuple(refused), tuple((group_words(one.group), clean(one.why)) for one in checked.left_out),
+                 tuple(notes))
+
+
+def told(place: Place, ids: Dict[str, str]) -> Told:
+    """A finding with its link: to the balise's telegram where it names one, else to the block."""
+    if place.message is not None:
+        target = f"m{place.message.number}"
+    elif place.row is not None:
+        target = f"r{place.row.number}"
+    else:
+        target = ids[place.group.name] if place.group else ""
+    return Told(finding_words(place), place.finding.line, target, place.finding.rule)
+
+
+def group_ids(groups: Sequence[Group]) -> Dict[str, str]:
+    """The place of each group in the page."""
+    return {group.name: f"g{place}" for place, group in enumerate(groups)}
+
+
+def blocks(checked: Checked) -> Iterator[Block]:
+    """A block for each group, in the order of the table, and for each message."""
+    ids = group_ids(checked.table.groups)
+    by_group: Dict[str, List[Place]] = {}
+    by_message: Dict[int, List[Place]] = {}
+    for place in checked.findings:
+        if place.group is not None:
+            by_group.setdefault(place.group.name, []).append(place)
+        elif place.message is not None:
+            by_message.setdefault(place.message.number, []).append(place)
+    left_out = {one.group.name: one.why for one in checked.left_out}
+    kept = {group.name: group for group in checked.kept}
+    refused = {one.row.number: one.refusal for one in checked.refused}
+    for original in checked.table.groups:
+        group = kept.get(original.name, original)
+        numbers = {row.number for row in group.rows()}
+        forms = {number: checked.accepted[number].form for number in numbers if number in checked.accepted}
+        places = by_group.get(group.name, [])
+        findings: List[Finding] = [place.finding for place in places]
+        picture = picture_of(group, forms, findings) if len(forms) == len(numbers) else None
+        words = {number: (telegram_refused(_row(group, number).telegram, refused[number]), refused[number].text)
+                 for number in numbers if number in refused}
+        yield Block(ids[group.name], clean(group.name), _where(group), clean(left_out.get(group.name, "")), picture,
+                    tuple(told(place, ids) for place in places), tuple(_telegrams(group, forms, words)))
+    for one in checked.accepted_messages:
+        number = one.message.number
+        heading = f"message of {message_words(one.message)}"
+        shown = Telegram("", heading, one.message.text, text(one.form))
+        yield Block(f"m{number}", heading, "", "", None,
+                    tuple(told(place, ids) for place in by_message.get(number, [])), (shown,))
+    for bad in checked.refused_messages:
+        heading = f"message of {message_words(bad.message)}"
+        words_of = message_refused(bad.message.text, bad.refusal)
+        shown = Telegram("", f"{heading}: {words_of}", bad.message.text, "", bad.refusal.text)
+        yield Block(f"m{bad.message.number}", heading, "", "refused", None, (), (shown,))
+
+
+def _row(group: Group, number: int) -> Row:
+    return next(row for row in group.rows() if row.number == number)
+
+
+def _where(group: Group) -> str:
+    """The group's kilometre and track, and its rows."""
+    rows = list(group.rows())
+    km = rows[0].km
+    numbers = sorted(row.number for row in rows)
+    parts = [f"km {kilometre(km)}"] if km is not None else []
+    parts += [f"track {clean(rows[0].track)}"] if rows[0].track else []
+    return ", ".join([*parts, f"rows {numbers[0]} to {numbers[-1]} of the table"])
+
+
+def _telegrams(group: Group, forms: Mapping[int, Form], refused: Mapping[int, Tuple[str, str]]) -> Iterator[Telegram]:
+    """Each row once, in the order of the table."""
+    for number, here in places_of_rows(group, forms).items():
+        row = _row(group, number)
+        yield _telegram(group, row, forms.get(number), refused.get(number), here)
+
+
+def _telegram(group: Group, row: Row, form: Optional[Form], refused: Optional[Tuple[str, str]], here: Here) -> Telegram:
+    heading, id = balise_words(group, row), f"r{row.number}"
+    if form is not None:
+        return Telegram(id, heading, clean(row.telegram), text(form, here))
+    sentence, words = refused or ("not looked at", "")
+    return Telegram(id, f"{heading}: {sentence}", clean(row.telegram), "", words)
+
+
+def explained(checked: Checked) -> List[Explanation]:
+    """What docs/FINDINGS.md says of each rule that has a finding."""
+    known = explanations()
+    return [known[rule] for rule in sorted({place.finding.rule for place in checked.findings})]

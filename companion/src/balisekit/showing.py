@@ -1,0 +1,116 @@
+"""A telegram or radio message in words: each number of the program's JSON with its name, unit and raw value.
+
+Lines are made by going through the JSON itself, so nothing of it is left out. What follows ` = ` is balisekit's own.
+"""
+from __future__ import annotations
+
+import textwrap
+from dataclasses import dataclass
+from typing import Any, Iterator, List, Mapping, Tuple, Union
+
+from balisekit.places import Here, place_notes
+from balisekit.values import Around, Form, ORDER, value_words, variable_name
+
+WIDTH = 118
+LABEL_WIDTH = 22
+LABELS: Mapping[str, str] = {
+    "packets": "packet", "links": "link", "sections": "section", "elements": "element", "differences": "difference",
+    "transitions": "choice", "section_timer": "section timer", "end_timer": "end timer", "danger_point": "danger point",
+}
+LEGEND = (
+    "Raw values are in square brackets. Packets and their items are counted from 0, as in the program's lines. "
+    "What follows a = is worked out by balisekit: places are sums of distances, counted from the group.")
+
+
+@dataclass(frozen=True)
+class Shown:
+    """One value of the JSON."""
+
+    path: str
+    """Where the JSON has it: `/packets/1/q_dir`."""
+    name: str
+    """The standard's name of the variable."""
+    words: str
+    """The value with its unit or name; empty where the number says all."""
+    raw: Union[int, str]
+
+    def __str__(self) -> str:
+        return f"{self.name} {self.words} [{self.raw}]" if self.words else f"{self.name} {self.raw}"
+
+
+@dataclass(frozen=True)
+class Line:
+    """Some values under one label, and what balisekit works out of them."""
+
+    depth: int
+    label: str
+    values: Tuple[Shown, ...]
+    note: str = ""
+
+
+def form_lines(form: Form, here: Here = Here()) -> List[Line]:
+    """The lines of a telegram, or of a radio message."""
+    is_message = "nid_message" in form
+    around = Around(from_track=form.get("nid_message") != 136)
+    notes = place_notes(form, here) if around.from_track else {}
+    return list(_lines("message" if is_message else "header", 0, form, "", around, notes))
+
+
+def _lines(label: str, depth: int, form: Form, path: str, around: Around, notes: Mapping[str, str]) -> Iterator[Line]:
+    """The lines of an object: its values up to its first part, that part, and so on."""
+    inner = Around(form if "nid_packet" in form else around.packet, form, around.from_track)
+    anchor = path
+    values: List[Shown] = []
+    for key in sorted(form, key=lambda one: (ORDER.get(one, len(ORDER)), one)):
+        value, below = form[key], f"{path}/{key}"
+        is_part = isinstance(value, (list, dict))
+        if values and (is_part or key == "l_endsection"):
+            yield Line(depth, label, tuple(values), notes.get(anchor, ""))
+            label, anchor, values = "", "", []
+        if is_part:
+            for name, place, item in _items(LABELS.get(key, key), below, value):
+                yield from _lines(name, depth + 1, item, place, inner, notes)
+            continue
+        if key == "l_endsection":
+            label, anchor, depth = "end section", below, depth + 1
+        values.append(Shown(below, variable_name(key, form), value_words(key, value, inner), value))
+    if values:
+        yield Line(depth, label, tuple(values), notes.get(anchor, ""))
+
+
+def _items(name: str, path: str, value: Any) -> Iterator[Tuple[str, str, Form]]:
+    """The label, the place and the object of each item of a list, or of the one object."""
+    if isinstance(value, dict):
+        yield name, path, value
+        return
+    for place, item in enumerate(value):
+        yield f"{name} {place}", f"{path}/{place}", item if isinstance(item, dict) else {name: item}
+
+
+def text_of(line: Line) -> str:
+    """The line as text, broken where it is too long. A break never parts a name from its raw value."""
+    label = f"{'  ' * line.depth}{line.label}"
+    first = f"{label:<{LABEL_WIDTH}}" if len(label) < LABEL_WIDTH else f"{label} "
+    said = first
+    lines: List[str] = []
+    fresh = True
+    for value in map(str, line.values):
+        if not fresh and len(said) + 2 + len(value) > WIDTH:
+            lines.append(said)
+            said, fresh = " " * LABEL_WIDTH, True
+        said += value if fresh else f"  {value}"
+        fresh = False
+    if line.note:
+        if len(said) + 4 + len(line.note) > WIDTH:
+            lines.append(said)
+            *full, said = textwrap.wrap(f"= {line.note}", WIDTH, initial_indent=" " * LABEL_WIDTH,
+                                        subsequent_indent=" " * (LABEL_WIDTH + 2))
+            lines.extend(full)
+        else:
+            said += f"  = {line.note}"
+    return "\n".join([*lines, said])
+
+
+def text(form: Form, here: Here = Here()) -> str:
+    """A telegram, or a radio message, as text of several lines."""
+    return "\n".join(map(text_of, form_lines(form, here)))

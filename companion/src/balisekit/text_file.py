@@ -1,0 +1,42 @@
+"""The text of a file whose encoding it does not say."""
+from __future__ import annotations
+
+from typing import Tuple
+
+from balisekit.errors import TableError
+
+ZEROS_WITHIN = 100
+"""UTF-16 without a mark is known by the zeros among so many bytes."""
+
+
+def text_of(content: bytes) -> Tuple[str, str]:
+    """The text, and the name of its encoding."""
+    text, encoding = _decoded(content)
+    if "\0" in text:
+        raise TableError(f"a NUL stands at character {text.index(chr(0)) + 1}: it is no table of text")
+    return text, encoding
+
+
+def _decoded(content: bytes) -> Tuple[str, str]:
+    if content.startswith((b"\xff\xfe\0\0", b"\0\0\xfe\xff")):
+        raise TableError("it is UTF-32: save it as UTF-8")
+    if content.startswith((b"\xff\xfe", b"\xfe\xff")):
+        return _strict(content, "utf-16"), "utf-16"
+    head = content[:ZEROS_WITHIN]
+    if len(head) > 3 and not any(head[1::2]) and all(head[::2]):
+        return _strict(content, "utf-16-le"), "utf-16"
+    if len(head) > 3 and not any(head[::2]) and all(head[1::2]):
+        return _strict(content, "utf-16-be"), "utf-16"
+    try:
+        return content.decode("utf-8-sig"), "utf-8"
+    except UnicodeDecodeError:
+        return _strict(content, "cp1252"), "windows-1252"
+
+
+def _strict(content: bytes, encoding: str) -> str:
+    try:
+        return content.decode(encoding)
+    except UnicodeDecodeError as error:
+        byte = content[error.start]
+        known = "it is neither UTF-8 nor Windows-1252" if encoding == "cp1252" else "it begins as UTF-16, and is none"
+        raise TableError(f"{known}: byte {byte:02x} at {error.start}: save it as UTF-8") from error

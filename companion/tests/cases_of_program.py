@@ -1,0 +1,51 @@
+"""The cases of tests/cases and of examples: a text, and what the program writes for it."""
+from __future__ import annotations
+
+import subprocess
+import sys
+from pathlib import Path
+from typing import Any, Dict, Iterator, List, NamedTuple, Tuple, Union
+
+TOP = Path(__file__).resolve().parents[2]
+
+
+class Case(NamedTuple):
+    """An input line of `decode`, and the line that is written for it."""
+
+    name: str
+    text: str
+    answer: str
+
+
+def _cases() -> Iterator[Case]:
+    words = [sys.executable, "-B", str(TOP / "tests" / "cases.py")]
+    for line in subprocess.run(words, stdout=subprocess.PIPE, check=True).stdout.decode().splitlines():
+        name, text, answer = line.split("\t")
+        yield Case(name, text, answer)
+
+
+def _examples(radio: bool) -> Iterator[Case]:
+    for path in sorted((TOP / "examples").glob("*.txt")):
+        answers = path.with_suffix(".json")
+        if path.name.startswith("radio-") == radio and answers.exists():
+            texts, lines = path.read_text().split(), answers.read_text().splitlines()
+            assert len(texts) == len(lines)
+            for text, line in zip(texts, lines):
+                yield Case(path.name, text, line)
+
+
+CASES: List[Case] = list(_cases())
+EXAMPLES: Dict[bool, List[Case]] = {radio: list(_examples(radio)) for radio in (False, True)}
+"""The cases of `examples`, by whether they are radio messages."""
+
+
+def value_at(form: Any, path: str = "") -> Iterator[Tuple[str, Union[int, str]]]:
+    """Each value of an object with its path."""
+    if isinstance(form, dict):
+        for key in form:
+            yield from value_at(form[key], f"{path}/{key}")
+    elif isinstance(form, list):
+        for place, item in enumerate(form):
+            yield from value_at(item, f"{path}/{place}")
+    else:
+        yield path, form

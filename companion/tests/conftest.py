@@ -1,0 +1,50 @@
+"""What the tests share: the program, rooms with tables, and runs of the command line."""
+from __future__ import annotations
+
+from pathlib import Path
+from typing import Callable, List, Tuple
+
+import pytest
+
+from balisekit import cli
+from balisekit.program import Program
+
+try:
+    from hypothesis import settings
+    settings.register_profile("gate", derandomize=True, deadline=None, database=None, max_examples=100)
+    settings.load_profile("gate")
+except ImportError:
+    pass
+
+Answer = Tuple[int, List[str], List[str]]
+"""A status, and the lines of standard output and standard error."""
+Run = Callable[..., Answer]
+
+
+@pytest.fixture(scope="session")
+def program() -> Program:
+    """The program under test."""
+    return Program.find()
+
+
+@pytest.fixture
+def run(capsys: pytest.CaptureFixture[str]) -> Run:
+    """Runs words of the command line."""
+    def one(*words: object) -> Answer:
+        try:
+            status = cli.main([str(word) for word in words])
+        except SystemExit as ended:
+            status = int(ended.code or 0)
+        said = capsys.readouterr()
+        return status, said.out.splitlines(), said.err.splitlines()
+    return one
+
+
+@pytest.fixture
+def table(tmp_path: Path) -> Callable[..., Path]:
+    """Writes a table of these lines, or bytes."""
+    def write(*lines: str, content: bytes = b"", name: str = "table.csv") -> Path:
+        path = tmp_path / name
+        path.write_bytes(content or "".join(f"{line}\n" for line in lines).encode())
+        return path
+    return write

@@ -1,0 +1,14 @@
+"""Telegrams and messages that tests use."""
+from __future__ import annotations
+
+ONES = "f" * 38
+ALONE = f"a1007f802000ff{ONES}c0"
+"""Group 1 of country 1, a single balise."""
+OTHER = f"a1007f802001ff{ONES}c0"
+"""Group 2."""
+FIRST, SECOND = f"a102ff802000ff{ONES}c0", f"a1137f802000ff{ONES}c0"
+"""A pair of duplicates."""
+SPARE = f"a101ff802000ff{ONES}c0"
+FAULTY = "a1007f802000c15022a0d4800151402b80d9000105083e87ffffc0"
+"""Q_DIR of its second packet is 3."""
+MESSAGE = "03048000001900080021e810901ff801f400"

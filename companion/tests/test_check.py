@@ -1,0 +1,177 @@
+"""`balisekit check` from outside: what it says, its statuses, and that no yes is said of a part."""
+from __future__ import annotations
+
+import json
+import os
+import subprocess
+import sys
+from pathlib import Path
+from typing import Callable, List
+
+import pytest
+
+import line_table
+from balisekit import checking, explain
+from balisekit.program import Program
+from conftest import Run
+from telegrams import ALONE, FAULTY, FIRST, MESSAGE, OTHER, SECOND, SPARE
+
+Write = Callable[..., Path]
+TOP = Path(__file__).resolve().parents[2]
+HEADING = "group,name,km,aspect,telegram"
+SOUND = [HEADING, f"Signal A,A1,13.850,,{FIRST}", f"Signal A,A2,13.853,,{SECOND}", f"Signal B,B1,15,,{OTHER}"]
+YES = "program: yes: groups 2, messages 0"
+
+
+def test_yes(run: Run, table: Write) -> None:
+    path = table(*SOUND)
+    assert run("check", path) == (0, [f"{path}: 3 telegrams of 2 groups", YES], [])
+
+
+def test_findings(run: Run, table: Write) -> None:
+    status, out, _ = run("check", table(*SOUND, f"Signal C,C1,16,,{OTHER}"))
+    assert status == 1 and out[1:] == [
+        "row 5  Signal C  km 16.000: identity used before by row 4  Signal B  km 15.000",
+        "    program: F14 group 2: identity used before", "program: no: findings 1"]
+
+
+def test_refused(run: Run, table: Write) -> None:
+    status, out, _ = run("check", table(HEADING, f"A,A1,13.850,green,{FAULTY}", f"B,,,,{ALONE}"))
+    assert status == 2 and out[1:] == [
+        'row 2  A  km 13.850  aspect "green"  balise 0 "A1": Q_DIR of packet 21 (second packet) is 3, which is spare',
+        "    program: spare at 127 end 129", "left out: row 2  A  km 13.850: refused: row 2",
+        "INCOMPLETE: 1 of 2 telegrams refused, 1 of 2 groups left out"]
+
+
+def test_all_refused_and_nothing_is_checked(run: Run, table: Write, tmp_path: Path) -> None:
+    status, out, _ = run("check", table(HEADING, f"A,,,,{SPARE}"), "--json", tmp_path / "out.json")
+    answer = json.loads((tmp_path / "out.json").read_text())
+    assert status == 2 == answer["status"] and answer["rest"] is None and "verdict" not in answer
+    assert not any("yes:" in line for line in out)
+
+
+def test_a_yes_of_the_rest_is_none(run: Run, table: Write, tmp_path: Path) -> None:
+    status, out, _ = run("check", table(*SOUND, f"Signal C,,,,{SPARE}"), "--json", tmp_path / "out.json")
+    assert status == 2 and out[-1].startswith("INCOMPLETE: ") and not any("yes:" in line for line in out)
+    assert json.loads((tmp_path / "out.json").read_text())["rest"] == "yes: groups 2, messages 0"
+
+
+def test_messages(run: Run, table: Write) -> None:
+    path = table(*SOUND)
+    radio = table(f"{MESSAGE};to train 7", f"{MESSAGE[:-2]};cut", "0400c0", MESSAGE[1:], name="messages.txt")
+    status, out, _ = run("check", path, "--messages", radio)
+    assert status == 2 and out[1:3] == ["line 2  cut: L_MESSAGE is 18, but the message has 17 bytes",
+                                        "    program: length at 8 end 18"]
+    assert "line 3: NID_MESSAGE is 4; 3 and 136 are read" in out
+    odd = "line 4: it has 35 digits, an odd number: a digit is missing, or one too many; a message 3 begins with 03"
+    assert odd in out
+    assert "message of line 1  to train 7  nominal: no gradient" in out
+    assert out[-1] == "INCOMPLETE: 0 of 3 telegrams refused, 3 of 4 messages refused, 0 of 2 groups left out"
+
+
+def test_by_position(run: Run, table: Write) -> None:
+    path = table(HEADING, f"A,,,,{SECOND}", f"A,,,,{FIRST}")
+    assert run("check", path)[0] == 1
+    status, out, _ = run("check", path, "--by-position")
+    assert (status, out[1:]) == (0, ["balises are ordered by N_PIG, as --by-position says",
+                                     "program: yes: groups 1, messages 0"])
+
+
+@pytest.mark.parametrize("telegram, said, program", [
+    ("0" * 86, "it is coded (341 bits in 86 digits): export user bits", "wrong size"),
+    ("0" * 256, "it is coded (1023 bits in 256 digits): export user bits", "wrong size"),
+    ("0" * 50, "it has 50 digits: a short telegram has 54, a long one 208", "wrong size"),
+    (ALONE[:-1], "it has 53 digits, an odd number: a digit is missing, or one too many", "not hexadecimal"),
+    ("O" + ALONE[1:], 'character 1 is "O", no hexadecimal digit', "not hexadecimal"),
+    ("\u0430" + ALONE[1:], 'character 1 is "\u0430" (U+0430), no hexadecimal digit', "not hexadecimal"),
+    (ALONE[:-1] + "1", "the last 6 bits are not all 0: the text has to end with zeros", "pad bits set"),
+    ("90" + ALONE[2:], "M_VERSION is 16 (1.0); 32 (2.0) and 33 (2.1) are read", "version at 1 end 8"),
+    ("a180" + ALONE[4:], "Q_MEDIA is 1: it is for a loop, not for a balise", "loop at 8 end 9"),
+    ("2" + ALONE[1:], "Q_UPDOWN is 0: it goes from train to track", "down-link at 0 end 1"),
+    (SPARE, "M_DUP is 3, which is spare", "spare at 15 end 17"),
+    ("a1007f802000c5501bc0001fe0".ljust(52, "f") + "c0",
+     "L_PACKET of packet 21 (first packet) is 55, but its fields have 54 bits", "length at 60 end 104"),
+    ("a1007f802000cb200b".ljust(54, "0"),
+     "L_PACKET of packet 44 (first packet) is 22, less than the 23 bits of its head", "length at 60 end 73"),
+    ("a1007f802000cb2050".ljust(54, "0"), "no packet 255 behind packet 44: the packets end at bit 210",
+     "no end at 210 end 210"),
+    ("a1007f802000cb205080".ljust(54, "0"), "body of packet 44 (first packet) needs 138 bits, and 137 are left",
+     "short at 73 end 210")])
+def test_refusals_in_sentences(run: Run, table: Write, telegram: str, said: str, program: str) -> None:
+    status, out, _ = run("check", table("group,telegram", f"A,{telegram}"))
+    assert status == 2 and out[1].startswith(f"row 2  A  balise 0: {said}") and out[2] == f"    program: {program}"
+
+
+@pytest.mark.parametrize("name, shown", [
+    ("<script>alert(1)</script>", "<script>alert(1)</script>"), ("a & 'b'", "a & 'b'"), ("=1+1", "=1+1"),
+    ("a\x1b[2Jb", "a\\x1b[2Jb"), ("a\u202eb", "a\\u202eb"), ("\ufeffx", "\\ufeffx")])
+def test_names_are_safe_to_show(run: Run, table: Write, name: str, shown: str) -> None:
+    _, out, _ = run("check", table("group,telegram", f"{name},{SPARE}"))
+    assert out[1].startswith(f"row 2  {shown}  balise 0: ")
+
+
+def test_document(run: Run, table: Write, tmp_path: Path, program: Program) -> None:
+    run("check", table("group,aspect,telegram", f"A,x,{ALONE}", f"A,y,{ALONE}", f"B,,{OTHER}"),
+        "--document", tmp_path / "line.json")
+    document = json.loads((tmp_path / "line.json").read_text())
+    assert document == {"groups": [{"aspects": [{"balises": [ALONE]}, {"balises": [ALONE]}]}, {"balises": [OTHER]}],
+                        "messages": []}
+
+
+def test_explain_is_what_the_document_says(run: Run, table: Write) -> None:
+    text = (TOP / "docs" / "FINDINGS.md").read_text("utf-8")
+    assert {int(rule): parts for rule, parts in json.loads(
+        Path(explain.__file__).with_name("findings.json").read_text("utf-8")).items()} == explain.of_document(text)
+    assert all(all(vars(one).values()) for one in explain.explanations().values())
+    _, out, _ = run("check", table(*SOUND, f"C,,,,{OTHER}"), "--explain")
+    assert "F14: identity used before" in out and any("How to correct it. Give one" in line for line in out)
+
+
+def test_after_too_many_refused(run: Run, table: Write, monkeypatch: pytest.MonkeyPatch) -> None:
+    monkeypatch.setattr(checking, "GREATEST_REFUSED", 3)
+    rows = [f"G{place},{SPARE}" for place in range(5)]
+    status, out, _ = run("check", table("group,telegram", *rows))
+    assert status == 2
+    assert out[-1] == "INCOMPLETE: 3 of 5 telegrams refused, 5 of 5 groups left out, 2 rows not looked at"
+    assert run("check", table("group,telegram", *rows), "--all")[1][-1].startswith("INCOMPLETE: 5 of 5 telegrams")
+
+
+@pytest.mark.parametrize("target", ["folder", "none/file", "device"])
+def test_targets_that_cannot_be_written(run: Run, table: Write, tmp_path: Path, target: str) -> None:
+    (tmp_path / "folder").mkdir()
+    path = Path("/dev/full") if target == "device" else tmp_path / target
+    status, out, err = run("check", table(*SOUND), "--json", path)
+    assert (status, out, len(err)) == (3, [], 1) and err[0].startswith(f"balisekit: {path}: ")
+
+
+def test_nothing_half_written(run: Run, table: Write, tmp_path: Path) -> None:
+    run("check", table("group,telegram", ",00"), "--json", tmp_path / "out.json")
+    run("check", table(*SOUND), "--program", "/bin/false", "--document", tmp_path / "line.json")
+    assert sorted(path.name for path in tmp_path.iterdir()) == ["table.csv"]
+
+
+def test_no_program(run: Run, table: Write) -> None:
+    status, out, err = run("check", table(*SOUND), "--program", "/bin/false")
+    assert (status, out, err) == (3, [], ["balisekit: /bin/false is not the program that this version knows"])
+
+
+def test_wrong_words(run: Run) -> None:
+    assert run("check")[0] == run("nothing")[0] == 2 and run("--help")[0] == 0
+
+
+def test_example(run: Run, monkeypatch: pytest.MonkeyPatch, program: Program) -> None:
+    monkeypatch.chdir(TOP)
+    status, out, _ = run("check", "examples/table/line.csv")
+    assert status == 2 and out == (TOP / "examples/table/line.txt").read_text("utf-8").splitlines()
+    assert line_table.table(program) == line_table.LINE.read_text("utf-8")
+
+
+def test_start_script(table: Write, tmp_path: Path) -> None:
+    link = tmp_path / "link"
+    os.symlink(TOP / "balisekit", link)
+    words: List[str] = [sys.executable, str(link), "check", str(table(*SOUND))]
+    done = subprocess.run(words, cwd=tmp_path, stdout=subprocess.PIPE, check=False)
+    assert (done.returncode, done.stdout.decode().splitlines()[-1]) == (0, YES)
+    with open("/dev/full", "wb") as full:
+        done = subprocess.run(words, stdout=full, stderr=subprocess.PIPE, check=False)
+    assert done.returncode == 3 and b"Traceback" not in done.stderr

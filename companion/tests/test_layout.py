@@ -1,0 +1,59 @@
+"""The walk of the bits, held against every case: where a refusal points, and which numbers the JSON has."""
+from __future__ import annotations
+
+import json
+
+import pytest
+
+from balisekit import grammar, layout
+from cases_of_program import CASES, EXAMPLES, value_at
+
+REFUSED = [case for case in CASES if case.answer.startswith("refused: ") and " at " in case.answer]
+ACCEPTED = [case for case in CASES if not case.answer.startswith("refused: ")]
+
+
+def test_there_are_cases() -> None:
+    """The cases have not gone."""
+    assert len(REFUSED) > 2000 and len(ACCEPTED) > 1000
+
+
+def test_a_refusal_points_at_a_field() -> None:
+    """The place of each refusal is the beginning of a field, and its end that of the field where it decides alone."""
+    for case in REFUSED:
+        refusal = grammar.refusal("decode", case.answer)
+        assert refusal is not None and refusal.at is not None and refusal.end is not None
+        bits = layout.user_bits(case.text)
+        fields = {field.at: field for field in layout.telegram_fields(bits)}
+        if refusal.why == "no end":
+            assert refusal.at in fields or refusal.at == len(bits), case
+            continue
+        field = fields[refusal.at]
+        if refusal.why in ("spare", "version", "loop", "down-link"):
+            assert field.at + field.width == refusal.end, case
+        elif refusal.why == "length":
+            assert field.name == "L_PACKET", case
+        else:
+            assert refusal.why == "short" and not field.whole, case
+
+
+@pytest.mark.parametrize("radio", [False, True])
+def test_numbers_are_those_of_the_json(radio: bool) -> None:
+    """Each number of the JSON is a field's, and each field that the JSON writes has its number."""
+    cases = EXAMPLES[True] if radio else [*ACCEPTED, *EXAMPLES[False]]
+    assert cases
+    for case in cases:
+        form = json.loads(case.answer)
+        walk = layout.message_fields(layout.bits_of(case.text)) if radio else layout.telegram_fields(
+            layout.user_bits(case.text))
+        found = {}
+        for field in walk:
+            rest = field.digits
+            for path, width in field.parts:
+                found[path], rest = rest[:width], rest[width:]
+        numbers = {path: int(digits, 2) for path, digits in found.items() if not path.endswith("/body")}
+        wanted = {path: value for path, value in value_at(form) if isinstance(value, int)}
+        assert numbers == {path: value for path, value in wanted.items() if path != "/user_bits"}, case
+        for path, digits in found.items():
+            if path.endswith("/body"):
+                body = dict(value_at(form))[path]
+                assert layout.bits_of(str(body), len(digits)) == digits, case

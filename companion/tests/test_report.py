@@ -1,0 +1,161 @@
+"""`draw` and `report`: pictures that are well formed, pages that name all that the program said, and hostile names."""
+from __future__ import annotations
+
+import csv
+import hashlib
+import json
+import os
+import re
+import xml.etree.ElementTree as ElementTree
+from html.parser import HTMLParser
+from pathlib import Path
+from typing import Any, Dict, List, Optional, Tuple
+
+import pytest
+
+from balisekit import cli
+from balisekit.geometry import Kilometres
+from balisekit.drawing import Content, draw
+from balisekit.premises import of_document, premises
+from balisekit.values import metres
+from cases_of_program import TOP
+
+LINE = TOP / "examples" / "table" / "line.csv"
+HEADER = "a1007f802000" + "f" * 40 + "c0"
+HOSTILE = '<script>alert(1)</script>&"\'\x07\x1b[2J\u202e=1+1'
+ATTRIBUTES = {"id", "class", "href", "lang", "charset", "http-equiv", "content", "name", "aria-hidden", "role", "x",
+              "y", "width", "height", "viewbox", "d", "fill", "stroke", "stroke-width", "patternunits", "cx", "cy", "r"}
+
+
+class _Page(HTMLParser):
+    """The tags of a page, its texts and its links."""
+
+    def __init__(self, page: str) -> None:
+        super().__init__()
+        self.tags: List[Tuple[str, Dict[str, Optional[str]]]] = []
+        self.texts: List[str] = []
+        self.feed(page)
+        self.close()
+
+    def handle_starttag(self, tag: str, attrs: List[Tuple[str, Optional[str]]]) -> None:
+        """Notes a tag with its attributes."""
+        self.tags.append((tag, dict(attrs)))
+
+    def handle_data(self, data: str) -> None:
+        """Notes a text."""
+        self.texts.append(data)
+
+
+def _report(table: Path, target: Path, *words: str) -> Tuple[int, str]:
+    status = cli.main(["report", str(table), "--html", str(target), *words])
+    return status, target.read_text("utf-8")
+
+
+def _table(path: Path, *rows: Dict[str, str]) -> Path:
+    with open(path, "w", newline="", encoding="utf-8") as file:
+        writer = csv.DictWriter(file, ["group", "name", "km", "aspect", "telegram"], restval="")
+        writer.writeheader()
+        writer.writerows(rows)
+    return path
+
+
+def test_the_page_has_all_that_was_said(tmp_path: Path, capsys: pytest.CaptureFixture[str]) -> None:
+    """Verdict, checksums, each line of the program, each balise, and a link from each finding that leads somewhere."""
+    status, page = _report(LINE, tmp_path / "report.html")
+    assert status == cli.main(["check", str(LINE)])
+    said = capsys.readouterr().out.splitlines()
+    seen = _Page(page)
+    text = "".join(seen.texts)
+    for line in said[1:]:
+        assert line.strip().replace("program: ", "").replace("left out: ", "") in text, line
+    assert hashlib.sha256(LINE.read_bytes()).hexdigest() in text
+    assert text.count("presented by balisekit, which is not proved; the program's own lines are quoted in full") == 1
+    ids = [attributes["id"] for _, attributes in seen.tags if "id" in attributes]
+    links = {(attributes["href"] or "")[1:] for tag, attributes in seen.tags if tag == "a"}
+    assert len(ids) == len(set(ids)) and links <= set(ids) and len(links) > 3
+    with open(LINE, encoding="utf-8") as file:
+        for number, row in enumerate(csv.DictReader(file), 2):
+            assert f"r{number}" in ids and row["telegram"] in text
+    assert not re.search(r"https?://(?!www\.w3\.org/2000/svg)|<script|<img|<link", page)
+
+
+def test_a_yes_and_an_empty_refusal(tmp_path: Path) -> None:
+    """A table without findings, and one of which nothing can be read."""
+    status, page = _report(_table(tmp_path / "t.csv", {"group": "A", "telegram": HEADER}), tmp_path / "r.html")
+    assert status == 0 and "program: yes: groups 1, messages 0" in page
+    status, page = _report(_table(tmp_path / "t.csv", {"group": "A", "telegram": "a1" * 27}), tmp_path / "r.html")
+    assert status == 2 and "INCOMPLETE: 1 of 1 telegrams refused" in page and "yes: groups" not in page
+
+
+def test_names_do_no_harm(tmp_path: Path) -> None:
+    """A name is text: no tag, no attribute and no control character comes of it, in a page and in a picture."""
+    name = HOSTILE.replace("\x1b", "").replace("\x07", "")
+    table = _table(tmp_path / "t.csv", {"group": name, "name": name, "aspect": name, "telegram": HEADER})
+    _, page = _report(table, tmp_path / "r.html")
+    seen = _Page(page)
+    assert {tag for tag, _ in seen.tags} <= {
+        "html", "head", "meta", "title", "style", "body", "svg", "defs", "pattern", "rect", "path", "circle", "text",
+        "div", "h1", "h2", "h3", "p", "table", "tr", "th", "td", "br", "bdi", "a", "b", "span", "section", "pre", "ul",
+        "li"}
+    assert {name for _, attributes in seen.tags for name in attributes} <= ATTRIBUTES
+    assert "<script" not in page and "\u202e" not in page and "<script>alert(1)</script>" in "".join(seen.texts)
+    assert cli.main(["draw", str(table), "--group", name, "--svg", str(tmp_path / "a.svg")]) == 0
+    ElementTree.parse(tmp_path / "a.svg")
+
+
+def test_nothing_half_written(tmp_path: Path) -> None:
+    """A folder as a target, a group that is not there, a telegram that is refused: one line, a status, and no file."""
+    table = _table(tmp_path / "t.csv", {"group": "A", "telegram": "a1" * 27})
+    assert cli.main(["report", str(table), "--html", str(tmp_path)]) == 3
+    assert cli.main(["draw", str(table), "--group", "B", "--svg", str(tmp_path / "a.svg")]) == 2
+    assert cli.main(["draw", str(table), "--group", "A", "--svg", str(tmp_path / "a.svg")]) == 2
+    assert sorted(os.listdir(tmp_path)) == ["t.csv"]
+
+
+def _titles(path: Path) -> List[str]:
+    return [one.text or "" for one in ElementTree.parse(path).iter("{http://www.w3.org/2000/svg}title")]
+
+
+def test_a_gap_has_its_length(tmp_path: Path) -> None:
+    """F11 and F13 of the documents of examples, as red gaps."""
+    for name, rule, wanted in (("gradient-short", 11, "F11: 10 m are missing"),
+                               ("speed-profile-short", 13, "F13: 50 m are missing")):
+        document = json.loads((TOP / "examples" / "check" / f"{name}.json").read_text())
+        rows = [{"group": "A", "km": "1.000", "telegram": text} for text in document["groups"][0]["balises"]]
+        table = _table(tmp_path / "t.csv", *rows)
+        assert cli.main(["draw", str(table), "--group", "A", "--svg", str(tmp_path / "a.svg")]) == 0
+        titles = _titles(tmp_path / "a.svg")
+        assert any(title.startswith(wanted) for title in titles), titles
+        mended = json.loads((TOP / "examples" / "check" / f"{name}-mended.json").read_text())
+        rows = [{"group": "A", "telegram": text} for text in mended["groups"][0]["balises"]]
+        assert cli.main(["draw", str(_table(tmp_path / "t.csv", *rows)), "--group", "A", "--svg",
+                         str(tmp_path / "a.svg")]) == 0
+        assert not any("missing" in title for title in _titles(tmp_path / "a.svg"))
+
+
+def _profile(direction: int, *elements: Tuple[int, int]) -> Any:
+    return {"nid_packet": 27, "q_dir": direction, "q_scale": 1, "elements": [
+        {"d_static": distance, "v_static": value, "q_front": 0, "differences": []} for distance, value in elements]}
+
+
+def test_reverse_is_the_mirror_image() -> None:
+    """The same profile in both directions: to the right, and as far to the left."""
+    form = {"m_dup": 0, "packets": [_profile(2, (0, 20), (1000, 127))]}
+    shapes = [one for one in draw("A", [Content("", [form])], Kilometres()).shapes if one.look == "speed"]
+    right, left = sorted(shapes, key=lambda one: float(one.x), reverse=True)
+    assert abs(float(right.width) - float(left.width)) < 0.2
+    assert abs(float(left.x) + float(left.width) - float(right.x)) < 0.2
+    assert "nominal" in right.title and "reverse" in left.title
+
+
+def test_open_profiles_and_their_beginning() -> None:
+    """An arrow in place of a bar; the track before the first element is marked."""
+    form = {"m_dup": 0, "packets": [_profile(1, (50, 20), (1000, 10))]}
+    looks = [one.look for one in draw("A", [Content("", [form])], Kilometres()).shapes]
+    assert "arrow" in looks and "none" in looks and "endmark" not in looks and "step open" in looks
+
+
+def test_premises_are_those_of_the_document() -> None:
+    """The package has what docs/FINDINGS.md says."""
+    assert premises() == of_document((TOP / "docs" / "FINDINGS.md").read_text("utf-8"))
+    assert len(premises()) == 8 and metres(1) == "0.1 m"

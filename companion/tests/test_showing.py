@@ -1,0 +1,94 @@
+"""`show`: each number of the program's JSON is shown, once, and nothing else is in brackets."""
+from __future__ import annotations
+
+import json
+import re
+from collections import Counter
+from decimal import Decimal
+from typing import Any
+
+import pytest
+
+from balisekit.bit_places import bit_lines
+from balisekit.errors import NoAnswer
+from balisekit.geometry import Kilometres
+from balisekit.places import Here
+from balisekit.showing import WIDTH, form_lines, text
+from cases_of_program import CASES, EXAMPLES, TOP, value_at
+
+READ = [case for case in (*CASES, *EXAMPLES[False], *EXAMPLES[True]) if not case.answer.startswith("refused: ")]
+NAME = r"(?:user bits|body|[A-Z]+_[A-Z]+(?: of NID_PRVLRBG)?)"
+SHOWN = re.compile(rf"(?:^|(?<=  ))({NAME}) (?:(?P<plain>[0-9]+)(?=  |$)|[^\[\]]+? \[(?P<raw>[0-9a-f]*)\])")
+
+
+def _values_in(said: str) -> "Counter[str]":
+    """The raw values of a text as a reader finds them."""
+    found: "Counter[str]" = Counter()
+    for line in said.split("\n"):
+        for one in SHOWN.finditer(line.split("  = ")[0]):
+            found[one["raw"] if one["plain"] is None else one["plain"]] += 1
+    return found
+
+
+def test_every_number_is_shown() -> None:
+    """The values of the JSON and those of the text are the same, as often as they stand there."""
+    assert len(READ) > 1000
+    for case in READ:
+        form = json.loads(case.answer)
+        wanted = Counter(str(value) for _, value in value_at(form))
+        assert _values_in(text(form, Here(Kilometres(Decimal("13.85"), 1)))) == wanted, case
+
+
+def test_every_path_is_shown() -> None:
+    """Each path of the JSON comes with its own value."""
+    for case in READ:
+        form = json.loads(case.answer)
+        shown = {value.path: value.raw for line in form_lines(form) for value in line.values}
+        assert shown == dict(value_at(form)), case
+
+
+def test_a_key_that_is_not_known_is_shown() -> None:
+    """A later program may write further keys."""
+    form: Any = {"nid_c": 1, "packets": [{"nid_packet": 12, "q_dir": 1, "q_scale": 1, "sections": [], "l_endsection": 5,
+                                         "later": {"t_later": 77}, "many": [7, 8]}], "x_new": 99}
+    shown = [value.raw for line in form_lines(form) for value in line.values]
+    assert set(shown) >= {77, 7, 8, 99}
+
+
+def test_bits_name_each_field() -> None:
+    """Places are without a gap from the first bit to the last, and each value of the JSON has its own."""
+    for case in READ:
+        form = json.loads(case.answer)
+        lines = list(bit_lines(case.text, form))
+        places = [re.search(r"bits? (\d+)(?: to (\d+))?", line) for line in lines]
+        at = 0
+        for place in places:
+            if place:
+                assert int(place[1]) == at, case
+                at = int(place[2] or place[1]) + 1
+        assert at == (form["user_bits"] if "user_bits" in form else 4 * len(case.text)), case
+
+
+def test_bits_of_another_form_are_no_answer() -> None:
+    """Tables that disagree with the program are not shown."""
+    case = EXAMPLES[False][0]
+    form = json.loads(case.answer)
+    form["nid_bg"] += 1
+    with pytest.raises(NoAnswer, match="/nid_bg"):
+        list(bit_lines(case.text, form))
+
+
+def test_lines_are_not_too_long() -> None:
+    """No line but one with a long value is wider than a page."""
+    for case in READ:
+        for line in text(json.loads(case.answer)).split("\n"):
+            assert len(line) <= WIDTH or "body" in line or line.count("  ") < 12, line
+
+
+def test_places_have_kilometres_in_either_direction() -> None:
+    """The first gradient of the example lies 800 m ahead, up the kilometres or down."""
+    form = json.loads((TOP / "examples" / "gradients.json").read_text())
+    assert "from 800 m, km 14.650" in text(form, Here(Kilometres(Decimal("13.85"), 1)))
+    assert "from 800 m, km 13.050" in text(form, Here(Kilometres(Decimal("13.85"), -1)))
+    assert "from 0 m, km 13.850" in text(form, Here(Kilometres(Decimal("13.85"), None)))
+    assert "from 800 m\n" in text(form, Here(Kilometres(Decimal("13.85"), None)))

@@ -1,0 +1,279 @@
+"""Tables in all their spellings, and those that cannot be read."""
+from __future__ import annotations
+
+import csv
+import datetime
+import io
+import os
+from decimal import Decimal
+from pathlib import Path
+from typing import Any, Callable, List, Sequence
+
+import pytest
+
+from balisekit import messages_file, table as tables
+from balisekit.errors import KitError, TableError, TableErrors
+from balisekit.model import Table
+from conftest import Run
+from telegrams import ALONE, FIRST, MESSAGE, OTHER, SECOND
+
+Write = Callable[..., Path]
+PAIR = ["group,telegram", f"A,{FIRST}", f"A,{SECOND}", f"B,{OTHER}"]
+
+
+def shape(table: Table) -> List[Any]:
+    """The names of groups and aspects with the numbers of their rows."""
+    return [(group.name, [(one.name, [row.number for row in one.rows]) for one in group.aspects])
+            for group in table.groups]
+
+
+@pytest.mark.parametrize("separator", [",", ";", "\t"])
+@pytest.mark.parametrize("encoding", ["utf-8", "utf-8-sig", "utf-16", "utf-16-le", "utf-16-be", "cp1252"])
+@pytest.mark.parametrize("end", ["\n", "\r\n", "\r"])
+def test_spellings_of_csv(table: Write, separator: str, encoding: str, end: str) -> None:
+    lines = ["Telegram|GROUP| km |Name|more", f"{ALONE}|Signal 1 West|13.850|Süd|x", f"{OTHER}|2|13+950|é|"]
+    text = "".join(line.replace("|", separator) + end for line in lines)
+    read = tables.read(str(table(content=text.encode(encoding))))
+    assert [(row.group, row.telegram, row.km, row.name) for row in read.rows] == [
+        ("Signal 1 West", ALONE, Decimal("13.850"), "Süd"), ("2", OTHER, Decimal("13.950"), "é")]
+    assert read.passed_over == ("more",) and read.separator == separator
+
+
+def test_groups_in_the_order_of_their_first_row(table: Write) -> None:
+    assert shape(tables.read(str(table(*PAIR)))) == [("A", [("", [2, 3])]), ("B", [("", [4])])]
+
+
+def test_aspects_and_balises(table: Write) -> None:
+    read = tables.read(str(table("group,aspect,balise,telegram", f"A,red,2,{SECOND}", f"A,red,1,{FIRST}",
+                                 f"A,green,1,{FIRST}", f"A,green,2,{SECOND}")))
+    assert shape(read) == [("A", [("red", [3, 2]), ("green", [4, 5])])]
+
+
+def test_a_telegram_of_every_aspect(table: Write) -> None:
+    read = tables.read(str(table("group,aspect,telegram", f"A,*,{FIRST}", f"A,red,{SECOND}", f"A,green,{SECOND}")))
+    assert shape(read) == [("A", [("red", [2, 3]), ("green", [2, 4])])]
+
+
+def test_a_line_that_names_the_separator(table: Write) -> None:
+    assert len(tables.read(str(table("sep=;", *[line.replace(",", ";") for line in PAIR]))).rows) == 3
+
+
+def test_empty_rows_count(table: Write) -> None:
+    read = tables.read(str(table(PAIR[0], "", PAIR[1], ",", PAIR[2])))
+    assert [row.number for row in read.rows] == [3, 5]
+
+
+@pytest.mark.parametrize("cell", [
+    f" {ALONE}\u00a0", f"0x{ALONE}", f'"""{ALONE}"""', f"'{ALONE}", f"{ALONE}h", f"{ALONE}H", f"“{ALONE}”",
+    " ".join(ALONE[at:at + 2] for at in range(0, 54, 2)), ":".join(ALONE[at:at + 2] for at in range(0, 54, 2)),
+    "-".join(ALONE[at:at + 2] for at in range(0, 54, 2))])
+def test_what_stands_around_digits(table: Write, cell: str) -> None:
+    assert tables.read(str(table("group,telegram", f"A,{cell}"))).rows[0].telegram == ALONE
+
+
+@pytest.mark.parametrize("cell, km", [
+    ("13.85", "13.85"), ("13+850", "13.850"), ("13+850.5", "13.8505"), ("-0.5", "-0.5"), ("\u22121.25", "-1.25"),
+    ("7", "7.0"), ('"13,850"', "13.850"), ("", None)])
+def test_kilometres(table: Write, cell: str, km: str) -> None:
+    read = tables.read(str(table("group,km,telegram", f"A,{cell},{ALONE}")))
+    assert read.rows[0].km == (None if km is None else Decimal(km))
+
+
+def fault(path: Path, **words: Any) -> str:
+    """What is said of a table that cannot be read."""
+    with pytest.raises((TableError, TableErrors)) as raised:
+        tables.read(str(path), **words)
+    assert isinstance(raised.value, KitError) and raised.value.status == 2
+    lines = raised.value.lines()
+    assert len(lines) == 1 and "\n" not in lines[0]
+    return lines[0].replace(f"{path}: ", "")
+
+
+H = "group,telegram"
+BAD: Sequence[Any] = [
+    ([], "row 1: it is empty"),
+    (["", H], "row 1: it is empty"),
+    ([f"A,{ALONE}"], "row 1: no column group and no column telegram: the headings are a, a1007f"),
+    (["group,name", "A,B"], "row 1: no column telegram: the headings are group, name"),
+    (["group,telegram,Group", f"A,{ALONE},B"], "row 1: the heading group stands twice, in columns 1 and 3"),
+    ([H], "the table has no row but its heading"),
+    ([H, f",{ALONE}"], "row 2, column group: no group; fill merged cells"),
+    ([H, "A,"], "row 2, column telegram: empty, or a formula"),
+    ([H, "A,9.00720E+52"], "row 2, column telegram: a number, not digits: the spreadsheet has changed it"),
+    ([H, f"A,{ALONE}", f"B,{OTHER}", f"A,{OTHER}"],
+     'row 4, column group: group "A" is in rows 2 to 2 already: put its rows together'),
+    ([H, *[f"A,{ALONE}"] * 9], 'row 10: group "A" has 9 balises, and at most 8 are possible'),
+    (["group,aspect,telegram", f"A,x,{ALONE}", f"A,y,{ALONE}", f"A,y,{ALONE}"],
+     'row 3: aspect "y" of group "A" has 2 balises, and aspect "x" has 1'),
+    (["group,aspect,telegram", f"A,x,{ALONE}", f"A,,{ALONE}"],
+     "row 3, column aspect: empty beside named aspects: write *"),
+    (["group,aspect,telegram", f"A,*,{ALONE}", f"A,,{ALONE}"],
+     "row 3, column aspect: empty beside named aspects: write *"),
+    (["group,aspect,telegram", f"A,x,{ALONE}", f"A,*,{ALONE}", f"A,y,{ALONE}"],
+     "row 3: its place differs between aspects: number the balises"),
+    (["group,balise,telegram", f"A,1,{ALONE}", f"A,1,{ALONE}"], "row 3, column balise: row 2 has balise 1 too"),
+    (["group,balise,telegram", f"A,1,{ALONE}", f"A,,{ALONE}"], "row 3, column balise: empty beside numbered balises"),
+    (["group,balise,telegram", f"A,1.5,{ALONE}"], "row 2, column balise: 1.5 is no whole number"),
+    (["group,km,telegram", f"A,13.850,{ALONE}", f"A,13.8x,{ALONE}"],
+     "row 3, column km: 13.8x is no kilometre: write 13.850"),
+    (["group,telegram,km", f"A,{ALONE},13,850"],
+     "row 2: it has 4 cells, and the heading 3: is a decimal comma not quoted?"),
+    (["group,km,telegram", f"A,1,{FIRST}", f"A,3,{SECOND}", f"A,2,{SECOND}"],
+     "row 4, column km: the kilometres of the group rise and fall"),
+    (["group,aspect,km,telegram", f"A,x,1,{FIRST}", f"A,y,2,{FIRST}"],
+     "row 3, column km: 2.0, and row 2, the same balise, has 1.0"),
+    (["group,nominal,telegram", f"A,up,{FIRST}"], "row 2, column nominal: up is neither rising nor falling"),
+    (["group,nominal,telegram", f"A,rising,{FIRST}", f"A,falling,{FIRST}"],
+     "row 3, column nominal: falling, and row 2 of the group says rising"),
+    ([H, f'"A\nB",{ALONE}'], "row 2, column group: a line end stands in the cell"),
+    ([H, f'A,"{ALONE}'], "row 2: a quote is not closed"),
+    ([H, f'A,"{ALONE}"x'], "row 2: a quote stands inside a cell"),
+    ([H, f"A\0,{ALONE}"], "a NUL stands at character 17"),
+    ([H, f"A,{'a' * 100_001}"], "row 2: a cell has more than 100,000 characters"),
+    ([H, f"{'a' * 2000},{ALONE}"], "row 2, column group: it has more than 1,000 characters"),
+]
+
+
+@pytest.mark.parametrize("lines, said", BAD, ids=[said for _, said in BAD])
+def test_tables_that_cannot_be_read(table: Write, lines: List[str], said: str) -> None:
+    heard = fault(table(*lines))
+    assert heard.startswith(said)
+
+
+def test_several_faults_have_a_line_each(table: Write) -> None:
+    lines = [f"A{row},x,{ALONE}" for row in range(30)]
+    with pytest.raises(TableErrors) as raised:
+        tables.read(str(table("group,km,telegram", *lines)))
+    said = raised.value.lines()
+    assert len(said) == 21 and said[-1] == "and 10 more"
+    assert "row 3, column km: x is no kilometre" in said[1]
+
+
+@pytest.mark.parametrize("content, said", [
+    ("group,telegram".encode("utf-32"), "it is UTF-32: save it as UTF-8"),
+    (b"group,telegram\nA\x81,00\n", "it is neither UTF-8 nor Windows-1252: byte 81 at 16: save it as UTF-8"),
+    (b"\xff\xfea", "it begins as UTF-16, and is none"),
+    (b"\xd0\xcf\x11\xe0more", "it is an .xls, or protected by a password: save it as .xlsx or CSV"),
+    (b"PK\x03\x04more", "it is an .xls, or protected by a password")])
+def test_contents_that_cannot_be_read(table: Write, content: bytes, said: str) -> None:
+    if content.startswith((b"PK", b"\xd0")):
+        pytest.importorskip("openpyxl")
+    assert fault(table(content=content)).startswith(said)
+
+
+def test_no_files(tmp_path: Path) -> None:
+    os.mkfifo(tmp_path / "pipe")
+    assert fault(tmp_path / "none").endswith("No such file or directory")
+    assert fault(tmp_path).endswith("it is a folder")
+    assert fault(Path("/dev/zero")).endswith("it is a device or pipe, no file")
+    assert fault(tmp_path / "pipe").endswith("it is a device or pipe, no file")
+
+
+def test_a_file_that_is_being_written(table: Write, monkeypatch: pytest.MonkeyPatch) -> None:
+    path = table(*PAIR)
+    real, seen = os.stat, []
+
+    def stat(name: Any, **words: Any) -> os.stat_result:
+        if str(name) == str(path):
+            seen.append(name)
+            if len(seen) == 2:
+                path.write_text("longer" * 100)
+        return real(name, **words)
+    monkeypatch.setattr(os, "stat", stat)
+    assert fault(path) == "the file is being written"
+
+
+def test_notes(table: Write) -> None:
+    read = tables.read(str(table("group,balise,telegram", f"Signal A,1,{ALONE}", f"signal  a,1,{OTHER}",
+                                 f"signal  a,3,{OTHER}")))
+    assert read.notes == ('groups "Signal A" and "signal  a" differ in case or blanks alone',
+                          'group "signal  a": the balises are numbered 1, 3')
+
+
+def test_messages(table: Write) -> None:
+    read = messages_file.read(str(table(f"{MESSAGE};to train 7", "", f"0x{MESSAGE}\r")))
+    assert [(one.number, one.text, one.name) for one in read.messages] == [(1, MESSAGE, "to train 7"), (3, MESSAGE, "")]
+    with pytest.raises(TableErrors, match="line 1: no message before the semicolon"):
+        messages_file.read(str(table("; name")))
+
+
+class TestWorkbooks:
+    """Tables of .xlsx."""
+
+    @staticmethod
+    def book(path: Path, *sheets: Sequence[Sequence[Any]]) -> Path:
+        """Writes a workbook of these rows."""
+        openpyxl = pytest.importorskip("openpyxl")
+        book = openpyxl.Workbook()
+        for number, rows in enumerate(sheets):
+            sheet = book.active if number == 0 else book.create_sheet()
+            for row in rows:
+                sheet.append(row)
+        book.save(path / "table.xlsx")
+        return path / "table.xlsx"
+
+    def test_cells(self, tmp_path: Path) -> None:
+        """Numbers as km, group and balise."""
+        rows: List[List[Any]] = [["Group", "km", "balise", "telegram"], [7, 13.85, 1, ALONE], [8, 14, None, OTHER]]
+        read = tables.read(str(self.book(tmp_path, rows)))
+        assert [(row.group, row.km, row.balise, row.telegram) for row in read.rows] == [
+            ("7", Decimal("13.85"), 1, ALONE), ("8", Decimal("14"), None, OTHER)]
+        assert read.encoding == "xlsx"
+
+    def test_sheets(self, tmp_path: Path) -> None:
+        """The sheet that has the headings, or the one that is named."""
+        good: List[List[Any]] = [["group", "telegram"], ["A", ALONE]]
+        assert len(tables.read(str(self.book(tmp_path, [["other"]], good))).rows) == 1
+        path = self.book(tmp_path, good, good)
+        assert fault(path).startswith("several sheets have the headings: name one by --sheet: Sheet, Sheet1")
+        assert len(tables.read(str(path), "Sheet1").rows) == 1
+        assert fault(path, sheet="no").startswith("there is no sheet no: the sheets are Sheet, Sheet1")
+
+    @pytest.mark.parametrize("row, said", [
+        (["A", 1e52], "row 2, column telegram: a number, not digits"),
+        (["A", datetime.date(2026, 1, 2)], "row 2, column telegram: a date, not digits"),
+        ([datetime.date(2026, 1, 2), ALONE], "row 2, column group: a date, not a name"),
+        (["A", "=A1"], "row 2, column telegram: empty, or a formula whose value is not stored"),
+        ([None, ALONE], "row 2, column group: no group; fill merged cells")])
+    def test_cells_that_cannot_be_read(self, tmp_path: Path, row: Sequence[Any], said: str) -> None:
+        """What spreadsheets do to cells."""
+        assert fault(self.book(tmp_path, [["group", "telegram"], row])).startswith(said)
+
+
+def test_tables_that_are_made() -> None:
+    hypothesis: Any = pytest.importorskip("hypothesis")
+    strategies = hypothesis.strategies
+    name = strategies.text(strategies.characters(blacklist_categories=("Cs", "Cc", "Zl", "Zp")), min_size=1,
+                           max_size=12).map(str.strip).filter(bool)
+    names = strategies.lists(name, min_size=1, max_size=6, unique=True)
+
+    @hypothesis.given(names, name, strategies.sampled_from(",;\t"), strategies.sampled_from(["\n", "\r\n"]),
+                      strategies.sampled_from(["utf-8", "utf-8-sig", "utf-16"]))  # type: ignore[misc]
+    def made(groups: List[str], other: str, separator: str, end: str, encoding: str) -> None:
+        out = io.StringIO(newline="")
+        writer = csv.writer(out, delimiter=separator, lineterminator=end)
+        writer.writerow(["telegram", "name", "group"])
+        writer.writerows([ALONE, other, group] for group in groups)
+        with Room() as path:
+            path.write_bytes(out.getvalue().encode(encoding))
+            read = tables.read(str(path))
+        assert [row.group for row in read.rows] == groups and {row.name for row in read.rows} == {other}
+        assert read.separator == separator
+    made()
+
+
+class Room:
+    """A file for one table."""
+
+    def __enter__(self) -> Path:
+        import tempfile
+        self.folder = tempfile.TemporaryDirectory()
+        return Path(self.folder.name) / "table.csv"
+
+    def __exit__(self, *_: object) -> None:
+        self.folder.cleanup()
+
+
+def test_faults_of_tables_end_commands(run: Run, table: Write) -> None:
+    path = table("group,telegram", ",00")
+    assert run("check", path) == (2, [], [f"balisekit: {path}: row 2, column group: no group; fill merged cells"])

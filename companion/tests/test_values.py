@@ -1,0 +1,117 @@
+"""Names and units: each key of the schemas has a row, and each number that is allowed has words."""
+from __future__ import annotations
+
+import json
+from typing import Any, Dict, Iterator, Tuple
+
+import pytest
+
+from balisekit.packets import READ_FROM_TRACK, packet_name
+from balisekit.values import ORDER, VARIABLES, Around, metres, value_words, variable_name
+from cases_of_program import TOP
+
+SCHEMAS = [json.loads((TOP / "schemas" / f"{name}.json").read_text()) for name in ("telegram", "message")]
+#: Numbers that name something by themselves, and have no words.
+IDENTITIES = {"nid_c", "nid_bg", "prv_nid_c", "prv_nid_bg", "nid_engine", "nid_ntc", "nid_vbcmk", "m_mcount"}
+
+
+def _properties(schema: Any) -> Iterator[Tuple[str, Any]]:
+    """Each key of a schema with what is allowed for it."""
+    if isinstance(schema, dict):
+        yield from ((key, part) for key, part in schema.get("properties", {}).items() if isinstance(part, dict))
+        for part in schema.values():
+            yield from _properties(part)
+    elif isinstance(schema, list):
+        for part in schema:
+            yield from _properties(part)
+
+
+def _is_value(schema: Any, whole: Any) -> bool:
+    """Whether the key has a number or a text."""
+    if "$ref" in schema:
+        schema = whole["$defs"][schema["$ref"].rsplit("/", 1)[1]]
+    return "const" in schema or "enum" in schema or schema.get("type") in ("integer", "string")
+
+
+KEYS = sorted({key for whole in SCHEMAS for key, schema in _properties(whole) if _is_value(schema, whole)})
+
+
+def test_each_key_has_a_row() -> None:
+    """No key of the schemas is without a name, and no row without a key."""
+    assert set(KEYS) - {"body"} == set(VARIABLES)
+    assert set(ORDER) >= {key for whole in SCHEMAS for key, _ in _properties(whole)}
+
+
+def _numbers(schema: Any, whole: Any) -> Iterator[int]:
+    """The numbers that a schema allows: of a range its ends, of 20 or fewer numbers each."""
+    if "$ref" in schema:
+        yield from _numbers(whole["$defs"][schema["$ref"].rsplit("/", 1)[1]], whole)
+    if "const" in schema:
+        yield schema["const"]
+    yield from schema.get("enum", [])
+    for part in schema.get("anyOf", []):
+        yield from _numbers(part, whole)
+    if "minimum" in schema:
+        least, greatest = schema["minimum"], schema["maximum"]
+        yield from range(least, greatest + 1) if greatest - least < 20 else (least, (least + greatest) // 2, greatest)
+
+
+@pytest.mark.parametrize("whole", SCHEMAS)
+def test_each_number_has_words(whole: Any) -> None:
+    """Each allowed number has words that cannot be taken for another value; identities may have none."""
+    for key, schema in _properties(whole):
+        for number in _numbers(schema, whole):
+            for parent in ({"q_diff": 0}, {"q_diff": 1}):
+                words = value_words(key, number, Around({"q_scale": 1}, parent))
+                assert words or key in IDENTITIES, (key, number)
+                assert not set(words) & set("[]\n") and "  " not in words, (key, number)
+
+
+WORDS: Dict[Tuple[str, int], str] = {
+    ("v_main", 0): "0 km/h, train trip", ("v_main", 32): "160 km/h", ("end_speed", 0): "0 km/h, stop",
+    ("v_static", 127): "end of the profile", ("v_releasedp", 126): "calculated on board",
+    ("v_releaseol", 127): "the national value", ("v_train", 121): "spare", ("end_timeout", 1023): "no time-out",
+    ("t_ol", 60): "60 s", ("t_train", 100): "1.00 s", ("t_train", 4_294_967_295): "not known",
+    ("d_leveltr", 32_767): "now", ("d_lrbg", 32_767): "not known", ("d_link", 850): "8500 m", ("q_link", 1): "linked",
+    ("nid_bg", 16_383): "not known", ("l_trainint", 400): "400 m", ("m_level", 3): "level 2",
+    ("q_locacc", 5): "5 m to either side", ("n_pig", 1): "second of the group", ("n_total", 0): "1 balise",
+    ("m_version", 33): "2.1", ("m_mode", 2): "staff responsible (SR)",
+    ("m_dup", 1): "duplicate of the next balise",
+    ("nid_packet", 65): "temporary speed restriction",
+}
+
+
+@pytest.mark.parametrize("key, number", sorted(WORDS))
+def test_words(key: str, number: int) -> None:
+    """What a number is shown as, where the unit of distances is 10 m."""
+    assert value_words(key, number, Around({"q_scale": 2})) == WORDS[key, number]
+
+
+def test_distances_by_scale() -> None:
+    """The same distance in each unit."""
+    for scale, number in ((0, 1200), (1, 120), (2, 12)):
+        assert value_words("d_link", number, Around({"q_scale": scale})) == "120 m"
+    assert value_words("d_link", 123, Around({"q_scale": 0})) == "12.3 m"
+    assert (metres(0), metres(-5)) == ("0 m", "-0.5 m")
+
+
+def test_gradient_has_the_sign_of_its_direction() -> None:
+    """Uphill is plus, downhill minus, and an end mark has none."""
+    for up, value, words in ((1, 5, "+5 ‰"), (0, 12, "-12 ‰"), (0, 0, "0 ‰")):
+        assert value_words("g_a", value, Around({}, {"q_gdir": up, "g_a": value})) == words
+    mark = Around({}, {"q_gdir": 1, "g_a": 255})
+    assert value_words("g_a", 255, mark) == "end of the profile"
+    assert value_words("q_gdir", 1, mark) == "uphill, without meaning at an end mark"
+
+
+def test_category_depends_on_the_kind() -> None:
+    """NC_CDDIFF or NC_DIFF, by Q_DIFF."""
+    for kind, name, words in ((0, "NC_CDDIFF", "cant deficiency 165 mm"), (1, "NC_DIFF", "spare")):
+        assert variable_name("nc", {"q_diff": kind}) == name
+        assert value_words("nc", 4, Around({}, {"q_diff": kind})) == words
+
+
+def test_packet_names() -> None:
+    """A packet that is read has a name in each direction, and one that is not listed is not called unassigned."""
+    assert all(packet_name(number) != "not named here" for number in READ_FROM_TRACK)
+    assert (packet_name(1), packet_name(1, False)) == ("not named here", "position report based on two balise groups")
