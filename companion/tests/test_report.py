@@ -159,3 +159,11 @@ def test_premises_are_those_of_the_document() -> None:
     """The package has what docs/FINDINGS.md says."""
     assert premises() == of_document((TOP / "docs" / "FINDINGS.md").read_text("utf-8"))
     assert len(premises()) == 8 and metres(1) == "0.1 m"
+
+
+@pytest.mark.parametrize("name, words", [
+    ("line-show.txt", ["show", "LINE"]), ("signal-e.svg", ["draw", "LINE", "--group", "Signal E"])])
+def test_outputs_beside_the_example(name: str, words: List[str], capfdbinary: pytest.CaptureFixture[bytes]) -> None:
+    """What `show` and `draw` write for the example is what stands beside it."""
+    cli.main([str(LINE) if word == "LINE" else word for word in words])
+    assert capfdbinary.readouterr().out == (LINE.with_name(name)).read_bytes()

@@ -308,7 +308,7 @@ def _authority(sheet: _Sheet, authority: Authority, direction: str) -> None:
     if main is not None:
         labels.insert(0, f"V_MAIN {value_words('v_main', main, Around())}")
     labels.insert(1, f"V_LOA {value_words('end_speed', authority.form['end_speed'], Around())}")
-    sheet.text("small begin" if sign > 0 else "small ending", "; ".join(labels), sheet.x(0), top + 28)
+    sheet.text("small begin" if sign > 0 else "small ending", "; ".join(labels), sheet.x(0) + sign * 40, top + 28)
 
 
 def _axis(sheet: _Sheet, content: Content, start: int) -> None:
