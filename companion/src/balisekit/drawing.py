@@ -259,6 +259,9 @@ def _gap(sheet: _Sheet, content: Content, profile: Profile, ways: Sequence[Way])
                  f"to {sheet.place(supervised, short.direction)}, {short.direction}")
         left, right = sheet.rect("gap", title, (sign * profile.reach, sign * supervised), sheet.top, sheet.height)
         words = f"F{rule}: {length}"
+        if (len(words) + 3) * LETTER < right - left:
+            sheet.text("red middle", words, (left + right) // 2, sheet.top + 14)
+            continue
         anchor = "ending" if right + len(words) * LETTER > (WIDTH - 4) * 10 else "begin"
         sheet.text(f"red {anchor}", words, left - 30 if anchor == "ending" else right + 30, sheet.top + 12)
 
@@ -308,7 +311,11 @@ def _authority(sheet: _Sheet, authority: Authority, direction: str) -> None:
     if main is not None:
         labels.insert(0, f"V_MAIN {value_words('v_main', main, Around())}")
     labels.insert(1, f"V_LOA {value_words('end_speed', authority.form['end_speed'], Around())}")
-    sheet.text("small begin" if sign > 0 else "small ending", "; ".join(labels), sheet.x(0) + sign * 40, top + 28)
+    words = "; ".join(labels)
+    room = len(words) * LETTER
+    at = sheet.x(0) + 40 if sign > 0 else sheet.x(0) - 40 - room
+    at = max(LEFT * 10, min(at, WIDTH * 10 - room))
+    sheet.text("small begin" if sign > 0 else "small ending", words, at if sign > 0 else at + room, top + 28)
 
 
 def _axis(sheet: _Sheet, content: Content, start: int) -> None:
