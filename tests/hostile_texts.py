@@ -1,27 +1,14 @@
-"""The texts that the program may write: what README.md, docs/REFUSALS.md and docs/FINDINGS.md say."""
+"""The texts that the program may write: the grammar of docs/FORMATS.md, and records."""
 import json
+import pathlib
 import re
+import sys
 
-WHY = "(?:short|spare|length|no end|version|loop|down-link|message kind|no authority|no report)"
-FAULT = rf"{WHY} at \d+ end \d+"
-TELEGRAM = rf"(?:not hexadecimal|wrong size|pad bits set|{FAULT})"
-MESSAGE = rf"(?:not hexadecimal|{FAULT})"
-FORM = r"form (?:missing key|unknown key|kind|range) at (?:/|(?:/[a-z_0-9]+)+)"
+sys.path.insert(0, str(pathlib.Path(__file__).resolve().parents[1] / "companion" / "src"))
+from balisekit import grammar  # noqa: E402  (the path comes first)
+
 USAGE = r"refused: usage is balisecheck check, decode \[--radio\] or encode \[--radio\]\n"
-NAMES = ("position wrong", "total wrong", "version, identity or link flag differs", "mark points outside",
-         "mark not answered", "counter 254", "counters differ", "packets of duplicates differ", "packet not modelled",
-         "no gradient", "gradient short", "no speed profile", "speed profile short", "identity used before",
-         "marks differ between aspects", "aspects not told apart")
-SITE = r"(?:group \d+(?: aspect \d+)?|message \d+)(?: balise [0-7])?(?: packet \d+)?(?: nominal| reverse)?"
-FINDING = rf"F(\d+) {SITE}: ({'|'.join(NAMES)})\n"
-PLACE = rf"group \d+: (?:count|aspects)|group \d+(?: aspect \d+)? balise [0-7]: {TELEGRAM}|message \d+: {MESSAGE}"
-REFUSALS = {
-    ("check",): rf"refused: (?:not JSON|{FORM}|{PLACE})\n",
-    ("decode",): rf"refused: line \d+: {TELEGRAM}\n",
-    ("encode",): rf"refused: line \d+: (?:not JSON|{FORM}|too big)\n",
-    ("encode", "--radio"): rf"refused: line \d+: (?:not JSON|{FORM}|too big)\n",
-    ("decode", "--radio"): rf"refused: (?:line \d+: not hexadecimal|message \d+: (?:length below 3|cut off|{FAULT}))\n",
-}
+COMMANDS = (("check",), ("decode",), ("encode",), ("encode", "--radio"), ("decode", "--radio"))
 TELEGRAM_TEXT = re.compile(r"a[01][0-9a-f]{50}[048c]0\n|a[01][0-9a-f]{205}[048c]\n")
 MESSAGE_TEXT = re.compile(r"(?:03|88)(?:[0-9a-f]{2}){2,1022}\n")
 CANONICAL = json.JSONEncoder(separators=(",", ":"), sort_keys=True)
@@ -41,7 +28,7 @@ KINDS = (
     *((("decode", "--radio"), rf"refused: message \d+: {why}") for why in MESSAGE_KINDS),
     *((("decode", "--radio"), rf"refused: message \d+: {why}") for why in ("length below 3", "cut off")),
     *((("decode", "--radio"), kind) for kind in (r"\{", r"refused: line \d+: not hexadecimal")),
-    *((("check",), kind) for kind in ("yes: ", *(rf"F{number} " for number in range(1, len(NAMES) + 1)))),
+    *((("check",), kind) for kind in ("yes: ", *(rf"F{number} " for number in sorted(grammar.NAMES)))),
     *((("check",), f"refused: {why}") for why in DOCUMENT_KINDS),
     ((), USAGE),
 )
@@ -49,12 +36,13 @@ KINDS = (
 
 def is_report(stdout, status):
     """Whether this is a report, with the status that goes with it."""
-    if re.fullmatch(r"yes: groups \d+, messages \d+\n", stdout):
-        return status == 0
-    head, *lines = stdout.splitlines(keepends=True) or [""]
-    found = [re.fullmatch(FINDING, line) for line in lines]
-    numbered = all(one and NAMES[int(one[1]) - 1] == one[2] for one in found)
-    return status == 1 and bool(lines) and numbered and head == f"no: findings {len(lines)}\n"
+    if not stdout.endswith("\n"):
+        return False
+    head, *lines = stdout[:-1].split("\n")
+    verdict = grammar.verdict(head)
+    if verdict is None or verdict.findings != len(lines) or not all(map(grammar.finding, lines)):
+        return False
+    return status == (0 if verdict.yes else 1)
 
 
 def is_record(line):
@@ -77,16 +65,21 @@ def is_of_kind(words, answer, wanted, kind):
     return words == wanted and any(re.match(kind, line) for line in answer.stdout.splitlines(keepends=True))
 
 
+def is_refusal(words, line):
+    """Whether this is a line that the command writes for what it refuses."""
+    return line.endswith("\n") and grammar.refusal(" ".join(words), line[:-1]) is not None
+
+
 def is_documented(words, answer):
     """Whether the answer of a command without failing memory and devices is one that the documents name."""
     if answer.stderr or answer.status not in (0, 1, 2):
         return False
-    if words not in REFUSALS:
+    if words not in COMMANDS:
         return answer.status == 2 and bool(re.fullmatch(USAGE, answer.stdout))
     lines = answer.stdout.splitlines(keepends=True)
     if answer.status == 2:
         last = lines.pop() if lines else ""
-        if not re.fullmatch(REFUSALS[words], last) or words == ("check",) and lines:
+        if not is_refusal(words, last) or words == ("check",) and lines:
             return False
     elif words == ("check",):
         return is_report(answer.stdout, answer.status)

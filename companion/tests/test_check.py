@@ -110,6 +110,22 @@ def test_names_are_safe_to_show(run: Run, table: Write, name: str, shown: str) -
     assert out[1].startswith(f"row 2  {shown}  balise 0: ")
 
 
+def test_json_has_all_of_the_answer(run: Run, table: Write, tmp_path: Path) -> None:
+    path = table(*SOUND, f"Signal C,C1,16,,{SPARE}", f"Signal D,,,,{OTHER}")
+    run("check", path, "--messages", table(f"{MESSAGE};x", name="messages.txt"), "--json", tmp_path / "out.json")
+    answer = json.loads((tmp_path / "out.json").read_text())
+    assert [(one["row"], one["form"]["nid_bg"]) for one in answer["telegrams"]] == [(2, 1), (3, 1), (4, 3), (6, 3)]
+    assert answer["read_messages"][0]["form"]["t_train"] == 100
+    assert [(one["row"], one["line"], one["first_row_of_run"]) for one in answer["refused"]] == [
+        (5, "refused: line 4: spare at 15 end 17", 2)]
+    assert answer["left_out"] == [{"group": "Signal C", "rows": [5], "why": "refused: row 5"}]
+    assert [one["line"] for one in answer["findings"]] == [
+        "F14 group 2: identity used before", "F10 message 0 nominal: no gradient",
+        "F12 message 0 nominal: no speed profile"]
+    assert answer["findings"][0]["earlier_group"] == "Signal B" and answer["rest"] == "no: findings 3"
+    assert len(answer["table"]["sha256"]) == len(answer["program"]["sha256"]) == 64
+
+
 def test_document(run: Run, table: Write, tmp_path: Path, program: Program) -> None:
     run("check", table("group,aspect,telegram", f"A,x,{ALONE}", f"A,y,{ALONE}", f"B,,{OTHER}"),
         "--document", tmp_path / "line.json")

@@ -6,6 +6,7 @@ import hashlib
 import json
 import os
 import re
+import sys
 import xml.etree.ElementTree as ElementTree
 from html.parser import HTMLParser
 from pathlib import Path
@@ -16,6 +17,7 @@ import pytest
 from balisekit import cli
 from balisekit.geometry import Kilometres
 from balisekit.drawing import Content, draw
+from balisekit.pages import pieces, style
 from balisekit.premises import of_document, premises
 from balisekit.values import metres
 from cases_of_program import TOP
@@ -112,6 +114,18 @@ def test_nothing_half_written(tmp_path: Path) -> None:
     assert sorted(os.listdir(tmp_path)) == ["t.csv"]
 
 
+@pytest.mark.parametrize("package", ["jinja2", "markupsafe"])
+def test_without_jinja2(package: str, tmp_path: Path, monkeypatch: pytest.MonkeyPatch,
+                        capsys: pytest.CaptureFixture[str]) -> None:
+    """`draw` and `report` say which package is missing, and leave no file."""
+    modules: Dict[str, Any] = sys.modules
+    monkeypatch.setitem(modules, package, None)
+    assert cli.main(["draw", str(LINE), "--group", "Signal A", "--svg", str(tmp_path / "a.svg")]) == 3
+    assert cli.main(["report", str(LINE), "--html", str(tmp_path / "r.html")]) == 3
+    assert capsys.readouterr().err == 2 * "balisekit: pictures and reports need jinja2 (Debian: python3-jinja2)\n"
+    assert not os.listdir(tmp_path)
+
+
 def _titles(path: Path) -> List[str]:
     return [one.text or "" for one in ElementTree.parse(path).iter("{http://www.w3.org/2000/svg}title")]
 
@@ -159,3 +173,28 @@ def test_premises_are_those_of_the_document() -> None:
     """The package has what docs/FINDINGS.md says."""
     assert premises() == of_document((TOP / "docs" / "FINDINGS.md").read_text("utf-8"))
     assert len(premises()) == 8 and metres(1) == "0.1 m"
+
+
+@pytest.mark.parametrize("name, words", [
+    ("line-show.txt", ["show", "LINE"]), ("signal-e.svg", ["draw", "LINE", "--group", "Signal E"])])
+def test_outputs_beside_the_example(name: str, words: List[str], capfdbinary: pytest.CaptureFixture[bytes]) -> None:
+    """What `show` and `draw` write for the example is what stands beside it."""
+    cli.main([str(LINE) if word == "LINE" else word for word in words])
+    assert capfdbinary.readouterr().out == (LINE.with_name(name)).read_bytes()
+
+
+def test_any_name_makes_a_picture() -> None:
+    """A picture with any characters as its names is well formed, and has no tag of theirs."""
+    hypothesis = pytest.importorskip("hypothesis")
+    strategies = hypothesis.strategies
+    plain = [one.tag for one in ElementTree.fromstring(_svg("A")).iter()]
+
+    def tried(name: str) -> None:
+        assert [one.tag for one in ElementTree.fromstring(_svg(name)).iter()] == plain
+
+    hypothesis.given(strategies.text(strategies.characters(blacklist_categories=())))(tried)()
+
+
+def _svg(name: str) -> str:
+    picture = draw(name, [Content(name, [{"m_dup": 0, "packets": [_profile(1, (0, 20), (1000, 127))]}])], Kilometres())
+    return "".join(pieces("group.svg", picture=picture, style=style("picture.css")))

@@ -1,14 +1,17 @@
 """`show`: each number of the program's JSON is shown, once, and nothing else is in brackets."""
 from __future__ import annotations
 
+import io
 import json
 import re
 from collections import Counter
 from decimal import Decimal
+from pathlib import Path
 from typing import Any
 
 import pytest
 
+from balisekit import cli
 from balisekit.bit_places import bit_lines
 from balisekit.errors import NoAnswer
 from balisekit.geometry import Kilometres
@@ -92,3 +95,43 @@ def test_places_have_kilometres_in_either_direction() -> None:
     assert "from 800 m, km 13.050" in text(form, Here(Kilometres(Decimal("13.85"), -1)))
     assert "from 0 m, km 13.850" in text(form, Here(Kilometres(Decimal("13.85"), None)))
     assert "from 800 m\n" in text(form, Here(Kilometres(Decimal("13.85"), None)))
+
+
+def _input(monkeypatch: pytest.MonkeyPatch, content: bytes) -> None:
+    monkeypatch.setattr("sys.stdin", io.TextIOWrapper(io.BytesIO(content)))
+
+
+@pytest.mark.parametrize("content", [b"\xff\xfe\n", b"a1\x0000\n", b"a1\ra1\r\n", b"\xe2\x80\xae\n", b"\x1b[2J\n"])
+def test_standard_input_that_is_no_text(content: bytes, monkeypatch: pytest.MonkeyPatch,
+                                        capsys: pytest.CaptureFixture[str]) -> None:
+    """It is refused as any other line, and nothing of it moves the cursor."""
+    _input(monkeypatch, content)
+    assert cli.main(["show"]) == 2
+    assert not set(capsys.readouterr().out) & set("\x00\x1b\u202e\r")
+
+
+def test_the_document_has_what_is_shown(capsys: pytest.CaptureFixture[str], monkeypatch: pytest.MonkeyPatch) -> None:
+    """The block of docs/BALISEKIT.md is what the command writes."""
+    block = (TOP / "docs" / "BALISEKIT.md").read_text("utf-8").split("$ ./balisekit show < examples/linking.txt\n")[1]
+    _input(monkeypatch, (TOP / "examples" / "linking.txt").read_bytes())
+    assert cli.main(["show"]) == 0
+    assert capsys.readouterr().out == block.split("```\n")[0]
+
+
+def test_a_refused_telegram_is_named(capsys: pytest.CaptureFixture[str], monkeypatch: pytest.MonkeyPatch) -> None:
+    """The others are shown all the same, and the status is 2."""
+    _input(monkeypatch, (TOP / "examples" / "pad-bits-set.txt").read_bytes())
+    assert cli.main(["show"]) == 2
+    said = capsys.readouterr().out
+    assert "NID_BG 1" in said and "line 3: " in said and "    program: pad bits set" in said
+
+
+def test_messages_are_shown(tmp_path: Path, capsys: pytest.CaptureFixture[str]) -> None:
+    """A file of messages beside a table, one of them refused."""
+    table, messages = tmp_path / "t.csv", tmp_path / "m.txt"
+    table.write_text("group,telegram\nA," + (TOP / "examples" / "header-only.txt").read_text())
+    text_of_message = (TOP / "examples" / "radio-position-report.txt").read_text().strip()
+    messages.write_text(f"{text_of_message};from the train\n0304\n")
+    assert cli.main(["show", str(table), "--messages", str(messages)]) == 2
+    said = capsys.readouterr().out
+    assert "from the train" in said and "D_LRBG 500 m [500]" in said and "    program: " in said

@@ -8,11 +8,11 @@ import textwrap
 from typing import Any, Dict, Iterator, TextIO
 
 from balisekit import checking, files
-from balisekit.checking import Checked, LeftOut, Place, Refused, RefusedMessage
+from balisekit.checking import Accepted, Checked, LeftOut, Place, Refused, RefusedMessage
 from balisekit.commands import Command, add_input_words, inputs
 from balisekit.errors import NoAnswer
 from balisekit.explain import explanations
-from balisekit.model import Group
+from balisekit.model import Group, Row
 from balisekit.wording import (balise_words, clean, group_words, message_refused, message_words,
                                telegram_refused)
 
@@ -140,6 +140,9 @@ def as_json(checked: Checked) -> Dict[str, Any]:
                                                            "sha256": checked.messages.sha256},
         "counts": {"telegrams": len(checked.table.rows), "groups": len(checked.table.groups),
                    "not_looked_at": checked.not_looked_at},
+        "telegrams": [_telegram_json(one) for one in checked.accepted.values()],
+        "read_messages": [{"line_of_file": one.message.number, "name": one.message.name, "form": one.form}
+                          for one in checked.accepted_messages],
         "refused": [_refused_json(one) for one in checked.refused],
         "refused_messages": [_refused_message_json(one) for one in checked.refused_messages],
         "left_out": [_left_out_json(one) for one in checked.left_out],
@@ -148,11 +151,18 @@ def as_json(checked: Checked) -> Dict[str, Any]:
     }
 
 
-def _refused_json(one: Refused) -> Dict[str, Any]:
-    row = one.row
+def _row_json(row: Row) -> Dict[str, Any]:
     return {"row": row.number, "group": row.group, "name": row.name, "km": None if row.km is None else str(row.km),
-            "aspect": row.aspect, "telegram": row.telegram, "text": one.refusal.text, "line": one.refusal.line,
-            "first_row_of_run": one.first, "sentence": telegram_refused(row.telegram, one.refusal)}
+            "track": row.track, "aspect": row.aspect, "telegram": row.telegram}
+
+
+def _telegram_json(one: Accepted) -> Dict[str, Any]:
+    return {**_row_json(one.row), "form": one.form}
+
+
+def _refused_json(one: Refused) -> Dict[str, Any]:
+    return {**_row_json(one.row), "text": one.refusal.text, "line": one.refusal.line, "first_row_of_run": one.first,
+            "sentence": telegram_refused(one.row.telegram, one.refusal)}
 
 
 def _refused_message_json(one: RefusedMessage) -> Dict[str, Any]:

@@ -132,7 +132,9 @@ def check(program: Program, table: Table, messages: Optional[Messages] = None, b
     report = None
     if kept or good or not (refused or bad):
         report = _ask(program, kept, good)
-    places = tuple(_place(one, kept, accepted, good) for one in report.findings) if report else ()
+    found = report.findings if report else ()
+    first = _first_groups(kept, accepted) if any(one.rule == 14 for one in found) else {}
+    places = tuple(_place(one, kept, first, good) for one in found)
     return Checked(program, table, messages, accepted, refused, left, left_out, kept, good, bad,
                    report.verdict if report else None, places)
 
@@ -214,9 +216,9 @@ def _ask(program: Program, kept: Sequence[Group], messages: Sequence[AcceptedMes
     return report
 
 
-def _place(finding: Finding, kept: Sequence[Group], accepted: Mapping[int, Accepted],
+def _place(finding: Finding, kept: Sequence[Group], first: Mapping[int, Group],
            messages: Sequence[AcceptedMessage]) -> Place:
-    """What the numbers of the finding stand for."""
+    """What the numbers of the finding stand for. `first` has the first group with the identity of each one."""
     try:
         if finding.message is not None:
             return Place(finding, message=messages[finding.message].message)
@@ -224,17 +226,17 @@ def _place(finding: Finding, kept: Sequence[Group], accepted: Mapping[int, Accep
         whole = finding.aspect is None and (finding.rule in (14, 16) or len(group.aspects) > 1)
         aspect = group.aspects[finding.aspect or 0]
         row = None if finding.balise is None else aspect.rows[finding.balise]
-        earlier = _earlier(finding.group or 0, kept, accepted) if finding.rule == 14 else None
+        earlier = first[finding.group or 0] if finding.rule == 14 else None
     except IndexError:
         raise NoAnswer(f"the program names what was not handed to it: {finding.line}") from None
     return Place(finding, group, None if whole else aspect.name, row, earlier=earlier)
 
 
-def _earlier(place: int, kept: Sequence[Group], accepted: Mapping[int, Accepted]) -> Optional[Group]:
-    """The first group with the identity of this one."""
-    def identity(group: Group) -> Tuple[int, int]:
+def _first_groups(kept: Sequence[Group], accepted: Mapping[int, Accepted]) -> Dict[int, Group]:
+    """The first group with the identity of each group, by its place."""
+    first: Dict[Tuple[int, int], Group] = {}
+    places: Dict[int, Group] = {}
+    for place, group in enumerate(kept):
         form = accepted[group.aspects[0].rows[0].number].form
-        return form["nid_c"], form["nid_bg"]
-
-    wanted = identity(kept[place])
-    return next((group for group in kept[:place] if identity(group) == wanted), None)
+        places[place] = first.setdefault((form["nid_c"], form["nid_bg"]), group)
+    return places

@@ -1,38 +1,19 @@
-"""A group as a picture: shapes with their coordinates, out of the places of authorities and profiles.
+"""A group as a picture, out of the places of authorities and profiles.
 
-Metres from the group go from left to right in nominal direction, and to the left in reverse. Coordinates are whole
-tenths of a pixel. The template draws what stands here and computes nothing.
+Metres from the group go from left to right in nominal direction, and to the left in reverse.
 """
 from __future__ import annotations
 
-from dataclasses import dataclass, field
+from dataclasses import dataclass
 from itertools import zip_longest
-from typing import Iterable, Iterator, List, Optional, Sequence, Tuple
+from typing import Iterable, Iterator, Optional, Sequence, Tuple
 
-from balisekit.geometry import (DIRECTIONS, Authority, Element, Kilometres, NOMINAL, Profile, REVERSE, Site, Way,
-                                kilometre, way)
+from balisekit.canvas import LEFT, LETTER, WIDTH, Picture, Sheet, draw_axis, tenths
+from balisekit.geometry import DIRECTIONS, NOMINAL, REVERSE, Authority, Element, Kilometres, Profile, Site, Way, way
 from balisekit.values import Around, Form, metres, value_words
 from balisekit.wording import clean
 
-WIDTH, LEFT, RIGHT = 1000, 96, 34
 SPEED_HEIGHT, GRADIENT_HEIGHT, AUTHORITY_HEIGHT = 58, 20, 50
-LETTER = 62
-"""The width of a letter, in tenths of a pixel."""
-
-
-@dataclass(frozen=True)
-class Shape:
-    """A rectangle, a path or a text, and the numbers that its title says."""
-
-    kind: str
-    look: str
-    title: str = ""
-    x: str = ""
-    y: str = ""
-    width: str = ""
-    height: str = ""
-    path: str = ""
-    text: str = ""
 
 
 @dataclass(frozen=True)
@@ -53,72 +34,6 @@ class Content:
     forms: Sequence[Form]
     short: Tuple[Short, ...] = ()
     infill: bool = False
-
-
-@dataclass(frozen=True)
-class Picture:
-    """Shapes, and the size that they need."""
-
-    title: str
-    width: int
-    height: int
-    shapes: Tuple[Shape, ...]
-
-
-def tenths(number: int) -> str:
-    """A coordinate of whole tenths, as SVG has it."""
-    return f"{number / 10:.1f}"
-
-
-@dataclass
-class _Sheet:
-    """The shapes drawn so far, and the scale of the places."""
-
-    least: int
-    greatest: int
-    kilometres: Kilometres
-    y: int = 0
-    top: int = 0
-    height: int = 0
-    shapes: List[Shape] = field(default_factory=list)
-
-    def edge(self, direction: str) -> int:
-        """The farthest place that is drawn in this direction."""
-        return self.greatest if direction == NOMINAL else -self.least
-
-    def x(self, place: int) -> int:
-        """Where a place is, in tenths of a pixel. A place of the reverse direction is negative."""
-        room = (WIDTH - LEFT - RIGHT) * 10
-        return LEFT * 10 + (place - self.least) * room // (self.greatest - self.least)
-
-    def rect(self, look: str, title: str, places: Tuple[int, int], y: int, height: int) -> Tuple[int, int]:
-        """A rectangle between two places, at least a pixel wide. The answer is where it begins and ends."""
-        begin, end = sorted(map(self.x, places))
-        end = max(end, begin + 10)
-        self.shapes.append(Shape("rect", look, title, tenths(begin), str(y), tenths(end - begin), str(height)))
-        return begin, end
-
-    def path(self, look: str, title: str, path: str) -> None:
-        """A line through points."""
-        self.shapes.append(Shape("path", look, title, path=path))
-
-    def mark(self, look: str, title: str, place: int, y: int, height: int) -> None:
-        """An upright line at a place."""
-        self.path(look, title, f"M{tenths(self.x(place))} {y}v{height}")
-
-    def text(self, look: str, text: str, x: int, y: int) -> None:
-        """A text at a coordinate."""
-        self.shapes.append(Shape("text", look, x=tenths(x), y=str(y), text=text))
-
-    def inside(self, look: str, text: str, begin: int, end: int, y: int) -> None:
-        """A text in the middle between two coordinates, if it fits there."""
-        if len(text) * LETTER <= end - begin:
-            self.text(f"{look} middle", text, (begin + end) // 2, y)
-
-    def place(self, place: int, direction: str) -> str:
-        """A place in words."""
-        km = self.kilometres.at(abs(place), direction)
-        return metres(abs(place)) + (f", km {kilometre(km)}" if km is not None else "")
 
 
 def _sign(direction: str) -> int:
@@ -142,11 +57,14 @@ def draw(title: str, contents: Sequence[Content], kilometres: Kilometres) -> Pic
             for index, direction in enumerate(DIRECTIONS)}
     least, greatest = -ends[REVERSE], ends[NOMINAL]
     greatest = max(greatest, least + 1000)
-    sheet = _Sheet(least, greatest, kilometres)
+    sheet = Sheet(least, greatest, kilometres)
     top = _speed_top(ways for _, ways in rows)
-    for content, ways in rows:
+    last = max((place for place, (one, ways) in enumerate(rows) if any(ways) and not one.infill), default=None)
+    for place, (content, ways) in enumerate(rows):
         sheet.kilometres = Kilometres() if content.infill else kilometres
         _row(sheet, content, ways, top)
+        if any(ways):
+            _base(sheet, content, content.infill or place == last)
     return Picture(clean(title), WIDTH, sheet.y + 6, tuple(sheet.shapes))
 
 
@@ -157,7 +75,7 @@ def _speed_top(ways: Iterable[Sequence[Way]]) -> int:
     return max(20, -(-max(speeds, default=20) // 20) * 20)
 
 
-def _row(sheet: _Sheet, content: Content, ways: Sequence[Way], top: int) -> None:
+def _row(sheet: Sheet, content: Content, ways: Sequence[Way], top: int) -> None:
     sheet.y += 18
     sheet.text("head", clean(content.title), 40, sheet.y)
     sheet.y += 8
@@ -165,7 +83,10 @@ def _row(sheet: _Sheet, content: Content, ways: Sequence[Way], top: int) -> None
         sheet.text("small", "no authority, gradient or speed profile", LEFT * 10, sheet.y + 10)
         sheet.y += 20
         return
-    start = sheet.y
+    sheet.start = sheet.y
+    if any(ways[1:]):
+        sheet.text("small ending", "← reverse", sheet.x(0) - 60, sheet.y)
+        sheet.text("small begin", "nominal →", sheet.x(0) + 60, sheet.y)
     for some in zip_longest(*[one.speeds for one in ways]):
         _lane(sheet, "speed, km/h", SPEED_HEIGHT)
         for direction, profile in zip(DIRECTIONS, some):
@@ -185,17 +106,16 @@ def _row(sheet: _Sheet, content: Content, ways: Sequence[Way], top: int) -> None
         for direction, authority in zip(DIRECTIONS, few):
             if authority:
                 _authority(sheet, authority, direction)
-    _axis(sheet, content, start)
 
 
-def _lane(sheet: _Sheet, label: str, height: int) -> None:
+def _lane(sheet: Sheet, label: str, height: int) -> None:
     """Room for the next packet of either direction, below what is drawn."""
     sheet.top, sheet.height = sheet.y + 6, height
     sheet.y = sheet.top + height
     sheet.text("small", label, 40, sheet.top + height // 2 + 4)
 
 
-def _elements(sheet: _Sheet, profile: Profile, direction: str) -> Iterator[Tuple[Element, int, int, str]]:
+def _elements(sheet: Sheet, profile: Profile, direction: str) -> Iterator[Tuple[Element, int, int, str]]:
     """Each element with its two places in the picture, and where it is in words."""
     edge = sheet.edge(direction)
     for element in profile.elements:
@@ -208,7 +128,7 @@ def _elements(sheet: _Sheet, profile: Profile, direction: str) -> Iterator[Tuple
                    (0, _sign(direction) * profile.first), sheet.top, sheet.height)
 
 
-def _speed(sheet: _Sheet, profile: Profile, direction: str, most: int) -> None:
+def _speed(sheet: Sheet, profile: Profile, direction: str, most: int) -> None:
     for element, begin, end, where in _elements(sheet, profile, direction):
         tall = max(1, element.value * 5 * (sheet.height - 12) // most)
         title = f"{element.value * 5} km/h {where}"
@@ -220,7 +140,7 @@ def _speed(sheet: _Sheet, profile: Profile, direction: str, most: int) -> None:
     _ending(sheet, profile, direction, "speed profile")
 
 
-def _gradient(sheet: _Sheet, profile: Profile, direction: str) -> None:
+def _gradient(sheet: Sheet, profile: Profile, direction: str) -> None:
     for element, begin, end, where in _elements(sheet, profile, direction):
         up = bool(element.form["q_gdir"])
         words = value_words("g_a", element.value, Around({}, element.form))
@@ -230,7 +150,7 @@ def _gradient(sheet: _Sheet, profile: Profile, direction: str) -> None:
     _ending(sheet, profile, direction, "gradient profile")
 
 
-def _ending(sheet: _Sheet, profile: Profile, direction: str, name: str) -> None:
+def _ending(sheet: Sheet, profile: Profile, direction: str, name: str) -> None:
     """An end mark as a bar, elements behind it pale, and an open profile as an arrow."""
     sign = _sign(direction)
     if profile.reach is not None:
@@ -246,7 +166,7 @@ def _ending(sheet: _Sheet, profile: Profile, direction: str, name: str) -> None:
                    sign * element.begin, sheet.top, sheet.height)
 
 
-def _gap(sheet: _Sheet, content: Content, profile: Profile, ways: Sequence[Way]) -> None:
+def _gap(sheet: Sheet, content: Content, profile: Profile, ways: Sequence[Way]) -> None:
     """The track between a profile that the program has found too short and the greatest supervised location."""
     for short in content.short:
         supervised = ways[DIRECTIONS.index(short.direction)].supervised
@@ -259,11 +179,14 @@ def _gap(sheet: _Sheet, content: Content, profile: Profile, ways: Sequence[Way])
                  f"to {sheet.place(supervised, short.direction)}, {short.direction}")
         left, right = sheet.rect("gap", title, (sign * profile.reach, sign * supervised), sheet.top, sheet.height)
         words = f"F{rule}: {length}"
+        if (len(words) + 3) * LETTER < right - left:
+            sheet.text("red middle", words, (left + right) // 2, sheet.top + 14)
+            continue
         anchor = "ending" if right + len(words) * LETTER > (WIDTH - 4) * 10 else "begin"
         sheet.text(f"red {anchor}", words, left - 30 if anchor == "ending" else right + 30, sheet.top + 12)
 
 
-def _missing(sheet: _Sheet, content: Content, ways: Sequence[Way], rule: int) -> None:
+def _missing(sheet: Sheet, content: Content, ways: Sequence[Way], rule: int) -> None:
     """A lane for a profile that the program has found missing, F10 or F12."""
     found = [short for short in content.short if short.rule == rule]
     if not found:
@@ -278,7 +201,7 @@ def _missing(sheet: _Sheet, content: Content, ways: Sequence[Way], rule: int) ->
             sheet.text("red begin", f"F{rule}: {name}", min(right + 30, (WIDTH - 110) * 10), sheet.top + 14)
 
 
-def _authority(sheet: _Sheet, authority: Authority, direction: str) -> None:
+def _authority(sheet: Sheet, authority: Authority, direction: str) -> None:
     sign, top, begin = _sign(direction), sheet.top + 12, 0
     cuts = [*authority.cuts, authority.end]
     for place, cut in enumerate(cuts):
@@ -308,39 +231,18 @@ def _authority(sheet: _Sheet, authority: Authority, direction: str) -> None:
     if main is not None:
         labels.insert(0, f"V_MAIN {value_words('v_main', main, Around())}")
     labels.insert(1, f"V_LOA {value_words('end_speed', authority.form['end_speed'], Around())}")
-    sheet.text("small begin" if sign > 0 else "small ending", "; ".join(labels), sheet.x(0), top + 28)
+    words = "; ".join(labels)
+    room = len(words) * LETTER
+    if sign < 0 and room < sheet.x(0) - 40:
+        sheet.text("small ending", words, sheet.x(0) - 40, top + 28)
+    else:
+        at = sheet.x(0) + 40 if sign > 0 else 40
+        sheet.text("small begin", words, max(40, min(at, WIDTH * 10 - room)), top + 28)
 
 
-def _axis(sheet: _Sheet, content: Content, start: int) -> None:
-    """Metres, and kilometres where the table has them; a line at the group."""
-    sheet.y += 8
-    base, step = sheet.y, _tick(sheet.greatest - sheet.least)
-    sheet.path("axis", "metres from the group", f"M{tenths(sheet.x(sheet.least))} {base}"
-               f"H{tenths(sheet.x(sheet.greatest))}")
-    sheet.path("group", "the infill's group" if content.infill else "the group",
-               f"M{tenths(sheet.x(0))} {start}V{base + 4}")
-    has_km = False
-    for place in range(-(-sheet.least // step) * step, sheet.greatest + 1, step):
-        direction = REVERSE if place < 0 else NOMINAL
-        sheet.mark("axis", "", place, base, 4)
-        sheet.text("tick", metres(abs(place)), sheet.x(place), base + 14)
-        km = sheet.kilometres.at(abs(place), direction)
-        if km is not None:
-            has_km = True
-            sheet.text("tick", kilometre(km), sheet.x(place), base + 25)
-    if has_km:
-        sheet.text("small", "km", 40, base + 25)
-    if sheet.least < 0:
-        sheet.text("small ending", "← reverse", sheet.x(0) - 60, start)
-        sheet.text("small begin", "nominal →", sheet.x(0) + 60, start)
-    sheet.y = base + (32 if has_km else 20)
-
-
-def _tick(length: int) -> int:
-    """A distance between ticks of 1, 2 or 5 times a power of ten, so that there are ten at most."""
-    power = 10
-    while True:
-        for step in (power, 2 * power, 5 * power):
-            if length // step < 11:
-                return step
-        power *= 10
+def _base(sheet: Sheet, content: Content, has_axis: bool) -> None:
+    """A line at the group, and below the last row metres, and kilometres where the table has them."""
+    group = "the infill's group" if content.infill else "the group"
+    sheet.path("group", group, f"M{tenths(sheet.x(0))} {sheet.start}V{sheet.y + 4}")
+    if has_axis:
+        draw_axis(sheet)

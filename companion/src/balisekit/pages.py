@@ -8,6 +8,7 @@ from typing import Any, Iterator
 
 from balisekit.errors import NoAnswer
 
+LACKS = "pictures and reports need jinja2 (Debian: python3-jinja2)"
 TEMPLATES = Path(__file__).with_name("templates")
 
 
@@ -16,7 +17,7 @@ def pieces(template: str, **values: Any) -> Iterator[str]:
     try:
         from jinja2 import Environment, FileSystemLoader, StrictUndefined
     except ImportError as error:
-        raise NoAnswer("pictures and reports need jinja2 (Debian: python3-jinja2)") from error
+        raise NoAnswer(LACKS) from error
     environment = Environment(loader=FileSystemLoader(str(TEMPLATES)), autoescape=True, undefined=StrictUndefined,
                               trim_blocks=True, lstrip_blocks=True)
     yield from environment.get_template(template).generate(**values)
@@ -24,7 +25,10 @@ def pieces(template: str, **values: Any) -> Iterator[str]:
 
 def style(name: str) -> Any:
     """A style sheet of the package, which is not escaped."""
-    from markupsafe import Markup
+    try:
+        from markupsafe import Markup
+    except ImportError as error:
+        raise NoAnswer(LACKS) from error
     return Markup((TEMPLATES / name).read_text("utf-8"))
 
 

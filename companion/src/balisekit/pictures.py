@@ -4,7 +4,8 @@ from __future__ import annotations
 from typing import List, Mapping, Sequence
 
 from balisekit.checking import Checked, Place
-from balisekit.drawing import Content, Picture, Short, draw
+from balisekit.canvas import Picture
+from balisekit.drawing import Content, Short, draw
 from balisekit.geometry import DIRECTIONS, Site, infill, kilometres
 from balisekit.grammar import Finding
 from balisekit.model import Group

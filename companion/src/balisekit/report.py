@@ -9,7 +9,7 @@ from typing import Dict, Iterator, List, Mapping, Optional, Sequence, Tuple
 from balisekit import __version__
 from balisekit.check_command import finding_words, last_line
 from balisekit.checking import Checked, Place
-from balisekit.drawing import Picture
+from balisekit.canvas import Picture
 from balisekit.explain import Explanation, explanations
 from balisekit.geometry import kilometre
 from balisekit.grammar import Finding

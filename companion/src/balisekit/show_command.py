@@ -2,7 +2,9 @@
 from __future__ import annotations
 
 import argparse
+import re
 import sys
+import textwrap
 from typing import Dict, Iterator, List, Mapping, Optional, Sequence, Union
 
 from balisekit.bit_places import bit_lines
@@ -12,7 +14,7 @@ from balisekit.grammar import Refusal
 from balisekit.model import Group, Messages, Table
 from balisekit.places import Here
 from balisekit.program import Program, Record
-from balisekit.showing import LEGEND, text
+from balisekit.showing import LEGEND, WIDTH, text
 from balisekit.values import Form
 from balisekit.wording import balise_words, message_refused, message_words, telegram_refused
 
@@ -32,14 +34,15 @@ def run(words: argparse.Namespace) -> int:
         refused = refused or lines[-1].startswith("    program: ")
         print("\n".join(lines))
         print()
-    print(LEGEND)
+    print(textwrap.fill(LEGEND, WIDTH))
     return 2 if refused else 0
 
 
 def _standard_input(words: argparse.Namespace) -> Iterator[List[str]]:
     """The telegrams of standard input, one a line."""
     program = Program.find(words.program)
-    texts = [line.strip() for line in sys.stdin.read().split("\n")]
+    said = sys.stdin.buffer.read().decode("utf-8", "backslashreplace")
+    texts = [line.strip() for line in re.split("\r\n|\r|\n", said)]
     numbers = [number for number, line in enumerate(texts, 1) if line]
     answers = program.decode([texts[number - 1] for number in numbers])
     for number, answer in zip(numbers, answers):

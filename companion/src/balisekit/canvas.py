@@ -1,0 +1,127 @@
+"""What a picture is drawn on: shapes with their coordinates, the scale of places, and the axis.
+
+Coordinates are whole tenths of a pixel. The template draws what stands here and computes nothing.
+"""
+from __future__ import annotations
+
+from dataclasses import dataclass, field
+from typing import List, Tuple
+
+from balisekit.geometry import NOMINAL, REVERSE, Kilometres, kilometre
+from balisekit.values import metres
+
+WIDTH, LEFT, RIGHT = 1000, 96, 34
+LETTER = 62
+"""The width of a letter, in tenths of a pixel."""
+
+
+@dataclass(frozen=True)
+class Shape:
+    """A rectangle, a path or a text, and the numbers that its title says."""
+
+    kind: str
+    look: str
+    title: str = ""
+    x: str = ""
+    y: str = ""
+    width: str = ""
+    height: str = ""
+    path: str = ""
+    text: str = ""
+
+
+@dataclass(frozen=True)
+class Picture:
+    """Shapes, and the size that they need."""
+
+    title: str
+    width: int
+    height: int
+    shapes: Tuple[Shape, ...]
+
+
+def tenths(number: int) -> str:
+    """A coordinate of whole tenths, as SVG has it."""
+    return f"{number / 10:.1f}"
+
+
+@dataclass
+class Sheet:
+    """The shapes drawn so far, and the scale of the places."""
+
+    least: int
+    greatest: int
+    kilometres: Kilometres
+    y: int = 0
+    start: int = 0
+    """Where the row begins, and the lane in it, which has this height."""
+    top: int = 0
+    height: int = 0
+    shapes: List[Shape] = field(default_factory=list)
+
+    def edge(self, direction: str) -> int:
+        """The farthest place that is drawn in this direction."""
+        return self.greatest if direction == NOMINAL else -self.least
+
+    def x(self, place: int) -> int:
+        """Where a place is, in tenths of a pixel. A place of the reverse direction is negative."""
+        room = (WIDTH - LEFT - RIGHT) * 10
+        return LEFT * 10 + (place - self.least) * room // (self.greatest - self.least)
+
+    def rect(self, look: str, title: str, places: Tuple[int, int], y: int, height: int) -> Tuple[int, int]:
+        """A rectangle between two places, at least a pixel wide. The answer is where it begins and ends."""
+        begin, end = sorted(map(self.x, places))
+        end = max(end, begin + 10)
+        self.shapes.append(Shape("rect", look, title, tenths(begin), str(y), tenths(end - begin), str(height)))
+        return begin, end
+
+    def path(self, look: str, title: str, path: str) -> None:
+        """A line through points."""
+        self.shapes.append(Shape("path", look, title, path=path))
+
+    def mark(self, look: str, title: str, place: int, y: int, height: int) -> None:
+        """An upright line at a place."""
+        self.path(look, title, f"M{tenths(self.x(place))} {y}v{height}")
+
+    def text(self, look: str, text: str, x: int, y: int) -> None:
+        """A text at a coordinate."""
+        self.shapes.append(Shape("text", look, x=tenths(x), y=str(y), text=text))
+
+    def inside(self, look: str, text: str, begin: int, end: int, y: int) -> None:
+        """A text in the middle between two coordinates, if it fits there."""
+        if len(text) * LETTER <= end - begin:
+            self.text(f"{look} middle", text, (begin + end) // 2, y)
+
+    def place(self, place: int, direction: str) -> str:
+        """A place in words."""
+        km = self.kilometres.at(abs(place), direction)
+        return metres(abs(place)) + (f", km {kilometre(km)}" if km is not None else "")
+
+
+def draw_axis(sheet: Sheet) -> None:
+    """A line with metres, and with kilometres where the table has them."""
+    sheet.y += 8
+    base, step = sheet.y, _tick(sheet.greatest - sheet.least)
+    places = range(-(-sheet.least // step) * step, sheet.greatest + 1, step)
+    ticks = "".join(f"M{tenths(sheet.x(place))} {base}v4" for place in places)
+    sheet.path("axis", "metres from the group",
+               f"M{tenths(sheet.x(sheet.least))} {base}H{tenths(sheet.x(sheet.greatest))}{ticks}")
+    known = [(place, sheet.kilometres.at(abs(place), REVERSE if place < 0 else NOMINAL)) for place in places]
+    has_km = all(km is not None for _, km in known)
+    for place, km in known:
+        sheet.text("tick", metres(abs(place)), sheet.x(place), base + 14)
+        if km is not None and has_km:
+            sheet.text("tick", kilometre(km), sheet.x(place), base + 25)
+    if has_km:
+        sheet.text("small", "km", 40, base + 25)
+    sheet.y = base + (32 if has_km else 20)
+
+
+def _tick(length: int) -> int:
+    """A distance between ticks of 1, 2 or 5 times a power of ten, so that there are ten at most."""
+    power = 10
+    while True:
+        for step in (power, 2 * power, 5 * power):
+            if length // step < 11:
+                return step
+        power *= 10

@@ -1,0 +1,38 @@
+"""balisekit as pip installs it, away from the repository."""
+from __future__ import annotations
+
+import importlib.util
+import os
+import shutil
+import subprocess
+import sys
+import venv
+from pathlib import Path
+
+import pytest
+
+from balisekit.program import Program
+
+TOP = Path(__file__).resolve().parents[2]
+
+
+def test_install(tmp_path: Path, program: Program) -> None:
+    lacks = [module for module in ("pip", "setuptools", "wheel") if importlib.util.find_spec(module) is None]
+    if lacks:
+        pytest.skip(f"no {', '.join(lacks)}")
+    shutil.copytree(TOP / "companion", tmp_path / "companion", ignore=shutil.ignore_patterns("tests", "__pycache__"))
+    venv.create(tmp_path / "room", system_site_packages=True, with_pip=False)
+    python = tmp_path / "room" / "bin" / "python"
+    subprocess.run([str(python), "-m", "pip", "install", "-q", "--no-build-isolation", "--no-deps", "--no-index",
+                    str(tmp_path / "companion")], check=True, stdout=subprocess.DEVNULL, stderr=subprocess.STDOUT)
+    table = tmp_path / "line.csv"
+    shutil.copyfile(TOP / "examples" / "table" / "line.csv", table)
+    command = str(tmp_path / "room" / "bin" / "balisekit")
+    known = {**os.environ, "BALISECHECK": program.path}
+    done = subprocess.run([command, "check", str(table), "--explain"], env=known, cwd=tmp_path, check=False,
+                          stdout=subprocess.PIPE)
+    assert (done.returncode, done.stdout.decode().splitlines()[-1][:10]) == (2, "INCOMPLETE")
+    bare = {key: value for key, value in os.environ.items() if key != "BALISECHECK"}
+    done = subprocess.run([command, "check", str(table)], env={**bare, "PATH": str(Path(sys.executable).parent)},
+                          cwd=tmp_path, check=False, stderr=subprocess.PIPE)
+    assert done.returncode == 3 and b"there is no balisecheck on the path" in done.stderr
