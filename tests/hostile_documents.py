@@ -48,11 +48,17 @@ def fronts_alone(tests, those):
         tests.holds(f"half of {name}", is_documented(CHECK, answer), answer)
 
 
+def places(first, digits, step):
+    """Each so many bits of the text from the first on; in a text longer than any telegram fewer, as many as there."""
+    bits = 4 * len(digits)
+    return range(first, bits, step * max(1, bits // 1024))
+
+
 def with_turned_texts(document, step):
     """The document with bits of each of its telegrams and messages turned, each with what then stands there."""
     for found in TEXT.finditer(document):
         digits = found[1].decode()
-        lines = (flipped(digits, place) for place in range(0, 4 * len(digits), step))
+        lines = (flipped(digits, place) for place in places(0, digits, step))
         yield from ((line, document[:found.start(1)] + line.encode() + document[found.end(1):]) for line in lines)
 
 
@@ -67,7 +73,7 @@ def past_fault(document, answer, first, step):
     if not message:
         texts = (texts["aspects"][int(aspect)] if aspect else texts)["balises"]
     digits = texts[int(item)]
-    for place in range(int(end) + first % step, 4 * len(digits), step):
+    for place in places(int(end) + first % step, digits, step):
         texts[int(item)] = flipped(digits, place)
         yield where, json.dumps(line).encode()
 
