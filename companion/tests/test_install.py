@@ -11,6 +11,7 @@ from pathlib import Path
 
 import pytest
 
+from balisekit import program_file
 from balisekit.program import Program
 
 TOP = Path(__file__).resolve().parents[2]
@@ -36,3 +37,13 @@ def test_install(tmp_path: Path, program: Program) -> None:
     done = subprocess.run([command, "check", str(table)], env={**bare, "PATH": str(Path(sys.executable).parent)},
                           cwd=tmp_path, check=False, stderr=subprocess.PIPE)
     assert done.returncode == 3 and b"there is no balisecheck on the path" in done.stderr
+
+
+def test_in_a_release_the_program_itself_stands_beside(tmp_path: Path, monkeypatch: pytest.MonkeyPatch) -> None:
+    """A release has the program in the place where a clone has the start script."""
+    monkeypatch.delenv("BALISECHECK", raising=False)
+    (tmp_path / "companion").mkdir()
+    (tmp_path / "companion" / "pyproject.toml").touch()
+    (tmp_path / "balisecheck").write_bytes(b"\x7fELF and more")
+    monkeypatch.setattr(program_file, "TOP", tmp_path)
+    assert program_file.find(None) == str(tmp_path / "balisecheck")

@@ -32,15 +32,16 @@ def of_document(text: str) -> Dict[int, Dict[str, str]]:
     for section in re.split(r"^## ", text, flags=re.MULTILINE):
         heading = re.match(r"F(\d+): (.+)\n", section)
         if heading:
-            parts = dict(re.findall(r"^\*\*(.+?)\.\*\* (.+)$", section, re.MULTILINE))
+            parts = dict(re.findall(r"^\*\*(.+?)\.\*\* (.+?)(?=^\*\*|^```|\Z)", section, re.MULTILINE | re.DOTALL))
             found[int(heading[1])] = {"name": heading[2],
                                       **{key: _plain(parts.get(part, "")) for part, key in PARTS.items()}}
     return found
 
 
 def _plain(text: str) -> str:
-    """The text without the marks of links and emphasis."""
-    return re.sub(r"\[([^]]+)\]\([^)]+\)", r"\1", text).replace("*", "")
+    """The text in one line, without the marks of links, emphasis and lists."""
+    line = " ".join(re.sub(r"^- ", "", text, flags=re.MULTILINE).split())
+    return re.sub(r"\[([^]]+)\]\([^)]+\)", r"\1", line).replace("*", "")
 
 
 def explanations() -> Dict[int, Explanation]:

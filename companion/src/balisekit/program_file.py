@@ -23,7 +23,8 @@ def find(named: Optional[str]) -> str:
         if path is None:
             raise NoAnswer(f"there is no program {named}")
     elif (TOP / "companion" / "pyproject.toml").is_file() and script.is_file():
-        path = _stored(str(script))
+        # (in a clone it is the start script; in a release it is the program itself)
+        path = str(script) if script.read_bytes()[:4] == b"\x7fELF" else _stored(str(script))
     else:
         path = shutil.which("balisecheck")
         if path is None:

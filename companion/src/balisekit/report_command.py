@@ -4,6 +4,7 @@ from __future__ import annotations
 import argparse
 
 from balisekit import checking, files
+from balisekit.check_command import last_line
 from balisekit.commands import Command, add_input_words, inputs
 from balisekit.pages import hash_of, pieces, style
 from balisekit.premises import premises
@@ -30,6 +31,9 @@ def run(words: argparse.Namespace) -> int:
     with files.writing(words.html) as file:
         for piece in page:
             file.write(piece.encode("utf-8"))
+    if words.html != "-":
+        print(f"written: {words.html}")
+        print(last_line(checked))
     return checked.status
 
 
