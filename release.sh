@@ -13,7 +13,7 @@ cd "$(dirname "${BASH_SOURCE[0]}")"
 dist=dist/x86_64-linux
 version=$(cat VERSION)
 # What is handed out beside the program.
-handed=(balisecheck.1 balisekit README.md CHANGELOG.md LICENSE-APACHE LICENSE-MIT companion docs schemas examples)
+handed=("$dist/ABOUT" balisecheck.1 balisekit README.md CHANGELOG.md LICENSE-APACHE LICENSE-MIT companion docs schemas examples)
 
 fail() {
     echo "release: $1" >&2
