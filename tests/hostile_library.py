@@ -2,13 +2,13 @@
 import os
 import subprocess
 
-from hostile_program import EACH_NTH, FROM, ONE, PROGRAM, Answer, Job, Program
+from hostile_program import EACH_NTH, FROM, HERE, ONE, Answer, Job, Program
 
-# the tests of balisecheck's crate, which `rt ci` builds beside the program
+# the tests of crates/trials_lines, which `rt ci` builds
 NAMED = os.environ.get("BALISECHECK_TESTS")
-TESTS = NAMED or f"{PROGRAM}_tests"
+TESTS = NAMED or str(HERE.parent / "crates" / "trials_lines" / "out" / "trials_lines_tests")
 # of these tests, those that pass whichever requests are refused
-FOLDER = "tests::refused_memory::"
+FOLDER = "refused_memory::"
 PASSED = Answer(0, "\ntest result: ok\n", "")
 
 

@@ -1,43 +1,13 @@
-//! `balisecheck`: the document of a railway line, to what is found about the line; lines of
-//! hexadecimal text, each a Eurobalise telegram, to lines of JSON, and back; and a stream of radio
-//! messages, in lines of hexadecimal text, to lines of JSON, and back.
+//! `balisecheck`: [`run`] of `etcs_run`, from standard input to standard output.
 //!
-//! `program::run` is the whole program, from words and a counted reader to a counted writer and a
-//! status. Its contract says what is written for every input. `specs/Commands.antt` defines that
-//! text, and `specs/Ran.antt` defines what is promised of it. `main` adds the arguments, standard
-//! input and standard output, which no contract can describe. Read `program.rt` first, then
-//! `answering.rt`, `line_command.rt`, `line_meaning.rt`, `each_line.rt` and `text_lines.rt`. What a
-//! line means is in `telegram_lines.rt` and `form_lines.rt`. A stream is answered in
-//! `radio_decoding.rt`, wherever its lines end. A document is answered as a whole, in `checking.rt`.
+//! The contract of [`run`] says what is written for every input. This crate adds the arguments, standard
+//! input and standard output, which no contract can describe, and advice for usual mistakes.
 #![tactic(auto)]
 
 mod advice;
-mod answering;
-mod checking;
-mod command;
-mod counted;
-mod each_line;
-mod error;
-mod form_lines;
-mod json_line;
-mod line_command;
-mod line_meaning;
-mod output;
-mod program;
-mod radio_decoding;
-mod status;
-mod telegram_lines;
-#[cfg(test)]
-mod tests;
-mod text_lines;
-mod turn;
-mod whole_input;
 
 use crate::advice::advice_for;
-use crate::counted::Counted;
-use crate::error::RunError;
-use crate::program::run;
-use crate::status::Status;
+pub use etcs_run::{Counted, RunError, Status, run};
 use std::io::{self, BufWriter, Write};
 use std::process::ExitCode;
 

@@ -14,8 +14,6 @@
 mod bits;
 pub mod laws;
 mod layout;
-#[cfg(test)]
-mod tests;
 mod variables;
 
 pub use bits::Bits;

@@ -22,6 +22,3 @@ pub use checking::{check_group, check_message};
 pub use duplicates::same_packets;
 pub use finding::{Finding, Rule, Site};
 pub use line::{Line, check};
-
-#[cfg(test)]
-mod tests;

@@ -25,6 +25,3 @@ pub use group::Group;
 pub use missed::{Missed, is_covered};
 pub use mixture::Mixture;
 pub use refused::Refused;
-
-#[cfg(test)]
-mod tests;

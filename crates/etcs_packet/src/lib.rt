@@ -24,8 +24,6 @@ mod packets;
 mod raw;
 mod run;
 mod stop;
-#[cfg(test)]
-mod tests;
 mod track;
 mod view;
 mod whole;

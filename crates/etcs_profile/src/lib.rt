@@ -28,8 +28,6 @@ mod reach;
 mod section;
 mod speed;
 mod terms;
-#[cfg(test)]
-mod tests;
 mod transition;
 
 pub use authority::Authority;

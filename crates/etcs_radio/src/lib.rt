@@ -24,8 +24,6 @@ mod position;
 mod raw_train;
 mod report;
 mod splitter;
-#[cfg(test)]
-mod tests;
 mod text;
 mod train3;
 mod train_packet;

@@ -24,6 +24,3 @@ pub use header::Header;
 pub use size::Size;
 pub use telegram::Telegram;
 pub use text::{from_hex, to_hex};
-
-#[cfg(test)]
-mod tests;

@@ -1,0 +1,46 @@
+-- What was written for a line when a write failed.
+use Rattle.std.proofs.Common.{◌≡◌, ◌+◌, ◌++◌, ℕ, List, [], take, drop, Option, Result, Ok, Err, sym, ap, ◌∙◌, append_assoc, refl}
+use Rattle.std.proofs.lemmas.List.{append-nil, take-append-drop}
+use Rattle.etcs_run.specs.LineMeaning.{Meaning, refusal_of}
+use Rattle.etcs_run.specs.Output.{Output, after_line, answered, answers}
+use Rattle.etcs_run.specs.Ran.{TakesTurn, Turns, WritesBytes}
+use Rattle.etcs_run.specs.TextLines.{trimmed}
+use Rattle.etcs_run.specs.declared.error.RunError.{RunError}
+use Rattle.etcs_run.specs.declared.turn.Turn.{Turn}
+use Rattle.etcs_run.specs.declared.turn.Turn.TheVariants.{Next, Stop}
+
+-- The text to be written is a beginning of the answer. So is the part of it that was written.
+pub put_failed : {old new : Option (List ℕ)} {bytes : List ℕ} {after : Output → Output}
+    {result : Result (Unit {0}) RunError} (e : RunError) → WritesBytes old new bytes result
+    → ((rest : Output) → (more : List ℕ) × ((after rest).0 ≡ bytes ++ more))
+    → Turns old new after (Err e)
+put_failed {bytes} e written begins = record {
+  text = take written.count bytes;
+  appended = written.appended;
+  says = λ rest.
+      let whole = begins rest in (
+        drop written.count bytes ++ whole.0,
+        whole.1 ∙ ap (λ x. x ++ whole.0) (sym (take-append-drop written.count bytes))
+            ∙ append_assoc (take written.count bytes) (drop written.count bytes) whole.0,
+      );
+}
+
+-- the text of a line is a beginning of the answer to the line
+pub begins_answered : (n : ℕ) {meaning : Result (List ℕ) (List ℕ)} {bytes : List ℕ}
+    → meaning ≡ Ok bytes → (rest : Output)
+    → (more : List ℕ) × ((answered n meaning rest).0 ≡ bytes ++ more)
+begins_answered n is rest = (rest.0, rw is refl)
+
+-- and so is its refusal
+pub begins_refused : (n : ℕ) (words : List ℕ) {bytes : List ℕ} → bytes ≡ refusal_of n words
+    → (rest : Output) → (more : List ℕ) × ((answered n (Err words) rest).0 ≡ bytes ++ more)
+begins_refused n words {bytes} is rest = ([], sym is ∙ sym (append-nil bytes))
+
+-- the turn of a command that carries nothing from line to line
+pub turn_taken : {old new : Option (List ℕ)} (meaning : Meaning) (number : ℕ) (line : List ℕ) (result : Result Turn RunError)
+    → Turns old new (after_line meaning number (trimmed line)) result
+    → TakesTurn old new (answers meaning) (answers meaning) number line result
+unfolding answers
+turn_taken meaning number line (Ok Next) turn = record { text = turn.text; appended = turn.appended; says = λ lines. turn.says (answers meaning (number + 1) lines) }
+turn_taken meaning number line (Ok (Stop status)) turn = record { text = turn.text; appended = turn.appended; says = λ lines. turn.says (answers meaning (number + 1) lines) }
+turn_taken meaning number line (Err e) turn = record { text = turn.text; appended = turn.appended; says = λ lines. turn.says (answers meaning (number + 1) lines) }

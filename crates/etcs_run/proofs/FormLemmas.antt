@@ -1,0 +1,131 @@
+-- How the words of a refusal are those of what was read.
+use Rattle.std.proofs.Common.{◌≡◌, ◌≢◌, ◌↔◌, ◌++◌, ◌∙◌, ◌<◌, ◌≤◌, ℕ, Bool, true, false, List, codes, Option, Some, None, Result, Ok, Err, refl, sym, ap, if◌then◌else◌, nat_lt}
+use Rattle.std.specs.Prelude.{IfSome, IsErrOf, IsUtf8}
+use Rattle.std.specs.Str.{is_utf8}
+use Rattle.std.proofs.lemmas.Bool.{le-ltb, lt-ltb, ltb-false, ltb-true}
+use Rattle.std.proofs.lemmas.Str.{IsUtf8-from_is_utf8, is_utf8-from_IsUtf8}
+use Rattle.serde_json.specs.Data.{Data}
+use Rattle.serde_json.specs.Read.{read}
+use Rattle.etcs_bits.specs.declared.layout.fault.Fault.{Fault as BitFault}
+use Rattle.etcs_radio.specs.declared.message.Message.{Message}
+use Rattle.etcs_radio.specs.Message.{IsTooBig as IsMessageTooBig, used_bits as message_bits}
+use Rattle.etcs_radio.specs.Text.{IsCanonicalText as IsMessageText}
+use Rattle.etcs_radio.proofs.EncodeLemmas.{encoding_message, never_too_big}
+use Rattle.etcs_form.specs.Fault.{Fault, Fails}
+use Rattle.etcs_form.specs.Shape.{Shape}
+use Rattle.etcs_form.specs.Refusal.{IsLineTold, line_words}
+use Rattle.etcs_form.specs.declared.error.FormError.{FormError}
+use Rattle.etcs_form.specs.declared.error.FormError.TheVariants as forms
+use Rattle.etcs_form.specs.declared.refusal.LineFault.TheVariants.{Form, Json, Text, TooBig}
+use Rattle.etcs_telegram.specs.Record.{Telegram}
+use Rattle.etcs_telegram.specs.Sizes.{user_bits}
+use Rattle.etcs_telegram.specs.Telegram.{IsTooBig, used_bits}
+use Rattle.etcs_telegram.specs.Text.{HasHeaderFault, IsCanonicalText, IsHexadecimal, IsReasonDecoded, TextFails}
+use Rattle.etcs_telegram.specs.declared.error.TextError.{TextError}
+use Rattle.etcs_telegram.specs.declared.error.TextError.TheVariants as texts
+use Rattle.etcs_run.specs.FormLines.{◌then◌, message_line, or_fault, or_no_json, record_in, telegram_line, text_unless, value_in}
+use Rattle.etcs_run.specs.HexText.{message_text, telegram_text}
+use Rattle.etcs_run.specs.TelegramLines.{IsEarly, line_for}
+use Rattle.etcs_run.proofs.HexTextLemmas.{canonical_message, canonical_telegram}
+
+-- a text that is refused, unless memory ran out, has this reason
+pub text_refused : (why : TextError) (meaning : Result Telegram TextError) → why ≢ texts.Memory → TextFails why meaning
+    → IsLineTold (Text why) × (line_for meaning ≡ Err (line_words (Text why)))
+text_refused texts.Memory meaning other fails = absurd (other refl)
+text_refused texts.NotHex meaning other fails = (tt, ap line_for fails)
+text_refused texts.WrongSize meaning other fails = (tt, ap line_for fails)
+text_refused texts.PadBits meaning other fails = (tt, ap line_for fails)
+text_refused (texts.Fault f) meaning other fails = (tt, ap line_for fails)
+
+-- a reason that is found before any packet is read is the one that is answered
+pub refused_early : (result : Result Telegram TextError) (text : List ℕ) (why : TextError) → IsEarly why text
+    → (IsErrOf result texts.NotHex ↔ (IsHexadecimal text → ⊥))
+    → (IsErrOf result texts.WrongSize ↔ IsReasonDecoded texts.WrongSize text)
+    → (IsErrOf result texts.PadBits ↔ IsReasonDecoded texts.PadBits text)
+    → ((f : BitFault) → HasHeaderFault text f → result ≡ Err (texts.Fault f)) → result ≡ Err why
+refused_early result text texts.Memory early not_hex wrong_size pad_bits header = absurd early
+refused_early result text texts.NotHex early not_hex wrong_size pad_bits header = not_hex.1 early
+refused_early result text texts.WrongSize early not_hex wrong_size pad_bits header = wrong_size.1 early
+refused_early result text texts.PadBits early not_hex wrong_size pad_bits header = pad_bits.1 early
+refused_early result text (texts.Fault f) early not_hex wrong_size pad_bits header = header f early
+
+-- a form that is refused, unless memory ran out, has this fault, in the same words
+pub form_refused : {X : Type 0} (why : FormError) (read : Result X Fault) → why ≢ forms.Memory → Fails why read
+    → IsLineTold (Form why) × (or_fault read ≡ Err (line_words (Form why)))
+unfolding line_words
+form_refused forms.Memory read other fails = absurd (other refl)
+form_refused (forms.Missing path) read other fails = (tt, ap or_fault fails)
+form_refused (forms.Unknown path) read other fails = (tt, ap or_fault fails)
+form_refused (forms.Kind path) read other fails = (tt, ap or_fault fails)
+form_refused (forms.Range path) read other fails = (tt, ap or_fault fails)
+
+-- ---- the JSON value of a line
+
+-- the bytes are UTF-8, and they are read
+pub value_read : (line : List ℕ) (d : Data) → IsUtf8 line → read line ≡ Some d → value_in line ≡ Ok d
+unfolding value_in
+value_read line d utf8 is =
+    ap (λ (b : Bool). if b then or_no_json (read line) else Err (line_words Json)) (is_utf8-from_IsUtf8 line utf8)
+    ∙ ap or_no_json is
+
+-- the bytes are UTF-8, they are read, and what is read is the form of a record
+record_read : {X : Type 0} (shape : Shape X) (line : List ℕ) (d : Data) (x : X) → IsUtf8 line → read line ≡ Some d
+    → shape.of d ≡ Ok x → record_in shape line ≡ Ok x
+record_read shape line d x utf8 is form =
+    ap (λ value. value then λ e. or_fault (shape.of e)) (value_read line d utf8 is) ∙ ap or_fault form
+
+-- what was read from the tokens of the line's text is the record of the line
+pub tokens_read : {X : Type 0} (shape : Shape X) (line text : List ℕ) (result : Option X) → text ≡ line → IsUtf8 line
+    → IfSome result (λ x. (d : Data) × (read text ≡ Some d) × (shape.of d ≡ Ok x))
+    → IfSome result (λ x. record_in shape line ≡ Ok x)
+tokens_read shape line text (Some x) same utf8 found =
+    record_read shape line found.0 x utf8 (ap read (sym same) ∙ found.1) found.2
+tokens_read shape line text None same utf8 found = tt
+
+no_value_by : (line : List ℕ) (b : Bool) → is_utf8 line ≡ b → (IsUtf8 line → read line ≡ None)
+    → (if b then or_no_json (read line) else Err (line_words Json)) ≡ Err (line_words Json)
+no_value_by line true utf8 none = ap or_no_json (none (IsUtf8-from_is_utf8 line utf8))
+no_value_by line false utf8 none = refl
+
+-- the bytes are not UTF-8, or they are not read
+pub no_value : (line : List ℕ) → (IsUtf8 line → read line ≡ None) → value_in line ≡ Err (line_words Json)
+unfolding value_in
+no_value line none = no_value_by line (is_utf8 line) refl none
+
+-- ---- the line of a record
+
+-- a telegram that fits its size has its canonical text
+pub telegram_written : (t : Telegram) (text line : List ℕ) → IsCanonicalText t text → line ≡ text ++ codes "\n"
+    → telegram_line t ≡ Ok line
+unfolding telegram_line
+telegram_written t text line x is =
+    let fits : nat_lt (user_bits t.size) (used_bits t) ≡ false = le-ltb (user_bits t.size) (used_bits t) x.encoding.fits in
+    ap (λ (b : Bool). text_unless b (telegram_text t)) fits
+    ∙ ap (λ (s : List ℕ). Ok (s ++ codes "\n")) (sym (canonical_telegram t text x)) ∙ ap Ok (sym is)
+
+pub telegram_too_big : (t : Telegram) → IsTooBig t → telegram_line t ≡ Err (line_words TooBig)
+unfolding telegram_line
+telegram_too_big t big = ap (λ (b : Bool). text_unless b (telegram_text t)) (lt-ltb (user_bits t.size) (used_bits t) big)
+
+-- what is not above 1,023 bytes is at most that
+not_above_by : (bits : ℕ) (b : Bool) → nat_lt 8184 bits ≡ b → (8184 < bits → ⊥) → bits ≤ 8184
+not_above_by bits true above none = absurd (none (ltb-true 8184 bits above))
+not_above_by bits false above none = ltb-false 8184 bits above
+
+not_above : (bits : ℕ) → (8184 < bits → ⊥) → bits ≤ 8184
+not_above bits none = not_above_by bits (nat_lt 8184 bits) refl none
+
+-- a message that 1,023 bytes hold has its canonical text
+pub message_written : (m : Message) (text line : List ℕ) → IsMessageText m text → line ≡ text ++ codes "\n"
+    → message_line m ≡ Ok line
+unfolding message_line
+message_written m text line x is =
+    let few : message_bits m ≤ 8184 =
+    not_above (message_bits m) (λ big. never_too_big m x.bytes (encoding_message m x.bytes x.encoding) big) in
+    let fits : nat_lt 8184 (message_bits m) ≡ false = le-ltb 8184 (message_bits m) few in
+    ap (λ (b : Bool). text_unless b (message_text m)) fits
+    ∙ ap (λ (s : List ℕ). Ok (s ++ codes "\n")) (sym (canonical_message m text x)) ∙ ap Ok (sym is)
+
+pub message_too_big : (m : Message) → IsMessageTooBig m → message_line m ≡ Err (line_words TooBig)
+unfolding message_line
+message_too_big m big = ap (λ (b : Bool). text_unless b (message_text m)) (lt-ltb 8184 (message_bits m) big)

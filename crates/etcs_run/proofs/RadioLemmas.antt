@@ -1,0 +1,308 @@
+-- How the bytes of a stream of radio messages are answered, message by message. `all` is what has to
+-- be written for all bytes of a line, and `left` for those that are left.
+use Rattle.std.proofs.Common.{◌≡◌, ◌≢◌, ◌≤◌, ◌+◌, ◌-◌, ◌++◌, ℕ, Bool, true, false, if◌then◌else◌, List, [], ◌∷◌, length, Option, Result, Ok, Err, refl, sym, ap, ◌∙◌, append_assoc, take, drop, arith, length-append, length-drop, length-take, drop-drop, subst, OnOk, ◌⊎◌, inl, inr}
+use Rattle.std.proofs.lemmas.List.{take_all}
+use Rattle.std.specs.Io.BufRead.{ends_with_byte}
+use Rattle.std.specs.Io.KnownBytes.{Appends}
+use Rattle.hex.proofs.HexLemmas.{decode_of-ok}
+use Rattle.hex.specs.Hex.{decode_of}
+use Rattle.hex.specs.declared.error.FromHexError.{FromHexError}
+use Rattle.hex.specs.declared.error.FromHexError.TheVariants.{OutOfMemory}
+use Rattle.etcs_bits.specs.declared.layout.fault.Fault.{Fault}
+use Rattle.etcs_radio.specs.Cutting.{Cut, after_message, cut_from, none_with}
+use Rattle.etcs_radio.specs.Meaning.{message_of}
+use Rattle.etcs_radio.specs.Splitter.{IsTaken, state_of}
+use Rattle.etcs_radio.specs.declared.splitter.State.TheVariants.{Failed, More, Ready}
+use Rattle.etcs_radio.proofs.CuttingLemmas.{call-others, call-ready}
+use Rattle.etcs_radio.proofs.StateLemmas.{ready-whole, ready_is_not_more}
+use Rattle.etcs_form.specs.Refusal.{line_words, refusal_words}
+use Rattle.etcs_form.specs.declared.refusal.LineFault.TheVariants.{Text}
+use Rattle.etcs_form.specs.declared.refusal.StreamFault.TheVariants.{BelowThree, CutOff}
+use Rattle.etcs_telegram.specs.declared.error.TextError.TheVariants.{NotHex}
+use Rattle.etcs_run.specs.Output.{Output, answered, prepend}
+use Rattle.etcs_run.specs.RadioHeld.{Feeds}
+use Rattle.etcs_run.specs.RadioStream.{Onwards, fed, line_for, refused_message, stream_answers, told, told_cut}
+use Rattle.etcs_run.specs.Ran.{TakesTurn, Turns, Writes, WritesBytes}
+use Rattle.etcs_run.specs.TextLines.{trimmed}
+use Rattle.etcs_run.specs.declared.error.RunError.{RunError}
+use Rattle.etcs_run.specs.declared.status.Status.{Status}
+use Rattle.etcs_run.specs.declared.status.Status.TheVariants.{Done}
+use Rattle.etcs_run.specs.declared.turn.Turn.{Turn}
+use Rattle.etcs_run.specs.declared.turn.Turn.TheVariants.{Next, Stop}
+use Rattle.etcs_run.proofs.StreamLemmas.{Appends-none, Appends-then}
+
+-- ---- what one call of the splitter leaves to write
+
+-- a message came out
+pub fed_ready : (n : ℕ) (held piece whole rest : List ℕ)
+    → cut_from held piece ≡ after_message whole (cut_from [] rest) → (onwards : Onwards)
+    → fed n held piece onwards ≡ told n (line_for (message_of whole)) (fed (n + 1) [] rest onwards)
+fed_ready n held piece whole rest is onwards = ap (λ (cut : Cut). told_cut n cut onwards) is
+
+-- the splitter waits for more bytes
+pub fed_more : (n : ℕ) (held piece after : List ℕ) → cut_from held piece ≡ none_with after
+    → state_of after ≡ More → (onwards : Onwards) → fed n held piece onwards ≡ onwards n after
+fed_more n held piece after is waits onwards = ap (λ (cut : Cut). told_cut n cut onwards) is ∙ rw waits refl
+
+ready_is_not_failed : Ready ≢ Failed
+ready_is_not_failed e = grind arith
+
+-- no message begins with the bytes that are held
+pub fed_failed : (n : ℕ) (held piece after : List ℕ) → cut_from held piece ≡ none_with after
+    → state_of after ≡ Failed → (onwards : Onwards) → fed n held piece onwards ≡ refused_message n BelowThree
+fed_failed n held piece after is failed onwards =
+    ap (λ (cut : Cut). told_cut n cut onwards) is ∙ rw failed refl
+
+-- One call of the splitter: it takes bytes of those that are left, and holds them behind the others.
+pub record Takes (held bytes now : List ℕ) (at used : ℕ) : Type 0 where
+  pub taken : IsTaken held (drop at bytes) used
+  pub grown : now ≡ held ++ take used (drop at bytes)
+
+-- the same, of a piece that is the bytes that are left
+pub takes_of : {held now piece : List ℕ} {used : ℕ} (bytes : List ℕ) (at : ℕ) → piece ≡ drop at bytes
+    → IsTaken held piece used → now ≡ held ++ take used piece → Takes held bytes now at used
+takes_of {held} {now} {piece} {used} bytes at is taken grown =
+    let Taken : List ℕ → Type 0 = λ xs. IsTaken held xs used in record {
+      taken = subst Taken is taken;
+      grown = grown ∙ ap (λ xs. held ++ take used xs) is;
+    }
+
+module _ {held bytes now : List ℕ} {at used : ℕ} (call : Takes held bytes now at used) where
+  -- it takes no more than are left, and holds as many more
+  pub takes_few : used ≤ length bytes - at
+  takes_few = omega (arith, call.taken.within, length-drop at bytes)
+
+  pub takes_so_many : length now ≡ length held + used
+  takes_so_many = omega (
+    arith,
+    ap length call.grown,
+    length-append held (take used (drop at bytes)),
+    length-take used (drop at bytes),
+    length-drop at bytes,
+    call.taken.within,
+  )
+
+  -- a whole message has three bytes at least
+  pub takes_three : state_of now ≡ Ready → 3 ≤ length now
+  takes_three ready = (ready-whole now ready).three
+
+  none_came : state_of now ≢ Ready → cut_from held (drop at bytes) ≡ none_with now
+  none_came other =
+      call-others held (drop at bytes) used call.taken (λ ready. other (ap state_of call.grown ∙ ready))
+      ∙ ap none_with (sym call.grown)
+
+  one_came : state_of now ≡ Ready
+      → cut_from held (drop at bytes) ≡ after_message now (cut_from [] (drop (at + used) bytes))
+  one_came ready =
+      call-ready held (drop at bytes) used call.taken (ap state_of (sym call.grown) ∙ ready)
+      ∙ ap (λ whole. after_message whole (cut_from [] (drop used (drop at bytes)))) (sym call.grown)
+      ∙ ap (λ rest. after_message now (cut_from [] rest)) (drop-drop used at bytes)
+
+  -- what the call leaves to write: all of it later, the refusal, or the message and the bytes after it
+  pub left_more : (n : ℕ) → state_of now ≡ More → (onwards : Onwards)
+      → fed n held (drop at bytes) onwards ≡ onwards n now
+  left_more n waits =
+      fed_more n held (drop at bytes) now (none_came (λ ready. ready_is_not_more (sym ready ∙ waits))) waits
+
+  pub left_failed : (n : ℕ) → state_of now ≡ Failed → (onwards : Onwards)
+      → fed n held (drop at bytes) onwards ≡ refused_message n BelowThree
+  left_failed n failed =
+      fed_failed n held (drop at bytes) now (none_came (λ ready. ready_is_not_failed (sym ready ∙ failed))) failed
+
+  pub left_ready : (n : ℕ) → state_of now ≡ Ready → (onwards : Onwards)
+      → fed n held (drop at bytes) onwards
+      ≡ told n (line_for (message_of now)) (fed (n + 1) [] (drop (at + used) bytes) onwards)
+  left_ready n ready = fed_ready n held (drop at bytes) now (drop (at + used) bytes) (one_came ready)
+
+-- ---- what was written so far
+
+-- this text was written, and the rest is left
+pub record Feeding (old new : Option (List ℕ)) (all left : Onwards → Output) : Type 0 where
+  pub text : List ℕ
+  pub appended : Appends old new text
+  pub says : (onwards : Onwards) → all onwards ≡ prepend text (left onwards)
+
+-- nothing is written yet
+pub Feeding-start : {c : Option (List ℕ)} (all : Onwards → Output) → Feeding c c all all
+Feeding-start {c} all = record { text = []; appended = Appends-none c; says = λ onwards. refl }
+
+module _ {c0 c c1 : Option (List ℕ)} {all left : Onwards → Output} (feeding : Feeding c0 c all left) where
+  -- a message was answered, and the rest is left
+  pub Feeding-told : (later : Onwards → Output) (after : Output → Output)
+      → ((onwards : Onwards) → left onwards ≡ after (later onwards)) → Turns c c1 after (Ok Next)
+      → Feeding c0 c1 all later
+  Feeding-told later after is turn = record {
+    text = feeding.text ++ turn.text;
+    appended = Appends-then c0 c c1 _ _ feeding.appended turn.appended;
+    says = λ onwards.
+        feeding.says onwards ∙ ap (prepend feeding.text) (is onwards ∙ turn.says (later onwards))
+        ∙ ap (λ s. (s, (later onwards).1)) (sym (append_assoc feeding.text turn.text (later onwards).0));
+  }
+
+  -- the run stops at a message
+  pub Feeds-stopped : (later : Onwards → Output) (after : Output → Output)
+      → ((onwards : Onwards) → left onwards ≡ after (later onwards)) → {status : Status}
+      → Turns c c1 after (Ok (Stop status)) → (n : ℕ) (held : List ℕ)
+      → Feeds c0 c1 all n held (Ok (Stop status))
+  Feeds-stopped later after is turn n held = record {
+    text = feeding.text ++ turn.text;
+    appended = Appends-then c0 c c1 _ _ feeding.appended turn.appended;
+    says = λ onwards. feeding.says onwards ∙ ap (prepend feeding.text) (is onwards ∙ turn.says (later onwards));
+  }
+
+  -- a write failed, or memory ran out
+  pub Feeds-cut : (later : Onwards → Output) (after : Output → Output)
+      → ((onwards : Onwards) → left onwards ≡ after (later onwards)) → {e : RunError} (x : RunError)
+      → Turns c c1 after (Err e) → (n : ℕ) (held : List ℕ) → Feeds c0 c1 all n held (Err x)
+  Feeds-cut later after is x turn n held = record {
+    text = feeding.text ++ turn.text;
+    appended = Appends-then c0 c c1 _ _ feeding.appended turn.appended;
+    says = λ onwards.
+        let cut = turn.says (later onwards) in (
+          cut.0,
+          ap (λ o. o.0) (feeding.says onwards ∙ ap (prepend feeding.text) (is onwards))
+              ∙ ap (λ s. feeding.text ++ s) cut.1
+              ∙ sym (append_assoc feeding.text turn.text cut.0),
+        );
+  }
+
+-- all bytes were fed
+pub Feeds-more : {c0 c : Option (List ℕ)} {all left : Onwards → Output} (n : ℕ) (held : List ℕ)
+    → Feeding c0 c all left → ((onwards : Onwards) → left onwards ≡ onwards n held)
+    → Feeds c0 c all n held (Ok Next)
+Feeds-more n held feeding is = record {
+  text = feeding.text;
+  appended = feeding.appended;
+  says = λ onwards. feeding.says onwards ∙ ap (prepend feeding.text) (is onwards);
+}
+
+-- ---- refusals
+
+-- a text was written whole
+pub written_whole : {c c1 : Option (List ℕ)} {bytes line : List ℕ} {status : Status} {u : Unit {0}}
+    → WritesBytes c c1 bytes (Ok u) → bytes ≡ line → Writes c c1 (line, status) (Ok status)
+written_whole {bytes} {line} {status} written is = record {
+  text = take written.count bytes;
+  appended = written.appended;
+  says =
+      let whole : take written.count bytes ≡ line =
+      take_all written.count bytes (omega (arith, written.whole)) ∙ is in
+      ap (λ s. (s, status)) (sym whole);
+}
+
+-- what is the whole output ends the run, whatever would follow
+pub turn_of_output : {c c1 : Option (List ℕ)} {output : Output} {status : Status}
+    → Writes c c1 output (Ok status) → Turns c c1 (λ _. output) (Ok (Stop status))
+turn_of_output writes = record { text = writes.text; appended = writes.appended; says = λ rest. writes.says }
+
+-- a beginning of the output
+pub turn_of_beginning : {c c1 : Option (List ℕ)} {output : Output} {e : RunError} (x : RunError)
+    → Writes c c1 output (Err e) → Turns c c1 (λ _. output) (Err x)
+turn_of_beginning x writes = record { text = writes.text; appended = writes.appended; says = λ rest. writes.says }
+
+-- a turn whose answer is equal
+pub Turns-as : {c c1 : Option (List ℕ)} {after other : Output → Output} (result : Result Turn RunError)
+    → ((rest : Output) → other rest ≡ after rest) → Turns c c1 after result → Turns c c1 other result
+Turns-as (Ok Next) same turn = record { text = turn.text; appended = turn.appended; says = λ rest. same rest ∙ turn.says rest }
+Turns-as (Ok (Stop status)) same turn = record { text = turn.text; appended = turn.appended; says = λ rest. same rest ∙ turn.says rest }
+Turns-as (Err e) same turn = record {
+  text = turn.text;
+  appended = turn.appended;
+  says = λ rest. let cut = turn.says rest in (cut.0, ap (λ o. o.0) (same rest) ∙ cut.1);
+}
+
+-- ---- lines
+
+-- the bytes of a line were fed
+pub line_fed : {c c1 : Option (List ℕ)} (n : ℕ) (held : List ℕ) (later : ℕ) (kept : List ℕ)
+    (number : ℕ) (line bytes : List ℕ) (result : Result Turn RunError)
+    → decode_of (trimmed line) ≡ Ok bytes → Feeds c c1 (fed n held bytes) later kept result
+    → TakesTurn c c1 (stream_answers n held) (stream_answers later kept) number line result
+unfolding stream_answers
+line_fed n held later kept number line bytes (Ok Next) is feeds = record { text = feeds.text; appended = feeds.appended; says = λ lines. rw is (feeds.says (λ m h. stream_answers m h (number + 1) lines)) }
+line_fed n held later kept number line bytes (Ok (Stop status)) is feeds = record { text = feeds.text; appended = feeds.appended; says = λ lines. rw is (feeds.says (λ m h. stream_answers m h (number + 1) lines)) }
+line_fed n held later kept number line bytes (Err e) is feeds = record { text = feeds.text; appended = feeds.appended; says = λ lines. rw is (feeds.says (λ m h. stream_answers m h (number + 1) lines)) }
+
+-- a text was not read, and memory did not run out
+pub not_read : {text other : List ℕ} {why : FromHexError} → other ≡ text → why ≢ OutOfMemory
+    → (why ≡ OutOfMemory) ⊎ (decode_of other ≡ Err why) → decode_of text ≡ Err why
+not_read same some (inl memory) = absurd (some memory)
+not_read same some (inr is) = ap decode_of (sym same) ∙ is
+
+-- a line that is no hexadecimal text was refused
+pub line_refused : {c c1 : Option (List ℕ)} (n : ℕ) (held : List ℕ) (later : ℕ) (kept : List ℕ)
+    (number : ℕ) (line : List ℕ) (why : FromHexError) (result : Result Turn RunError)
+    → decode_of (trimmed line) ≡ Err why
+    → Turns c c1 (answered number (Err (line_words (Text NotHex)))) result
+    → TakesTurn c c1 (stream_answers n held) (stream_answers later kept) number line result
+unfolding stream_answers
+line_refused n held later kept number line why (Ok Next) is turn = record { text = turn.text; appended = turn.appended; says = λ lines. rw is (turn.says (stream_answers later kept (number + 1) lines)) }
+line_refused n held later kept number line why (Ok (Stop status)) is turn = record { text = turn.text; appended = turn.appended; says = λ lines. rw is (turn.says (stream_answers later kept (number + 1) lines)) }
+line_refused n held later kept number line why (Err e) is turn = record { text = turn.text; appended = turn.appended; says = λ lines. rw is (turn.says (stream_answers later kept (number + 1) lines)) }
+
+-- memory ran out before anything was written for the line
+pub line_unread : {c : Option (List ℕ)} (before after : ℕ → List (List ℕ) → Output) (number : ℕ)
+    (line : List ℕ) (e : RunError) → TakesTurn c c before after number line (Err e)
+line_unread {c} before after number line e = record {
+  text = [];
+  appended = Appends-none c;
+  says = λ lines. ((before number (line ∷ lines)).0, refl);
+}
+
+-- ---- counting
+
+-- what is cut off at the end makes a line no longer
+cut_shorter : (cut : Bool) (line : List ℕ)
+    → length (if cut then take (length line - 1) line else line) ≤ length line
+cut_shorter true line = omega (arith, length-take (length line - 1) line)
+cut_shorter false line = omega arith
+
+trimmed_shorter : (line : List ℕ) → length (trimmed line) ≤ length line
+trimmed_shorter line = cut_shorter (ends_with_byte 13 line) line
+
+-- a line has no fewer bytes of text than bytes that it spells
+pub bytes_spelled : (line bytes : List ℕ) → decode_of (trimmed line) ≡ Ok bytes
+    → length bytes ≤ length line
+bytes_spelled line bytes is =
+    let twice = (decode_of-ok (trimmed line) bytes is).2 in
+    omega (arith, twice, trimmed_shorter line)
+
+-- what is paid by fewer bytes is paid by more
+pub pays_more : (a b m n : ℕ) (result : Result Turn RunError) → OnOk result (a ≤ b + m) → m ≤ n
+    → OnOk result (a ≤ b + n)
+pays_more a b m n (Ok turn) pays few = omega (arith, pays, few)
+pays_more a b m n (Err e) pays few = tt
+
+-- ---- the end of the input
+
+-- nothing is held
+pub ends_done : {c : Option (List ℕ)} (n : ℕ) (held : List ℕ) (number : ℕ) → held ≡ []
+    → Writes c c (stream_answers n held number []) (Ok Done)
+unfolding stream_answers
+ends_done {c} n held number none = record { text = []; appended = Appends-none c; says = rw none refl }
+
+-- a message has begun
+pub ends_cut_off : {c c1 : Option (List ℕ)} (n : ℕ) (held : List ℕ) (number : ℕ)
+    {result : Result Status RunError} → held ≢ [] → Writes c c1 (refused_message n CutOff) result
+    → Writes c c1 (stream_answers n held number []) result
+unfolding stream_answers
+ends_cut_off n [] number some writes = absurd (some refl)
+ends_cut_off n (byte ∷ held) number some writes = writes
+
+-- nothing is held, so nothing is refused
+pub ends_silent : (n : ℕ) (held : List ℕ) (number : ℕ) → held ≡ []
+    → (stream_answers n held number []).1 ≡ Done
+unfolding stream_answers
+ends_silent n held number none = rw none refl
+
+-- the refusal of a message that has begun is a text
+pub ends_told : (n : ℕ) (held : List ℕ) (number : ℕ) → held ≢ []
+    → (stream_answers n held number []).0 ≡ [] → ⊥
+unfolding stream_answers refusal_words
+ends_told n [] number some none = some refl
+ends_told n (byte ∷ held) number some none = cc none
+
+-- the line of a message is a beginning of the answer to the message
+pub begins_told : (n : ℕ) {meaning : Result (List ℕ) Fault} {line : List ℕ} → meaning ≡ Ok line
+    → (rest : Output) → (more : List ℕ) × ((told n meaning rest).0 ≡ line ++ more)
+begins_told n is rest = (rest.0, rw is refl)

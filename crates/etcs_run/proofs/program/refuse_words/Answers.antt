@@ -1,0 +1,30 @@
+use Rattle.std.proofs.Common.{◌≡◌, rules}
+use Rattle.std.proofs.lemmas.Result.{err_from_is_err_and}
+use Rattle.etcs_run.specs.Commands.{usage_line}
+use Rattle.etcs_run.proofs.RunLemmas.{Writes-begun, Writes-failed, Writes-whole}
+use Rattle.etcs_run.proofs.program.refuse_words.Goals as goal
+
+-- the usage line was cut off
+pub returns-in_err-put-clause-writes : goal.returns-in_err-put-clause-writes
+unfolding usage_line
+returns-in_err-put-clause-writes g c =
+    let passed_on = err_from_is_err_and c.from_residual.result c.from_residual.ensures.1 in
+    let line : c.as_bytes.result.now ≡ usage_line = search rules in
+    rw passed_on.1 (Writes-begun passed_on.0 c.put.ensures.written line)
+
+-- it was written, and then the flush failed
+pub returns-in_err-finish-clause-writes : goal.returns-in_err-finish-clause-writes
+unfolding usage_line
+returns-in_err-finish-clause-writes g c =
+    let residual = c.from_residual-in_err-finish in
+    let passed_on = err_from_is_err_and residual.result residual.ensures.1 in
+    let line : c.as_bytes.result.now ≡ usage_line = search rules in
+    let whole = Writes-whole c.in_ok-put.ensures.written line c.in_err-finish.ensures.kept in
+    rw passed_on.1 (Writes-failed passed_on.0 whole)
+
+-- it was written and flushed
+pub returns-clause-writes : goal.returns-clause-writes
+unfolding usage_line
+returns-clause-writes g c =
+    let line : c.as_bytes.result.now ≡ usage_line = search rules in
+    Writes-whole c.in_ok-put.ensures.written line c.in_ok-finish.ensures.kept

@@ -1,0 +1,20 @@
+use Rattle.std.proofs.Common.{◌≡◌, rules}
+use Rattle.std.proofs.lemmas.Result.{err_from_is_err_and}
+use Rattle.etcs_form.specs.Refusal.{refusal_words}
+use Rattle.etcs_form.specs.declared.refusal.Refusal.TheVariants.{Message}
+use Rattle.etcs_run.proofs.RadioLemmas.{written_whole}
+use Rattle.etcs_run.proofs.RunLemmas.{Writes-begun}
+use Rattle.etcs_run.proofs.radio_decoding.refuse.Goals as goal
+
+-- the refusal was cut off
+pub returns-in_err-put-in-Ok-clause-writes : goal.returns-in_err-put-in-Ok-clause-writes
+returns-in_err-put-in-Ok-clause-writes g c =
+    let passed_on = err_from_is_err_and c.from_residual.result c.from_residual.ensures.1 in
+    let text : c.as_bytes.result.now ≡ refusal_words (Message c.args.number c.args.why) = search rules in
+    rw passed_on.1 (Writes-begun passed_on.0 c.put.ensures.written text)
+
+-- it was written
+pub returns-in-Ok-clause-writes : goal.returns-in-Ok-clause-writes
+returns-in-Ok-clause-writes g c =
+    let text : c.as_bytes.result.now ≡ refusal_words (Message c.args.number c.args.why) = search rules in
+    written_whole c.in_ok-put-in-Ok.ensures.written text

@@ -1,0 +1,49 @@
+-- What `check` writes for the document of a railway line: the report on the line, or why the bytes are
+-- no document.
+use Rattle.std.specs.Prelude.{◌++◌, ℕ, List, [], ◌∷◌, codes, Result, Ok, Err}
+use Rattle.etcs_check.specs.declared.finding.Finding.{Finding}
+use Rattle.etcs_form.specs.DocumentFault.{DocumentFault, bad_aspect_telegram, bad_aspects, bad_count, bad_form, bad_message, bad_telegram, no_json}
+use Rattle.etcs_form.specs.Refusal.{fault_told, refusal_words}
+use Rattle.etcs_form.specs.ReportText.{report_words}
+use Rattle.etcs_form.specs.Verdict.{Counted, counted_of_text}
+use Rattle.etcs_form.specs.declared.line_error.LineError.{LineError}
+use Rattle.etcs_form.specs.declared.line_error.LineError.TheVariants as errors
+use Rattle.etcs_form.specs.declared.refusal.Refusal.TheVariants.{Document}
+use Rattle.etcs_run.specs.declared.status.Status.{Status}
+use Rattle.etcs_run.specs.declared.status.Status.TheVariants.{Done, Findings, Refused}
+
+-- a text and a status
+abbrev pub Answer : Type 0
+Answer = List ℕ × Status
+
+-- the refusal of a document with this fault
+abbrev pub refusal_for : DocumentFault → List ℕ
+refusal_for no_json = refusal_words (Document errors.NotJson)
+refusal_for (bad_form f) = codes "refused: " ++ (fault_told f ++ codes "\n")
+refusal_for (bad_count g) = refusal_words (Document (errors.Count g))
+refusal_for (bad_aspects g) = refusal_words (Document (errors.Aspects g))
+refusal_for (bad_telegram g b why) = refusal_words (Document (errors.Telegram g b why))
+refusal_for (bad_aspect_telegram g a b why) = refusal_words (Document (errors.AspectTelegram g a b why))
+refusal_for (bad_message m why) = refusal_words (Document (errors.Message m why))
+
+-- the refusal of a document with this error, and the status
+abbrev pub refused_as : LineError → Answer
+refused_as why = (refusal_words (Document why), Refused)
+
+-- the status of a check: everything is done where nothing is found
+abbrev pub status_for : List Finding → Status
+status_for [] = Done
+status_for (_ ∷ _) = Findings
+
+-- the report on a line with so many groups and messages and these findings, and the status
+abbrev pub reported : Counted → Answer
+reported line = (report_words line.0.0 line.0.1 line.1, status_for line.1)
+
+-- the report, or the refusal
+abbrev pub checked : Result Counted DocumentFault → Answer
+checked (Ok line) = reported line
+checked (Err fault) = (refusal_for fault, Refused)
+
+-- what `check` writes for an input
+unfoldable pub check_output : List ℕ → Answer
+check_output document = checked (counted_of_text document)

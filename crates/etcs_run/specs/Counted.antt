@@ -1,0 +1,38 @@
+-- A reader or writer whose failed calls are counted: what it shows, and what each call does to its
+-- count and to its budget. A read counts as failed if the budget does not suffice for it. A write
+-- counts as failed if it takes none of what it was handed.
+use Rattle.std.specs.Prelude.{◌≡◌, ◌<◌, ◌+◌, ◌-◌, ◌^◌, ℕ, Bool, min, Result, MatchResult}
+use Rattle.etcs_run.specs.declared.counted.Counted.{Counted}
+
+-- how many calls have failed
+abbrev pub failures_of : {T : Type 0} → Counted T → ℕ
+failures_of counted = counted.failures
+
+-- what is left of the budget, in bytes of room that reads may offer
+abbrev pub budget_of : {T : Type 0} → Counted T → ℕ
+budget_of counted = counted.budget
+
+-- whether everything written has been flushed
+abbrev pub is_flushed : {T : Type 0} → Counted T → Bool
+is_flushed counted = counted.is_flushed
+
+-- the reader or writer that is counted
+abbrev pub inner_of : {T : Type 0} → Counted T → T
+inner_of counted = counted.inner
+
+-- one more failure can still be counted
+abbrev pub CanCount : {T : Type 0} → Counted T → Type 0
+CanCount counted = failures_of counted < 2 ^ 64 - 1
+
+-- no call has failed in between
+abbrev pub CountsNone : {T : Type 0} → Counted T → Counted T → Type 0
+CountsNone old new = failures_of new ≡ failures_of old
+
+-- one call has failed in between
+abbrev pub CountsOne : {T : Type 0} → Counted T → Counted T → Type 0
+CountsOne old new = failures_of new ≡ failures_of old + 1
+
+-- a failed call adds one, up to the type's greatest value, and no other call adds any
+abbrev pub CountsFailure : {X E : Type 0} → ℕ → ℕ → Result X E → Type 0
+CountsFailure old new result =
+    MatchResult result (λ _. new ≡ old) (λ _. new ≡ min (old + 1) (2 ^ 64 - 1))

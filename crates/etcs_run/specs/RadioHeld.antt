@@ -1,0 +1,37 @@
+-- What the decoding of a stream carries from one line to the next, and what it writes for some bytes.
+use Rattle.std.specs.Prelude.{◌≡◌, ◌++◌, ◌+◌, ℕ, List, length, Option, Result, Ok, Err}
+use Rattle.std.specs.Io.KnownBytes.{Appends}
+use Rattle.etcs_run.specs.Output.{Output, prepend}
+use Rattle.etcs_run.specs.RadioStream.{Onwards}
+use Rattle.etcs_run.specs.declared.error.RunError.{RunError}
+use Rattle.etcs_run.specs.declared.radio_decoding.RadioDecoding.{RadioDecoding}
+use Rattle.etcs_run.specs.declared.turn.Turn.{Turn}
+use Rattle.etcs_run.specs.declared.turn.Turn.TheVariants.{Next, Stop}
+
+-- how many messages were written, which is the number of the next one
+abbrev pub number_of : RadioDecoding → ℕ
+number_of d = d.number
+
+-- the bytes that are held of the next message
+abbrev pub kept_by : RadioDecoding → List ℕ
+kept_by d = d.splitter
+
+-- how many bytes of the input are counted or held, at least
+abbrev pub bytes_behind : RadioDecoding → ℕ
+bytes_behind d = number_of d + length (kept_by d)
+
+-- What is written for some bytes and later: this text and then what is written later, this text and
+-- the end, or more than this text.
+abbrev pub IsFedSoFar : Result Turn RunError → List ℕ → (Onwards → Output) → ℕ → List ℕ → Type 0
+IsFedSoFar (Ok Next) text output number held =
+    (then : Onwards) → output then ≡ prepend text (then number held)
+IsFedSoFar (Ok (Stop status)) text output number held = (then : Onwards) → output then ≡ (text, status)
+IsFedSoFar (Err _) text output number held =
+    (then : Onwards) → (more : List ℕ) × ((output then).0 ≡ text ++ more)
+
+-- This text was written, and it is what is written for some bytes, or a beginning of it.
+pub record Feeds (old new : Option (List ℕ)) (output : Onwards → Output) (number : ℕ) (held : List ℕ)
+    (result : Result Turn RunError) : Type 0 where
+  pub text : List ℕ
+  pub appended : Appends old new text
+  pub says : IsFedSoFar result text output number held

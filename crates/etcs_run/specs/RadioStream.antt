@@ -1,0 +1,86 @@
+-- What is written for a stream of radio messages in lines of hexadecimal text (SUBSET-026, 8.4.4). A
+-- line may hold a part of a message, or several messages. Each whole message becomes one JSON line.
+-- The first message or line that is refused ends the run. Messages count from 0, over all lines.
+use Rattle.std.specs.Prelude.{◌+◌, ℕ, List, [], ◌∷◌, Result, Ok, Err}
+use Rattle.hex.specs.Hex.{decode_of}
+use Rattle.hex.specs.declared.error.FromHexError.{FromHexError}
+use Rattle.etcs_bits.specs.declared.layout.fault.Fault.{Fault as FirstFault}
+use Rattle.etcs_telegram.specs.declared.error.TextError.TheVariants.{NotHex}
+use Rattle.etcs_radio.specs.Cutting.{Cut, cut_from}
+use Rattle.etcs_radio.specs.Meaning.{message_of}
+use Rattle.etcs_radio.specs.Splitter.{state_of}
+use Rattle.etcs_radio.specs.declared.message.Message.{Message as RadioMessage}
+use Rattle.etcs_radio.specs.declared.splitter.State.{State}
+use Rattle.etcs_radio.specs.declared.splitter.State.TheVariants.{Failed}
+use Rattle.etcs_form.specs.AnyMessage.{message}
+use Rattle.etcs_form.specs.Refusal.{line_words, refusal_words}
+use Rattle.etcs_form.specs.declared.refusal.LineFault.TheVariants.{Text}
+use Rattle.etcs_form.specs.declared.refusal.Refusal.TheVariants.{Message}
+use Rattle.etcs_form.specs.declared.refusal.StreamFault.{StreamFault}
+use Rattle.etcs_form.specs.declared.refusal.StreamFault.TheVariants.{BelowThree, CutOff, Fault}
+use Rattle.etcs_run.specs.JsonLine.{json_line_of}
+use Rattle.etcs_run.specs.LineMeaning.{refusal_of}
+use Rattle.etcs_run.specs.Output.{Output, prepend}
+use Rattle.etcs_run.specs.TextLines.{trimmed}
+use Rattle.etcs_run.specs.declared.status.Status.TheVariants.{Done, Refused}
+
+-- ---- one message
+
+-- the refusal of the message with this number, which ends the run
+abbrev pub refused_message : ℕ → StreamFault → Output
+refused_message number why = (refusal_words (Message number why), Refused)
+
+-- the JSON line of a message that was read, or its first fault
+abbrev pub line_for : Result RadioMessage FirstFault → Result (List ℕ) FirstFault
+line_for (Ok m) = Ok (json_line_of message m)
+line_for (Err fault) = Err fault
+
+-- the JSON line of the message with this number, and then the rest; or the message's refusal
+abbrev pub told : ℕ → Result (List ℕ) FirstFault → Output → Output
+told number (Ok line) rest = prepend line rest
+told number (Err fault) rest = refused_message number (Fault fault)
+
+-- ---- the bytes of one line
+
+-- what is written later, for the number of the next message and the bytes that are held
+abbrev pub Onwards : Type 0
+Onwards = ℕ → List ℕ → Output
+
+-- what is written later, unless no message begins with the bytes that are held
+abbrev pub unless_failed : State → ℕ → List ℕ → Onwards → Output
+unless_failed Failed number held then = refused_message number BelowThree
+unless_failed _ number held then = then number held
+
+-- the messages that came out of the splitter, in order, and then what is written later
+abbrev pub told_all : ℕ → List (List ℕ) → List ℕ → Onwards → Output
+told_all number [] held then = unless_failed (state_of held) number held then
+told_all number (bytes ∷ messages) held then =
+    told number (line_for (message_of bytes)) (told_all (number + 1) messages held then)
+
+-- the same of what came out
+abbrev pub told_cut : ℕ → Cut → Onwards → Output
+told_cut number cut then = told_all number cut.messages cut.held then
+
+-- what is written for bytes of the stream, with these bytes held before, and then later
+abbrev pub fed : ℕ → List ℕ → List ℕ → Onwards → Output
+fed number held bytes then = told_cut number (cut_from held bytes) then
+
+-- ---- the lines
+
+-- what is written for the bytes of a line, or the refusal of a line that is no hexadecimal text
+abbrev pub after_bytes : ℕ → Result (List ℕ) FromHexError → (List ℕ → Output) → Output
+after_bytes line (Ok bytes) then = then bytes
+after_bytes line (Err why) then = (refusal_of line (line_words (Text NotHex)), Refused)
+
+-- what is written at the end of the input: a message that has begun is cut off
+abbrev pub at_end : ℕ → List ℕ → Output
+at_end number [] = ([], Done)
+at_end number (byte ∷ held) = refused_message number CutOff
+
+-- what is written for the lines, the first of which has the number `line`: `number` messages came
+-- before them, and `held` is what has begun of the next one
+unfoldable pub stream_answers : ℕ → List ℕ → ℕ → List (List ℕ) → Output
+stream_answers number held line [] = at_end number held
+stream_answers number held line (text ∷ lines) =
+    after_bytes line (decode_of (trimmed text)) (λ bytes.
+    fed number held bytes (λ later kept. stream_answers later kept (line + 1) lines))

@@ -1,0 +1,111 @@
+-- What a run promises. With a status, the text written and the status are the output for every
+-- input that begins with what was read. Without one, the text written is a beginning of the text of
+-- each such output. The end of the input, once met, counts as read. Nothing is promised of a reader
+-- whose bytes are not known. For a writer whose contents are not known, only the status is
+-- promised. If the whole input is known, the promise is simpler: the text written and the status
+-- are the output of that input.
+use Rattle.std.specs.Prelude.{◌≡◌, ◌≤◌, ◌+◌, ◌++◌, ◌⊎◌, ℕ, Bool, true, List, [], ◌∷◌, take, length, Option, Result, Ok, Err, IfSome, OnOk}
+use Rattle.std.specs.Io.KnownBytes.{Appends, Consumes, IsAtEnd}
+use Rattle.etcs_run.specs.Counted.{CountsNone, CountsOne, inner_of, is_flushed}
+use Rattle.etcs_run.specs.Output.{Output, prepend}
+use Rattle.etcs_run.specs.declared.counted.Counted.{Counted}
+use Rattle.etcs_run.specs.declared.error.RunError.{RunError}
+use Rattle.etcs_run.specs.declared.error.RunError.TheVariants.{Device}
+use Rattle.etcs_run.specs.declared.status.Status.{Status}
+use Rattle.etcs_run.specs.declared.turn.Turn.{Turn}
+use Rattle.etcs_run.specs.declared.turn.Turn.TheVariants.{Next, Stop}
+
+-- `rest` may follow what was read: anything may before the end was met, and nothing after it
+abbrev pub MayFollow : Bool → List ℕ → Type 0
+MayFollow ended rest = ended ≡ true → rest ≡ []
+
+-- with a status, the text is the whole output; without one, it is a beginning of the output
+abbrev pub IsOutputSoFar : Result Status RunError → List ℕ → Output → Type 0
+IsOutputSoFar (Ok status) text output = output ≡ (text, status)
+IsOutputSoFar (Err _) text output = (more : List ℕ) × (output.0 ≡ text ++ more)
+
+-- These bytes were read, perhaps up to the end of the input, and this text was written. The text is
+-- the output, or a beginning of it, for each input that begins with these bytes. If the end was
+-- met, that is only the input of just these bytes. An end can be met only if no byte is left.
+pub record Ran (remaining_old remaining_new contents_old contents_new : Option (List ℕ))
+    (output : List ℕ → Output) (result : Result Status RunError) : Type 0 where
+  pub bytes : List ℕ
+  pub consumed : Consumes remaining_old remaining_new bytes
+  pub ended : Bool
+  pub met : ended ≡ true → IsAtEnd remaining_new
+  pub text : List ℕ
+  pub appended : Appends contents_old contents_new text
+  pub says : (rest : List ℕ) → MayFollow ended rest → IsOutputSoFar result text (output (bytes ++ rest))
+
+-- the run, from its reader to its writer
+abbrev pub Runs : {R W : Type 0} → (R → Option (List ℕ)) → (W → Option (List ℕ)) → Counted R
+    → Counted R → Counted W → Counted W → (List ℕ → Output) → Result Status RunError → Type 0
+Runs remaining contents reader_old reader_new writer_old writer_new output result =
+    Ran (remaining (inner_of reader_old)) (remaining (inner_of reader_new))
+    (contents (inner_of writer_old)) (contents (inner_of writer_new)) output result
+
+-- a text was written: this output, or a beginning of it
+pub record Writes (old new : Option (List ℕ)) (output : Output) (result : Result Status RunError)
+    : Type 0 where
+  pub text : List ℕ
+  pub appended : Appends old new text
+  pub says : IsOutputSoFar result text output
+
+-- the run on a known input: the text written is the output of that input, or a beginning of it
+abbrev pub Answers : {R W : Type 0} → (R → Option (List ℕ)) → (W → Option (List ℕ)) → Counted R
+    → Counted W → Counted W → (List ℕ → Output) → Result Status RunError → Type 0
+Answers remaining contents reader writer_old writer_new output result =
+    IfSome (remaining (inner_of reader)) (λ input.
+    Writes (contents (inner_of writer_old)) (contents (inner_of writer_new)) (output input) result)
+
+-- a status is returned only once everything written is flushed
+abbrev pub EndsFlushed : {X W : Type 0} → Result X RunError → Counted W → Type 0
+EndsFlushed result writer = OnOk result (is_flushed writer ≡ true)
+
+-- a device that failed is counted once, at the reader or at the writer, and nothing else is counted
+abbrev pub CountsOneDevice : {R W X : Type 0} → Result X RunError → Counted R → Counted R
+    → Counted W → Counted W → Type 0
+CountsOneDevice (Err Device) reader_old reader_new writer_old writer_new =
+    (CountsOne reader_old reader_new × CountsNone writer_old writer_new)
+    ⊎ (CountsNone reader_old reader_new × CountsOne writer_old writer_new)
+CountsOneDevice result reader_old reader_new writer_old writer_new =
+    CountsNone reader_old reader_new × CountsNone writer_old writer_new
+
+-- the first `count` of these bytes were written, and with Ok all of them
+pub record WritesBytes (old new : Option (List ℕ)) (bytes : List ℕ)
+    (result : Result (Unit {0}) RunError) : Type 0 where
+  pub count : ℕ
+  pub within : count ≤ length bytes
+  pub appended : Appends old new (take count bytes)
+  pub whole : OnOk result (count ≡ length bytes)
+
+-- The output from a line onwards: this text and then the rest, this text and the end, or more than
+-- this text.
+abbrev pub IsAnswerSoFar : Result Turn RunError → List ℕ → (Output → Output) → Type 0
+IsAnswerSoFar (Ok Next) text after = (rest : Output) → after rest ≡ prepend text rest
+IsAnswerSoFar (Ok (Stop status)) text after = (rest : Output) → after rest ≡ (text, status)
+IsAnswerSoFar (Err _) text after = (rest : Output) → (more : List ℕ) × ((after rest).0 ≡ text ++ more)
+
+-- this text was written, and it is the answer to the line, or a beginning of it
+pub record Turns (old new : Option (List ℕ)) (after : Output → Output)
+    (result : Result Turn RunError) : Type 0 where
+  pub text : List ℕ
+  pub appended : Appends old new text
+  pub says : IsAnswerSoFar result text after
+
+-- What is written from a line onwards: this text and then what is written from the next line
+-- onwards, this text and the end, or more than this text.
+abbrev pub IsTurnSoFar : Result Turn RunError → List ℕ → Output → Output → Type 0
+IsTurnSoFar (Ok Next) text now later = now ≡ prepend text later
+IsTurnSoFar (Ok (Stop status)) text now later = now ≡ (text, status)
+IsTurnSoFar (Err _) text now later = (more : List ℕ) × (now.0 ≡ text ++ more)
+
+-- This text was written, and it is the answer to the line, or a beginning of it, whatever lines
+-- follow. `before` and `after` are what is written from a line onwards, before the answer and
+-- after it.
+pub record TakesTurn (old new : Option (List ℕ)) (before after : ℕ → List (List ℕ) → Output)
+    (number : ℕ) (line : List ℕ) (result : Result Turn RunError) : Type 0 where
+  pub text : List ℕ
+  pub appended : Appends old new text
+  pub says : (lines : List (List ℕ))
+      → IsTurnSoFar result text (before number (line ∷ lines)) (after (number + 1) lines)

@@ -1,0 +1,151 @@
+//! `Counted`: a reader or writer whose failed calls are counted.
+
+ghost use Rattle.std.specs.Prelude.{◌≡◌, ◌<◌, ◌≤◌, ◌+◌, ◌-◌, ◌^◌, false, length, max, IfOk, IsErr, is_ok};
+ghost use Rattle.std.specs.Io.{ReadsAtMost, WritesAtMost};
+ghost use Rattle.std.specs.Io.KnownBytes.{Keeps, ReadConsumes, WriteAppends};
+ghost use Rattle.etcs_run.specs.Counted.{CountsFailure, budget_of};
+ghost use Rattle.etcs_run.specs.Counted.{failures_of, inner_of, is_flushed};
+
+use std::io::{Error, ErrorKind, Read, Result, Write};
+
+/// A reader or writer with a count of its failed calls.
+///
+/// It starts with a budget of 2^64 - 1 bytes to be read. Each read lowers the budget by the length
+/// of its buffer, or by 1 if the buffer is empty. A read fails if the budget does not suffice for
+/// it. So a loop that reads as long as bytes come ends on every reader.
+///
+/// A writer also records whether everything written through it has been flushed.
+///
+/// After an error no byte was given or taken, and the count has risen by 1, up to 2^64 - 1.
+#[derive(Drop)]
+pub struct Counted<T> {
+    inner: T,
+    failures: u64,
+    budget: u64,
+    is_flushed: bool,
+}
+
+impl<T> Counted<T> {
+    /// Wraps a reader or writer. No call of it has failed yet, and none of the budget is spent. It
+    /// counts as not flushed, since it may hold back what was written to it before.
+    #[inline]
+    pub fn new(inner: T) -> Counted<T>
+        ensures inner { inner_of result ≡ inner }
+        ensures failures { failures_of result ≡ 0 }
+        ensures budget { budget_of result ≡ 2 ^ 64 - 1 }
+        ensures flushed { is_flushed result ≡ false }
+    {
+        Counted {
+            inner,
+            failures: 0,
+            budget: u64::MAX,
+            is_flushed: false,
+        }
+    }
+
+    /// The number of calls that have failed. The count stops at 2^64 - 1.
+    #[inline]
+    pub fn failures(&self) -> u64
+        ensures { result ≡ failures_of self.now }
+    {
+        // Reads, writes and flushes alike.
+        self.failures
+    }
+
+    /// What is left of the budget, in bytes of buffer that reads may offer.
+    #[inline]
+    pub(crate) fn budget(&self) -> u64
+        ensures { result ≡ budget_of self.now }
+    {
+        self.budget
+    }
+
+    /// Whether the last call of the writer was a flush that succeeded.
+    #[inline]
+    pub(crate) fn is_flushed(&self) -> bool
+        ensures { result ≡ is_flushed self.now }
+    {
+        self.is_flushed
+    }
+}
+
+impl<R: Read> Read for Counted<R> {
+    ghost remaining = { λ c. R.remaining (inner_of c) };
+
+    /// Reads once. If the budget does not suffice, the read fails and the reader is not called. Any
+    /// other read that fails is paid for as well.
+    #[inline]
+    fn read(&mut self, buf: &mut [u8]) -> Result<usize>
+        ensures bound { ReadsAtMost result buf.new }
+        ensures bytes { ReadConsumes (R.remaining (inner_of self.old))
+            (R.remaining (inner_of self.new)) result buf.new }
+
+        // What the call costs, and what it adds to the count.
+        ensures counts { CountsFailure (failures_of self.old) (failures_of self.new) result }
+        ensures spends { max (length buf.old) 1 ≤ budget_of self.old
+            → budget_of self.new + max (length buf.old) 1 ≡ budget_of self.old }
+        ensures spent { budget_of self.old < max (length buf.old) 1
+            → IsErr result × (inner_of self.new ≡ inner_of self.old)
+            × (budget_of self.new ≡ budget_of self.old) }
+        ensures same_flushed { is_flushed self.new ≡ is_flushed self.old }
+    {
+        let cost = (buf.len() as u64).max(1);
+        if self.budget < cost {
+            self.failures = self.failures.saturating_add(1);
+            return Err(Error::other("the budget is spent"));
+        }
+        self.budget -= cost;
+        let result = self.inner.read(buf);
+        if result.is_err() {
+            self.failures = self.failures.saturating_add(1);
+        }
+        result
+    }
+}
+
+impl<W: Write> Write for Counted<W> {
+    ghost contents = { λ c. W.contents (inner_of c) };
+
+    /// Writes once. A write fails if it takes no byte of a piece that is not empty. After any write,
+    /// failed or not, the writer counts as not flushed.
+    #[inline]
+    fn write(&mut self, buf: &[u8]) -> Result<usize>
+        ensures bound { WritesAtMost result buf.now }
+        ensures bytes { WriteAppends (W.contents (inner_of self.old))
+            (W.contents (inner_of self.new)) result buf.now }
+        ensures counts { CountsFailure (failures_of self.old) (failures_of self.new) result }
+        ensures takes { IfOk result (λ n. 0 < length buf.now → 0 < n) }
+        ensures unflushed { is_flushed self.new ≡ false }
+        ensures same_budget { budget_of self.new ≡ budget_of self.old }
+    {
+        self.is_flushed = false;
+        match self.inner.write(buf) {
+            Ok(0) if !buf.is_empty() => {
+                self.failures = self.failures.saturating_add(1);
+                Err(Error::new(ErrorKind::WriteZero, "nothing was taken"))
+            }
+            Ok(count) => Ok(count),
+            Err(error) => {
+                self.failures = self.failures.saturating_add(1);
+                Err(error)
+            }
+        }
+    }
+
+    /// Passes on what the writer holds back. After an error the writer counts as not flushed, and
+    /// what was written stands.
+    #[inline]
+    fn flush(&mut self) -> Result<()>
+        ensures bytes { Keeps (W.contents (inner_of self.old)) (W.contents (inner_of self.new)) }
+        ensures counts { CountsFailure (failures_of self.old) (failures_of self.new) result }
+        ensures flushed { is_flushed self.new ≡ is_ok result }
+        ensures same_budget { budget_of self.new ≡ budget_of self.old }
+    {
+        let result = self.inner.flush();
+        self.is_flushed = result.is_ok();
+        if result.is_err() {
+            self.failures = self.failures.saturating_add(1);
+        }
+        result
+    }
+}

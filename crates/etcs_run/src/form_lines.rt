@@ -1,0 +1,162 @@
+//! `EncodingTelegrams` and `EncodingMessages`: a line of JSON, the form of a telegram or of a radio
+//! message, becomes a line of hexadecimal text. A line in the spelling of `decode` is read from its
+//! tokens. Any other is read by a JSON value, which alone tells why a line is refused.
+
+ghost use Rattle.std.specs.Prelude.{◌≡◌, ◌++◌, [], codes, Ok, IfOk, IfSome};
+ghost use Rattle.serde_json.specs.View.{view};
+ghost use Rattle.etcs_run.specs.FormLines.{message_line, or_fault, record_in, telegram_line, value_in};
+ghost use Rattle.etcs_run.specs.LineMeaning.{Gives};
+
+use crate::line_meaning::{LineMeaning, Unwritten};
+use etcs_bits::Memory;
+use etcs_form::{Form, FormError, LineFault, TokenForm, read_quickly};
+use etcs_radio::Message;
+use etcs_telegram::Telegram;
+use json::Scratch;
+use serde_json::Value;
+use serde_json::error::Category;
+use std::alloc::Global;
+
+// The JSON value that a line is.
+fn value_of(alloc: Global, line: &[u8]) -> Result<Value, Unwritten>
+    ensures { Gives view result (value_in line.now) }
+{
+    match Value::from_slice(alloc, line) {
+        Ok(value) => Ok(value),
+        Err(error) => match error.classify() {
+            Category::Memory => Err(Unwritten::Memory),
+            _ => Err(Unwritten::Refused(LineFault::Json)),
+        },
+    }
+}
+
+// The record of which a JSON value is the form.
+fn record_of<T: Form>(alloc: Global, value: &Value) -> Result<T, Unwritten>
+    ensures { Gives (λ x. x) result (or_fault (T.shape.of (view value.now))) }
+{
+    match T::of_form(alloc, value) {
+        Ok(record) => Ok(record),
+        Err(why) => match why {
+            FormError::Memory => Err(Unwritten::Memory),
+            _ => Err(Unwritten::Refused(LineFault::Form(why))),
+        },
+    }
+}
+
+// The record of which a line is the form, if its tokens suffice to tell.
+fn record_of_tokens<T: TokenForm>(alloc: Global, scratch: &mut Scratch, line: &[u8]) -> Option<T>
+    ensures { IfSome result (λ x. record_in T.shape line.now ≡ Ok x) }
+{
+    match str::from_utf8(line) {
+        Ok(text) => read_quickly(alloc, scratch, text),
+        Err(_) => None,
+    }
+}
+
+// The record of which a line is the form.
+fn record_in_line<T: TokenForm>(
+    alloc: Global,
+    scratch: &mut Scratch,
+    line: &[u8],
+) -> Result<T, Unwritten>
+    ensures { Gives (λ x. x) result (record_in T.shape line.now) }
+{
+    if let Some(record) = record_of_tokens(alloc, scratch, line) {
+        return Ok(record);
+    }
+    let value = value_of(alloc, line)?;
+    record_of(alloc, &value)
+}
+
+// The digits with the end of the line, in the room of an earlier line.
+fn ended_line(room: Vec<u8>, digits: &str) -> Result<Vec<u8>, Memory>
+    requires { room.items ≡ [] }
+    ensures { IfOk result (λ line. line.items ≡ digits.now ++ codes "\n") }
+{
+    let mut line = room;
+    line.extend_from_slice(digits.as_bytes())?;
+    line.push(b'\n')?;
+    Ok(line)
+}
+
+// The telegram's text as a line, in the room of an earlier line.
+fn telegram_text(alloc: Global, room: Vec<u8>, telegram: &Telegram) -> Result<Vec<u8>, Unwritten>
+    requires { room.items ≡ [] }
+    ensures { Gives (λ line. line.items) result (telegram_line telegram.now) }
+{
+    match etcs_telegram::to_hex(alloc, telegram) {
+        Ok(digits) => Ok(ended_line(room, digits.as_str())?),
+        Err(etcs_telegram::EncodeError::Memory) => Err(Unwritten::Memory),
+        Err(etcs_telegram::EncodeError::TooBig) => Err(Unwritten::Refused(LineFault::TooBig)),
+    }
+}
+
+// The message's text as a line, in the room of an earlier line.
+fn message_text(alloc: Global, room: Vec<u8>, message: &Message) -> Result<Vec<u8>, Unwritten>
+    requires { room.items ≡ [] }
+    ensures { Gives (λ line. line.items) result (message_line message.now) }
+{
+    match etcs_radio::to_hex(alloc, message) {
+        Ok(digits) => Ok(ended_line(room, digits.as_str())?),
+        Err(etcs_radio::EncodeError::Memory) => Err(Unwritten::Memory),
+        Err(etcs_radio::EncodeError::TooBig) => Err(Unwritten::Refused(LineFault::TooBig)),
+    }
+}
+
+/// A line is the JSON form of a telegram, and becomes its canonical text. A line that is no JSON, no
+/// such form, or the form of a telegram with more bits than its size is refused.
+#[derive(Drop)]
+pub struct EncodingTelegrams {
+    // Room for the keys and texts of a line.
+    scratch: Scratch,
+}
+
+impl EncodingTelegrams {
+    /// The meaning of each line. It takes no memory yet.
+    pub fn new(alloc: Global) -> EncodingTelegrams {
+        EncodingTelegrams {
+            scratch: Scratch::new(alloc),
+        }
+    }
+}
+
+#[tactic(auto, unfolding(crate::specs::FormLines::telegram_encoded))]
+impl LineMeaning for EncodingTelegrams {
+    ghost use Rattle.etcs_run.specs.FormLines.{telegram_encoded};
+
+    ghost meaning = { telegram_encoded };
+
+    fn text(&mut self, alloc: Global, room: Vec<u8>, line: &[u8]) -> Result<Vec<u8>, Unwritten> {
+        let telegram = record_in_line(alloc, &mut self.scratch, line)?;
+        telegram_text(alloc, room, &telegram)
+    }
+}
+
+/// A line is the JSON form of a radio message, and becomes its canonical text. A line that is no
+/// JSON, no such form, or the form of a message of more than 1,023 bytes is refused.
+#[derive(Drop)]
+pub struct EncodingMessages {
+    // Room for the keys and texts of a line.
+    scratch: Scratch,
+}
+
+impl EncodingMessages {
+    /// The meaning of each line. It takes no memory yet.
+    pub fn new(alloc: Global) -> EncodingMessages {
+        EncodingMessages {
+            scratch: Scratch::new(alloc),
+        }
+    }
+}
+
+#[tactic(auto, unfolding(crate::specs::FormLines::message_encoded))]
+impl LineMeaning for EncodingMessages {
+    ghost use Rattle.etcs_run.specs.FormLines.{message_encoded};
+
+    ghost meaning = { message_encoded };
+
+    fn text(&mut self, alloc: Global, room: Vec<u8>, line: &[u8]) -> Result<Vec<u8>, Unwritten> {
+        let message = record_in_line(alloc, &mut self.scratch, line)?;
+        message_text(alloc, room, &message)
+    }
+}

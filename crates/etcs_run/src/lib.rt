@@ -1,0 +1,36 @@
+//! The commands of `balisecheck`, from words and an input to a text and a status: the document of a
+//! railway line, to what is found about the line; lines of hexadecimal text, each a Eurobalise
+//! telegram, to lines of JSON, and back; and a stream of radio messages, to lines of JSON, and back.
+//!
+//! [`run`] answers the words of a command line, from a [`Counted`] reader to a [`Counted`] writer. Its
+//! contract says what is written for every input: `specs/Commands.antt` defines that text, and
+//! `specs/Ran.antt` what is promised of it. It answers a [`Status`], or a [`RunError`] if memory was
+//! refused or a device failed. Read `program.rt` first, then `answering.rt`, `line_command.rt`,
+//! `line_meaning.rt`, `each_line.rt` and `text_lines.rt`. What a line means is in `telegram_lines.rt`
+//! and `form_lines.rt`. A stream is answered in `radio_decoding.rt`, wherever its lines end. A document
+//! is answered as a whole, in `checking.rt`. The crate leaves out standard input and output.
+#![tactic(auto)]
+
+mod answering;
+mod checking;
+mod command;
+mod counted;
+mod each_line;
+mod error;
+mod form_lines;
+mod json_line;
+mod line_command;
+mod line_meaning;
+mod output;
+mod program;
+mod radio_decoding;
+mod status;
+mod telegram_lines;
+mod text_lines;
+mod turn;
+mod whole_input;
+
+pub use counted::Counted;
+pub use error::RunError;
+pub use program::run;
+pub use status::Status;

@@ -1,0 +1,72 @@
+//! Writing to a counted writer.
+
+ghost use Rattle.std.specs.Prelude.{◌≡◌, IfErr};
+ghost use Rattle.std.specs.Io.KnownBytes.{Keeps};
+ghost use Rattle.etcs_run.specs.Counted.{CanCount, inner_of};
+ghost use Rattle.etcs_run.specs.LineReading.{CountsDevice};
+ghost use Rattle.etcs_run.specs.Ran.{EndsFlushed, Writes, WritesBytes};
+
+use crate::counted::Counted;
+use crate::error::RunError;
+use crate::status::Status;
+use std::io::Write;
+
+/// Writes the text.
+///
+/// `Device`: a write failed, and the writer's count of failures has risen by 1. What it took before
+/// that is a beginning of the text.
+// This is not `write_all`: its contract does not say what was written before a failure.
+pub fn put<W: Write>(writer: &mut Counted<W>, text: &[u8]) -> Result<(), RunError>
+    requires { CanCount writer.old }
+    ensures written { WritesBytes (W.contents (inner_of writer.old)) (W.contents (inner_of writer.new))
+        text.now result }
+    ensures counts { CountsDevice result writer.old writer.new }
+    ensures device { IfErr result (λ e. e ≡ RunError.Device) }
+{
+    let mut count = 0;
+    'writing: while count < text.len() {
+        match writer.write(&text[count..]) {
+            Ok(taken) => count += taken,
+            Err(_) => return Err(RunError::Device),
+        }
+    }
+    Ok(())
+}
+
+/// Flushes the writer at the end of a run.
+///
+/// `Device`: the flush failed, and the writer's count of failures has risen by 1. What was written
+/// stands.
+pub fn finish<W: Write>(writer: &mut Counted<W>) -> Result<(), RunError>
+    requires { CanCount writer.old }
+    ensures kept { Keeps (W.contents (inner_of writer.old)) (W.contents (inner_of writer.new)) }
+    ensures flushed { EndsFlushed result writer.new }
+    ensures counts { CountsDevice result writer.old writer.new }
+    ensures device { IfErr result (λ e. e ≡ RunError.Device) }
+{
+    match writer.flush() {
+        Ok(()) => Ok(()),
+        Err(_) => Err(RunError::Device),
+    }
+}
+
+/// Writes the text that is the whole output of a run, and flushes the writer. Returns the status.
+///
+/// `Device`: a write or the flush failed, and the writer's count of failures has risen by 1. What was
+/// written is a beginning of the text.
+pub fn write_out<W: Write>(
+    writer: &mut Counted<W>,
+    text: &[u8],
+    status: Status,
+) -> Result<Status, RunError>
+    requires { CanCount writer.old }
+    ensures writes { Writes (W.contents (inner_of writer.old)) (W.contents (inner_of writer.new))
+        (text.now, status) result }
+    ensures flushed { EndsFlushed result writer.new }
+    ensures counts { CountsDevice result writer.old writer.new }
+    ensures device { IfErr result (λ e. e ≡ RunError.Device) }
+{
+    put(writer, text)?;
+    finish(writer)?;
+    Ok(status)
+}

@@ -1,0 +1,127 @@
+//! `run`: the whole program, from words and a reader to a writer and a status.
+
+ghost use Rattle.std.specs.Prelude.{◌≡◌, None, IfErr, map};
+ghost use Rattle.etcs_run.specs.Command.{command_of};
+ghost use Rattle.etcs_run.specs.Counted.{CanCount, inner_of};
+ghost use Rattle.etcs_run.specs.LineReading.{CountsDevice};
+ghost use Rattle.etcs_run.specs.Commands.{of_command, output_of, usage_line};
+ghost use Rattle.etcs_run.specs.Output.{each_line};
+ghost use Rattle.etcs_run.specs.Ran.{Answers, CountsOneDevice, EndsFlushed, Runs, Writes};
+
+use crate::answering::answer_input;
+use crate::checking::check_input;
+use crate::command::{Command, read_command};
+use crate::counted::Counted;
+use crate::each_line::EachLine;
+use crate::error::RunError;
+use crate::form_lines::{EncodingMessages, EncodingTelegrams};
+use crate::line_meaning::LineMeaning;
+use crate::output::{finish, put};
+use crate::radio_decoding::RadioDecoding;
+use crate::status::Status;
+use crate::telegram_lines::DecodingTelegrams;
+use std::alloc::Global;
+use std::io::{Read, Write};
+
+const USAGE: &str = "refused: usage is balisecheck check, decode [--radio] or encode [--radio]\n";
+
+// Writes the usage line, and flushes the writer.
+fn refuse_words<W: Write>(writer: &mut Counted<W>) -> Result<Status, RunError>
+    requires { CanCount writer.old }
+    ensures writes { Writes (W.contents (inner_of writer.old)) (W.contents (inner_of writer.new))
+        (usage_line, Status.Refused) result }
+    ensures flushed { EndsFlushed result writer.new }
+    ensures counts { CountsDevice result writer.old writer.new }
+    ensures device { IfErr result (λ e. e ≡ RunError.Device) }
+{
+    put(writer, USAGE.as_bytes())?;
+    finish(writer)?;
+    Ok(Status::Refused)
+}
+
+// Answers each line by what it means.
+fn answer_each<M: LineMeaning, R: Read, W: Write>(
+    alloc: Global,
+    meaning: M,
+    reader: &mut Counted<R>,
+    writer: &mut Counted<W>,
+) -> Result<Status, RunError>
+    requires reads { CanCount reader.old }
+    requires writes { CanCount writer.old }
+    ensures ran { Runs R.remaining W.contents reader.old reader.new writer.old writer.new
+        (each_line M.meaning) result }
+    ensures flushed { EndsFlushed result writer.new }
+    ensures counts { CountsOneDevice result reader.old reader.new writer.old writer.new }
+{
+    answer_input(alloc, EachLine::new(alloc, meaning), reader, writer)
+}
+
+// Runs the command, or writes the usage line if there is none.
+fn obey<R: Read, W: Write>(
+    alloc: Global,
+    command: Option<Command>,
+    reader: &mut Counted<R>,
+    writer: &mut Counted<W>,
+) -> Result<Status, RunError>
+    requires reads { CanCount reader.old }
+    requires writes { CanCount writer.old }
+    ensures ran { Runs R.remaining W.contents reader.old reader.new writer.old writer.new
+        (of_command command) result }
+    ensures unread { command ≡ None → reader.new ≡ reader.old }
+    ensures flushed { EndsFlushed result writer.new }
+    ensures counts { CountsOneDevice result reader.old reader.new writer.old writer.new }
+{
+    match command {
+        Some(Command::Check) => check_input(alloc, reader, writer),
+        Some(Command::Decode) => answer_each(alloc, DecodingTelegrams, reader, writer),
+        Some(Command::DecodeRadio) => {
+            answer_input(alloc, RadioDecoding::new(alloc), reader, writer)
+        }
+        Some(Command::Encode) => answer_each(alloc, EncodingTelegrams::new(alloc), reader, writer),
+        Some(Command::EncodeRadio) => {
+            answer_each(alloc, EncodingMessages::new(alloc), reader, writer)
+        }
+        None => refuse_words(writer),
+    }
+}
+
+/// Runs the command that the words give, from the reader to the writer. The first word is the
+/// program's name. Words that are no command give the usage line, and then nothing is read.
+///
+/// On a known input, the text written and the status are the output of that input. They depend only
+/// on what was read, so they are the output of every input that begins with it. The end of the
+/// input, once met, counts as read. With a status, the last call of the writer was a flush that
+/// succeeded.
+///
+/// `Memory`: a request for memory was refused, and no count has risen. `Device`: a read, a write or a
+/// flush failed, the count of that reader or writer has risen by 1, and the other has not. In both
+/// cases what was read is gone from the reader, and the text written is a beginning of the output,
+/// perhaps not flushed.
+pub fn run<'a, R: Read, W: Write>(
+    alloc: Global,
+    words: &'a [&'a str],
+    reader: &mut Counted<R>,
+    writer: &mut Counted<W>,
+) -> Result<Status, RunError>
+    // A failure can still be counted.
+    requires reads { CanCount reader.old }
+    requires writes { CanCount writer.old }
+
+    // For a reader with a known input and a writer with known contents.
+    ensures known { Answers R.remaining W.contents reader.old writer.old writer.new
+        (output_of (map (λ w. w.now) words.entry.now)) result }
+
+    // The same for every input that begins with what was read.
+    ensures ran { Runs R.remaining W.contents reader.old reader.new writer.old writer.new
+        (output_of (map (λ w. w.now) words.entry.now)) result }
+    ensures unread { command_of (map (λ w. w.now) words.entry.now) ≡ None → reader.new ≡ reader.old }
+    ensures flushed { EndsFlushed result writer.new }
+
+    // Only a device that failed is counted, and `Device` is never answered for anything else.
+    ensures counts { CountsOneDevice result reader.old reader.new writer.old writer.new }
+{
+    match read_command(alloc, words) {
+        Ok(command) => obey(alloc, command, reader, writer),
+        Err(_) => Err(RunError::Memory),
+    }
+}

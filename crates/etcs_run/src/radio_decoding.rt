@@ -1,0 +1,215 @@
+//! `RadioDecoding`: a stream of radio messages, in lines of hexadecimal text, becomes lines of JSON.
+
+ghost use Rattle.std.specs.Prelude.{◌≡◌, ◌+◌, ◌<◌, ◌≤◌, ◌^◌, [], length, OnOk, Ok};
+ghost use Rattle.etcs_bits.specs.layout.Results.{Means};
+ghost use Rattle.etcs_radio.specs.Meaning.{message_of};
+ghost use Rattle.etcs_radio.specs.Splitter.{state_of};
+ghost use Rattle.etcs_run.specs.Counted.{CanCount, inner_of};
+ghost use Rattle.etcs_run.specs.LineReading.{CountsDevice};
+ghost use Rattle.etcs_run.specs.RadioHeld.{Feeds, bytes_behind, kept_by, number_of};
+ghost use Rattle.etcs_run.specs.RadioStream.{fed, line_for, refused_message, told};
+ghost use Rattle.etcs_run.specs.Ran.{Turns, Writes};
+
+use crate::counted::Counted;
+use crate::each_line::{refuse_line, trim};
+use crate::error::RunError;
+use crate::json_line::json_line;
+use crate::line_command::LineCommand;
+use crate::output::put;
+use crate::status::Status;
+use crate::turn::Turn;
+use etcs_bits::DecodeError;
+use etcs_form::{LineFault, Refusal, StreamFault, refusal_text};
+use etcs_radio::{Splitter, State, decode};
+use etcs_telegram::TextError;
+use hex::FromHexError;
+use std::alloc::Global;
+use std::io::Write;
+use std::mem;
+
+// Writes the refusal of the message with this number.
+fn refuse<W: Write>(
+    alloc: Global,
+    number: u64,
+    why: StreamFault,
+    writer: &mut Counted<W>,
+) -> Result<Status, RunError>
+    requires { CanCount writer.old }
+    ensures writes { Writes (W.contents (inner_of writer.old)) (W.contents (inner_of writer.new))
+        (refused_message number why) result }
+    ensures counts { CountsDevice result writer.old writer.new }
+{
+    match refusal_text(alloc, &Refusal::Message(number, why)) {
+        Ok(text) => {
+            put(writer, text.as_bytes())?;
+            Ok(Status::Refused)
+        }
+        Err(_) => Err(RunError::Memory),
+    }
+}
+
+// The JSON line of the message that these bytes are, in the room of an earlier line.
+fn message_line(alloc: Global, room: Vec<u8>, bytes: &[u8]) -> Result<Vec<u8>, DecodeError>
+    requires { room.items ≡ [] }
+    ensures { Means (λ line. line.items) result (line_for (message_of bytes.now)) }
+{
+    let message = decode(alloc, bytes)?;
+    match json_line(room, &message) {
+        Ok(line) => Ok(line),
+        Err(_) => Err(DecodeError::Memory),
+    }
+}
+
+// Writes the JSON line of the message with this number, or its refusal. The room is that of an
+// earlier line.
+fn write_message<W: Write>(
+    alloc: Global,
+    number: u64,
+    bytes: &[u8],
+    room: &mut Vec<u8>,
+    writer: &mut Counted<W>,
+) -> Result<Turn, RunError>
+    requires { CanCount writer.old }
+    ensures turns { Turns (W.contents (inner_of writer.old)) (W.contents (inner_of writer.new))
+        (told number (line_for (message_of bytes.now))) result }
+    ensures counts { CountsDevice result writer.old writer.new }
+{
+    let mut earlier = mem::replace(room, Vec::new(alloc));
+    earlier.clear();
+    match message_line(alloc, earlier, bytes) {
+        Ok(line) => {
+            put(writer, line.as_slice())?;
+            *room = line;
+            Ok(Turn::Next)
+        }
+        Err(DecodeError::Memory) => Err(RunError::Memory),
+        Err(DecodeError::Fault(fault)) => {
+            let status = refuse(alloc, number, StreamFault::Fault(fault), writer)?;
+            Ok(Turn::Stop(status))
+        }
+    }
+}
+
+/// A command that cuts the bytes of all lines into radio messages, wherever the lines end, and
+/// writes a JSON line for each. It holds one message at most, and writes its line before it looks at
+/// the next byte.
+#[derive(Drop)]
+pub struct RadioDecoding {
+    splitter: Splitter,
+    // The number of the next message.
+    number: u64,
+    // The last JSON line. The next one is made in its room.
+    room: Vec<u8>,
+}
+
+impl RadioDecoding {
+    /// The command, before its first line. It takes no memory yet.
+    pub fn new(alloc: Global) -> RadioDecoding
+        ensures number { number_of result ≡ 0 }
+        ensures kept { kept_by result ≡ [] }
+    {
+        RadioDecoding {
+            splitter: Splitter::new(),
+            number: 0,
+            room: Vec::new(alloc),
+        }
+    }
+
+    // Writes the line of the message that is held, or its refusal. After the line the splitter is
+    // as new.
+    fn answer_message<W: Write>(
+        &mut self,
+        alloc: Global,
+        writer: &mut Counted<W>,
+    ) -> Result<Turn, RunError>
+        requires ready { state_of (kept_by self.old) ≡ State.Ready }
+        requires numbered { number_of self.old + 1 < 2 ^ 64 }
+        requires writes { CanCount writer.old }
+        ensures turns { Turns (W.contents (inner_of writer.old)) (W.contents (inner_of writer.new))
+            (told (number_of self.old) (line_for (message_of (kept_by self.old)))) result }
+        ensures next { result ≡ Ok Turn.Next → number_of self.new ≡ number_of self.old + 1 }
+        ensures cleared { result ≡ Ok Turn.Next → kept_by self.new ≡ [] }
+        ensures pays { OnOk result (bytes_behind self.new ≤ bytes_behind self.old) }
+        ensures counts { CountsDevice result writer.old writer.new }
+    {
+        let bytes = self.splitter.message();
+        match write_message(alloc, self.number, bytes, &mut self.room, writer)? {
+            Turn::Next => {
+                self.splitter.clear();
+                self.number += 1;
+                Ok(Turn::Next)
+            }
+            Turn::Stop(status) => Ok(Turn::Stop(status)),
+        }
+    }
+
+    // Feeds the bytes to the splitter, and answers each message as soon as it is whole.
+    fn feed<W: Write>(
+        &mut self,
+        alloc: Global,
+        bytes: &[u8],
+        writer: &mut Counted<W>,
+    ) -> Result<Turn, RunError>
+        requires numbered { bytes_behind self.old + length bytes.now < 2 ^ 64 }
+        requires writes { CanCount writer.old }
+        ensures feeds { Feeds (W.contents (inner_of writer.old)) (W.contents (inner_of writer.new))
+            (fed (number_of self.old) (kept_by self.old) bytes.now) (number_of self.new)
+            (kept_by self.new) result }
+        ensures pays { OnOk result (bytes_behind self.new ≤ bytes_behind self.old + length bytes.now) }
+        ensures counts { CountsDevice result writer.old writer.new }
+    {
+        let mut at = 0;
+        'messages: loop {
+            let fed = self.splitter.feed(&bytes[at..]);
+            at += fed.used;
+            match fed.state {
+                State::More => return Ok(Turn::Next),
+                State::Failed => {
+                    let status = refuse(alloc, self.number, StreamFault::BelowThree, writer)?;
+                    return Ok(Turn::Stop(status));
+                }
+                State::Ready => {
+                    if let Turn::Stop(status) = self.answer_message(alloc, writer)? {
+                        return Ok(Turn::Stop(status));
+                    }
+                }
+            }
+        }
+    }
+}
+
+impl LineCommand for RadioDecoding {
+    ghost use Rattle.etcs_run.specs.RadioStream.{stream_answers};
+
+    ghost answers = { λ d. stream_answers (number_of d) (kept_by d) };
+
+    ghost counted = { bytes_behind };
+
+    fn answer<W: Write>(
+        &mut self,
+        alloc: Global,
+        number: u64,
+        line: &[u8],
+        writer: &mut Counted<W>,
+    ) -> Result<Turn, RunError> {
+        match hex::decode(alloc, trim(line)) {
+            Ok(bytes) => self.feed(alloc, bytes.as_slice(), writer),
+            Err(why) => match why {
+                FromHexError::OutOfMemory => Err(RunError::Memory),
+                _ => refuse_line(alloc, number, LineFault::Text(TextError::NotHex), writer),
+            },
+        }
+    }
+
+    fn end<W: Write>(
+        &mut self,
+        alloc: Global,
+        writer: &mut Counted<W>,
+    ) -> Result<Status, RunError> {
+        if self.splitter.held() == 0 {
+            Ok(Status::Done)
+        } else {
+            refuse(alloc, self.number, StreamFault::CutOff, writer)
+        }
+    }
+}

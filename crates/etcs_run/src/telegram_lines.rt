@@ -1,0 +1,43 @@
+//! `DecodingTelegrams`: a line of hexadecimal text, a telegram, becomes a line of JSON.
+
+ghost use Rattle.std.specs.Prelude.{◌≡◌, [], Err};
+ghost use Rattle.etcs_telegram.specs.declared.error.TextError.{TextError};
+ghost use Rattle.etcs_run.specs.LineMeaning.{Gives};
+ghost use Rattle.etcs_run.specs.TelegramLines.{IsEarly};
+
+use crate::json_line::json_line;
+use crate::line_meaning::{LineMeaning, Unwritten};
+use etcs_form::LineFault;
+use etcs_telegram::{TextError, from_hex};
+use std::alloc::Global;
+
+/// A line is the hexadecimal text of a telegram, and becomes its JSON line. A line that is no
+/// telegram is refused for the first reason.
+#[derive(Drop)]
+pub struct DecodingTelegrams;
+
+#[tactic(auto, unfolding(crate::specs::TelegramLines::decoded_of))]
+impl LineMeaning for DecodingTelegrams {
+    ghost use Rattle.etcs_run.specs.TelegramLines.{decoded_of};
+
+    ghost meaning = { decoded_of };
+
+    /// The JSON line of a telegram, in the room of an earlier line.
+    ///
+    /// `Memory`: a request for memory was refused. Else the line is refused for the first reason. A
+    /// reason that is found before any packet is read is always answered: it needs no memory.
+    fn text(&mut self, alloc: Global, room: Vec<u8>, line: &[u8]) -> Result<Vec<u8>, Unwritten>
+        requires { room.items ≡ [] }
+        ensures means { Gives (λ text. text.items) result (decoded_of line.now) }
+        ensures early { (why : TextError) → IsEarly why line.now
+            → result ≡ Err (Unwritten.Refused (LineFault.Text why)) }
+    {
+        match from_hex(alloc, line) {
+            Ok(telegram) => Ok(json_line(room, &telegram)?),
+            Err(why) => match why {
+                TextError::Memory => Err(Unwritten::Memory),
+                _ => Err(Unwritten::Refused(LineFault::Text(why))),
+            },
+        }
+    }
+}

@@ -1,0 +1,172 @@
+//! `TextLines`: the lines of a reader, read in blocks.
+
+ghost use Rattle.std.specs.Prelude.{◌≤◌, ◌<◌, vec_len};
+
+use crate::counted::Counted;
+use crate::error::RunError;
+use std::alloc::{AllocError, Global};
+use std::io::Read;
+
+/// How many bytes one read may give.
+const ROOM: usize = 65_536;
+
+/// The line that was found last, and the bytes that were read but belong to no line yet.
+///
+/// A line ends at a `\n`, which is not part of it, or at the end of the input. Only memory limits
+/// its length.
+#[derive(Drop)]
+pub struct TextLines {
+    // What the last read gave. The bytes `from..to` belong to no line yet.
+    block: Vec<u8>,
+    from: usize,
+    to: usize,
+    line: Vec<u8>,
+    // Whether a read has met the end of the input.
+    has_ended: bool,
+    ghost ordered: { from ≤ to },
+    ghost within: { to ≤ vec_len block },
+    ghost room: { 0 < vec_len block },
+}
+
+impl TextLines {
+    ghost use Rattle.std.specs.Prelude.{◌≡◌, ◌+◌, ◌++◌, ◌≤◌, ◌<◌, ◌↔◌, true, false, [], length, IfOk, IfSome, OnErr, OnOk, IfErr};
+    ghost use Rattle.std.specs.Io.KnownBytes.{Consumes, Keeps};
+    ghost use Rattle.etcs_run.specs.Counted.{CanCount, budget_of, inner_of};
+    ghost use Rattle.etcs_run.specs.LineReading.{CountsDevice, IsEndMet, MovesTo, Reads};
+    ghost use Rattle.etcs_run.specs.LineReading.{has_ended, held_of, line_of};
+    ghost use Rattle.etcs_run.specs.TextLines.{HasLine};
+
+    /// The lines of an input of which nothing is read yet. The only error is that memory runs out; then
+    /// nothing is returned.
+    pub fn new(alloc: Global) -> Result<TextLines, AllocError>
+        ensures { IfOk result (λ l. (held_of l ≡ []) × (has_ended l ≡ false)) }
+    {
+        Ok(TextLines {
+            block: vec![in alloc; 0; ROOM]?,
+            from: 0,
+            to: 0,
+            line: Vec::new(alloc),
+            has_ended: false,
+        })
+    }
+
+    /// The line that was found last, without its `\n`.
+    #[inline]
+    pub fn line(&self) -> &[u8]
+        ensures { result.now ≡ line_of self.now }
+    {
+        self.line.as_slice()
+    }
+
+    // Moves the held bytes before the first `\n` to the line, and all of them if there is none.
+    // Returns whether there is one.
+    fn move_line(&mut self) -> Result<bool, RunError>
+        ensures moves { MovesTo result self.old self.new }
+        ensures memory { IfErr result (λ e. e ≡ RunError.Memory) }
+        ensures same_end { has_ended self.new ≡ has_ended self.old }
+    {
+        let held = &self.block[self.from..self.to];
+        match memchr::memchr(b'\n', held) {
+            Some(end) => {
+                if self.line.extend_from_slice(&held[..end]).is_err() {
+                    return Err(RunError::Memory);
+                }
+                self.from += end + 1;
+                Ok(true)
+            }
+            None => {
+                if self.line.extend_from_slice(held).is_err() {
+                    return Err(RunError::Memory);
+                }
+                self.from = self.to;
+                Ok(false)
+            }
+        }
+    }
+
+    // Reads more bytes in place of the held ones. Reads nothing once the end of the input was met.
+    fn refill<R: Read>(&mut self, reader: &mut Counted<R>) -> Result<usize, RunError>
+        requires { CanCount reader.old }
+        ensures line { line_of self.new ≡ line_of self.old }
+        ensures read { IfOk result (λ n. Consumes (R.remaining (inner_of reader.old))
+            (R.remaining (inner_of reader.new)) (held_of self.new)
+            × (length (held_of self.new) ≡ n) × (n ≡ 0 → has_ended self.new ≡ true)) }
+
+        // At least `n` bytes of the budget are spent.
+        ensures spends { IfOk result (λ n. (n + budget_of reader.new ≤ budget_of reader.old)
+            × (0 < n → budget_of reader.new < budget_of reader.old)) }
+
+        // A failed read loses no bytes.
+        ensures kept { OnErr result (Keeps (R.remaining (inner_of reader.old))
+            (R.remaining (inner_of reader.new))) }
+        ensures device { IfErr result (λ e. e ≡ RunError.Device) }
+        ensures counts { CountsDevice result reader.old reader.new }
+
+        // Only a reader that has no byte left meets its end.
+        ensures quiet { has_ended self.old ≡ true → IfOk result (λ n. n ≡ 0) }
+        ensures unread { has_ended self.old ≡ true → reader.new ≡ reader.old }
+        ensures ended { has_ended self.old ≡ true → has_ended self.new ≡ true }
+        ensures met { IsEndMet R.remaining (has_ended self.old) reader.old
+            → IsEndMet R.remaining (has_ended self.new) reader.new }
+    {
+        if self.has_ended {
+            self.from = 0;
+            self.to = 0;
+            return Ok(0);
+        }
+        match reader.read(self.block.as_mut_slice()) {
+            Ok(count) => {
+                self.from = 0;
+                self.to = count;
+                self.has_ended = count == 0;
+                Ok(count)
+            }
+            Err(_) => Err(RunError::Device),
+        }
+    }
+
+    /// Looks for the next line, and returns whether there is one. If not, the line is empty. The reader
+    /// is not called if a whole line is held already, nor once the end of the input was met.
+    ///
+    /// `Memory`: the line is longer than memory. `Device`: a read failed, and the reader's count of
+    /// failures has risen by 1. In both cases the bytes that were read are gone from the reader, and
+    /// the lines have no further use.
+    pub fn next<R: Read>(&mut self, reader: &mut Counted<R>) -> Result<bool, RunError>
+        requires { CanCount reader.old }
+        ensures reads { Reads (R.remaining (inner_of reader.old)) (R.remaining (inner_of reader.new))
+            (has_ended self.old) (held_of self.old) (line_of self.new) (held_of self.new)
+            (has_ended self.new) result }
+
+        // Where the reader's bytes are known, there is no line exactly if no byte is held or left.
+        ensures no_line { IsEndMet R.remaining (has_ended self.old) reader.old
+            → IfOk result (λ found. IfSome (R.remaining (inner_of reader.old))
+            (λ left. (found ≡ false) ↔ (held_of self.old ++ left ≡ []))) }
+        ensures empty { IfOk result (λ found. found ≡ false → line_of self.new ≡ []) }
+
+        // The reader is not called for a line that is held, nor after the end.
+        ensures held { HasLine (held_of self.old) → reader.new ≡ reader.old }
+        ensures unread { has_ended self.old ≡ true → reader.new ≡ reader.old }
+        ensures counts { CountsDevice result reader.old reader.new }
+        ensures ended { has_ended self.old ≡ true → has_ended self.new ≡ true }
+        ensures met { IsEndMet R.remaining (has_ended self.old) reader.old
+            → IsEndMet R.remaining (has_ended self.new) reader.new }
+
+        // A line that is found is paid for, by held bytes or by the budget.
+        ensures spends { IfOk result (λ found. found ≡ true
+            → 1 + (length (held_of self.new) + budget_of reader.new)
+            ≤ length (held_of self.old) + budget_of reader.old) }
+
+        // So is each byte of it.
+        ensures pays { OnOk result (length (line_of self.new)
+            + (length (held_of self.new) + budget_of reader.new)
+            ≤ length (held_of self.old) + budget_of reader.old) }
+    {
+        self.line.clear();
+        'filling: while !self.move_line()? {
+            if self.refill(reader)? == 0 {
+                return Ok(!self.line.is_empty());
+            }
+        }
+        Ok(true)
+    }
+}

@@ -1,0 +1,112 @@
+//! Documents of lines, and forms of records: they are answered as ever, or memory ran out.
+
+use super::{Answer, expect_answers, unless_cut};
+use crate::halt::Halt;
+use crate::shared::MESSAGE_FORM;
+use etcs_form::{
+    Form, InPieces, LineError, LineFault, Refusal, TokenForm, check_in_order, check_text,
+    read_line, read_quickly, refusal_text, report, report_counts,
+};
+use etcs_radio::Message;
+use etcs_telegram::{Telegram, TextError};
+use json::{Scratch, Writer};
+use serde_json::Value;
+use std::alloc::Global;
+
+/// The form of a lone linked balise without packets.
+const TELEGRAM_FORM: &str =
+    "{\"m_dup\":0,\"m_mcount\":255,\"m_version\":33,\"n_pig\":0,\"n_total\":0,\
+\"nid_bg\":1,\"nid_c\":1,\"packets\":[],\"q_link\":1,\"user_bits\":210}";
+
+/// Two groups with one identity, and a group with a text that is no telegram.
+const USED: &str = "{\"groups\":[\
+{\"balises\":[\"a1007f802000ffffffffffffffffffffffffffffffffffffffffc0\"]},\
+{\"balises\":[\"a1007f802000ffffffffffffffffffffffffffffffffffffffffc0\"]}],\"messages\":[]}";
+
+const WRONG_SIZE: &str = "{\"groups\":[{\"balises\":[\"00\"]}],\"messages\":[]}";
+
+const TOLD_OF_USED: &str = "no: findings 1\nF14 group 1: identity used before\n";
+
+fn checked(alloc: Global) -> Answer {
+    let line = check_in_order(alloc, USED.as_bytes())?;
+    Ok(line.groups == 2 && line.messages == 0 && line.findings.len() == 1)
+}
+
+// The same with the line itself, and what is told of it.
+fn told(alloc: Global) -> Answer {
+    let verdict = check_text(alloc, USED.as_bytes())?;
+    let text = report(alloc, &verdict.line, verdict.findings.as_slice())?;
+    let again = report_counts(alloc, 2, 0, verdict.findings.as_slice())?;
+    Ok(text.as_str() == TOLD_OF_USED && again.as_str() == TOLD_OF_USED && !verdict.is_yes())
+}
+
+fn read(alloc: Global) -> Answer {
+    let line = read_line(alloc, USED.as_bytes())?;
+    Ok(line.groups.len() == 2 && line.messages.is_empty())
+}
+
+// Whether this is the fault of the document that is refused, or memory ran out.
+fn is_fault(error: LineError) -> Answer {
+    match error {
+        LineError::Memory => Err(Halt::Memory),
+        why => Ok(matches!(why, LineError::Telegram(0, 0, TextError::WrongSize))),
+    }
+}
+
+fn refused(alloc: Global) -> Answer {
+    match check_in_order(alloc, WRONG_SIZE.as_bytes()) {
+        Ok(_) => Ok(false),
+        Err(error) => is_fault(error),
+    }
+}
+
+fn unread(alloc: Global) -> Answer {
+    match read_line(alloc, WRONG_SIZE.as_bytes()) {
+        Ok(_) => Ok(false),
+        Err(error) => is_fault(error),
+    }
+}
+
+fn refusal(alloc: Global) -> Answer {
+    let text = refusal_text(alloc, &Refusal::Line(7, LineFault::Json))?;
+    Ok(text.as_str() == "refused: line 7: not JSON\n")
+}
+
+// The value of a text, unless memory runs out: the text is JSON.
+fn value_of(alloc: Global, text: &str) -> Result<Value, Halt> {
+    Value::from_str(alloc, text).map_err(|_| Halt::Memory)
+}
+
+// The form of a record: read as a value and from its tokens, written as a value and in pieces.
+fn form<T: InPieces + TokenForm>(alloc: Global, form: &str) -> Answer {
+    let record = T::of_form(alloc, &value_of(alloc, form)?)?;
+    let value = record.to_form(alloc)?;
+    let mut out = Writer::new(Vec::new(alloc));
+    record.send(&mut out)?;
+    let sent = out.into_inner();
+    let text = value.to_string(alloc).map_err(|_| Halt::Memory)?;
+    let mut scratch = Scratch::new(alloc);
+    let quick: Option<T> = read_quickly(alloc, &mut scratch, form);
+    if text.as_str() != form || sent.as_slice() != form.as_bytes() {
+        return Ok(false);
+    }
+    unless_cut(quick.is_some())
+}
+
+pub fn answers(alloc: Global) -> [Answer; 8] {
+    [
+        checked(alloc),
+        told(alloc),
+        read(alloc),
+        refused(alloc),
+        unread(alloc),
+        refusal(alloc),
+        form::<Telegram>(alloc, TELEGRAM_FORM),
+        form::<Message>(alloc, MESSAGE_FORM),
+    ]
+}
+
+#[test]
+fn documents_and_forms_are_answered_or_memory_ran_out(rt: HostRuntime) {
+    expect_answers(&rt, &answers(rt.alloc()));
+}

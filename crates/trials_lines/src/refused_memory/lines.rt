@@ -1,0 +1,113 @@
+//! Lines, groups and messages: checks that find nothing ask for no memory, and what a train reads.
+
+use super::{Answer, expect_answers};
+use crate::halt::Halt;
+use crate::shared::{
+    ALONE, FIRST_7, FIRST_8, MESSAGE, REPORT, SECOND_7, SECOND_8, WITH_AUTHORITY, controlled, group,
+};
+use etcs_bits::Memory;
+use etcs_check::{Finding, Line, check, check_group, check_message};
+use etcs_group::{Controlled, Missed, Mixture, assemble};
+use etcs_packet::Run;
+use etcs_radio::from_hex;
+use std::alloc::Global;
+
+// A line of so many groups of one balise, all with one identity, and a position report.
+fn line(alloc: Global, count: usize) -> Result<Line, Halt> {
+    let mut groups = Vec::new(alloc);
+    'groups: for _ in 0..count {
+        groups.push(controlled(alloc, &[&[WITH_AUTHORITY]])?)?;
+    }
+    let mut messages = Vec::new(alloc);
+    messages.push(from_hex(alloc, REPORT.as_bytes())?)?;
+    Ok(Line { groups, messages })
+}
+
+// Whether there are so many findings. Memory may run out only for one.
+fn are_found(found: Result<Vec<Finding>, Memory>, count: usize) -> Answer {
+    match found {
+        Ok(found) => Ok(found.len() == count),
+        Err(_) if count > 0 => Err(Halt::Memory),
+        Err(_) => Ok(false),
+    }
+}
+
+fn sound_line(alloc: Global) -> Answer {
+    let line = line(alloc, 1)?;
+    are_found(check(alloc, &line), 0)
+}
+
+fn repeated_group(alloc: Global) -> Answer {
+    let line = line(alloc, 2)?;
+    are_found(check(alloc, &line), 1)
+}
+
+fn sound_group(alloc: Global) -> Answer {
+    let pair = controlled(alloc, &[&[FIRST_7, SECOND_7], &[FIRST_8, SECOND_8]])?;
+    are_found(check_group(alloc, 0, false, &pair), 0)
+}
+
+// A group whose aspects are not told apart.
+fn equal_aspects(alloc: Global) -> Answer {
+    let pair = controlled(alloc, &[&[FIRST_7, SECOND_7], &[FIRST_7, SECOND_7]])?;
+    are_found(check_group(alloc, 0, false, &pair), 2)
+}
+
+fn used_group(alloc: Global) -> Answer {
+    let alone = controlled(alloc, &[&[ALONE]])?;
+    are_found(check_group(alloc, 0, true, &alone), 1)
+}
+
+fn sound_message(alloc: Global) -> Answer {
+    let message = from_hex(alloc, REPORT.as_bytes())?;
+    are_found(check_message(alloc, 0, &message), 0)
+}
+
+fn unsound_message(alloc: Global) -> Answer {
+    let message = from_hex(alloc, MESSAGE.as_bytes())?;
+    are_found(check_message(alloc, 0, &message), 2)
+}
+
+// What a train reads of a group, and the packets of it: an authority and both profiles.
+fn reading(alloc: Global) -> Answer {
+    let group = group(alloc, &[WITH_AUTHORITY])?;
+    let read = group.reading(alloc, Run::Nominal, Missed(0))?;
+    let packets = assemble(alloc, Run::Nominal, read.as_slice())?;
+    Ok(read.len() == 1 && packets.len() == 3)
+}
+
+// Whether a train reads two telegrams of a mixture.
+fn are_two(alloc: Global, group: &Controlled, mixture: &Mixture) -> Answer {
+    if !group.fits(mixture) {
+        return Ok(false);
+    }
+    let read = group.mixed(alloc, mixture)?;
+    Ok(read.len() == 2)
+}
+
+// What a train reads of a group that is switched while it passes.
+fn mixed(alloc: Global) -> Answer {
+    let pair = controlled(alloc, &[&[FIRST_7, SECOND_7], &[FIRST_8, SECOND_8]])?;
+    let shown = [Some(0), Some(1), None, None, None, None, None, None];
+    let run = Run::Reverse;
+    are_two(alloc, &pair, &Mixture { run, shown })
+}
+
+pub fn answers(alloc: Global) -> [Answer; 9] {
+    [
+        sound_line(alloc),
+        repeated_group(alloc),
+        sound_group(alloc),
+        equal_aspects(alloc),
+        used_group(alloc),
+        sound_message(alloc),
+        unsound_message(alloc),
+        reading(alloc),
+        mixed(alloc),
+    ]
+}
+
+#[test]
+fn what_is_sound_is_checked_without_memory(rt: HostRuntime) {
+    expect_answers(&rt, &answers(rt.alloc()));
+}

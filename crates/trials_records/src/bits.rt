@@ -1,0 +1,102 @@
+//! Lists of bits, and what a cursor takes of them.
+
+use etcs_bits::{Bits, Cursor, DecodeError, Fault, FaultKind, Same};
+use std::test::Fail;
+
+// Bits from the middle of bytes, whose last byte is not full.
+const FIVE: [u8; 5] = [0xa5, 0x96, 0x3c, 0x5a, 0xff];
+
+#[test]
+fn the_most_significant_bit_comes_first(rt: HostRuntime) -> Result<(), Fail> {
+    let mut bits = Bits::new(rt.alloc());
+    assert_eq!(rt; bits.len(), 0);
+    bits.push_num(1, 1)?;
+    bits.push_num(7, 33)?;
+    bits.push_num(32, 0x007f_8020)?;
+    assert_eq!(rt; bits.len(), 40);
+    assert!(rt; bits.bit(0) && !bits.bit(1) && bits.bit(2) && bits.bit(7) && !bits.bit(8));
+    let bytes = bits.to_bytes(rt.alloc())?;
+    assert!(rt; bytes.as_slice() == [0xa1, 0x00, 0x7f, 0x80, 0x20].as_slice());
+    Ok(())
+}
+
+#[test]
+fn the_last_byte_is_filled_with_zeros(rt: HostRuntime) -> Result<(), Fail> {
+    let mut bytes = [255u8; 27];
+    let bits = Bits::from_bytes(rt.alloc(), &bytes, 210)?;
+    assert_eq!(rt; bits.len(), 210);
+    bytes[26] = 0xc0;
+    assert!(rt; bits.to_bytes(rt.alloc())?.as_slice() == bytes.as_slice());
+    Ok(())
+}
+
+#[test]
+fn bits_after_the_last_are_zeros(rt: HostRuntime) -> Result<(), Fail> {
+    let alloc = rt.alloc();
+    let made = Bits::from_bytes(alloc, &[0xff], 3)?;
+    let mut cut = Bits::new(alloc);
+    cut.push_num(8, 255)?;
+    cut.truncate(3);
+    assert!(rt; made.to_bytes(alloc)?.as_slice() == [0xe0].as_slice());
+    assert!(rt; cut.to_bytes(alloc)?.as_slice() == [0xe0].as_slice());
+    assert!(rt; made.same(&cut));
+    cut.push_num(2, 0)?;
+    assert!(rt; cut.to_bytes(alloc)?.as_slice() == [0xe0].as_slice());
+    Ok(())
+}
+
+#[test]
+fn bits_are_copied_as_they_are(rt: HostRuntime) -> Result<(), Fail> {
+    let alloc = rt.alloc();
+    let bits = Bits::from_bytes(alloc, &FIVE, 40)?;
+    let mut cur = Cursor::new(&bits);
+    assert_eq!(rt; cur.take(3), Ok(5));
+    let first = cur.take_bits(alloc, 33)?;
+    assert!(rt; first.len() == 33 && cur.at() == 36);
+    let none = cur.take_bits(alloc, 0)?;
+    assert!(rt; none.len() == 0 && cur.at() == 36);
+    let last = cur.take_bits(alloc, 4)?;
+    assert!(rt; last.len() == 4 && cur.left() == 0);
+
+    let mut copy = Bits::new(alloc);
+    copy.push_num(3, 5)?;
+    copy.push_bits(&first)?;
+    copy.push_bits(&none)?;
+    copy.push_bits(&last)?;
+    assert!(rt; copy.to_bytes(alloc)?.as_slice() == FIVE.as_slice());
+    Ok(())
+}
+
+#[test]
+fn bits_that_are_not_there_are_not_copied(rt: HostRuntime) -> Result<(), Fail> {
+    let alloc = rt.alloc();
+    let bits = Bits::from_bytes(alloc, &[0xff], 8)?;
+    let mut cur = Cursor::new(&bits);
+    assert_eq!(rt; cur.take(5), Ok(31));
+    let short = DecodeError::Fault(Fault {
+        at: 5,
+        end: 8,
+        why: FaultKind::Short,
+    });
+    for width in [4, 8, usize::MAX] {
+        assert!(rt; cur.take_bits(alloc, width).err() == Some(short), "{width}");
+    }
+    let mut ahead = cur.fork();
+    let rest = ahead.take_bits(alloc, 3)?;
+    assert!(rt; rest.len() == 3 && ahead.at() == 8 && cur.at() == 5);
+    Ok(())
+}
+
+#[test]
+fn the_longest_body_is_appended_within_a_byte(rt: HostRuntime) -> Result<(), Fail> {
+    let alloc = rt.alloc();
+    let body = Bits::from_bytes(alloc, &[0x5a; 1021], 8168)?;
+    let mut packet = Bits::new(alloc);
+    packet.push_num(23, 8191)?;
+    packet.push_bits(&body)?;
+    assert_eq!(rt; packet.len(), 8191);
+    assert!(rt; packet.slice().part(23, 8191).same(body.slice()));
+    packet.truncate(23);
+    assert!(rt; packet.to_bytes(alloc)?.as_slice() == [0x00, 0x3f, 0xfe].as_slice());
+    Ok(())
+}

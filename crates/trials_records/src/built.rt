@@ -1,0 +1,82 @@
+//! The parts of what is built and read, and how far profiles reach.
+
+use crate::spelled::{KINDS, fault, read_one};
+use etcs_bits::{DecodeError, Dir, FaultKind, Layout, Scale, Speed};
+use etcs_packet::{CoverMarker, RawPacket, TrackPacket};
+use etcs_profile::{Authority, Gradient, Linking, Reach, SpeedProfile, Transition};
+use std::alloc::Global;
+use std::test::Fail;
+
+// Packet 12 with one section and each part that may be left out: 73 + 16 + 2 * 25 + 22 + 47 bits.
+const AUTHORITY: &str = "00001100 01 0000011010000 10 0011000 0001010 0000111100 00001 \
+     111111111111111 0 111111111111110 1 0000011110 000000000000111 \
+     1 0000101000 000000011001000 \
+     1 000000000110010 1111110 1 000000100101100 0000010100 111111111111111 1111111";
+
+#[test]
+fn an_authority_has_its_parts(rt: HostRuntime) -> Result<(), Fail> {
+    let authority: Authority = read_one(rt.alloc(), AUTHORITY)?;
+    assert!(rt; authority.dir() == Dir::Nominal && authority.scale() == Scale::TenMetres);
+    assert!(rt; authority.main() == Speed::new(24));
+    assert!(rt; authority.end_speed().number() == 10 && authority.end_timeout().number() == 60);
+    assert!(rt; authority.sections().len() == 1 && authority.l_endsection().number() == 32766);
+    Ok(())
+}
+
+#[test]
+fn an_authority_has_the_parts_that_may_be_left_out(rt: HostRuntime) -> Result<(), Fail> {
+    let authority: Authority = read_one(rt.alloc(), AUTHORITY)?;
+    let timer = authority.section_timer().ok_or("no timer")?;
+    assert!(rt; timer.stop.number() == 7);
+    let timer = authority.end_timer().ok_or("no end timer")?;
+    assert!(rt; timer.start.number() == 200);
+    let danger_point = authority.danger_point().ok_or("no danger point")?;
+    assert!(rt; danger_point.distance.number() == 50);
+    let overlap = authority.overlap().ok_or("no overlap")?;
+    assert!(rt; overlap.length.number() == 32767);
+    Ok(())
+}
+
+#[test]
+fn profiles_have_their_parts(rt: HostRuntime) -> Result<(), Fail> {
+    let gradient: Gradient = read_one(rt.alloc(), KINDS[4])?;
+    assert!(rt; gradient.dir() == Dir::Nominal && gradient.scale() == Scale::Metre);
+    assert!(rt; gradient.first().gradient.number() == 5 && gradient.further().is_empty());
+    assert!(rt; gradient.reach() == Reach::Open);
+    let speeds: SpeedProfile = read_one(rt.alloc(), KINDS[5])?;
+    assert!(rt; speeds.dir() == Dir::Nominal && speeds.scale() == Scale::TenCentimetres);
+    assert!(rt; speeds.first().front && speeds.further().is_empty());
+    assert!(rt; speeds.reach() == Reach::Open);
+    Ok(())
+}
+
+#[test]
+fn linking_and_level_transitions_have_their_parts(rt: HostRuntime) -> Result<(), Fail> {
+    let linking: Linking = read_one(rt.alloc(), KINDS[1])?;
+    assert!(rt; linking.dir() == Dir::Nominal && linking.scale() == Scale::TenMetres);
+    assert!(rt; linking.first().distance.number() == 32767 && linking.further().len() == 2);
+    let transition: Transition = read_one(rt.alloc(), KINDS[6])?;
+    assert!(rt; transition.dir() == Dir::Nominal && transition.scale() == Scale::TenCentimetres);
+    assert!(rt; transition.d_leveltr().number() == 9 && transition.further().len() == 2);
+    assert!(rt; transition.first().acknowledge.number() == 0);
+    Ok(())
+}
+
+// What is refused of the end mark, which is no packet's number.
+fn refused_mark<T: Layout>(alloc: Global) -> Option<DecodeError> {
+    read_one::<T>(alloc, "11111111").err()
+}
+
+#[test]
+fn a_packet_has_its_number(rt: HostRuntime) {
+    let alloc = rt.alloc();
+    let spare = fault(0, 8, FaultKind::Spare);
+    assert!(rt; refused_mark::<CoverMarker>(alloc) == spare);
+    assert!(rt; refused_mark::<Linking>(alloc) == spare);
+    assert!(rt; refused_mark::<Authority>(alloc) == spare);
+    assert!(rt; refused_mark::<Gradient>(alloc) == spare);
+    assert!(rt; refused_mark::<SpeedProfile>(alloc) == spare);
+    assert!(rt; refused_mark::<Transition>(alloc) == spare);
+    assert!(rt; refused_mark::<RawPacket>(alloc) == spare);
+    assert!(rt; refused_mark::<TrackPacket>(alloc) == spare);
+}

@@ -1,0 +1,48 @@
+//! Which numbers a variable may have (SUBSET-026, 7.5).
+
+use crate::spelled::fault;
+use etcs_bits::{
+    Bits, Country, Cursor, Dir, Dup, FaultKind, GroupNumber, Layout, Medium, Plain, ReleaseSpeed,
+    Scale, Speed, StaticSpeed, Total, Transmission, Version,
+};
+use std::test::Fail;
+
+#[test]
+fn numbers_that_are_not_allowed_make_no_variable(rt: HostRuntime) {
+    for n in 0..131u32 {
+        assert!(rt; Version::new(n).is_some() == (n == 32 || n == 33), "{n}");
+        assert!(rt; Dup::new(n).is_some() == (n < 3), "{n}");
+        assert!(rt; Transmission::new(n).is_some() == (n == 1), "{n}");
+        assert!(rt; Medium::new(n).is_some() == (n == 0), "{n}");
+        assert!(rt; Total::new(n).is_some() == (n < 8), "{n}");
+        assert!(rt; Scale::new(n).is_some() == (n < 3), "{n}");
+        assert!(rt; Dir::new(n).is_some() == (n < 3), "{n}");
+    }
+    assert!(rt; Country::new(1023).is_some() && Country::new(1024).is_none());
+    assert!(rt; GroupNumber::new(16383).is_some() && GroupNumber::new(16384).is_none());
+}
+
+#[test]
+fn a_speed_has_spare_numbers(rt: HostRuntime) {
+    for n in 0..131u32 {
+        assert!(rt; Speed::new(n).is_some() == (n <= 120), "{n}");
+        assert!(rt;
+            StaticSpeed::new(n).is_some() == (n <= 120 || n == 127),
+            "{n}"
+        );
+        let released = n <= 120 || n == 126 || n == 127;
+        assert!(rt; ReleaseSpeed::new(n).is_some() == released, "{n}");
+    }
+}
+
+#[test]
+fn a_number_has_1_to_32_bits(rt: HostRuntime) -> Result<(), Fail> {
+    assert!(rt; Plain::<32>::new(u32::MAX).is_some());
+    assert!(rt; Plain::<0>::new(0).is_none() && Plain::<33>::new(0).is_none());
+    let bits = Bits::from_bytes(rt.alloc(), &[0xff; 5], 40)?;
+    let none = Plain::<0>::read(rt.alloc(), &mut Cursor::new(&bits)).err();
+    assert!(rt; none == fault(0, 0, FaultKind::Spare));
+    let many = Plain::<33>::read(rt.alloc(), &mut Cursor::new(&bits)).err();
+    assert!(rt; many == fault(0, 33, FaultKind::Spare));
+    Ok(())
+}

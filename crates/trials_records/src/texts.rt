@@ -1,0 +1,66 @@
+//! The texts of errors.
+
+use etcs_bits::{DecodeError, Fault, FaultKind, Memory};
+use etcs_profile::BuildError;
+use etcs_radio::RadioTextError;
+use etcs_telegram::TextError;
+use std::alloc::{AllocError, Global};
+use std::fmt::Display;
+use std::test::Fail;
+
+// Whether the error is printed as this text.
+fn says<E: Display>(alloc: Global, error: &E, text: &str) -> Result<bool, AllocError> {
+    Ok(error.to_string(alloc)?.as_str() == text)
+}
+
+#[test]
+fn each_kind_of_fault_has_its_words(rt: HostRuntime) -> Result<(), Fail> {
+    for (why, text) in [
+        (FaultKind::Short, "short"),
+        (FaultKind::Spare, "spare"),
+        (FaultKind::Length, "length"),
+        (FaultKind::NoEnd, "no end"),
+        (FaultKind::Version, "version"),
+        (FaultKind::Loop, "loop"),
+        (FaultKind::Downlink, "down-link"),
+        (FaultKind::MessageKind, "message kind"),
+        (FaultKind::NoAuthority, "no authority"),
+        (FaultKind::NoReport, "no report"),
+    ] {
+        assert!(rt; says(rt.alloc(), &why, text)?, "{text}");
+    }
+    Ok(())
+}
+
+#[test]
+fn errors_say_what_is_wrong(rt: HostRuntime) -> Result<(), Fail> {
+    let alloc = rt.alloc();
+    let (at, end, why) = (15, 17, FaultKind::Spare);
+    let fault = Fault { at, end, why };
+    let place = "spare at 15 end 17";
+    assert!(rt; says(alloc, &fault, place)?);
+    assert!(rt; says(alloc, &DecodeError::from(fault), place)?);
+    assert!(rt; says(alloc, &TextError::Fault(fault), place)?);
+    assert!(rt; says(alloc, &RadioTextError::Fault(fault), place)?);
+    assert!(rt; says(alloc, &TextError::NotHex, "not hexadecimal")?);
+    assert!(rt; says(alloc, &RadioTextError::NotHex, "not hexadecimal")?);
+    assert!(rt; says(alloc, &TextError::WrongSize, "wrong size")?);
+    assert!(rt; says(alloc, &TextError::PadBits, "pad bits set")?);
+    assert!(rt; says(alloc, &etcs_telegram::EncodeError::TooBig, "too big")?);
+    assert!(rt; says(alloc, &etcs_radio::EncodeError::TooBig, "too big")?);
+    assert!(rt; says(alloc, &BuildError::TooMany, "too many")?);
+    assert!(rt; says(alloc, &BuildError::TooLong, "too long")?);
+    Ok(())
+}
+
+#[test]
+fn errors_say_that_memory_ran_out(rt: HostRuntime) -> Result<(), Fail> {
+    let (alloc, text) = (rt.alloc(), "out of memory");
+    assert!(rt; says(alloc, &Memory, text)?);
+    assert!(rt; says(alloc, &DecodeError::from(Memory), text)?);
+    assert!(rt; says(alloc, &TextError::Memory, text)?);
+    assert!(rt; says(alloc, &RadioTextError::Memory, text)?);
+    assert!(rt; says(alloc, &etcs_telegram::EncodeError::Memory, text)?);
+    assert!(rt; says(alloc, &etcs_radio::EncodeError::Memory, text)?);
+    Ok(())
+}
