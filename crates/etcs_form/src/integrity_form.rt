@@ -9,6 +9,7 @@ use crate::error::FormError;
 use crate::form::{Form, InPieces};
 use crate::reading::{check_absent, read_key};
 use etcs_bits::{Distance, Memory, Plain};
+use etcs_digits::send_decimal;
 use etcs_radio::{Integrity, Train3};
 use json::Writer;
 use serde_json::Value;
@@ -84,7 +85,7 @@ impl Form for Train3 {
 
 impl InPieces for Train3 {
     fn send(&self, out: &mut Writer) -> Result<(), Memory> {
-        out.u64(u64::from(self.number()))?;
+        send_decimal(out, u64::from(self.number()))?;
         Ok(())
     }
 }

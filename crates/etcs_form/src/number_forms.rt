@@ -3,6 +3,7 @@
 use crate::error::FormError;
 use crate::form::{Form, InPieces};
 use etcs_bits::{Dir, Dup, Memory, Plain, Ranged, Scale, Version};
+use etcs_digits::send_decimal;
 use json::Writer;
 use serde_json::Value;
 use std::alloc::Global;
@@ -35,7 +36,7 @@ impl<const W: u32> Form for Plain<W> {
 
 impl<const W: u32> InPieces for Plain<W> {
     fn send(&self, out: &mut Writer) -> Result<(), Memory> {
-        out.u64(u64::from(self.number()))?;
+        send_decimal(out, u64::from(self.number()))?;
         Ok(())
     }
 }
@@ -68,7 +69,7 @@ impl<const W: u32, const LAST: u32, const FROM: u32> Form for Ranged<W, LAST, FR
 
 impl<const W: u32, const LAST: u32, const FROM: u32> InPieces for Ranged<W, LAST, FROM> {
     fn send(&self, out: &mut Writer) -> Result<(), Memory> {
-        out.u64(u64::from(self.number()))?;
+        send_decimal(out, u64::from(self.number()))?;
         Ok(())
     }
 }
@@ -97,7 +98,7 @@ impl Form for bool {
 
 impl InPieces for bool {
     fn send(&self, out: &mut Writer) -> Result<(), Memory> {
-        out.u64(if *self { 1u64 } else { 0u64 })?;
+        send_decimal(out, if *self { 1u64 } else { 0u64 })?;
         Ok(())
     }
 }
@@ -130,7 +131,7 @@ impl Form for Dir {
 
 impl InPieces for Dir {
     fn send(&self, out: &mut Writer) -> Result<(), Memory> {
-        out.u64(u64::from(self.number()))?;
+        send_decimal(out, u64::from(self.number()))?;
         Ok(())
     }
 }
@@ -163,7 +164,7 @@ impl Form for Scale {
 
 impl InPieces for Scale {
     fn send(&self, out: &mut Writer) -> Result<(), Memory> {
-        out.u64(u64::from(self.number()))?;
+        send_decimal(out, u64::from(self.number()))?;
         Ok(())
     }
 }
@@ -196,7 +197,7 @@ impl Form for Dup {
 
 impl InPieces for Dup {
     fn send(&self, out: &mut Writer) -> Result<(), Memory> {
-        out.u64(u64::from(self.number()))?;
+        send_decimal(out, u64::from(self.number()))?;
         Ok(())
     }
 }
@@ -229,7 +230,7 @@ impl Form for Version {
 
 impl InPieces for Version {
     fn send(&self, out: &mut Writer) -> Result<(), Memory> {
-        out.u64(u64::from(self.number()))?;
+        send_decimal(out, u64::from(self.number()))?;
         Ok(())
     }
 }

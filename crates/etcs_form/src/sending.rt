@@ -7,6 +7,7 @@ ghost use Rattle.etcs_form.specs.Shape.{items_of, optional, whole};
 
 use crate::form::InPieces;
 use etcs_bits::Memory;
+use etcs_digits::send_decimal;
 use json::Writer;
 
 /// Sends a member.
@@ -38,7 +39,7 @@ pub(crate) fn send_number(out: &mut Writer, name: &str, number: u64) -> Result<(
     ensures { OnOk result (SendsMembers ((name.now, Some (whole number)) ∷ []) out.old out.new) }
 {
     out.key(name)?;
-    out.u64(number)?;
+    send_decimal(out, number)?;
     Ok(())
 }
 

@@ -16,6 +16,7 @@ use crate::record::{Members, Record, is_one_of, stay_allowed};
 use crate::report_form::{put_identity, read_identity};
 use crate::sending::{send_key, send_list_at};
 use etcs_bits::{Memory, are_allowed};
+use etcs_digits::send_decimal;
 use etcs_telegram::{Header, Size, Telegram};
 use json::Writer;
 use serde_json::{Map, Value};
@@ -55,7 +56,7 @@ impl Form for Size {
 
 impl InPieces for Size {
     fn send(&self, out: &mut Writer) -> Result<(), Memory> {
-        out.u64(user_bit_count(*self))?;
+        send_decimal(out, user_bit_count(*self))?;
         Ok(())
     }
 }

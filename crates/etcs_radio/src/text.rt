@@ -45,7 +45,7 @@ pub fn from_hex(alloc: Global, text: &[u8]) -> Result<Message, RadioTextError>
     if !is_hexadecimal(text) {
         return Err(RadioTextError::NotHex);
     }
-    let Ok(bytes) = hex::decode(alloc, text) else {
+    let Ok(bytes) = etcs_digits::decode_to_vec(alloc, text) else {
         return Err(RadioTextError::Memory);
     };
     match decode(alloc, bytes.as_slice()) {

@@ -192,7 +192,7 @@ impl LineCommand for RadioDecoding {
         line: &[u8],
         writer: &mut Counted<W>,
     ) -> Result<Turn, RunError> {
-        match hex::decode(alloc, trim(line)) {
+        match etcs_digits::decode_to_vec(alloc, trim(line)) {
             Ok(bytes) => self.feed(alloc, bytes.as_slice(), writer),
             Err(why) => match why {
                 FromHexError::OutOfMemory => Err(RunError::Memory),

@@ -39,7 +39,7 @@ fn read_digits<const N: usize>(text: &[u8], bytes: &mut [u8; N]) -> bool
     ensures digits { IsTrue result → decode_of text.now ≡ Ok bytes.new }
     ensures others { result ≡ false → IsHexadecimal text.now → ⊥ }
 {
-    hex::decode_to_slice(text, bytes).is_ok()
+    etcs_digits::decode(text, bytes)
 }
 
 // Whether all pad bits are zeros.

@@ -8,12 +8,12 @@ returns-clause-digits g c = λ ok.
     let room : length c.args.bytes.now ≡ g.row.N = search rules in
     let twice = c.requires ∙ ap (λ n. 2 * n) (sym room) in
     sym (decode_sized-twice c.args.text.now (length c.args.bytes.now) twice)
-    ∙ bytes_written _ c.decode_to_slice.result _ c.decode_to_slice.ensures.value (sym c.is_ok.ensures.value ∙ ok)
+    ∙ bytes_written _ c.decode.result _ c.decode.ensures ok
 
 pub returns-clause-others : goal.returns-clause-others
 returns-clause-others g c = λ failed hexadecimal.
     let room : length c.args.bytes.now ≡ g.row.N = search rules in
     let twice = c.requires ∙ ap (λ n. 2 * n) (sym room) in
     let all = decode_of-digits c.args.text.now hexadecimal.even hexadecimal.digits in
-    not_written _ c.decode_to_slice.result _ all.0 c.decode_to_slice.ensures.value (sym c.is_ok.ensures.value ∙ failed)
+    not_written _ c.decode.result _ all.0 c.decode.ensures failed
     (decode_sized-twice c.args.text.now (length c.args.bytes.now) twice ∙ all.1)

@@ -1,0 +1,2 @@
+mod DigitLemmas
+mod DecimalLemmas

@@ -1,0 +1,63 @@
+//! Numbers as decimal text. Each count of digits up to five has steps of its own, so that a text of
+//! known length is written.
+
+ghost use Rattle.std.specs.Prelude.{◌≡◌, ◌+◌, ◌/◌, ◌%◌, ◌<◌, ◌≤◌, ◌∷◌, [], decimal};
+ghost use Rattle.json.specs.Token.{number};
+ghost use Rattle.json.specs.Written.{Writes};
+
+use json::Writer;
+use std::alloc::AllocError;
+
+static PAIRS: [u8; 200] =
+    *b"00010203040506070809101112131415161718192021222324252627282930313233343536373839404142434445464748495051525354555657585960616263646566676869707172737475767778798081828384858687888990919293949596979899";
+
+// The two digits of a number below 100.
+#[inline(always)]
+fn pair(n: u64) -> [u8; 2]
+    requires { n < 100 }
+    ensures { result ≡ (48 + n / 10) ∷ (48 + n % 10) ∷ [] }
+{
+    let at = 2 * (n as usize);
+    [PAIRS[at], PAIRS[at + 1]]
+}
+
+// Sends the digits of a number.
+#[inline(always)]
+fn send_digits<const N: usize>(
+    out: &mut Writer,
+    n: u64,
+    digits: [u8; N],
+) -> Result<(), AllocError>
+    requires { digits ≡ decimal n }
+    ensures { Writes result out.old out.new (number (decimal n)) }
+{
+    out.number(unsafe { str::from_utf8_unchecked(&digits) })
+}
+
+/// Sends a number, as [`Writer::u64`] does.
+pub fn send_decimal(out: &mut Writer, n: u64) -> Result<(), AllocError>
+    ensures { Writes result out.old out.new (number (decimal n)) }
+{
+    if n < 10 {
+        return send_digits(out, n, [b'0' + n as u8]);
+    }
+    if n < 100 {
+        return send_digits(out, n, pair(n));
+    }
+    if n < 1000 {
+        let last = pair(n % 100);
+        return send_digits(out, n, [b'0' + (n / 100) as u8, last[0], last[1]]);
+    }
+    if n < 10_000 {
+        let first = pair(n / 100);
+        let last = pair(n % 100);
+        return send_digits(out, n, [first[0], first[1], last[0], last[1]]);
+    }
+    if n < 100_000 {
+        let middle = pair(n / 100 % 100);
+        let last = pair(n % 100);
+        let first = b'0' + (n / 10_000) as u8;
+        return send_digits(out, n, [first, middle[0], middle[1], last[0], last[1]]);
+    }
+    out.u64(n)
+}
