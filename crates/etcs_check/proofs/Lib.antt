@@ -15,3 +15,4 @@ pub mod CompareLemmas
 pub mod NoteLemmas
 pub mod GreatestLemmas
 pub mod IdentityLemmas
+pub mod QuietLemmas

@@ -9,3 +9,4 @@ pub mod Counters
 pub mod Greatest
 pub mod Meaning
 pub mod Laws
+pub mod Quiet

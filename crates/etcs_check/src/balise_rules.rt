@@ -1,11 +1,12 @@
 //! The rules about balises by themselves, about pairs of duplicates, and about packets that are not
 //! modelled.
 
-ghost use Rattle.std.specs.Prelude.{◌≡◌, ◌≢◌, ◌<◌, ◌≤◌, ◌+◌, ◌++◌, [], ℕ, length, slice_get, Some, OnOk, OnErr};
+ghost use Rattle.std.specs.Prelude.{◌≡◌, ◌≢◌, ◌<◌, ◌≤◌, ◌+◌, ◌++◌, [], ℕ, length, slice_get, Some, IsTrue, OnOk, OnErr};
 ghost use Rattle.etcs_telegram.specs.Record.{Telegram};
 ghost use Rattle.etcs_group.specs.Group.{partner_of};
 ghost use Rattle.etcs_check.specs.Duplicates.{same_mark};
 ghost use Rattle.etcs_check.specs.Findings.{are_pair, balise_fact, balise_facts, counter_differs, first_counter, is_other, is_outside, is_unanswered, is_unlike, is_unmodelled, mark_differs, pair_differs, pair_facts, unmodelled_facts, unmodelled_in};
+ghost use Rattle.etcs_check.specs.Quiet.{AreModelled, IsQuietBalise};
 
 use crate::duplicates::same_held;
 use crate::finding::{Finding, Rule, Spot, note};
@@ -132,6 +133,7 @@ fn counter_differs(group: &[Telegram], telegram: &Telegram) -> bool
 
 // Whether the rule is broken by the balise at this place of an aspect. The balise is compared with
 // `first`, aspect 0. Counters of earlier aspects are not looked at.
+#[inline(always)]
 fn balise_fact(first: &[Telegram], group: &[Telegram], rule: Rule, place: usize) -> bool
     requires within { place < length group.now }
     requires few { length group.now ≤ 8 }
@@ -151,6 +153,59 @@ fn balise_fact(first: &[Telegram], group: &[Telegram], rule: Rule, place: usize)
         Rule::MarksDiffer => mark_differs(first, telegram, place),
         _ => false,
     }
+}
+
+// Whether a balise of an aspect 0 breaks no rule about one balise, has only packets that are modelled,
+// and has the packets of the balise that it is a pair with.
+pub(crate) fn is_quiet_balise(group: &[Telegram], place: usize) -> bool
+    requires within { place < length group.now }
+    requires few { length group.now ≤ 8 }
+    ensures { (t : Telegram) → slice_get group.now place ≡ Some t
+        → IsTrue result → IsQuietBalise group.now place t }
+{
+    if balise_fact(group, group, Rule::PositionWrong, place) {
+        return false;
+    }
+    if balise_fact(group, group, Rule::TotalWrong, place) {
+        return false;
+    }
+    if balise_fact(group, group, Rule::HeaderDiffers, place) {
+        return false;
+    }
+    if balise_fact(group, group, Rule::MarkOutside, place) {
+        return false;
+    }
+    if balise_fact(group, group, Rule::MarkUnanswered, place) {
+        return false;
+    }
+    if balise_fact(group, group, Rule::CounterUnfit, place) {
+        return false;
+    }
+    if balise_fact(group, group, Rule::CountersDiffer, place) {
+        return false;
+    }
+    if balise_fact(group, group, Rule::MarksDiffer, place) {
+        return false;
+    }
+    if pair_differs_at(group, Run::Nominal, place) {
+        return false;
+    }
+    if pair_differs_at(group, Run::Reverse, place) {
+        return false;
+    }
+    are_modelled(packets(&group[place]))
+}
+
+// Whether all packets are modelled.
+fn are_modelled(packets: &[TrackPacket]) -> bool
+    ensures { IsTrue result → AreModelled packets.now }
+{
+    'packets: for packet in packets {
+        if is_unmodelled(packet) {
+            return false;
+        }
+    }
+    true
 }
 
 // Appends a finding for each balise that breaks the rule.

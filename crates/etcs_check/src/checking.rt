@@ -1,20 +1,21 @@
 //! All rules, looked for in one group and in one message.
 
-ghost use Rattle.std.specs.Prelude.{◌≡◌, ◌≢◌, ◌↔◌, ◌<◌, ◌≤◌, ◌++◌, [], ℕ, false, length, flat_map, None, IfOk, OnOk, OnErr};
+ghost use Rattle.std.specs.Prelude.{◌≡◌, ◌≢◌, ◌↔◌, ◌<◌, ◌≤◌, ◌++◌, [], ℕ, false, length, flat_map, None, IsTrue, IfOk, OnOk, OnErr};
 ghost use Rattle.etcs_check.specs.Aspects.{aspect_facts, group_facts, rule_facts, whole, whole_facts};
 ghost use Rattle.etcs_check.specs.Counters.{alone_facts};
 ghost use Rattle.etcs_check.specs.Findings.{all_rules, facts_in, facts_of, for_directions, for_each};
 ghost use Rattle.etcs_check.specs.Line.{message_facts, message_facts_in, message_findings};
 ghost use Rattle.etcs_check.specs.Meaning.{GroupFact, HurtsGroup, MessageFact};
+ghost use Rattle.etcs_check.specs.Quiet.{IsQuiet};
 ghost use Rattle.etcs_check.specs.Soundness.{IsSoundControlled, IsSoundMessage};
 ghost use Rattle.etcs_check.specs.declared.finding.Finding.{Finding};
 ghost use Rattle.etcs_check.specs.declared.finding.Site.TheVariants as sites;
 ghost use Rattle.etcs_group.specs.Places.{At};
 
 use crate::aspects::{aspect_of, first_aspect, note_taken, note_untold, whole};
-use crate::balise_rules::{note_balises, note_group_unmodelled, note_pairs, note_unmodelled};
+use crate::balise_rules::{is_quiet_balise, note_balises, note_group_unmodelled, note_pairs, note_unmodelled};
 use crate::finding::{Finding, Rule, Site, Spot, note};
-use crate::profile_rules::{Kind, note_lack, note_message_lack, note_message_short, note_short};
+use crate::profile_rules::{Kind, is_quiet_in, note_lack, note_message_lack, note_message_short, note_short};
 use etcs_bits::Memory;
 use etcs_group::{Controlled, Group};
 use etcs_packet::{Run, TrackPacket};
@@ -183,8 +184,24 @@ fn note_group_rule(
     note_aspects(found, rule, site, aspects)
 }
 
-// Appends the findings about a group.
-pub(crate) fn note_group(
+// Whether no rule finds anything in a group of this one aspect, but that its identity may be used.
+fn is_quiet(group: &[Telegram]) -> bool
+    requires few { length group.now ≤ 8 }
+    ensures { IsTrue result → IsQuiet group.now }
+{
+    'places: for place in 0..group.len() {
+        if !is_quiet_balise(group, place) {
+            return false;
+        }
+    }
+    if !is_quiet_in(group, Run::Nominal) {
+        return false;
+    }
+    is_quiet_in(group, Run::Reverse)
+}
+
+// Appends the findings about a group, rule by rule.
+fn note_all(
     found: &mut Vec<Finding>,
     site: Site,
     used: bool,
@@ -198,6 +215,32 @@ pub(crate) fn note_group(
         note_group_rule(found, *rule, site, used, aspects)?;
     }
     Ok(())
+}
+
+// Appends the findings about a group. Most groups have one aspect and no finding, and are not looked
+// at rule by rule.
+pub(crate) fn note_group(
+    found: &mut Vec<Finding>,
+    site: Site,
+    used: bool,
+    aspects: &[Group],
+) -> Result<(), Memory>
+    requires some { 0 < length aspects.now }
+    ensures ok { OnOk result (found.new.items ≡ found.old.items ++ group_facts site used aspects.now) }
+    ensures memory { OnErr result (group_facts site used aspects.now ≢ []) }
+{
+    if aspects.len() == 1 && is_quiet(aspects[0].telegrams()) {
+        return note(
+            found,
+            used,
+            Rule::IdentityUsed,
+            whole(site),
+            None,
+            None,
+            None,
+        );
+    }
+    note_all(found, site, used, aspects)
 }
 
 // Appends the findings of a rule about the packets of a message in one running direction.

@@ -1,6 +1,6 @@
 //! The rules about movement authorities and the profiles that they need.
 
-ghost use Rattle.std.specs.Prelude.{◌≡◌, ◌≢◌, ◌<◌, ◌≤◌, ◌++◌, ◌&&◌, [], ℕ, if◌then◌else◌, length, filter, is_some, not, slice_get, None, Some, OnOk, OnErr};
+ghost use Rattle.std.specs.Prelude.{◌≡◌, ◌≢◌, ◌<◌, ◌≤◌, ◌++◌, ◌&&◌, [], ℕ, if◌then◌else◌, length, filter, is_some, not, slice_get, false, None, Some, IsTrue, OnOk, OnErr};
 ghost use Rattle.std.specs.List.{list_any};
 ghost use Rattle.etcs_packet.specs.Track.{holds};
 ghost use Rattle.etcs_telegram.specs.Record.{Telegram};
@@ -9,6 +9,8 @@ ghost use Rattle.etcs_check.specs.Findings.{for_each, lack_facts, lacks, short_b
 ghost use Rattle.etcs_check.specs.Greatest.{before_at, greater, greatest, is_before, reach_of};
 ghost use Rattle.etcs_check.specs.Line.{message_lack, message_short};
 ghost use Rattle.etcs_check.specs.Profiles.{limit_of};
+ghost use Rattle.etcs_check.specs.Quiet.{IsQuietIn, NoneBefore, NoneSaidBefore};
+ghost use Rattle.etcs_group.specs.Places.{At};
 
 use crate::balise_rules::packets;
 use crate::finding::{Finding, Rule, Spot, note};
@@ -335,4 +337,61 @@ pub(crate) fn note_short(
         )?;
     }
     Ok(())
+}
+
+// Whether some packet holds and is a profile that ends before the location.
+fn some_before(packets: &[TrackPacket], run: Run, limit: Option<u64>) -> bool
+    ensures { result ≡ false → NoneBefore limit run packets.now }
+{
+    'packets: for packet in packets {
+        if holds_before(Kind::Gradient, limit, run, packet) {
+            return true;
+        }
+        if holds_before(Kind::Speed, limit, run, packet) {
+            return true;
+        }
+    }
+    false
+}
+
+// Whether the balise at this place says a profile that ends before the location.
+fn some_before_at(group: &[Telegram], run: Run, place: usize, limit: Option<u64>) -> bool
+    requires { place < length group.now }
+    ensures { (t : Telegram) → slice_get group.now place ≡ Some t
+        → result ≡ false → NoneSaidBefore limit run group.now place t }
+{
+    let telegram = &group[place];
+    if is_silent(run, telegram, group.len(), place) {
+        return false;
+    }
+    some_before(packets(telegram), run, limit)
+}
+
+// Whether a group says a profile that ends before the location.
+fn some_said_before(group: &[Telegram], run: Run, limit: Option<u64>) -> bool
+    ensures { result ≡ false → (b : ℕ) (t : Telegram) → At group.now b t → NoneSaidBefore limit run group.now b t }
+{
+    'places: for place in 0..group.len() {
+        if some_before_at(group, run, place, limit) {
+            return true;
+        }
+    }
+    false
+}
+
+// Whether the rules about authorities and profiles find nothing in a running direction.
+pub(crate) fn is_quiet_in(group: &[Telegram], run: Run) -> bool
+    ensures { IsTrue result → IsQuietIn group.now run }
+{
+    let limit = greatest_said(group, run);
+    if limit.is_none() {
+        return true;
+    }
+    if !has_said(group, run, Kind::Gradient) {
+        return false;
+    }
+    if !has_said(group, run, Kind::Speed) {
+        return false;
+    }
+    !some_said_before(group, run, limit)
 }

@@ -1,15 +1,17 @@
-use Rattle.std.proofs.lemmas.Option.{slice_get-get_or}
-use Rattle.etcs_check.specs.Aspects.{rule_facts}
-use Rattle.etcs_check.specs.Findings.{all_rules}
-use Rattle.etcs_check.proofs.NoteLemmas.{on_err, flat_stands, flat_pushed}
+use Rattle.std.proofs.Common.{◌≡◌, ◌≢◌, ◌++◌, [], OnOk, OnErr, None, subst, ap, ◌∙◌}
+use Rattle.etcs_check.specs.Findings.{finding_of, noted}
+use Rattle.etcs_check.specs.declared.finding.Rule.TheVariants as rules
+use Rattle.etcs_check.proofs.QuietLemmas.{only_one, quiet_group}
 use Rattle.etcs_check.proofs.checking.note_group.Goals as goal
 
--- A finding of this rule is one of all.
-pub returns-in_err-note_group_rule-clause-memory : goal.returns-in_err-note_group_rule-clause-memory
-returns-in_err-note_group_rule-clause-memory c =
-    on_err _ _ (flat_stands (rule_facts c.args.site c.args.used c.args.aspects.now) all_rules c.rules.rule-index _ (slice_get-get_or all_rules c.rules.rule-index _ c.rules-test.true) c.in_err-note_group_rule.ensures.memory)
+pub returns-then-is_quiet-clause-ok : goal.returns-then-is_quiet-clause-ok
+returns-then-is_quiet-clause-ok c =
+    let one = only_one c.args.aspects.now _ c.telegrams.result.now c.if-aspects-eq1.true (c.telegrams.ensures.value ∙ c.index-aspects-0.is) in
+    subst (λ l. OnOk c.note.result (c.note.new.found.items ≡ c.args.found.now.items ++ l))
+    (ap (λ spot. noted c.args.used (finding_of rules.IdentityUsed spot None None None)) c.whole.ensures ∙ quiet_group c.args.site c.args.used c.telegrams.result.now c.args.aspects.now one (c.is_quiet.ensures c.if-is_quiet.true)) c.note.ensures.ok
 
--- The findings of this rule were appended.
-pub rules-preserved : goal.rules-preserved
-rules-preserved c =
-    flat_pushed (rule_facts c.args.site c.args.used c.args.aspects.now) all_rules c.rules.rule-index _ c.rules.found.items _ _ (slice_get-get_or all_rules c.rules.rule-index _ c.rules-test.true) c.in_ok-note_group_rule.ensures.ok c.rules.invariant
+pub returns-then-is_quiet-clause-memory : goal.returns-then-is_quiet-clause-memory
+returns-then-is_quiet-clause-memory c =
+    let one = only_one c.args.aspects.now _ c.telegrams.result.now c.if-aspects-eq1.true (c.telegrams.ensures.value ∙ c.index-aspects-0.is) in
+    subst (λ l. OnErr c.note.result (l ≢ []))
+    (ap (λ spot. noted c.args.used (finding_of rules.IdentityUsed spot None None None)) c.whole.ensures ∙ quiet_group c.args.site c.args.used c.telegrams.result.now c.args.aspects.now one (c.is_quiet.ensures c.if-is_quiet.true)) c.note.ensures.memory
