@@ -1,6 +1,6 @@
 //! Lists of packets, as telegrams and messages have them.
 
-ghost use Rattle.std.specs.Prelude.{◌≡◌, ◌+◌, ◌<◌, ◌≤◌, ◌++◌, length, true, false, Err, IfOk, OnOk, OnErr};
+ghost use Rattle.std.specs.Prelude.{◌≡◌, ◌+◌, ◌<◌, ◌≤◌, ◌++◌, ◌∷◌, [], length, true, false, Err, IfOk, OnOk, OnErr};
 ghost use Rattle.std.specs.List.{flat_map};
 ghost use Rattle.etcs_bits.specs.layout.Rows.{AreAllowed, join};
 ghost use Rattle.etcs_bits.specs.layout.Fault.{IsFault, lack};
@@ -11,6 +11,9 @@ ghost use Rattle.etcs_packet.specs.Reading.{items_at};
 use crate::stop::Stop;
 use etcs_bits::{Bits, Cursor, DecodeError, FaultKind, Layout, Memory, refused};
 use std::alloc::Global;
+
+// How many packets have room made for them at once.
+const FEW: usize = 7;
 
 /// Whether the list ends at the cursor. Takes no memory.
 #[inline]
@@ -63,6 +66,17 @@ pub fn next_item<T: Layout>(
     Ok(Some(item))
 }
 
+// Appends an item. Room is made for a few at once: most lists have fewer, and are not moved then.
+fn append<T: Drop>(found: &mut Vec<T>, item: T) -> Result<(), Memory>
+    ensures items { OnOk result (found.new.items ≡ found.old.items ++ item ∷ []) }
+{
+    if found.is_empty() {
+        found.reserve(FEW)?;
+    }
+    found.push(item)?;
+    Ok(())
+}
+
 /// Reads the packets from the cursor up to the end of the list. The cursor then stands at that end:
 /// at the end mark, or at the bits that are left.
 ///
@@ -95,7 +109,7 @@ pub fn read_items<T: Layout>(
     let mut ahead = cur.fork();
     let mut found = Vec::new(alloc);
     while let Some(item) = next_item(alloc, &mut ahead, stop)? {
-        found.push(item)?;
+        append(&mut found, item)?;
     }
     *cur = ahead;
     Ok(found)

@@ -67,6 +67,18 @@ pub fn num_at(bytes: &[u8], from: usize, width: u32) -> u64
     (word_at(bytes, first) << skipped) >> (64 - width)
 }
 
+// The same where 64 bits or more are left.
+#[inline(always)]
+pub fn num_far(bytes: &[u8], from: usize, width: u32) -> u64
+    requires low { 1 ≤ width }
+    requires high { width ≤ 32 }
+    requires far { from + 64 ≤ 8 * length bytes.now }
+    ensures { result ≡ num_of_bits (take width (drop from (bits_of_bytes bytes.now))) }
+{
+    let skipped = (from % 8) as u32;
+    (word_at(bytes, from / 8) << skipped) >> (64 - width)
+}
+
 // The bit at place `i`.
 #[inline(always)]
 pub fn bit_at(bytes: &[u8], i: usize) -> bool

@@ -94,6 +94,24 @@ impl<'a> Cursor<'a> {
         ensures small { IfOk result (λ n. n < 2 ^ width) }
         ensures err { OnErr result (self.new ≡ self.old) }
     {
+        if self.bits.len() - self.at < 64 {
+            return self.take_near_end(width);
+        }
+        let n = self.bits.num_far(self.at, width);
+        self.at += width as usize;
+        Ok(n)
+    }
+
+    // The same, wherever the bits end.
+    #[inline(never)]
+    fn take_near_end(&mut self, width: u32) -> Result<u64, Fault>
+        requires low { 1 ≤ width }
+        requires high { width ≤ 32 }
+        ensures exact { MatchResult result (λ n. taken width self.old ≡ Ok (n, self.new))
+            (λ f. taken width self.old ≡ Err f) }
+        ensures small { IfOk result (λ n. n < 2 ^ width) }
+        ensures err { OnErr result (self.new ≡ self.old) }
+    {
         let len = self.bits.len();
         if len - self.at < width as usize {
             return Err(no_room(self.at, len));

@@ -77,6 +77,18 @@ impl<'a> BitSlice<'a> {
         bytes::num_at(self.bytes, self.from + from, width)
     }
 
+    // The same where 64 bits or more follow that place.
+    #[inline(always)]
+    pub(crate) fn num_far(&self, from: usize, width: u32) -> u64
+        requires low { 1 ≤ width }
+        requires high { width ≤ 32 }
+        requires inside { from + 64 ≤ length self.now }
+        ensures value { result ≡ num_of_bits (take width (drop from self.now)) }
+        ensures small { result < 2 ^ width }
+    {
+        bytes::num_far(self.bytes, self.from + from, width)
+    }
+
     /// The bits from place `from` up to place `to`, without the bit at `to`. The places are in
     /// order, and `to` is at most the length.
     #[inline]

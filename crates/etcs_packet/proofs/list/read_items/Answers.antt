@@ -40,7 +40,7 @@ loop-found-preserved g c =
     let step : IsStep c.args.stop g.T.Layout.format.rows (Some item) c.loop-found.ahead c.next_item.new.cur = rw c.in-Some.is at c.in_ok-item.ensures.ok in
     record {
       inside = c.loop-found.invariant.inside;
-      follow = rw c.in_ok-push.ensures.items (goes_on g.T.Layout.format.rows c.loop-found.found.items item c.args.stop g.T.Layout.format.fields c.args.cur.now c.loop-found.ahead c.next_item.new.cur c.loop-found.invariant.follow (g.T.Layout.format.laid.are_rows item) step);
+      follow = rw c.in_ok-append.ensures.items (goes_on g.T.Layout.format.rows c.loop-found.found.items item c.args.stop g.T.Layout.format.fields c.args.cur.now c.loop-found.ahead c.next_item.new.cur c.loop-found.invariant.follow (g.T.Layout.format.laid.are_rows item) step);
     }
 
 -- where none follows, the list ends
@@ -65,8 +65,8 @@ returns-in_err-item-clause-no_end g c = λ telegram few.
     rw (failed.1, failed.2) (ap Err (same_error _ _ (rw here at c.in_err-item.ensures.no_end telegram few)))
 
 -- and that step gives no packet
-pub returns-in_err-push-clause-no_end : goal.returns-in_err-push-clause-no_end
-returns-in_err-push-clause-no_end g c = λ telegram few.
+pub returns-in_err-append-clause-no_end : goal.returns-in_err-append-clause-no_end
+returns-in_err-append-clause-no_end g c = λ telegram few.
     let here = none_before c.args.stop g.T.Layout.format.fields (map g.T.Layout.format.rows c.loop-found.found.items) c.args.cur.now c.loop-found.ahead c.requires c.loop-found.invariant.inside few c.loop-found.invariant.follow in
     no_error _ _ (rw here at c.in_ok-item.ensures.no_end telegram few)
 
@@ -82,8 +82,8 @@ returns-in_err-item-clause-memory g c =
     let begins = follow_begins c.args.stop g.T.Layout.format.fields (map g.T.Layout.format.rows c.loop-found.found.items) c.args.cur.now c.loop-found.ahead c.loop-found.invariant.follow in
     rw (failed.1, failed.2) (of_memory c.in_err-item.field-0.0 begins c.in_err-item.ensures.memory)
 
-pub returns-in_err-push-clause-memory : goal.returns-in_err-push-clause-memory
-returns-in_err-push-clause-memory g c =
+pub returns-in_err-append-clause-memory : goal.returns-in_err-append-clause-memory
+returns-in_err-append-clause-memory g c =
     let step : IsStep c.args.stop g.T.Layout.format.rows (Some c.in-Some.item) c.loop-found.ahead c.next_item.new.cur = rw c.in-Some.is at c.in_ok-item.ensures.ok in
     let begins = follow_begins c.args.stop g.T.Layout.format.fields (map g.T.Layout.format.rows c.loop-found.found.items) c.args.cur.now c.loop-found.ahead c.loop-found.invariant.follow step.0 in
-    if_memory c.from_residual-in_err-push.result begins
+    if_memory c.from_residual-in_err-append.result begins
