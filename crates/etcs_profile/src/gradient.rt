@@ -73,6 +73,14 @@ impl Layout for GradientElement {
     }
 
     fn scan(alloc: Global, cur: &mut Cursor<'_>) -> Result<Self, DecodeError> {
+        // Far from the end all fields are there.
+        if let Some(numbers) = cur.take_three(15, 1, 8) {
+            return Ok(GradientElement {
+                distance: Plain::of_field(numbers.0),
+                uphill: numbers.1 == 1,
+                gradient: Plain::of_field(numbers.2),
+            });
+        }
         Ok(GradientElement {
             distance: Layout::scan(alloc, cur)?,
             uphill: Layout::scan(alloc, cur)?,

@@ -90,6 +90,25 @@ impl Layout for Link {
     }
 
     fn scan(alloc: Global, cur: &mut Cursor<'_>) -> Result<Self, DecodeError> {
+        // Far from the end all fields of a link within the country are there.
+        let mut ahead = cur.fork();
+        if let Some(head) = ahead.take_three(15, 1, 14) {
+            if head.1 == 0 {
+                if let Some(tail) = ahead.take_three(1, 2, 6) {
+                    if let Some(reaction) = Ranged::new(tail.1 as u32) {
+                        *cur = ahead;
+                        return Ok(Link {
+                            distance: Plain::of_field(head.0),
+                            country: None,
+                            group: Plain::of_field(head.2),
+                            nominal: tail.0 == 1,
+                            reaction,
+                            accuracy: Plain::of_field(tail.2),
+                        });
+                    }
+                }
+            }
+        }
         Ok(Link {
             distance: Layout::scan(alloc, cur)?,
             country: Layout::scan(alloc, cur)?,

@@ -77,6 +77,20 @@ impl Layout for Difference {
     }
 
     fn scan(alloc: Global, cur: &mut Cursor<'_>) -> Result<Self, DecodeError> {
+        // Far from the end all fields are there.
+        let mut ahead = cur.fork();
+        if let Some(numbers) = ahead.take_three(2, 4, 7) {
+            if let Some(kind) = Ranged::new(numbers.0 as u32) {
+                if let Some(speed) = Ranged::new(numbers.2 as u32) {
+                    *cur = ahead;
+                    return Ok(Difference {
+                        kind,
+                        category: Plain::of_field(numbers.1),
+                        speed,
+                    });
+                }
+            }
+        }
         Ok(Difference {
             kind: Layout::scan(alloc, cur)?,
             category: Layout::scan(alloc, cur)?,
@@ -141,6 +155,19 @@ impl Layout for SpeedElement {
     }
 
     fn scan(alloc: Global, cur: &mut Cursor<'_>) -> Result<Self, DecodeError> {
+        // Far from the end all fields are there.
+        let mut ahead = cur.fork();
+        if let Some(numbers) = ahead.take_three(15, 7, 1) {
+            if let Some(speed) = Ranged::new(numbers.1 as u32) {
+                *cur = ahead;
+                return Ok(SpeedElement {
+                    distance: Plain::of_field(numbers.0),
+                    speed,
+                    front: numbers.2 == 1,
+                    differences: Layout::scan(alloc, cur)?,
+                });
+            }
+        }
         Ok(SpeedElement {
             distance: Layout::scan(alloc, cur)?,
             speed: Layout::scan(alloc, cur)?,

@@ -1,6 +1,6 @@
 //! A place among bits, from which fields are read.
 
-ghost use Rattle.std.specs.Prelude.{◌≡◌, ◌↔◌, ◌+◌, ◌<◌, ◌≤◌, ◌^◌, length, take, drop, Ok, Err, IsOk, IfOk, IfErr, MatchResult, OnOk, OnErr};
+ghost use Rattle.std.specs.Prelude.{◌≡◌, ◌↔◌, ◌+◌, ◌<◌, ◌≤◌, ◌^◌, length, take, drop, Ok, Err, Some, None, IfSome, IsOk, IfOk, IfErr, MatchResult, OnOk, OnErr};
 ghost use Rattle.etcs_bits.specs.layout.Fault.{short};
 ghost use Rattle.etcs_bits.specs.bits.Number.{num_of_bits};
 ghost use Rattle.etcs_bits.specs.layout.Reading.{forward, taken, field_at};
@@ -102,7 +102,30 @@ impl<'a> Cursor<'a> {
         Ok(n)
     }
 
-    // The same, wherever the bits end.
+    /// The numbers of the next three fields of these widths, each of 1 to 32 bits. The cursor then
+    /// stands after them. None, and an unmoved cursor, says only that the bits may end soon.
+    #[inline(always)]
+    pub fn take_three(&mut self, a: u32, b: u32, c: u32) -> Option<(u64, u64, u64)>
+        requires first { (1 ≤ a) × (a ≤ 32) }
+        requires second { (1 ≤ b) × (b ≤ 32) }
+        requires third { (1 ≤ c) × (c ≤ 32) }
+        ensures first { IfSome result (λ n. taken a self.old ≡ Ok (n.0, forward self.old a)) }
+        ensures second { IfSome result (λ n. taken b (forward self.old a) ≡ Ok (n.1, forward (forward self.old a) b)) }
+        ensures third { IfSome result (λ n. taken c (forward (forward self.old a) b) ≡ Ok (n.2, self.new)) }
+        ensures small { IfSome result (λ n. (n.0 < 2 ^ a) × (n.1 < 2 ^ b) × (n.2 < 2 ^ c)) }
+        ensures none { result ≡ None → self.new ≡ self.old }
+    {
+        if self.bits.len() - self.at < 128 {
+            return None;
+        }
+        let first = self.bits.num_far(self.at, a);
+        let second = self.bits.num_far(self.at + a as usize, b);
+        let third = self.bits.num_far(self.at + a as usize + b as usize, c);
+        self.at = self.at + a as usize + b as usize + c as usize;
+        Some((first, second, third))
+    }
+
+    // The same as `take`, wherever the bits end.
     #[inline(never)]
     fn take_near_end(&mut self, width: u32) -> Result<u64, Fault>
         requires low { 1 ≤ width }

@@ -55,6 +55,7 @@ impl<const W: u32> Model for Plain<W> {
 }
 
 impl<const W: u32> Plain<W> {
+    ghost use Rattle.std.specs.Prelude.{◌≤◌};
     ghost use Rattle.etcs_bits.specs.variables.Variables.{plain};
 
     /// The variable with this number. None exactly if the number does not fit in `W` bits, and
@@ -68,6 +69,17 @@ impl<const W: u32> Plain<W> {
             return None;
         }
         Some(Plain { number: n })
+    }
+
+    /// The variable with the number of a field, which fits in `W` bits.
+    #[inline(always)]
+    pub fn of_field(n: u64) -> Self
+        requires low { 1 ≤ W }
+        requires high { W ≤ 32 }
+        requires fits { n < 2 ^ W }
+        ensures { result ≡ n }
+    {
+        Plain { number: n as u32 }
     }
 
     /// The number.
