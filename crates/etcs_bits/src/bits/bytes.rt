@@ -88,6 +88,24 @@ pub fn bit_at(bytes: &[u8], i: usize) -> bool
     (bytes[i / 8] >> (7 - i % 8)) & 1 == 1
 }
 
+// Appends the first `count` of some bytes. Each count has an arm of its own, in which the compiler
+// knows how many bytes to copy.
+#[inline(always)]
+fn append_few(bytes: &mut Vec<u8>, block: &[u8], count: usize) -> Result<(), AllocError>
+    requires { (count ≤ length block.now) × (5 ≤ length block.now) }
+    ensures ok { OnOk result (bytes.new.items ≡ bytes.old.items ++ take count block.now) }
+    ensures err { OnErr result (bytes.new.items ≡ bytes.old.items) }
+{
+    match count {
+        1 => bytes.extend_from_slice(&block[..1]),
+        2 => bytes.extend_from_slice(&block[..2]),
+        3 => bytes.extend_from_slice(&block[..3]),
+        4 => bytes.extend_from_slice(&block[..4]),
+        5 => bytes.extend_from_slice(&block[..5]),
+        _ => bytes.extend_from_slice(&block[..count]),
+    }
+}
+
 // Appends the bits of `n` to whole bytes, and zeros up to a whole byte.
 fn append_whole(bytes: &mut Vec<u8>, width: u32, n: u64) -> Result<(), AllocError>
     requires low { 1 ≤ width }
@@ -99,7 +117,7 @@ fn append_whole(bytes: &mut Vec<u8>, width: u32, n: u64) -> Result<(), AllocErro
 {
     let count = (width + 7) / 8;
     let block = (n << (64 - width)).to_be_bytes();
-    bytes.extend_from_slice(&block[..count as usize])?;
+    append_few(bytes, &block, count as usize)?;
     Ok(())
 }
 
@@ -121,7 +139,7 @@ fn append_within(bytes: &mut Vec<u8>, used: u32, width: u32, n: u64) -> Result<(
     let last = bytes.len() - 1;
     let count = (used + width + 7) / 8;
     let block = ((bytes[last] as u64) << 56 | n << (64 - width - used)).to_be_bytes();
-    bytes.extend_from_slice(&block[1..count as usize])?;
+    append_few(bytes, &block[1..], count as usize - 1)?;
     bytes[last] = block[0];
     Ok(())
 }

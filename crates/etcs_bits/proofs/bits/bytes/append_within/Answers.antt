@@ -1,6 +1,7 @@
 use Rattle.std.proofs.Common.{◌≡◌, ◌<◌, ◌+◌, ◌-◌, ◌*◌, ◌/◌, ◌%◌, ◌^◌, ◌∙◌, ap, ◌++◌, take, drop, set, get_or, length, refl, arith, rules, bit_or, vec_len}
 use Rattle.std.specs.Int.{w64, to_be_bytes}
-use Rattle.std.proofs.lemmas.List.{get_or_read}
+use Rattle.std.proofs.Common.{length-drop, ◌≤◌}
+use Rattle.std.proofs.lemmas.List.{get_or_read, take_all}
 use Rattle.etcs_bits.specs.bits.Number.{bits_of_bytes}
 use Rattle.etcs_bits.proofs.StoreLemmas.{appended_within}
 use Rattle.etcs_bits.proofs.AppendLemmas.{written_over}
@@ -23,8 +24,11 @@ returns-clause-ok c =
     let byte : c.index.result.now < 256 = search rules in
     let fits : get_or bs q 0 < 256 = omega arith in
     let block : c.to_be_bytes-block.result ≡ to_be_bytes w64 word = c.to_be_bytes-block.ensures in
+    let eight : length c.to_be_bytes-block.result ≡ 8 = search rules in
+    let seven : length (drop 1 c.to_be_bytes-block.result) ≤ 7 = omega (arith, eight, length-drop 1 c.to_be_bytes-block.result) in
     ap bits_of_bytes (
-    ap (λ xs. set xs (c.len-last.result - 1) (get_or c.to_be_bytes-block.result 0 0)) c.in_ok-extend_from_slice.ensures.items
+    ap (λ xs. set xs (c.len-last.result - 1) (get_or c.to_be_bytes-block.result 0 0)) c.in_ok-append_few.ensures.ok
+    ∙ ap (λ ys. set (bs ++ take (m - 1) ys) (c.len-last.result - 1) (get_or c.to_be_bytes-block.result 0 0)) (take_all 7 (drop 1 c.to_be_bytes-block.result) seven)
     ∙ ap (λ i. set (bs ++ take (m - 1) (drop 1 c.to_be_bytes-block.result)) i (get_or c.to_be_bytes-block.result 0 0)) k
     ∙ ap (λ ys. set (bs ++ take (m - 1) (drop 1 ys)) q (get_or ys 0 0)) block
     ∙ written_over bs (to_be_bytes w64 word) q m last (omega arith) (omega arith))
