@@ -94,10 +94,10 @@ pub quiet_none : (group : List Telegram) (run : Run) → greatest (said_by run g
 quiet_none group run none kind = (
   sym (lacks-is (reach_of kind) (said_by run group)) ∙ ap (λ o. is_some o && not (list_any (λ p. is_some (reach_of kind p)) (said_by run group))) none,
   λ b t k p at at'.
-  short-as run group kind b t p None (sym none)
-  ∙ ap (λ s. not (is_silent run t.header.dup (length group) b) && (holds run p && s)) (never (reach_of kind p))
-  ∙ ap (λ s. not (is_silent run t.header.dup (length group) b) && s) (and_false (holds run p))
-  ∙ and_false (not (is_silent run t.header.dup (length group) b)),
+      short-as run group kind b t p None (sym none)
+      ∙ ap (λ s. not (is_silent run t.header.dup (length group) b) && (holds run p && s)) (never (reach_of kind p))
+      ∙ ap (λ s. not (is_silent run t.header.dup (length group) b) && s) (and_false (holds run p))
+      ∙ and_false (not (is_silent run t.header.dup (length group) b)),
 )
 
 -- with both profiles, none of which ends before the location
@@ -106,7 +106,7 @@ pub quiet_some : (group : List Telegram) (run : Run) (limit : Option ℕ) → li
     → ((b : ℕ) (t : Telegram) → At group b t → NoneSaidBefore limit run group b t) → IsQuietIn group run
 quiet_some group run limit is has none kind = (
   sym (lacks-is (reach_of kind) (said_by run group))
-  ∙ ap (λ b. is_some (greatest (said_by run group)) && not b) (has kind) ∙ and_false (is_some (greatest (said_by run group))),
+      ∙ ap (λ b. is_some (greatest (said_by run group)) && not b) (has kind) ∙ and_false (is_some (greatest (said_by run group))),
   λ b t k p at at'. short-as run group kind b t p limit is ∙ none b t at k p at' kind,
 )
 

@@ -13,9 +13,13 @@ ghost use Rattle.etcs_check.specs.declared.finding.Site.TheVariants as sites;
 ghost use Rattle.etcs_group.specs.Places.{At};
 
 use crate::aspects::{aspect_of, first_aspect, note_taken, note_untold, whole};
-use crate::balise_rules::{is_quiet_balise, note_balises, note_group_unmodelled, note_pairs, note_unmodelled};
+use crate::balise_rules::{
+    is_quiet_balise, note_balises, note_group_unmodelled, note_pairs, note_unmodelled,
+};
 use crate::finding::{Finding, Rule, Site, Spot, note};
-use crate::profile_rules::{Kind, is_quiet_in, note_lack, note_message_lack, note_message_short, note_short};
+use crate::profile_rules::{
+    Kind, is_quiet_in, note_lack, note_message_lack, note_message_short, note_short,
+};
 use etcs_bits::Memory;
 use etcs_group::{Controlled, Group};
 use etcs_packet::{Run, TrackPacket};

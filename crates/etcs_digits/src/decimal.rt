@@ -23,11 +23,7 @@ fn pair(n: u64) -> [u8; 2]
 
 // Sends the digits of a number.
 #[inline(always)]
-fn send_digits<const N: usize>(
-    out: &mut Writer,
-    n: u64,
-    digits: [u8; N],
-) -> Result<(), AllocError>
+fn send_digits<const N: usize>(out: &mut Writer, n: u64, digits: [u8; N]) -> Result<(), AllocError>
     requires { digits ≡ decimal n }
     ensures { Writes result out.old out.new (number (decimal n)) }
 {

@@ -15,7 +15,7 @@ places-preserved c =
 pub returns : goal.returns
 returns c = λ yes. (
   λ b t at.
-  let within = slice_get_within c.args.group.now b t at in
-  c.places.invariant b t (omega (arith, within, c.places-test.false)) at,
+      let within = slice_get_within c.args.group.now b t at in
+      c.places.invariant b t (omega (arith, within, c.places-test.false)) at,
   by_run (IsQuietIn c.args.group.now) (c.is_quiet_in.ensures c.if-not-is_quiet_in.false) (c.is_quiet_in-2.ensures yes),
 )
