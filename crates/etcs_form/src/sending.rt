@@ -11,7 +11,6 @@ use etcs_digits::send_decimal;
 use json::Writer;
 
 /// Sends a member.
-#[inline(always)]
 pub(crate) fn send_key<T: InPieces>(out: &mut Writer, name: &str, value: &T) -> Result<(), Memory>
     ensures { OnOk result
         (SendsMembers ((name.now, Some (T.shape.to value.now)) ∷ []) out.old out.new) }
@@ -21,7 +20,6 @@ pub(crate) fn send_key<T: InPieces>(out: &mut Writer, name: &str, value: &T) -> 
 }
 
 /// Sends a member if there is a value, and nothing if there is none.
-#[inline(always)]
 pub(crate) fn send_key_if<T: InPieces>(
     out: &mut Writer,
     name: &str,
@@ -37,7 +35,6 @@ pub(crate) fn send_key_if<T: InPieces>(
 }
 
 /// Sends a member that is a number.
-#[inline(always)]
 pub(crate) fn send_number(out: &mut Writer, name: &str, number: u64) -> Result<(), Memory>
     ensures { OnOk result (SendsMembers ((name.now, Some (whole number)) ∷ []) out.old out.new) }
 {
@@ -47,7 +44,6 @@ pub(crate) fn send_number(out: &mut Writer, name: &str, number: u64) -> Result<(
 }
 
 // Sends items one after the other, without the marks of a list.
-#[inline(always)]
 fn send_items<T: InPieces>(out: &mut Writer, items: &[T]) -> Result<(), Memory>
     ensures { OnOk result (Adds (each_tokens T.shape.to items.now) out.old out.new) }
 {
@@ -58,7 +54,6 @@ fn send_items<T: InPieces>(out: &mut Writer, items: &[T]) -> Result<(), Memory>
 }
 
 /// Sends a member that is a list.
-#[inline(always)]
 pub(crate) fn send_list_at<T: InPieces>(
     out: &mut Writer,
     name: &str,
@@ -75,7 +70,6 @@ pub(crate) fn send_list_at<T: InPieces>(
 }
 
 /// Sends a member that is a list, of a first item and further ones.
-#[inline(always)]
 pub(crate) fn send_first_and<T: InPieces>(
     out: &mut Writer,
     name: &str,
