@@ -11,7 +11,7 @@ worth_times true n = omega arith
 worth_times false n = omega arith
 
 -- a digit is 0 or 1
-worth_of_digit : (x : ℕ) → x < 2 → worth (eqb x 1) ≡ x
+pub worth_of_digit : (x : ℕ) → x < 2 → worth (eqb x 1) ≡ x
 worth_of_digit zero h = refl
 worth_of_digit (suc zero) h = refl
 worth_of_digit (suc (suc x)) h = omega arith

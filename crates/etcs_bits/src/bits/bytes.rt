@@ -67,7 +67,7 @@ pub fn num_at(bytes: &[u8], from: usize, width: u32) -> u64
     (word_at(bytes, first) << skipped) >> (64 - width)
 }
 
-// The same where 64 bits or more are left.
+// That number, where 64 bits or more follow the place.
 #[inline(always)]
 pub fn num_far(bytes: &[u8], from: usize, width: u32) -> u64
     requires low { 1 ≤ width }

@@ -102,30 +102,36 @@ impl<'a> Cursor<'a> {
         Ok(n)
     }
 
-    /// The numbers of the next three fields of these widths, each of 1 to 32 bits. The cursor then
-    /// stands after them. None, and an unmoved cursor, says only that the bits may end soon.
+    /// The numbers of the next three fields of these widths, 1 to 32 bits each. The cursor then
+    /// stands after them.
+    ///
+    /// None says only that the bits may end soon. The cursor then has not moved.
     #[inline(always)]
-    pub fn take_three(&mut self, a: u32, b: u32, c: u32) -> Option<(u64, u64, u64)>
-        requires first { (1 ≤ a) × (a ≤ 32) }
-        requires second { (1 ≤ b) × (b ≤ 32) }
-        requires third { (1 ≤ c) × (c ≤ 32) }
-        ensures first { IfSome result (λ n. taken a self.old ≡ Ok (n.0, forward self.old a)) }
-        ensures second { IfSome result (λ n. taken b (forward self.old a) ≡ Ok (n.1, forward (forward self.old a) b)) }
-        ensures third { IfSome result (λ n. taken c (forward (forward self.old a) b) ≡ Ok (n.2, self.new)) }
-        ensures small { IfSome result (λ n. (n.0 < 2 ^ a) × (n.1 < 2 ^ b) × (n.2 < 2 ^ c)) }
+    pub fn take_three(&mut self, first: u32, second: u32, third: u32) -> Option<(u64, u64, u64)>
+        requires first { (1 ≤ first) × (first ≤ 32) }
+        requires second { (1 ≤ second) × (second ≤ 32) }
+        requires third { (1 ≤ third) × (third ≤ 32) }
+        ensures first { IfSome result (λ n. taken first self.old ≡ Ok (n.0, forward self.old first)) }
+        ensures second { IfSome result (λ n. taken second (forward self.old first)
+            ≡ Ok (n.1, forward (forward self.old first) second)) }
+        ensures third { IfSome result (λ n. taken third (forward (forward self.old first) second) ≡ Ok (n.2, self.new)) }
+        ensures small { IfSome result (λ n. (n.0 < 2 ^ first) × (n.1 < 2 ^ second) × (n.2 < 2 ^ third)) }
         ensures none { result ≡ None → self.new ≡ self.old }
     {
-        if self.bits.len() - self.at < 128 {
+        let to_third = first as usize + second as usize;
+        if self.bits.len() - self.at < to_third + 64 {
             return None;
         }
-        let first = self.bits.num_far(self.at, a);
-        let second = self.bits.num_far(self.at + a as usize, b);
-        let third = self.bits.num_far(self.at + a as usize + b as usize, c);
-        self.at = self.at + a as usize + b as usize + c as usize;
-        Some((first, second, third))
+        let numbers = (
+            self.bits.num_far(self.at, first),
+            self.bits.num_far(self.at + first as usize, second),
+            self.bits.num_far(self.at + to_third, third),
+        );
+        self.at = self.at + to_third + third as usize;
+        Some(numbers)
     }
 
-    // The same as `take`, wherever the bits end.
+    // What `take` promises, wherever the bits end.
     #[inline(never)]
     fn take_near_end(&mut self, width: u32) -> Result<u64, Fault>
         requires low { 1 ≤ width }

@@ -77,7 +77,7 @@ impl<'a> BitSlice<'a> {
         bytes::num_at(self.bytes, self.from + from, width)
     }
 
-    // The same where 64 bits or more follow that place.
+    // That number, where 64 bits or more follow the place.
     #[inline(always)]
     pub(crate) fn num_far(&self, from: usize, width: u32) -> u64
         requires low { 1 ≤ width }

@@ -1,19 +1,14 @@
-use Rattle.std.proofs.Common.{rules, arith, ◌≡◌, ◌<◌, ◌==◌, ℕ, zero, suc, refl}
+use Rattle.std.proofs.Common.{rules, arith, ◌≡◌, refl}
 use Rattle.std.specs.Prelude.{IsTrue}
-use Rattle.etcs_bits.specs.bits.Number.{worth}
+use Rattle.etcs_bits.proofs.NumberLemmas.{worth_of_digit}
 use Rattle.etcs_bits.specs.layout.Rows.{alone}
 use Rattle.etcs_bits.specs.variables.Variables.{ranged}
 use Rattle.etcs_profile.proofs.speed.SpeedElementLayout.scan.Goals as goal
-
-is_bit : (n : ℕ) → n < 2 → worth (n == 1) ≡ n
-is_bit zero lt = refl
-is_bit (suc zero) lt = refl
-is_bit (suc (suc n)) lt = absurd (omega (arith, lt))
 
 -- three fields that are there and allowed are read one after the other, and then the differences
 pub returns-in-Some-new-clause-gives : goal.returns-in-Some-new-clause-gives
 unfolding alone
 returns-in-Some-new-clause-gives c =
     let speed : IsTrue ((ranged 7 120 127).allows c.in-Some.numbers.1) = (c.in-Some-new.ensures.allowed.0 (search rules)).1 in
-    let bit = is_bit c.in-Some.numbers.2 c.in-Some.ensures.small.2 in
+    let bit = worth_of_digit c.in-Some.numbers.2 c.in-Some.ensures.small.2 in
     rw (c.in-Some-new.ensures.some, c.of_field.ensures, ← c.fork-ahead.ensures.same, c.in-Some.ensures.first, c.in-Some.ensures.second, speed, c.in-Some.ensures.third, bit, c.in_ok-scan.ensures.gives) refl
