@@ -52,11 +52,11 @@ fn every_width_is_read_at_every_place(rt: HostRuntime) {
 
 // Whether a field of this width is taken at this place, with so many bits left there.
 fn is_taken(at: usize, left: usize, width: u32) -> Result<bool, Fault>
-    requires { at < 8 }
-    requires { 63 ≤ left }
-    requires { left < 66 }
-    requires { 1 ≤ width }
-    requires { width ≤ 32 }
+    requires place { at < 8 }
+    requires enough { 63 ≤ left }
+    requires few { left < 66 }
+    requires low { 1 ≤ width }
+    requires high { width ≤ 32 }
 {
     let bits = BitSlice::of_bytes(&BYTES, at + left);
     let number = number_of(&bits.part(at, at + width as usize));
