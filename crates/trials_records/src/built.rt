@@ -84,6 +84,28 @@ fn an_authority_and_two_profiles_end_at_one_place(rt: HostRuntime) -> Result<(),
 }
 
 #[test]
+fn a_profile_ends_at_its_first_mark(rt: HostRuntime) -> Result<(), Fail> {
+    // At 0, 100 and 50 times 10 m, with a mark at the second and the third; at 7 m with a mark; at 5 and 9
+    // times 10 cm without one.
+    let gradient: Gradient = read_one(
+        rt.alloc(),
+        "00010101 01 0000001100110 10 000000000000000 1 00000101 00010 \
+         000000001100100 1 11111111 000000000110010 0 11111111",
+    )?;
+    assert!(rt; gradient.reach() == Reach::Ends(10_000));
+    let digits = "00010101 01 0000000110110 01 000000000000111 0 11111111 00000";
+    let gradient: Gradient = read_one(rt.alloc(), digits)?;
+    assert!(rt; gradient.reach() == Reach::Ends(70));
+    let speeds: SpeedProfile = read_one(
+        rt.alloc(),
+        "00011011 01 0000001010110 00 000000000000101 0010100 0 00000 00001 \
+         000000000001001 0010100 0 00000",
+    )?;
+    assert!(rt; speeds.reach() == Reach::Open);
+    Ok(())
+}
+
+#[test]
 fn linking_and_level_transitions_have_their_parts(rt: HostRuntime) -> Result<(), Fail> {
     let linking: Linking = read_one(rt.alloc(), KINDS[1])?;
     assert!(rt; linking.dir() == Dir::Nominal && linking.scale() == Scale::TenMetres);
