@@ -65,9 +65,9 @@ any_left test xs i x at = ap (list_any test) (drop_at xs i x at)
 pub none_left : {X : Type 0} (test : X → Bool) (xs : List X) (i : ℕ) → length xs ≤ i → list_any test (drop i xs) ≡ false
 none_left test xs i le = ap (list_any test) (drop_all i xs le)
 
--- what is known of each item so far, and of one more
-pub each_more : {X : Type 0} (P : X → Type 0) (xs : List X) (i : ℕ) (x : X) → At xs i x → ((k : ℕ) (y : X) → k < i → At xs k y → P y) → P x → (k : ℕ) (y : X) → k < i + 1 → At xs k y → P y
+-- what is known of each item and its place so far, and of one more
+pub each_more : {X : Type 0} (P : ℕ → X → Type 0) (xs : List X) (i : ℕ) (x : X) → At xs i x → ((k : ℕ) (y : X) → k < i → At xs k y → P k y) → P i x → (k : ℕ) (y : X) → k < i + 1 → At xs k y → P k y
 each_more P xs i x at before now k y lt at' = elim (cases_eq k i) [
-  | inl e ↦ subst P (same_Some x y (sym at ∙ ap (slice_get xs) (sym e) ∙ at')) now
+  | inl e ↦ subst (λ n. P n y) (sym e) (subst (P i) (same_Some x y (sym at ∙ ap (slice_get xs) (sym e) ∙ at')) now)
   | inr ne ↦ before k y (omega arith) at'
 ]

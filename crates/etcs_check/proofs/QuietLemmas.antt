@@ -1,196 +1,117 @@
--- A group without a fact has no finding but that of its identity.
-use Rattle.std.proofs.Common.{◌≡◌, ℕ, ◌+◌, Bool, true, false, ◌&&◌, not, List, [], ◌∷◌, ◌++◌, length, Option, Some, None, is_some, unwrap_or, get_or, ◌<◌, inl, inr, arith, subst, refl, sym, ap, ap₂, ◌∙◌}
-use Rattle.std.proofs.lemmas.Bool.{cases_lt}
+-- A group of one aspect is quiet where its balises are and where the packets that it says are reached.
+use Rattle.std.proofs.Common.{◌≡◌, ℕ, Bool, true, false, not, List, [], ◌∷◌, ◌++◌, length, Option, is_some, get_or, arith, sym, ap, subst, ◌∙◌, refl}
+use Rattle.std.proofs.lemmas.Bool.{and_right, both_ways, false_from_ne_true, or_parts}
 use Rattle.std.proofs.lemmas.List.{append-nil}
-use Rattle.std.specs.Prelude.{IsTrue}
-use Rattle.std.specs.List.{list_any, flat_map}
-use Rattle.std.specs.Option.{option_map_or}
-use Rattle.etcs_packet.specs.Track.{holds}
+use Rattle.std.specs.List.{flat_map, list_any}
 use Rattle.etcs_packet.specs.declared.run.Run.{Run}
 use Rattle.etcs_packet.specs.declared.run.Run.TheVariants as runs
 use Rattle.etcs_packet.specs.declared.track.TrackPacket.{TrackPacket}
 use Rattle.etcs_profile.specs.declared.reach.Reach.{Reach}
 use Rattle.etcs_telegram.specs.Record.{Telegram}
-use Rattle.etcs_group.specs.Packets.{is_silent, said_by}
+use Rattle.etcs_group.specs.Packets.{said_by}
 use Rattle.etcs_group.specs.Places.{At}
+use Rattle.etcs_group.proofs.PlaceLemmas.{at_list_any}
 use Rattle.etcs_check.specs.Aspects.{aspect_of, group_facts, is_untold, rule_facts, whole, whole_facts}
-use Rattle.etcs_check.specs.Findings.{all_rules, balise_fact, finding_of, is_short_at, noted}
-use Rattle.etcs_check.specs.Greatest.{greatest, is_before, reach_of}
-use Rattle.etcs_check.specs.Quiet.{IsQuiet, IsQuietIn, NoneBefore, NoneSaidBefore}
-use Rattle.etcs_check.specs.declared.finding.Finding.{Finding}
+use Rattle.etcs_check.specs.Findings.{all_rules}
+use Rattle.etcs_check.specs.Greatest.{greatest, is_before, is_sought, reach_of}
+use Rattle.etcs_check.specs.Profiles.{AreReached, gradient_reach, limit_of, speed_reach}
+use Rattle.etcs_check.specs.Quiet.{IsQuiet, IsQuietBalise}
 use Rattle.etcs_check.specs.declared.finding.Rule.{Rule}
 use Rattle.etcs_check.specs.declared.finding.Rule.TheVariants as rules
 use Rattle.etcs_check.specs.declared.finding.Site.{Site}
-use Rattle.etcs_check.specs.declared.profile_rules.Kind.{Kind}
 use Rattle.etcs_check.specs.declared.profile_rules.Kind.TheVariants as kinds
+use Rattle.etcs_check.specs.declared.profile_rules.Sought.TheVariants as soughts
 use Rattle.etcs_check.proofs.CleanLemmas.{IsClean, balises_empty, facts-from_clean}
-use Rattle.etcs_check.proofs.GreatestLemmas.{lacks-is, short-before}
+use Rattle.etcs_check.proofs.FormedLemmas.{at-from_modelled}
+use Rattle.etcs_check.proofs.GreatestLemmas.{short-before, some_greatest}
+use Rattle.etcs_check.proofs.ProfileLemmas.{HaveProfiles, lacks-from_profiles, long-said, profiles-from_list}
 
-pub same_item : {X : Type 0} (xs : List X) (i : ℕ) (x t : X) → At xs i x → At xs i t → x ≡ t
-same_item xs i x t a b = ap (λ o. unwrap_or o x) (sym a ∙ b)
-
+-- what holds in each running direction holds in any
 pub by_run : (P : Run → Type 0) → P runs.Nominal → P runs.Reverse → (run : Run) → P run
-by_run P a b runs.Nominal = a
-by_run P a b runs.Reverse = b
+by_run P nominal reverse runs.Nominal = nominal
+by_run P nominal reverse runs.Reverse = reverse
 
-pub by_kind : (P : Kind → Type 0) → P kinds.Gradient → P kinds.Speed → (kind : Kind) → P kind
-by_kind P a b kinds.Gradient = a
-by_kind P a b kinds.Speed = b
+-- ---- packets that are reached
 
--- one place more
-pub more_places : {X : Type 0} (P : ℕ → X → Type 0) (xs : List X) (i : ℕ)
-    → ((b : ℕ) (x : X) → b < i → At xs b x → P b x) → ((x : X) → At xs i x → P i x)
-    → (b : ℕ) (x : X) → b < i + 1 → At xs b x → P b x
-more_places P xs i before here b x lt at =
-    elim (cases_lt b i) [
-      | inl under ↦ before b x under at
-      | inr over ↦
-          let is : b ≡ i = omega arith in
-          subst (λ n. P n x) (sym is) (here x (subst (λ n. At xs n x) is at))
-    ]
+-- where there is no greatest location there is no authority
+pub reached-without_authority : (packets : List TrackPacket) → is_some (greatest packets) ≡ false
+    → AreReached packets
+reached-without_authority packets none i a limit at is =
+    let some = at_list_any (λ p. is_some (limit_of p)) packets i a at (ap is_some is) in
+    absurd (both_ways _ (some_greatest packets ∙ none) some)
 
-and_false : (b : Bool) → (b && false) ≡ false
-and_false true = refl
-and_false false = refl
-
--- the facts about one balise of aspect 0, of which eight can stand
-pub by_rule : (group : List Telegram) (b : ℕ) (t : Telegram)
-    → balise_fact group [] group rules.PositionWrong b t ≡ false → balise_fact group [] group rules.TotalWrong b t ≡ false
-    → balise_fact group [] group rules.HeaderDiffers b t ≡ false → balise_fact group [] group rules.MarkOutside b t ≡ false
-    → balise_fact group [] group rules.MarkUnanswered b t ≡ false → balise_fact group [] group rules.CounterUnfit b t ≡ false
-    → balise_fact group [] group rules.CountersDiffer b t ≡ false → balise_fact group [] group rules.MarksDiffer b t ≡ false
-    → (rule : Rule) → balise_fact group [] group rule b t ≡ false
-by_rule group b t h1 h2 h3 h4 h5 h6 h7 h8 rules.PositionWrong = h1
-by_rule group b t h1 h2 h3 h4 h5 h6 h7 h8 rules.TotalWrong = h2
-by_rule group b t h1 h2 h3 h4 h5 h6 h7 h8 rules.HeaderDiffers = h3
-by_rule group b t h1 h2 h3 h4 h5 h6 h7 h8 rules.MarkOutside = h4
-by_rule group b t h1 h2 h3 h4 h5 h6 h7 h8 rules.MarkUnanswered = h5
-by_rule group b t h1 h2 h3 h4 h5 h6 h7 h8 rules.CounterUnfit = h6
-by_rule group b t h1 h2 h3 h4 h5 h6 h7 h8 rules.CountersDiffer = h7
-by_rule group b t h1 h2 h3 h4 h5 h6 h7 h8 rules.MarksDiffer = h8
-by_rule group b t h1 h2 h3 h4 h5 h6 h7 h8 rules.NotToldApart = and_false _
-by_rule group b t h1 h2 h3 h4 h5 h6 h7 h8 rules.DuplicatesDiffer = refl
-by_rule group b t h1 h2 h3 h4 h5 h6 h7 h8 rules.NotModelled = refl
-by_rule group b t h1 h2 h3 h4 h5 h6 h7 h8 rules.NoGradient = refl
-by_rule group b t h1 h2 h3 h4 h5 h6 h7 h8 rules.GradientShort = refl
-by_rule group b t h1 h2 h3 h4 h5 h6 h7 h8 rules.NoSpeed = refl
-by_rule group b t h1 h2 h3 h4 h5 h6 h7 h8 rules.SpeedShort = refl
-by_rule group b t h1 h2 h3 h4 h5 h6 h7 h8 rules.IdentityUsed = refl
-
-never : (o : Option Reach) → option_map_or (λ (r : Reach). false) o false ≡ false
-never (Some r) = refl
-never None = refl
-
-short-as : (run : Run) (group : List Telegram) (kind : Kind) (b : ℕ) (t : Telegram) (p : TrackPacket) (limit : Option ℕ)
-    → limit ≡ greatest (said_by run group)
-    → is_short_at (reach_of kind) group run b t p
-    ≡ (not (is_silent run t.header.dup (length group) b) && (holds run p && is_before (reach_of kind) limit p))
-short-as run group kind b t p limit is =
-    ap (λ s. not (is_silent run t.header.dup (length group) b) && (holds run p && s))
-    (short-before (reach_of kind) (said_by run group) p ∙ ap (λ o. is_before (reach_of kind) o p) (sym is))
-
--- without an authority nothing is missing or too short
-pub quiet_none : (group : List Telegram) (run : Run) → greatest (said_by run group) ≡ None → IsQuietIn group run
-quiet_none group run none kind = (
-  sym (lacks-is (reach_of kind) (said_by run group)) ∙ ap (λ o. is_some o && not (list_any (λ p. is_some (reach_of kind p)) (said_by run group))) none,
-  λ b t k p at at'.
-      short-as run group kind b t p None (sym none)
-      ∙ ap (λ s. not (is_silent run t.header.dup (length group) b) && (holds run p && s)) (never (reach_of kind p))
-      ∙ ap (λ s. not (is_silent run t.header.dup (length group) b) && s) (and_false (holds run p))
-      ∙ and_false (not (is_silent run t.header.dup (length group) b)),
+-- there are both profiles, and none ends before the greatest location
+pub reached-by_profiles : (packets : List TrackPacket) (limit : Option ℕ) → limit ≡ greatest packets
+    → list_any (is_sought (soughts.Profile kinds.Gradient)) packets ≡ true
+    → list_any (is_sought (soughts.Profile kinds.Speed)) packets ≡ true
+    → list_any (is_sought (soughts.Short limit)) packets ≡ false → AreReached packets
+reached-by_profiles packets limit is gradient speed none i a location at has = (
+  profiles gradient_reach gradient (λ p short. (or_parts _ _ short).0) i a location at has,
+  profiles speed_reach speed (λ p short. (or_parts _ _ short).1) i a location at has,
 )
+  where
+    profiles : (reach : TrackPacket → Option Reach) → list_any (λ p. is_some (reach p)) packets ≡ true
+        → ((p : TrackPacket) → is_sought (soughts.Short limit) p ≡ false → is_before reach limit p ≡ false)
+        → HaveProfiles reach packets
+    profiles reach there long =
+        profiles-from_list reach packets (and_right (list_any (λ p. is_some (limit_of p)) packets) _ (ap not there))
+        (λ j p at.
+            let not_short : is_sought (soughts.Short limit) p ≡ false = false_from_ne_true _ (λ short.
+                both_ways _ none (at_list_any (is_sought (soughts.Short limit)) packets j p at short)) in
+            short-before reach packets p ∙ ap (λ o. is_before reach o p) (sym is) ∙ long p not_short)
 
--- with both profiles, none of which ends before the location
-pub quiet_some : (group : List Telegram) (run : Run) (limit : Option ℕ) → limit ≡ greatest (said_by run group)
-    → ((kind : Kind) → list_any (λ p. is_some (reach_of kind p)) (said_by run group) ≡ true)
-    → ((b : ℕ) (t : Telegram) → At group b t → NoneSaidBefore limit run group b t) → IsQuietIn group run
-quiet_some group run limit is has none kind = (
-  sym (lacks-is (reach_of kind) (said_by run group))
-      ∙ ap (λ b. is_some (greatest (said_by run group)) && not b) (has kind) ∙ and_false (is_some (greatest (said_by run group))),
-  λ b t k p at at'. short-as run group kind b t p limit is ∙ none b t at k p at' kind,
-)
+-- ---- a group of one aspect
 
-clean_of : (g : List Telegram) → IsQuiet g → IsClean g [] g
-clean_of g q = record {
-  placed = λ b t at. (q.0 b t at).0 rules.PositionWrong;
-  counted = λ b t at. (q.0 b t at).0 rules.TotalWrong;
-  alike = λ b t at. (q.0 b t at).0 rules.HeaderDiffers;
-  inside = λ b t at. (q.0 b t at).0 rules.MarkOutside;
-  answered = λ b t at. (q.0 b t at).0 rules.MarkUnanswered;
-  fit = λ b t at. (q.0 b t at).0 rules.CounterUnfit;
-  one_counter = λ b t at. (q.0 b t at).0 rules.CountersDiffer;
-  equal_pairs = λ run b t at. (q.0 b t at).2 run;
-  modelled = λ b t k p at at'. (q.0 b t at).1 k p at';
-  gradients = λ run. (q.1 run kinds.Gradient).0;
-  long_gradients = λ run. (q.1 run kinds.Gradient).1;
-  speeds = λ run. (q.1 run kinds.Speed).0;
-  long_speeds = λ run. (q.1 run kinds.Speed).1;
-  marks = λ b t at. (q.0 b t at).0 rules.MarksDiffer;
-  fresh = λ b t at. (q.0 b t at).0 rules.NotToldApart;
-}
+module _
+    (group : List Telegram)
+    (quiet : (b : ℕ) (t : Telegram) → At group b t → IsQuietBalise group b t)
+    (reached : (run : Run) → AreReached (said_by run group)) where
+  gradients : (run : Run) → HaveProfiles gradient_reach (said_by run group)
+  gradients run i a limit at is = (reached run i a limit at is).0
 
-flat_same : (f g : Rule → List Finding) → ((r : Rule) → f r ≡ g r) → (rs : List Rule) → flat_map f rs ≡ flat_map g rs
-flat_same f g h [] = refl
-flat_same f g h (r ∷ rs) = ap₂ (λ a b. a ++ b) (h r) (flat_same f g h rs)
+  speeds : (run : Run) → HaveProfiles speed_reach (said_by run group)
+  speeds run i a limit at is = (reached run i a limit at is).1
 
-module _ (site : Site) (used : Bool) (g : List Telegram) where
-  expected : Rule → List Finding
-  expected rules.IdentityUsed = noted used (finding_of rules.IdentityUsed (whole site) None None None)
-  expected r = []
+  clean : IsClean group [] group
+  clean = record {
+    placed = λ b t at. (quiet b t at).alone rules.PositionWrong;
+    counted = λ b t at. (quiet b t at).alone rules.TotalWrong;
+    alike = λ b t at. (quiet b t at).alone rules.HeaderDiffers;
+    inside = λ b t at. (quiet b t at).alone rules.MarkOutside;
+    answered = λ b t at. (quiet b t at).alone rules.MarkUnanswered;
+    fit = λ b t at. (quiet b t at).alone rules.CounterUnfit;
+    one_counter = λ b t at. (quiet b t at).alone rules.CountersDiffer;
+    equal_pairs = λ run b t at. (quiet b t at).paired run;
+    modelled = λ b t k p at at'. at-from_modelled t.packets (quiet b t at).modelled k p at';
+    gradients = λ run. lacks-from_profiles gradient_reach (said_by run group) (gradients run);
+    long_gradients = λ run. long-said gradient_reach group run (gradients run);
+    speeds = λ run. lacks-from_profiles speed_reach (said_by run group) (speeds run);
+    long_speeds = λ run. long-said speed_reach group run (speeds run);
+    marks = λ b t at. (quiet b t at).alone rules.MarksDiffer;
+    fresh = λ b t at. (quiet b t at).alone rules.NotToldApart;
+  }
 
-  whole_is : (rule : Rule) → whole_facts site used (g ∷ []) rule ≡ expected rule
-  unfolding expected
-  whole_is rules.PositionWrong = refl
-  whole_is rules.TotalWrong = refl
-  whole_is rules.HeaderDiffers = refl
-  whole_is rules.MarkOutside = refl
-  whole_is rules.MarkUnanswered = refl
-  whole_is rules.CounterUnfit = refl
-  whole_is rules.CountersDiffer = refl
-  whole_is rules.DuplicatesDiffer = refl
-  whole_is rules.NotModelled = refl
-  whole_is rules.NoGradient = refl
-  whole_is rules.GradientShort = refl
-  whole_is rules.NoSpeed = refl
-  whole_is rules.SpeedShort = refl
-  whole_is rules.IdentityUsed = refl
-  whole_is rules.MarksDiffer = refl
-  whole_is rules.NotToldApart = balises_empty rules.NotToldApart (whole site) (is_untold (g ∷ [])) g (λ b t at. refl)
+  -- the facts of a rule are those about the group as a whole
+  whole_alone : (site : Site) (used : Bool) (rule : Rule)
+      → rule_facts site used (group ∷ []) rule ≡ whole_facts site used (group ∷ []) rule
+  whole_alone site used rule =
+      let none = facts-from_clean (aspect_of site (group ∷ []) 0) group [] group clean rule in
+      ap (λ l. whole_facts site used (group ∷ []) rule ++ (l ++ [])) none
+      ∙ append-nil (whole_facts site used (group ∷ []) rule)
 
-  rule_is : IsQuiet g → (rule : Rule) → rule_facts site used (g ∷ []) rule ≡ expected rule
-  rule_is q rule =
-      ap₂ (λ a b. a ++ (b ++ [])) (whole_is rule) (facts-from_clean (aspect_of site (g ∷ []) 0) g [] g (clean_of g q) rule)
-      ∙ append-nil (expected rule)
+  -- the facts about a group of one aspect as a whole are those about its identity
+  pub quiet-from_parts : IsQuiet group
+  quiet-from_parts site used =
+      let identity = whole_facts site used (group ∷ []) rules.IdentityUsed in
+      let told = balises_empty rules.NotToldApart (whole site) (is_untold (group ∷ [])) group (λ b t at. refl) in
+      let all : group_facts site used (group ∷ []) ≡ flat_map (whole_facts site used (group ∷ [])) all_rules =
+          λ i. flat_map (λ rule. whole_alone site used rule i) all_rules in
+      all ∙ ap (λ l. identity ++ (l ++ [])) told ∙ append-nil identity
 
-  all_expected : flat_map expected all_rules ≡ noted used (finding_of rules.IdentityUsed (whole site) None None None)
-  unfolding expected
-  all_expected = append-nil (noted used (finding_of rules.IdentityUsed (whole site) None None None))
-
-  pub quiet_group : (aspects : List (List Telegram)) → aspects ≡ g ∷ [] → IsQuiet g
-      → noted used (finding_of rules.IdentityUsed (whole site) None None None) ≡ group_facts site used aspects
-  quiet_group aspects one q =
-      sym (ap (group_facts site used) one ∙ flat_same (rule_facts site used (g ∷ [])) expected (rule_is q) all_rules ∙ all_expected)
-
-pub silent_quiet : (limit : Option ℕ) (run : Run) (group : List Telegram) (b : ℕ) (t : Telegram)
-    → is_silent run t.header.dup (length group) b ≡ true → NoneSaidBefore limit run group b t
-silent_quiet limit run group b t silent k p at kind =
-    ap (λ s. not s && (holds run p && is_before (reach_of kind) limit p)) silent
-
-pub loud_quiet : (limit : Option ℕ) (run : Run) (group : List Telegram) (b : ℕ) (t : Telegram)
-    → NoneBefore limit run t.packets → NoneSaidBefore limit run group b t
-loud_quiet limit run group b t none k p at kind =
-    ap (λ s. not (is_silent run t.header.dup (length group) b) && s) (none k p at kind) ∙ and_false (not (is_silent run t.header.dup (length group) b))
-
-pub none_is : (o : Option ℕ) (r : Bool) → is_some o ≡ not r → r ≡ true → o ≡ None
-none_is None r e h = refl
-none_is (Some n) true e h = cc e
-none_is (Some n) false e h = cc h
-
-pub not_true : (b : Bool) → IsTrue (not b) → b ≡ false
-not_true true h = cc h
-not_true false h = refl
-
-pub only_one : {X : Type 0} (xs : List X) (d x : X) → length xs ≡ 1 → x ≡ get_or xs 0 d → xs ≡ x ∷ []
-only_one [] d x len is = cc len
-only_one (y ∷ []) d x len is = ap (λ z. z ∷ []) (sym is)
-only_one (y ∷ z ∷ xs) d x len is = absurd (omega (arith, len))
+-- what a quiet aspect says of its group, if it is the only one, as an index finds it
+pub quiet_alone : (aspects : List (List Telegram)) (d group : List Telegram)
+    → length aspects ≡ 1 → group ≡ get_or aspects 0 d → IsQuiet group → (site : Site) (used : Bool)
+    → group_facts site used aspects ≡ whole_facts site used aspects rules.IdentityUsed
+quiet_alone [] d group one is quiet = cc one
+quiet_alone (only ∷ []) d group one is quiet = subst IsQuiet is quiet
+quiet_alone (first ∷ second ∷ rest) d group one is quiet = absurd (omega (arith, one))

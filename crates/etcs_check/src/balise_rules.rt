@@ -2,14 +2,15 @@
 //! modelled.
 
 ghost use Rattle.std.specs.Prelude.{◌≡◌, ◌≢◌, ◌<◌, ◌≤◌, ◌+◌, ◌++◌, [], ℕ, length, slice_get, Some, IsTrue, OnOk, OnErr};
+ghost use Rattle.std.specs.List.{AllPass};
 ghost use Rattle.etcs_telegram.specs.Record.{Telegram};
-ghost use Rattle.etcs_group.specs.Group.{partner_of};
+ghost use Rattle.etcs_group.specs.Group.{is_modelled, partner_of};
 ghost use Rattle.etcs_check.specs.Duplicates.{same_mark};
 ghost use Rattle.etcs_check.specs.Findings.{are_pair, balise_fact, balise_facts, counter_differs, first_counter, is_other, is_outside, is_unanswered, is_unlike, is_unmodelled, mark_differs, pair_differs, pair_facts, unmodelled_facts, unmodelled_in};
-ghost use Rattle.etcs_check.specs.Quiet.{AreModelled, IsQuietBalise};
+ghost use Rattle.etcs_check.specs.Quiet.{IsQuietBalise};
 
 use crate::duplicates::same_held;
-use crate::finding::{Finding, Rule, Spot, note};
+use crate::finding::{Finding, RULES, Rule, Spot, note};
 use etcs_bits::{Dup, Memory};
 use etcs_packet::{Run, TrackPacket};
 use etcs_telegram::Telegram;
@@ -155,37 +156,18 @@ fn balise_fact(first: &[Telegram], group: &[Telegram], rule: Rule, place: usize)
     }
 }
 
-// Whether a balise of an aspect 0 breaks no rule about one balise, has only packets that are modelled,
-// and has the packets of the balise that it is a pair with.
-pub(crate) fn is_quiet_balise(group: &[Telegram], place: usize) -> bool
+// Whether no fact stands about the balise at this place of a group of one aspect, about its packets, or
+// about the pair of it and the next balise.
+pub(crate) fn is_quiet_balise(group: &[Telegram], place: usize, telegram: &Telegram) -> bool
     requires within { place < length group.now }
     requires few { length group.now ≤ 8 }
-    ensures { (t : Telegram) → slice_get group.now place ≡ Some t
-        → IsTrue result → IsQuietBalise group.now place t }
+    requires at { slice_get group.now place ≡ Some telegram.now }
+    ensures { IsTrue result → IsQuietBalise group.now place telegram.now }
 {
-    if balise_fact(group, group, Rule::PositionWrong, place) {
-        return false;
-    }
-    if balise_fact(group, group, Rule::TotalWrong, place) {
-        return false;
-    }
-    if balise_fact(group, group, Rule::HeaderDiffers, place) {
-        return false;
-    }
-    if balise_fact(group, group, Rule::MarkOutside, place) {
-        return false;
-    }
-    if balise_fact(group, group, Rule::MarkUnanswered, place) {
-        return false;
-    }
-    if balise_fact(group, group, Rule::CounterUnfit, place) {
-        return false;
-    }
-    if balise_fact(group, group, Rule::CountersDiffer, place) {
-        return false;
-    }
-    if balise_fact(group, group, Rule::MarksDiffer, place) {
-        return false;
+    'rules: for rule in &RULES {
+        if balise_fact(group, group, *rule, place) {
+            return false;
+        }
     }
     if pair_differs_at(group, Run::Nominal, place) {
         return false;
@@ -193,19 +175,14 @@ pub(crate) fn is_quiet_balise(group: &[Telegram], place: usize) -> bool
     if pair_differs_at(group, Run::Reverse, place) {
         return false;
     }
-    are_modelled(packets(&group[place]))
+    are_modelled(packets(telegram))
 }
 
 // Whether all packets are modelled.
 fn are_modelled(packets: &[TrackPacket]) -> bool
-    ensures { IsTrue result → AreModelled packets.now }
+    ensures { IsTrue result → AllPass is_modelled packets.now }
 {
-    'packets: for packet in packets {
-        if is_unmodelled(packet) {
-            return false;
-        }
-    }
-    true
+    packets.iter().all(|packet| !is_unmodelled(packet))
 }
 
 // Appends a finding for each balise that breaks the rule.

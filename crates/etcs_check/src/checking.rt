@@ -16,7 +16,7 @@ use crate::aspects::{aspect_of, first_aspect, note_taken, note_untold, whole};
 use crate::balise_rules::{
     is_quiet_balise, note_balises, note_group_unmodelled, note_pairs, note_unmodelled,
 };
-use crate::finding::{Finding, Rule, Site, Spot, note};
+use crate::finding::{Finding, RULES, Rule, Site, Spot, note};
 use crate::profile_rules::{
     Kind, is_quiet_in, note_lack, note_message_lack, note_message_short, note_short,
 };
@@ -26,26 +26,6 @@ use etcs_packet::{Run, TrackPacket};
 use etcs_radio::Message;
 use etcs_telegram::Telegram;
 use std::alloc::Global;
-
-// The rules in the order of their numbers.
-const RULES: [Rule; 16] = [
-    Rule::PositionWrong,
-    Rule::TotalWrong,
-    Rule::HeaderDiffers,
-    Rule::MarkOutside,
-    Rule::MarkUnanswered,
-    Rule::CounterUnfit,
-    Rule::CountersDiffer,
-    Rule::DuplicatesDiffer,
-    Rule::NotModelled,
-    Rule::NoGradient,
-    Rule::GradientShort,
-    Rule::NoSpeed,
-    Rule::SpeedShort,
-    Rule::IdentityUsed,
-    Rule::MarksDiffer,
-    Rule::NotToldApart,
-];
 
 // Appends the findings of a rule about an aspect in one running direction.
 fn note_in(
@@ -188,13 +168,14 @@ fn note_group_rule(
     note_aspects(found, rule, site, aspects)
 }
 
-// Whether no rule finds anything in a group of this one aspect, but that its identity may be used.
+// Whether the only fact that can stand against a group of this one aspect is that its identity is used. A
+// quick way: where it says no, nothing is known of the facts.
 fn is_quiet(group: &[Telegram]) -> bool
     requires few { length group.now ≤ 8 }
     ensures { IsTrue result → IsQuiet group.now }
 {
     'places: for place in 0..group.len() {
-        if !is_quiet_balise(group, place) {
+        if !is_quiet_balise(group, place, &group[place]) {
             return false;
         }
     }
@@ -221,8 +202,8 @@ fn note_all(
     Ok(())
 }
 
-// Appends the findings about a group. Most groups have one aspect and no finding, and are not looked
-// at rule by rule.
+// Appends the findings about a group. Most groups have one aspect and no finding, which `is_quiet` sees in
+// one look. Where it does not, `note_all` goes through all rules and tells all facts.
 pub(crate) fn note_group(
     found: &mut Vec<Finding>,
     site: Site,
@@ -234,15 +215,7 @@ pub(crate) fn note_group(
     ensures memory { OnErr result (group_facts site used aspects.now ≢ []) }
 {
     if aspects.len() == 1 && is_quiet(aspects[0].telegrams()) {
-        return note(
-            found,
-            used,
-            Rule::IdentityUsed,
-            whole(site),
-            None,
-            None,
-            None,
-        );
+        return note_whole(found, Rule::IdentityUsed, site, used, aspects);
     }
     note_all(found, site, used, aspects)
 }

@@ -51,6 +51,26 @@ pub enum Rule {
     NotToldApart,
 }
 
+// The rules in the order of their numbers.
+pub(crate) const RULES: [Rule; 16] = [
+    Rule::PositionWrong,
+    Rule::TotalWrong,
+    Rule::HeaderDiffers,
+    Rule::MarkOutside,
+    Rule::MarkUnanswered,
+    Rule::CounterUnfit,
+    Rule::CountersDiffer,
+    Rule::DuplicatesDiffer,
+    Rule::NotModelled,
+    Rule::NoGradient,
+    Rule::GradientShort,
+    Rule::NoSpeed,
+    Rule::SpeedShort,
+    Rule::IdentityUsed,
+    Rule::MarksDiffer,
+    Rule::NotToldApart,
+];
+
 /// Where a finding stands. Groups and messages are counted from 0, each by themselves.
 #[derive(Clone, Copy, Debug, PartialEq, Eq)]
 pub enum Site {

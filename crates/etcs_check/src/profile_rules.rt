@@ -1,16 +1,14 @@
 //! The rules about movement authorities and the profiles that they need.
 
-ghost use Rattle.std.specs.Prelude.{◌≡◌, ◌≢◌, ◌<◌, ◌≤◌, ◌++◌, ◌&&◌, [], ℕ, if◌then◌else◌, length, filter, is_some, not, slice_get, false, None, Some, IsTrue, OnOk, OnErr};
+ghost use Rattle.std.specs.Prelude.{◌≡◌, ◌≢◌, ◌<◌, ◌≤◌, ◌++◌, ◌&&◌, [], ℕ, if◌then◌else◌, length, filter, is_some, not, slice_get, None, Some, IsTrue, OnOk, OnErr};
 ghost use Rattle.std.specs.List.{list_any};
 ghost use Rattle.etcs_packet.specs.Track.{holds};
 ghost use Rattle.etcs_telegram.specs.Record.{Telegram};
 ghost use Rattle.etcs_group.specs.Packets.{is_silent, said_at, said_by};
 ghost use Rattle.etcs_check.specs.Findings.{for_each, lack_facts, lacks, short_by, short_facts};
-ghost use Rattle.etcs_check.specs.Greatest.{before_at, greater, greatest, is_before, reach_of};
+ghost use Rattle.etcs_check.specs.Greatest.{before_at, greater, greatest, is_before, is_sought, reach_of};
 ghost use Rattle.etcs_check.specs.Line.{message_lack, message_short};
-ghost use Rattle.etcs_check.specs.Profiles.{limit_of};
-ghost use Rattle.etcs_check.specs.Quiet.{IsQuietIn, NoneBefore, NoneSaidBefore};
-ghost use Rattle.etcs_group.specs.Places.{At};
+ghost use Rattle.etcs_check.specs.Profiles.{AreReached, limit_of};
 
 use crate::balise_rules::packets;
 use crate::finding::{Finding, Rule, Spot, note};
@@ -26,6 +24,15 @@ pub(crate) enum Kind {
     Gradient,
     // Packet 27.
     Speed,
+}
+
+// What is looked for among packets.
+#[derive(Clone, Copy)]
+pub(crate) enum Sought {
+    // A profile of the kind.
+    Profile(Kind),
+    // A profile of either kind that ends before the location.
+    Short(Option<u64>),
 }
 
 // The supervised location of a packet, if it is an authority.
@@ -82,19 +89,41 @@ fn greatest_held(packets: &[TrackPacket], run: Run, so_far: Option<u64>) -> Opti
     limit
 }
 
-// Whether a packet holds and is a profile of the kind.
-fn is_held(packet: &TrackPacket, run: Run, kind: Kind) -> bool
-    ensures { result ≡ (holds run packet.now && is_some (reach_of kind packet.now)) }
+// Whether a profile of the kind ends before the location.
+fn is_before(kind: Kind, limit: Option<u64>, packet: &TrackPacket) -> bool
+    ensures { result ≡ is_before (reach_of kind) limit packet.now }
 {
-    packet.holds_in(run) && reach_of(kind, packet).is_some()
+    match (reach_of(kind, packet), limit) {
+        (Some(Reach::Ends(reach_dm)), Some(limit_dm)) => reach_dm < limit_dm,
+        _ => false,
+    }
 }
 
-// Whether a profile of the kind is among the packets that hold.
-fn has_held(packets: &[TrackPacket], run: Run, kind: Kind) -> bool
-    ensures { result ≡ list_any (λ p. is_some (reach_of kind p)) (filter (holds run) packets.now) }
+// Whether a packet is what is looked for.
+fn is_sought(sought: Sought, packet: &TrackPacket) -> bool
+    ensures { result ≡ is_sought sought packet.now }
+{
+    match sought {
+        Sought::Profile(kind) => reach_of(kind, packet).is_some(),
+        Sought::Short(limit) => {
+            is_before(Kind::Gradient, limit, packet) || is_before(Kind::Speed, limit, packet)
+        }
+    }
+}
+
+// Whether a packet holds and is what is looked for.
+fn is_held(packet: &TrackPacket, run: Run, sought: Sought) -> bool
+    ensures { result ≡ (holds run packet.now && is_sought sought packet.now) }
+{
+    packet.holds_in(run) && is_sought(sought, packet)
+}
+
+// Whether a packet that is looked for is among those that hold.
+fn has_held(packets: &[TrackPacket], run: Run, sought: Sought) -> bool
+    ensures { result ≡ list_any (is_sought sought) (filter (holds run) packets.now) }
 {
     'packets: for packet in packets {
-        if is_held(packet, run, kind) {
+        if is_held(packet, run, sought) {
             return true;
         }
     }
@@ -113,18 +142,8 @@ fn lacks_held(packets: &[TrackPacket], run: Run, kind: Kind) -> bool
     ensures { result ≡ lacks (reach_of kind) (filter (holds run) packets.now) }
 {
     let limit = greatest_held(packets, run, None);
-    let has_profile = has_held(packets, run, kind);
+    let has_profile = has_held(packets, run, Sought::Profile(kind));
     lacks(limit, has_profile)
-}
-
-// Whether a profile of the kind ends before the location.
-fn is_before(kind: Kind, limit: Option<u64>, packet: &TrackPacket) -> bool
-    ensures { result ≡ is_before (reach_of kind) limit packet.now }
-{
-    match (reach_of(kind, packet), limit) {
-        (Some(Reach::Ends(reach_dm)), Some(limit_dm)) => reach_dm < limit_dm,
-        _ => false,
-    }
 }
 
 // Whether the packet holds, and is a profile of the kind that ends before the location.
@@ -228,22 +247,22 @@ fn greatest_said(group: &[Telegram], run: Run) -> Option<u64>
     limit
 }
 
-// Whether the balise at this place says a profile of the kind.
-fn has_at(group: &[Telegram], run: Run, place: usize, kind: Kind) -> bool
+// Whether the balise at this place says a packet that is looked for.
+fn has_at(group: &[Telegram], run: Run, place: usize, sought: Sought) -> bool
     requires { place < length group.now }
     ensures { (t : Telegram) → slice_get group.now place ≡ Some t
-        → result ≡ list_any (λ p. is_some (reach_of kind p)) (said_at run (length group.now) place t) }
+        → result ≡ list_any (is_sought sought) (said_at run (length group.now) place t) }
 {
     let telegram = &group[place];
-    !is_silent(run, telegram, group.len(), place) && has_held(packets(telegram), run, kind)
+    !is_silent(run, telegram, group.len(), place) && has_held(packets(telegram), run, sought)
 }
 
-// Whether a group says a profile of the kind in a running direction.
-fn has_said(group: &[Telegram], run: Run, kind: Kind) -> bool
-    ensures { result ≡ list_any (λ p. is_some (reach_of kind p)) (said_by run group.now) }
+// Whether a group says a packet that is looked for in a running direction.
+fn has_said(group: &[Telegram], run: Run, sought: Sought) -> bool
+    ensures { result ≡ list_any (is_sought sought) (said_by run group.now) }
 {
     'places: for place in 0..group.len() {
-        if has_at(group, run, place, kind) {
+        if has_at(group, run, place, sought) {
             return true;
         }
     }
@@ -255,7 +274,7 @@ fn lacks_said(group: &[Telegram], run: Run, kind: Kind) -> bool
     ensures { result ≡ lacks (reach_of kind) (said_by run group.now) }
 {
     let limit = greatest_said(group, run);
-    let has_profile = has_said(group, run, kind);
+    let has_profile = has_said(group, run, Sought::Profile(kind));
     lacks(limit, has_profile)
 }
 
@@ -339,59 +358,20 @@ pub(crate) fn note_short(
     Ok(())
 }
 
-// Whether some packet holds and is a profile that ends before the location.
-fn some_before(packets: &[TrackPacket], run: Run, limit: Option<u64>) -> bool
-    ensures { result ≡ false → NoneBefore limit run packets.now }
-{
-    'packets: for packet in packets {
-        if holds_before(Kind::Gradient, limit, run, packet) {
-            return true;
-        }
-        if holds_before(Kind::Speed, limit, run, packet) {
-            return true;
-        }
-    }
-    false
-}
-
-// Whether the balise at this place says a profile that ends before the location.
-fn some_before_at(group: &[Telegram], run: Run, place: usize, limit: Option<u64>) -> bool
-    requires { place < length group.now }
-    ensures { (t : Telegram) → slice_get group.now place ≡ Some t
-        → result ≡ false → NoneSaidBefore limit run group.now place t }
-{
-    let telegram = &group[place];
-    if is_silent(run, telegram, group.len(), place) {
-        return false;
-    }
-    some_before(packets(telegram), run, limit)
-}
-
-// Whether a group says a profile that ends before the location.
-fn some_said_before(group: &[Telegram], run: Run, limit: Option<u64>) -> bool
-    ensures { result ≡ false → (b : ℕ) (t : Telegram) → At group.now b t → NoneSaidBefore limit run group.now b t }
-{
-    'places: for place in 0..group.len() {
-        if some_before_at(group, run, place, limit) {
-            return true;
-        }
-    }
-    false
-}
-
-// Whether the rules about authorities and profiles find nothing in a running direction.
+// Whether the packets that a group says in a running direction are reached: there is no authority, or there
+// are both profiles, and none ends before the greatest location.
 pub(crate) fn is_quiet_in(group: &[Telegram], run: Run) -> bool
-    ensures { IsTrue result → IsQuietIn group.now run }
+    ensures { IsTrue result → AreReached (said_by run group.now) }
 {
     let limit = greatest_said(group, run);
     if limit.is_none() {
         return true;
     }
-    if !has_said(group, run, Kind::Gradient) {
+    if !has_said(group, run, Sought::Profile(Kind::Gradient)) {
         return false;
     }
-    if !has_said(group, run, Kind::Speed) {
+    if !has_said(group, run, Sought::Profile(Kind::Speed)) {
         return false;
     }
-    !some_said_before(group, run, limit)
+    !has_said(group, run, Sought::Short(limit))
 }

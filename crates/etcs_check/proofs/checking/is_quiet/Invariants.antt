@@ -4,6 +4,6 @@ use Rattle.etcs_group.specs.Places.{At}
 use Rattle.etcs_check.specs.Quiet.{IsQuietBalise}
 use Rattle.etcs_check.proofs.checking.is_quiet.Given as goal
 
--- no fact so far
+-- the balises so far are quiet
 abbrev pub invariant-places : goal.invariant-places
 invariant-places l = (b : ℕ) (t : Telegram) → b < l.place → At l.group b t → IsQuietBalise l.group b t

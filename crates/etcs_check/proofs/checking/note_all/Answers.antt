@@ -7,9 +7,14 @@ use Rattle.etcs_check.proofs.checking.note_all.Goals as goal
 -- A finding of this rule is one of all.
 pub returns-in_err-note_group_rule-clause-memory : goal.returns-in_err-note_group_rule-clause-memory
 returns-in_err-note_group_rule-clause-memory c =
-    on_err _ _ (flat_stands (rule_facts c.args.site c.args.used c.args.aspects.now) all_rules c.rules.rule-index _ (slice_get-get_or all_rules c.rules.rule-index _ c.rules-test.true) c.in_err-note_group_rule.ensures.memory)
+    let facts = rule_facts c.args.site c.args.used c.args.aspects.now in
+    let at = slice_get-get_or all_rules c.rules.rule-index _ c.rules-test.true in
+    on_err _ _ (flat_stands facts all_rules c.rules.rule-index _ at c.in_err-note_group_rule.ensures.memory)
 
 -- The findings of this rule were appended.
 pub rules-preserved : goal.rules-preserved
 rules-preserved c =
-    flat_pushed (rule_facts c.args.site c.args.used c.args.aspects.now) all_rules c.rules.rule-index _ c.rules.found.items _ _ (slice_get-get_or all_rules c.rules.rule-index _ c.rules-test.true) c.in_ok-note_group_rule.ensures.ok c.rules.invariant
+    let facts = rule_facts c.args.site c.args.used c.args.aspects.now in
+    let at = slice_get-get_or all_rules c.rules.rule-index _ c.rules-test.true in
+    flat_pushed facts all_rules c.rules.rule-index _ c.rules.found.items _ _ at
+    c.in_ok-note_group_rule.ensures.ok c.rules.invariant

@@ -1,17 +1,16 @@
-use Rattle.std.proofs.Common.{◌≡◌, ◌≢◌, ◌++◌, [], OnOk, OnErr, None, subst, ap, ◌∙◌}
-use Rattle.etcs_check.specs.Findings.{finding_of, noted}
-use Rattle.etcs_check.specs.declared.finding.Rule.TheVariants as rules
-use Rattle.etcs_check.proofs.QuietLemmas.{only_one, quiet_group}
+use Rattle.std.proofs.Common.{◌∙◌}
+use Rattle.etcs_check.proofs.QuietLemmas.{quiet_alone}
 use Rattle.etcs_check.proofs.checking.note_group.Goals as goal
 
+-- All findings are those about the identity.
 pub returns-then-is_quiet-clause-ok : goal.returns-then-is_quiet-clause-ok
 returns-then-is_quiet-clause-ok c =
-    let one = only_one c.args.aspects.now _ c.telegrams.result.now c.if-aspects-eq1.true (c.telegrams.ensures.value ∙ c.index-aspects-0.is) in
-    subst (λ l. OnOk c.note.result (c.note.new.found.items ≡ c.args.found.now.items ++ l))
-    (ap (λ spot. noted c.args.used (finding_of rules.IdentityUsed spot None None None)) c.whole.ensures ∙ quiet_group c.args.site c.args.used c.telegrams.result.now c.args.aspects.now one (c.is_quiet.ensures c.if-is_quiet.true)) c.note.ensures.ok
+    let here = c.telegrams.ensures.value ∙ c.index-aspects-0.is in
+    let quiet = c.is_quiet.ensures c.if-is_quiet.true in
+    rw (quiet_alone c.args.aspects.now _ _ c.if-aspects-eq1.true here quiet c.args.site c.args.used) c.note_whole.ensures.ok
 
 pub returns-then-is_quiet-clause-memory : goal.returns-then-is_quiet-clause-memory
 returns-then-is_quiet-clause-memory c =
-    let one = only_one c.args.aspects.now _ c.telegrams.result.now c.if-aspects-eq1.true (c.telegrams.ensures.value ∙ c.index-aspects-0.is) in
-    subst (λ l. OnErr c.note.result (l ≢ []))
-    (ap (λ spot. noted c.args.used (finding_of rules.IdentityUsed spot None None None)) c.whole.ensures ∙ quiet_group c.args.site c.args.used c.telegrams.result.now c.args.aspects.now one (c.is_quiet.ensures c.if-is_quiet.true)) c.note.ensures.memory
+    let here = c.telegrams.ensures.value ∙ c.index-aspects-0.is in
+    let quiet = c.is_quiet.ensures c.if-is_quiet.true in
+    rw (quiet_alone c.args.aspects.now _ _ c.if-aspects-eq1.true here quiet c.args.site c.args.used) c.note_whole.ensures.memory

@@ -40,8 +40,8 @@ places-preserved c =
       all = each_pushed (group_at c.args.groups.now) c.args.groups.now c.places.place c.aspects-aspects.result.now c.places.found.items _ _ at
           (c.in_ok-note_group.ensures.ok ∙ ap (λ u. c.places.found.items ++ group_facts (sites.Group c.places.place) u c.aspects-aspects.result.now) used)
           c.places.invariant.all;
-      controlled = each_more IsControlled c.args.groups.now c.places.place c.aspects-aspects.result.now at c.places.invariant.controlled c.aspects-aspects.ensures.controlled;
-      numbered = each_more IsNumbered c.args.groups.now c.places.place c.aspects-aspects.result.now at c.places.invariant.numbered c.was_used-used.ensures.numbered;
+      controlled = each_more (λ _. IsControlled) c.args.groups.now c.places.place c.aspects-aspects.result.now at c.places.invariant.controlled c.aspects-aspects.ensures.controlled;
+      numbered = each_more (λ _. IsNumbered) c.args.groups.now c.places.place c.aspects-aspects.result.now at c.places.invariant.numbered c.was_used-used.ensures.numbered;
       long = c.was_used-used.ensures.long;
       seen = λ hit. seen_more c.args.groups.now c.places.place c.aspects-aspects.result.now c.places.table.items _ at (c.was_used-used.ensures.after hit) (c.places.invariant.seen hit);
     }
