@@ -12,44 +12,18 @@
 # The status is 1 if there are other findings, if 100,000 groups take more than 13 times as long as 10,000,
 # or if 100,000 groups with rising identities take more than 0.3 seconds. Where valgrind is there, it counts
 # the requests for memory of a line of 1,000 groups that is checked once, and ten times more: without a
-# finding they have to be as many.
-#
-# What the crates' own checks keep in out/ is copied too, so that a tree that is proved is not proved again.
-# The longest line takes 160 MB of memory.
+# finding they have to be as many. The longest line takes 160 MB of memory.
 set -euo pipefail
 
 here=$(cd "$(dirname "${BASH_SOURCE[0]}")" && pwd)
-room=$(mktemp -d)
-trap 'rm -rf "$room"' EXIT
-program=$room/crates/check_bench/out/check_bench
+# shellcheck source=bench/common.sh
+. "$here/common.sh"
 
-fail() {
-    echo "failed: $1" >&2
-    exit 1
-}
-
-# build: proves and builds the program.
-build() {
-    local crate
-    mkdir "$room/crates"
-    cp "$here/../HANDLES" "$room"
-    for crate in etcs_bits etcs_profile etcs_packet etcs_telegram etcs_radio etcs_group etcs_check; do
-        cp -r "$here/../crates/$crate" "$room/crates"
-        grep "^$crate:" "$here/../crates.txt" >>"$room/crates.txt"
-    done
-    mkdir -p "$room/crates/check_bench/src"
-    cp "$here/check/main.rs" "$room/crates/check_bench/src/main.rt"
-    echo 'check_bench: etcs_bits etcs_telegram etcs_group etcs_check' >>"$room/crates.txt"
-    (cd "$room/crates/check_bench" && rt run) >"$room/built" 2>&1 || fail "$(cat "$room/built")"
-}
-
-# measure WAY COUNT CALLS: runs the program with a small stack; sets processor, the least of five runs.
-measure() {
+# least WAY COUNT CALLS: runs the program with a small stack; sets processor, the least of five runs.
+least() {
     local times=()
     for _ in 1 2 3 4 5; do
-        read -r status _ processor _ < \
-            <(python3 "$here/measure.py" /dev/null "$room/answer" \
-                bash -c 'ulimit -s 512; exec "$@"' _ "$program" "$@")
+        measure /dev/null "$room/answer" bash -c 'ulimit -s 512; exec "$@"' _ "$program" "$@"
         [ "$status" -eq 0 ] || fail "status $status"
         times+=("$processor")
     done
@@ -61,9 +35,9 @@ measure() {
 checked() {
     local findings=0 made
     [ "$1" != same ] || findings=$(($2 - 1))
-    measure "$1" "$2" 0
+    least "$1" "$2" 0
     made=$processor
-    measure "$1" "$2" "$3"
+    least "$1" "$2" "$3"
     [[ $(cat "$room/answer") =~ ^"$1 $2 groups $findings findings "([0-9]+)" us"$ ]] ||
         fail "wrong answer: $(cat "$room/answer")"
     awk "BEGIN { printf \"%d\", ($processor - $made) / $3 * 1000000 }"
@@ -91,8 +65,9 @@ requests() {
         sed -n 's/.*total heap usage: \([0-9,]*\) allocs.*/\1/p' | tr -d ,
 }
 
-build
-echo "$(uname -m), $(nproc) processors, load $(cut -d' ' -f1 /proc/loadavg)"
+build check etcs_bits etcs_telegram etcs_group etcs_check
+program=$built
+machine
 printf '%-8s %12s %12s %6s %15s %15s\n' '' '10,000, us' '100,000, us' ratio '10,000 fastest' '100,000 fastest'
 compare rising 300000
 compare spread 10000000

@@ -1,5 +1,5 @@
-# What the measuring scripts share that source it: a folder for the run, and rows of what commands took.
-# The caller has set `here`, the folder of the scripts.
+# What the measuring scripts share that source it: a folder for the run, programs that are built in it, rows of what
+# commands took, and counts of instructions. The caller has set `here`, the folder of the scripts.
 
 room=$(mktemp -d)
 trap 'rm -rf "$room"' EXIT
@@ -8,6 +8,16 @@ export PYTHONDONTWRITEBYTECODE=1 # so that no folder of it comes into being besi
 fail() {
     echo "failed: $1" >&2
     exit 1
+}
+
+# The program to measure: the one that ./balisecheck would run, or the one that BALISECHECK names.
+find_program() {
+    program=${BALISECHECK:-$(BALISECHECK_PATH=1 "$here/../balisecheck")} || fail 'no program is there'
+}
+
+# machine: a line on what the rates stand on.
+machine() {
+    echo "$(uname -m), $(nproc) processors, load $(cut -d' ' -f1 /proc/loadavg), $(python3 --version)"
 }
 
 # measure INPUT OUTPUT COMMAND WORD..: runs the command; sets status, elapsed, processor and memory.
@@ -31,12 +41,73 @@ row() {
         }'
 }
 
-# build_json: proves and builds the program of bench/json, by which JSON values are made alone; sets json.
-build_json() {
-    mkdir -p "$room/json/crates/json_bench/src"
-    cp "$here/../HANDLES" "$room/json"
-    echo 'json_bench: serde_json' >"$room/json/crates.txt"
-    cp "$here/json/main.rs" "$room/json/crates/json_bench/src/main.rt"
-    (cd "$room/json/crates/json_bench" && rt run --jobs 1) </dev/null >"$room/built" 2>&1 || fail "$(cat "$room/built")"
-    json=$room/json/crates/json_bench/out/json_bench
+# has_valgrind: whether instructions can be counted. If not, says so.
+has_valgrind() {
+    command -v valgrind >/dev/null || { echo 'instructions are left out, since valgrind is not here' && false; }
+}
+
+# instructions INPUT COMMAND WORD..: how many it takes for the input. No load of the machine changes that.
+instructions() {
+    local input=$1
+    shift
+    valgrind --tool=callgrind --callgrind-out-file=/dev/null "$@" <"$input" 2>&1 >/dev/null |
+        sed -n 's/.*Collected : *\([0-9]*\).*/\1/p'
+}
+
+# per_byte INPUT COMMAND WORD..: the instructions for each byte of the input, without those of a start, which reads
+# nothing.
+per_byte() {
+    local input=$1
+    shift
+    awk -v all="$(instructions "$input" "$@")" -v start="$(instructions /dev/null "$@")" -v bytes="$(wc -c <"$input")" \
+        'BEGIN { if (all <= start) exit 1; printf "%.1f", (all - start) / bytes }' || fail 'no instructions are counted'
+}
+
+# count_instructions NAME INPUT WORD..: a line with those of the program.
+count_instructions() {
+    local name=$1 input=$2
+    shift 2
+    printf '%-26s %s instructions a byte\n' "$name" "$(per_byte "$input" "$program" "$@")"
+}
+
+# below CRATE..: these crates of the repository and those that they stand on, by crates.txt.
+below() {
+    awk -v wanted="$*" '
+        !/^#/ { name = $1; sub(/:$/, "", name); uses[name] = $0; order[++count] = name }
+        function take(name, words, n, i) {
+            if (!(name in uses) || name in taken) return
+            taken[name]
+            n = split(uses[name], words)
+            for (i = 2; i <= n; i++) take(words[i])
+        }
+        END {
+            n = split(wanted, names)
+            for (i = 1; i <= n; i++) take(names[i])
+            for (i = 1; i <= count; i++) if (order[i] in taken) print order[i]
+        }' "$here/../crates.txt"
+}
+
+# build NAME LIBRARY..: proves and builds the program of bench/NAME, which uses these libraries, in a tree of its own with
+# the crates that it needs; sets built. What the crates' own checks keep in out/ is copied too, so that a crate that is
+# proved is not proved again.
+build() {
+    local top=$room/$1 name=$1_bench main=$here/$1/main.rs crate
+    shift
+    mkdir -p "$top/crates/$name/src"
+    cp "$here/../HANDLES" "$top"
+    for crate in $(below "$@"); do
+        cp -r "$here/../crates/$crate" "$top/crates"
+        grep "^$crate:" "$here/../crates.txt" >>"$top/crates.txt"
+    done
+    echo "$name: $*" >>"$top/crates.txt"
+    cp "$main" "$top/crates/$name/src/main.rt"
+    (cd "$top/crates/$name" && rt run) </dev/null >"$room/said" 2>&1 || fail "$(cat "$room/said")"
+    built=$top/crates/$name/out/$name
+}
+
+# make_lines COUNT: so many telegrams and messages with their JSON lines, and the messages in lines of 127 bytes.
+make_lines() {
+    python3 "$here/packets.py" "$1" "$room/telegrams.json" >"$room/telegrams"
+    python3 "$here/messages.py" "$1" "$room/counts" "$room/messages.json" "$room/messages" >/dev/null
+    { tr -d '\n' <"$room/messages" | fold -w 254 && echo; } >"$room/cut"
 }

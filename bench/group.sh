@@ -6,25 +6,14 @@
 # telegram, which is refused as Order(1), the fastest of ten calls each; and the 512 readings of a group of
 # four pairs, read and assembled, of which 81 are accepted in each direction. The second line has to be at
 # most 13 times the first, and the third at most 2,000 microseconds, else the status is 1.
-#
-# What the crates' own checks keep in out/ is copied too, so that a tree that is proved is not proved again.
 set -euo pipefail
 
 here=$(cd "$(dirname "${BASH_SOURCE[0]}")" && pwd)
-room=$(mktemp -d)
-trap 'rm -rf "$room"' EXIT
+# shellcheck source=bench/common.sh
+. "$here/common.sh"
 
-mkdir "$room/crates"
-cp "$here/../HANDLES" "$room"
-for crate in etcs_bits etcs_profile etcs_packet etcs_telegram etcs_group; do
-    cp -r "$here/../crates/$crate" "$room/crates"
-    grep "^$crate:" "$here/../crates.txt" >>"$room/crates.txt"
-done
-mkdir -p "$room/crates/group_bench/src"
-cp "$here/group/main.rs" "$room/crates/group_bench/src/main.rt"
-echo 'group_bench: etcs_bits etcs_packet etcs_telegram etcs_group' >>"$room/crates.txt"
-
-(cd "$room/crates/group_bench" && rt run) | tee "$room/times"
+build group etcs_bits etcs_packet etcs_telegram etcs_group
+"$built" | tee "$room/times"
 awk '/telegrams: Order\(1\)/ { spent[++n] = $(NF - 1) }
      /^512 readings: 81 and 81 accepted/ { readings = $(NF - 1); read = 1 }
      END {
