@@ -98,7 +98,7 @@ def parsed(lines, names):
 def test_runs(tests):
     """Each run of runs.txt is answered as it says there."""
     (_, *lines), *others = blocks("runs.txt")
-    names = dict(line[1:].split(" ", 1) for line in lines)
+    names = {name: in_full(text) for name, text in (line[1:].split(" ", 1) for line in lines)}
     for name, *lines in others:
         every, given, wanted = parsed(lines, names)
         for words in every:
@@ -118,6 +118,8 @@ def test_greatest(tests):
                 tests.equal("the greatest message has 1,023 bytes", len(answer.stdout), 2 * 1023 + 1)
             else:
                 tests.equal("a bit more is too big", answer, answered("refused: line 1: too big\n"))
+    form = (EXAMPLES / "authority-with-profiles.json").read_text().replace('"user_bits":830', '"user_bits":210')
+    tests.equal("packets of a long telegram in a short one", run(("encode",), form), answered("refused: line 1: too big\n"))
 
 
 def test_streams(tests):
@@ -192,7 +194,7 @@ def test_devices(tests):
                          ("decode --radio", "030080"), ("encode", form), ("encode --radio", message),
                          ("check", '{"groups":[],"messages":[]}'), ("check", ""), ("help", "")):
         with open("/dev/full", "wb") as full:
-            answer = run(words.split(), input=given.encode(), stdout=full)
+            answer = run(words.split(), input=f"{given}\n".encode(), stdout=full)
         tests.equal(f"{words} of {given[:60]} into a full device", (answer.status, answer.stderr), stopped)
 
 
