@@ -18,7 +18,7 @@ from runner import DEVICE, EXAMPLES, MEMORY, TOP, Answer, Tests, answered, block
 TELEGRAM = filled("a1007f802000..f c0")
 FORM, MESSAGE = cases.answer(210, []), "03048000001900080021e810901ff801f400"
 AUTHORITY = json.loads((EXAMPLES / "radio-movement-authority.json").read_text())
-REPORT = "8807000000320000004000e480200081f450014002830832c00ed280"
+REPORT = json.loads((EXAMPLES / "radio-position-report.json").read_text())
 PAGE = TOP / "balisecheck.1"
 LEAST_CASES = 4831
 
@@ -107,10 +107,9 @@ def test_runs(tests):
 
 def test_greatest(tests):
     """The greatest message and the greatest report have 1,023 bytes; a bit more is refused."""
-    report = json.loads(run(("decode", "--radio"), f"{REPORT}\n").stdout)
     raw = {"nid_packet": 44, "q_dir": 2}
     for form, packets, head, most in ((AUTHORITY, [*AUTHORITY["packets"], raw], 23, 8020),
-                                      (report, [report["packets"][0], {"nid_packet": 44}], 21, 7975)):
+                                      (REPORT, [REPORT["packets"][0], {"nid_packet": 44}], 21, 7975)):
         for bits in (most, most + 1):
             last = {**packets[-1], "l_packet": bits + head, "body": "00" * ((bits + 7) // 8)}
             answer = run(("encode", "--radio"), json.dumps({**form, "packets": [*packets[:-1], last]}))

@@ -132,11 +132,11 @@ def test_line_ends(tests, commands):
 
 def test_mending(tests):
     """The rows of the table whose first cell is a file and whose last cell is a command."""
-    tests.equal("the good lines", run(("decode",), GOOD).stdout.splitlines()[-1], "refused: line 4: spare at 15 end 17")
+    tests.equal("the good lines", run(("decode",), GOOD).stdout.splitlines()[-1:], ["refused: line 4: spare at 15 end 17"])
     rows = dict(re.findall(r"(?m)^\| `(\w+\.txt)`.*\| `(.*mended\.txt)` \|$", (TOP / "docs/REFUSALS.md").read_text()))
     tests.equal("each file is in the table", sorted(rows), sorted(TO_MEND))
-    for name, command in rows.items():
-        tests.mends(name, command)
+    for name in rows.keys() & TO_MEND.keys():
+        tests.mends(name, rows[name])
     for code, mark, named in (("utf-16-be", b"\xfe\xff", "UTF-16 "), ("utf-16-le", b"", "UTF-16LE "), ("utf-16-be", b"", "UTF-16BE ")):
         tests.put({"utf16.txt": mark + GOOD.decode().encode(code)})
         tests.mends("utf16.txt", rows["utf16.txt"].replace("UTF-16 ", named))
@@ -174,8 +174,8 @@ def test_zeros(tests):
         good = (EXAMPLES / f"{name}.txt").read_text().strip()
         shifted = f"{int(good, 16) >> (6 if len(good) == 54 else 2):0{len(good)}x}"
         tests.put({"zeros.txt": f"{telegram}\n{shifted}\r\n{good}\n".encode()})
-        last = tests.shell("./balisecheck decode <zeros.txt")[0].splitlines()[-1]
-        tests.equal(f"zeros before {name}", last, "refused: line 2: pad bits set")
+        last = tests.shell("./balisecheck decode <zeros.txt")[0].splitlines()[-1:]
+        tests.equal(f"zeros before {name}", last, ["refused: line 2: pad bits set"])
         tests.writes("move_zeros 2 <zeros.txt", f"{telegram}\n{good}\n{good}\n")
     # where the telegram's last bits are zeros, no pad bit is set
     tests.put({"zeros.txt": b"02804001" + b"0" * 46 + b"\n"})
