@@ -5,11 +5,11 @@ writes. Nothing here asks the program: each answer stands in the files, or follo
 fields.
 """
 import json
-import pathlib
 import re
 import sys
 
-HERE = pathlib.Path(__file__).parent / "cases"
+from runner import blocks, filled
+
 SHORT, LONG, END_MARK = 210, 830, "11111111"
 # the header's variables after Q_UPDOWN: key, width, number of the telegram of group 1 in country 1
 HEADER = (("m_version", 7, 33), ("q_media", 1, 0), ("n_pig", 3, 0), ("n_total", 3, 0), ("m_dup", 2, 0),
@@ -110,16 +110,10 @@ def each_number(name, fields, form, allowed):
             yield f"{name}: {path} {number}", text((HEAD + bits + END_MARK).ljust(size, "1")), wanted
 
 
-def blocks(path):
-    """The blocks of lines between empty lines, without comments."""
-    lines = [line for line in path.read_text().split("\n") if not line.startswith("#")]
-    return [block.split("\n") for block in "\n".join(lines).strip("\n").split("\n\n")]
-
-
 def packets():
     """The packets of packets.txt, whole, with other digits and cut."""
     known = {}
-    for name, *lines in blocks(HERE / "packets.txt"):
+    for name, *lines in blocks("packets.txt"):
         ahead, fields, others, allowed, forms = "", [], [], [], []
         for line in map(str.strip, lines):
             if line.startswith("+ "):
@@ -137,15 +131,6 @@ def packets():
         yield from faults(name, ahead, fields, others)
         yield from each_number(name, fields, forms[-1], allowed)
         yield from cut(name, fields)
-
-
-def filled(line):
-    """The line, its dots replaced by digits up to a short or a long telegram."""
-    found = re.fullmatch(r"(\w*?)(\.{2,3})(\w) ?(.*)", line)
-    if not found:
-        return line
-    digits, dots, digit, end = found.groups()
-    return digits.ljust(52 if dots == ".." else 206, digit) + end
 
 
 def turned(name, bits, places, wanted):
@@ -280,24 +265,25 @@ def message_ends():
         yield f"an end mark, {left} ones and 16 zeros behind the packets", more, line, wanted
 
 
-def radio():
-    """Writes the cases of `--radio`; each with what `encode` writes for its JSON."""
-    for name, line, wanted, *again in blocks(HERE / "messages.txt"):
-        print(name, line, wanted, *(again or [line]), sep="\t")
-    for case in message_ends():
-        print(*case, sep="\t")
+def messages():
+    """The cases of `--radio`; each with what `encode` writes for its JSON."""
+    for name, line, wanted, *again in blocks("messages.txt"):
+        yield name, line, wanted, *(again or [line])
+    yield from message_ends()
+
+
+def telegrams():
+    """All other cases."""
+    for name, line, wanted in blocks("telegrams.txt"):
+        yield name, filled(line), wanted
+    for cases in (packets, each_header, no_digits, turned_bits, greatest_lists, last_bits):
+        yield from cases()
 
 
 def main():
     """Writes all cases."""
-    if sys.argv[1:] == ["--radio"]:
-        radio()
-        return
-    for name, line, wanted in blocks(HERE / "telegrams.txt"):
-        print(name, filled(line), wanted, sep="\t")
-    for cases in (packets, each_header, no_digits, turned_bits, greatest_lists, last_bits):
-        for case in cases():
-            print(*case, sep="\t")
+    for case in messages() if sys.argv[1:] == ["--radio"] else telegrams():
+        print(*case, sep="\t")
 
 
 if __name__ == "__main__":

@@ -10,21 +10,12 @@ BALISECHECK names the program. The last line is `the documents: N passed, M fail
 test failed.
 """
 import json
-import os
-import pathlib
 import re
-import subprocess
-import sys
 
-sys.dont_write_bytecode = True  # so that no folder of it comes into being beside the tests
-from cases import END_MARK, HEAD, LONG, blocks, spelled as bits_of, text  # noqa: E402
-from spelled import respelled, spelled  # noqa: E402
+from cases import END_MARK, HEAD, LONG, spelled, text
+from runner import EXAMPLES, TOP, Tests, answered, blocks, in_full, respelled, run
 
-HERE = pathlib.Path(__file__).resolve().parent
-TOP = HERE.parent
-FOLDER = TOP / "examples" / "check"
-PAGE = (TOP / "docs" / "FINDINGS.md").read_text()
-PROGRAM = os.environ.get("BALISECHECK", str(TOP / "crates" / "balisecheck" / "out" / "balisecheck"))
+FOLDER, PAGE = EXAMPLES / "check", (TOP / "docs" / "FINDINGS.md").read_text()
 MENDED = "-mended"
 RULES = range(1, 17)
 # messages, and how many of them with one bit turned are messages still
@@ -36,48 +27,26 @@ LAYOUTS = ("packet 0", "packet 5, one group", "packet 12, the shortest", "packet
            "packet 21, one element", "packet 27, one element", "packet 41, one level", "packet 254, nine bits")
 
 
-class Tests:
-    """How many tests passed and failed so far."""
-
-    def __init__(self):
-        self.passed, self.failed = 0, 0
-
-    def equal(self, name, found, wanted):
-        """A test that passes where what was found is what was wanted."""
-        if found == wanted:
-            self.passed += 1
-            return
-        self.failed += 1
-        print(f"failed: {name}\n  found:  {found!r}\n  wanted: {wanted!r}", file=sys.stderr)
-
-
 def answer(document):
-    """The status and the report of `check` of these bytes."""
-    run = subprocess.run([PROGRAM, "check"], input=document, capture_output=True, check=False)
-    return run.returncode, run.stdout.decode()
-
-
-def answered(report):
-    """The report, after the status that goes with it."""
-    return {"y": 0, "n": 1, "r": 2}[report[0]], report
+    """The answer of `check` to this document."""
+    return run(("check",), document)
 
 
 def test_cases(tests):
     """Each document is answered as it says; so are bytes that cannot stand in a line of text."""
-    for name, line, *report in blocks(HERE / "cases" / "documents.txt"):
-        document = spelled(line)
-        tests.equal(name, answer(document.encode()), answered("\n".join(report) + "\n"))
-        tests.equal(f"{name}, and a line end", answer(document.encode() + b"\r\n"), answered("\n".join(report) + "\n"))
+    for name, line, *report in blocks("documents.txt"):
+        document, wanted = in_full(line), answered("\n".join(report) + "\n")
+        tests.equal(name, answer(document), wanted)
+        tests.equal(f"{name}, and a line end", answer(f"{document}\r\n"), wanted)
         if report != ["refused: not JSON"]:
-            found = answer(respelled(document).encode())
-            tests.equal(f"{name}, spelled in another way", found, answered("\n".join(report) + "\n"))
+            tests.equal(f"{name}, spelled in another way", answer(respelled(document)), wanted)
     for document in (b"", b" ", b"\xff", b'{"groups":[],"messages":[]}\xff', b'{"groups":["\xff"],"messages":[]}'):
         tests.equal(f"{document} is no JSON", answer(document), answered("refused: not JSON\n"))
 
 
 def answer_to_message(digits):
     """The report of a document with this message alone."""
-    return answer(f'{{"groups":[],"messages":["{digits}"]}}'.encode())[1]
+    return answer(f'{{"groups":[],"messages":["{digits}"]}}').stdout
 
 
 def test_messages(tests):
@@ -94,7 +63,7 @@ def test_messages(tests):
 
 def one_of_each_layout():
     """Numbers, and digits of a packet of each layout; those with Q_DIR for the nominal direction."""
-    for name, *lines in blocks(HERE / "cases" / "packets.txt"):
+    for name, *lines in blocks("packets.txt"):
         if name in LAYOUTS:
             fields = [line.split()[0] for line in map(str.strip, lines) if line[0] in "01"]
             yield int(fields[0], 2), "".join(fields)
@@ -104,31 +73,31 @@ def test_directions(tests):
     """Where one balise of a pair has a packet, F8 names the directions of its Q_DIR; packet 0 is for both."""
     found = list(one_of_each_layout())
     tests.equal("a packet of each layout", [number for number, _ in found], [0, 5, 12, 15, 21, 27, 41, 254])
-    second = text((HEAD[:9] + bits_of((3, 1), (3, 1), (2, 2)) + HEAD[17:] + END_MARK).ljust(LONG, "1"))
+    second = text((HEAD[:9] + spelled((3, 1), (3, 1), (2, 2)) + HEAD[17:] + END_MARK).ljust(LONG, "1"))
     for number, bits in found:
         for q_dir, names in enumerate((("reverse",), ("nominal",), ("nominal", "reverse"))):
             if number == 0:
                 other, names = bits, ("nominal", "reverse")
             else:
-                other = bits[:8] + bits_of((2, q_dir)) + bits[10:]
-            head = HEAD[:9] + bits_of((3, 0), (3, 1), (2, 1)) + HEAD[17:]
+                other = bits[:8] + spelled((2, q_dir)) + bits[10:]
+            head = HEAD[:9] + spelled((3, 0), (3, 1), (2, 1)) + HEAD[17:]
             first = text((head + other + END_MARK).ljust(LONG, "1"))
-            report = answer(f'{{"groups":[{{"balises":["{first}","{second}"]}}],"messages":[]}}'.encode())[1]
-            wanted = [f"F8 group 0 balise 0 {run}: packets of duplicates differ" for run in names]
+            report = answer(f'{{"groups":[{{"balises":["{first}","{second}"]}}],"messages":[]}}').stdout
+            wanted = [f"F8 group 0 balise 0 {name}: packets of duplicates differ" for name in names]
             lines = [line for line in report.split("\n") if line.startswith("F8 ")]
             tests.equal(f"packet {number} with Q_DIR {q_dir} in one balise of a pair", lines, wanted)
 
 
 def test_many(tests):
     """A thousand groups, each the second balise of a pair, have 3,999 findings: the first has one less."""
-    balise = spelled("a1137f802000..f c0")
+    balise = in_full("a1137f802000..f c0")
     document = {"groups": [{"balises": [balise]} for _ in range(1000)], "messages": []}
     lines = ["no: findings 3999"]
     for group in range(1000):
         place = f"group {group} balise 0"
         lines += [f"F1 {place}: position wrong", f"F2 {place}: total wrong", f"F4 {place}: mark points outside"]
         lines += [f"F14 group {group}: identity used before"] * (group > 0)
-    tests.equal("a thousand groups", answer(json.dumps(document).encode()), answered("\n".join(lines) + "\n"))
+    tests.equal("a thousand groups", answer(json.dumps(document)), answered("\n".join(lines) + "\n"))
 
 
 def yes_of(document):
@@ -141,10 +110,10 @@ def test_answers(tests):
     """Each document has its report beside it; each mended one is answered by yes."""
     for document in sorted(FOLDER.glob("*.json")):
         if document.stem.endswith(MENDED):
-            tests.equal(document.name, answer(document.read_bytes()), (0, yes_of(document)))
+            tests.equal(document.name, answer(document.read_text()), answered(yes_of(document)))
         else:
             report = document.with_suffix(".txt").read_text()
-            tests.equal(document.name, answer(document.read_bytes()), answered(report))
+            tests.equal(document.name, answer(document.read_text()), answered(report))
 
 
 def test_one_aspect(tests):
@@ -152,8 +121,8 @@ def test_one_aspect(tests):
     for document in sorted(FOLDER.glob("*.json")):
         line = json.loads(document.read_text())
         line["groups"] = [group if "aspects" in group else {"aspects": [group]} for group in line["groups"]]
-        found = answer(json.dumps(line).encode())
-        tests.equal(f"{document.name} with one aspect in each group", found, answer(document.read_bytes()))
+        found = answer(json.dumps(line))
+        tests.equal(f"{document.name} with one aspect in each group", found, answer(document.read_text()))
 
 
 def examples():
@@ -194,19 +163,11 @@ def test_page(tests):
 
 def main():
     """Runs all tests."""
-    if not os.access(PROGRAM, os.X_OK):
-        sys.exit(f"tests/documents.py: no program at {PROGRAM}: build it, or name one by BALISECHECK")
     tests = Tests()
-    test_cases(tests)
-    test_messages(tests)
-    test_directions(tests)
-    test_many(tests)
-    test_answers(tests)
-    test_one_aspect(tests)
-    test_sections(tests)
-    test_page(tests)
-    print(f"the documents: {tests.passed} passed, {tests.failed} failed")
-    sys.exit(tests.failed > 0)
+    for test in (test_cases, test_messages, test_directions, test_many, test_answers, test_one_aspect, test_sections,
+                 test_page):
+        test(tests)
+    tests.end("the documents")
 
 
 if __name__ == "__main__":

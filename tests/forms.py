@@ -9,24 +9,16 @@ BALISECHECK names the program. The last line is `the forms: N passed, M failed`,
 failed.
 """
 import json
-import os
-import pathlib
-import subprocess
-import sys
-from typing import Iterator, Optional, Tuple
 
-sys.dont_write_bytecode = True  # so that no folder of it comes into being beside the tests
-from cases import FORM, blocks, filled  # noqa: E402
-from spelled import respelled, spelled  # noqa: E402
+from cases import FORM
+from runner import Tests, answered, blocks, filled, in_full, respelled, run
 
-HERE = pathlib.Path(__file__).resolve().parent
-PROGRAM = os.environ.get("BALISECHECK", str(HERE.parent / "crates" / "balisecheck" / "out" / "balisecheck"))
-Case = Tuple[str, Tuple[str, ...], str, str, Optional[str]]
-Test = Tuple[str, Tuple[int, str], Tuple[int, str]]
+LONE = ('{"m_dup":0,"m_mcount":255,"m_version":33,"n_pig":0,"n_total":0,"nid_bg":1,"nid_c":1,"packets":[',
+        '],"q_link":1,"user_bits":%d}')
 # what stands around packets: the telegram of a lone balise, message 3 before its packet 15, and message 136
 AROUND = {
-    "telegram": ('{"m_dup":0,"m_mcount":255,"m_version":33,"n_pig":0,"n_total":0,"nid_bg":1,"nid_c":1,"packets":[',
-                 '],"q_link":1,"user_bits":830}', ()),
+    "telegram": (LONE[0], LONE[1] % 830, ()),
+    "short": (LONE[0], LONE[1] % 210, ()),
     "movement": ('{"m_ack":0,"nid_bg":1,"nid_c":1,"nid_message":3,"packets":[',
                  ',{"end_speed":0,"end_timeout":1023,"l_endsection":1000,"nid_packet":15,"q_dir":1,"q_scale":1,'
                  '"sections":[]}],"t_train":100}', ("--radio",)),
@@ -36,45 +28,19 @@ AROUND = {
 }
 
 
-def run(words: Tuple[str, ...], line: str) -> Tuple[int, str]:
-    """The status and what is written, of this command on this line."""
-    ran = subprocess.run([PROGRAM, *words], input=f"{line}\n".encode(), capture_output=True, check=False)
-    return ran.returncode, ran.stdout.decode()
-
-
-def cases() -> Iterator[Case]:
-    """Each case: its name, the flag, the line in full, what is written for it, and what is decoded of that."""
-    for name, given, wanted, *decoded in blocks(HERE / "cases" / "forms.txt"):
-        first, rest = given.split(" ", 1)
-        before, after, flag = AROUND[first]
-        line = spelled(before + rest + after)
-        yield name, flag, line, filled(wanted), spelled(before + decoded[0] + after) if decoded else None
-
-
-def test(name: str, flag: Tuple[str, ...], line: str, wanted: str, decoded: Optional[str]) -> Iterator[Test]:
-    """The runs of a case: the name of each, what was found and what is wanted."""
-    refused = wanted.startswith("refused: ")
-    lines = [line] if wanted.endswith("not JSON") else [line, respelled(line)]
-    for one in lines:
-        found = run(("encode", *flag), one)
-        yield f"{name}: {one[:200]}", found, (2 if refused else 0, wanted + "\n")
-    if not refused:
-        form = decoded or FORM.encode(json.loads(line))
-        yield f"{name}, decoded", run(("decode", *flag), wanted), (0, form + "\n")
-
-
-def main() -> None:
+def main():
     """Runs all tests."""
-    if not os.access(PROGRAM, os.X_OK):
-        sys.exit(f"tests/forms.py: no program at {PROGRAM}: build it, or name one by BALISECHECK")
-    passed = failed = 0
-    for case in cases():
-        for name, found, wanted in test(*case):
-            passed, failed = passed + (found == wanted), failed + (found != wanted)
-            if found != wanted:
-                print(f"failed: {name}\n  found:  {found!r}\n  wanted: {wanted!r}", file=sys.stderr)
-    print(f"the forms: {passed} passed, {failed} failed")
-    sys.exit(failed > 0)
+    tests = Tests()
+    for name, given, wanted, *other in blocks("forms.txt"):
+        first, _, rest = given.partition(" ")
+        before, after, flag = AROUND[first]
+        line, wanted = in_full(before + rest + after), filled(wanted)
+        for one in [line] if wanted.endswith("not JSON") else [line, respelled(line)]:
+            tests.equal(f"{name}: {one}", run(("encode", *flag), f"{one}\n"), answered(f"{wanted}\n"))
+        if not wanted.startswith("refused: "):
+            form = in_full(before + other[0] + after) if other else FORM.encode(json.loads(line))
+            tests.equal(f"{name}, decoded", run(("decode", *flag), f"{wanted}\n"), answered(f"{form}\n"))
+    tests.end("the forms")
 
 
 if __name__ == "__main__":

@@ -1,21 +1,21 @@
-"""Whether these tests report a program that does wrong, and nothing of one that does not.
+"""Whether these tests report a program that does wrong, and nothing of one that does not: ten wrong programs.
 
-Two kinds of wrong programs stand in for the built one. A wrapper in shell starts it, and does one thing wrong in some
-of the runs; a process of its own tries it by `tests/hostile --few`. For failing memory and devices the answers of the
-disturbed runs are changed before they are judged, since the shim cannot part off a wrapper.
+Four are wrappers in shell, each of which starts the built program and does one thing wrong; a process of its own tries
+them by `tests/hostile --few`. Of the other six the answers of the program are changed before they are judged, since the
+shim cannot part off a wrapper.
 """
 import os
 import re
 import subprocess
 import sys
 
-from hostile_data import answers_to, come_back
-from hostile_failing import undisturbed
-from hostile_process import at_once, going_reader, long_document, system_devices, test_stack
-from hostile_program import HERE, PROGRAM, alone
-from hostile_runs import (CHECK, DECODE, DECODE_RADIO, ENCODE, ENCODE_RADIO, FORM, LONG, MESSAGE, MESSAGE_FORM, SHORT,
-                          TWO_ASPECTS)
-from hostile_wrong import PARTS, WRONG, WRONG_PROCESSES
+from hostile_data import answers_to, come_back, turned_bits
+from hostile_documents import turned_texts
+from hostile_failing import ends_in_between, failing_devices, refuse_each, undisturbed
+from hostile_process import at_once, system_devices, test_stack
+from hostile_program import ONE, Tests, alone
+from hostile_runs import CHECK, DECODE, DECODE_RADIO, ENCODE, ENCODE_RADIO, FORM, LONG, MESSAGE, MESSAGE_FORM, SHORT, TWO_ASPECTS
+from runner import DEVICE, HERE, Answer, program as built
 
 SECONDS = 2  # how long a run of a wrapper may take
 INPUTS = ((DECODE, f"{SHORT}\n{LONG}"), (DECODE, SHORT[:-1]), (ENCODE, FORM), (ENCODE, "{"), (DECODE_RADIO, MESSAGE),
@@ -27,27 +27,61 @@ program='{program}'
 [ {where} ] || exec "$program" "$@"
 {wrong}
 """
-EACH_THIRD, FIFTH = "$((count % 3)) = 1", "$count = 4"
-LITTLE_STACK, LITTLE_MEMORY = '"$(ulimit -s)" = 512', '"$(ulimit -v)" != unlimited'
-GOING_READER = '-n "$(grep -a "head -n 1" /proc/$PPID/cmdline)"'
-UNSEEN = """"$program" "$@" >"$0.out"; status=$?; cat "$0.out" 2>/dev/null; exit $status"""
-ALONE = """mkdir "$0.lock" 2>/dev/null || exec "$program" help
-"$program" "$@"; status=$?; sleep 0.05; rmdir "$0.lock"; exit $status"""
-# what a wrapper does wrong, and in which runs; the text is written again with its own status where it is changed
-CHANGED = """"$program" "$@" >"$0.out"; status=$?; sed '{}' "$0.out"; exit $status"""
+# where a wrapper is wrong, and what it does there
 WRAPPERS = {
-    "a byte": (EACH_THIRD, CHANGED.format("s/0/1/")),
-    "the last line is lost": (EACH_THIRD, CHANGED.format("$d")),
-    "a line too many": (EACH_THIRD, CHANGED.format("$p")),
-    "the status": (EACH_THIRD, '"$program" "$@"; exit $(($? + 1))'),
-    "a message": (EACH_THIRD, '"$program" "$@"; status=$?; echo a message >&2; exit $status'),
-    "a signal": (EACH_THIRD, "kill -SEGV $$"),
-    "a hang": (FIFTH, "exec sleep 100"),
-    "a full device unseen": ("1 = 1", UNSEEN),
-    "the other one of two at once": ("1 = 1", ALONE),
-    "a signal with little stack": (LITTLE_STACK, "kill -SEGV $$"),
-    "no room for a long document": (LITTLE_MEMORY, 'echo "balisecheck: memory" >&2; exit 3'),
-    "a wait once the reader has gone": (GOING_READER, '"$program" "$@"; exec sleep 100'),
+    "a byte": ("$((count % 3)) = 1", """"$program" "$@" >"$0.out"; status=$?; sed s/0/1/ "$0.out"; exit $status"""),
+    "a hang": ("$count = 4", "exec sleep 100"),
+    "a full device unseen": ("1 = 1", """"$program" "$@" >"$0.out"; status=$?; cat "$0.out" 2>/dev/null; exit $status"""),
+    "a signal with little stack": ('"$(ulimit -s)" = 512', "kill -SEGV $$"),
+}
+YES, RECORD = Answer(0, "yes: groups 1, messages 0\n", ""), Answer(0, FORM + "\n", "")
+DOCUMENTS = [("two aspects", TWO_ASPECTS.encode())]
+
+
+def is_disturbed(_, counts):
+    """Whether a request was refused, or a call has failed."""
+    return counts.refused + counts.failed_reads + counts.failed_writes > 0
+
+
+def with_no_end(job, answer, counts):
+    """One that answers by a status although a call failed, after more than a beginning of the text."""
+    return (answer._replace(status=0, stdout=answer.stdout + "x") if is_disturbed(job, counts) else answer), counts
+
+
+def with_device(job, answer, counts):
+    """One that says `device` where memory is refused."""
+    return (answer._replace(stderr=DEVICE) if is_disturbed(job, counts) else answer), counts
+
+
+def reads_on(_, answer, counts):
+    """One that reads once more."""
+    return answer, counts._replace(reads=counts.reads + 1)
+
+
+def takes_all(job, answer, counts):
+    """One that reads a telegram from what it refused with one bit turned, if another bit is turned too."""
+    turned = [one for one, other in zip(job.data.decode(), SHORT) if one != other]
+    return (RECORD if answer.status == 2 and len(turned) == 2 else answer), counts
+
+
+def says_yes(_, answer, counts):
+    """One that says yes to each document."""
+    return YES, counts
+
+
+def is_slow(job, answer, counts):
+    """One that is slow at an input."""
+    return answer, counts._replace(nanoseconds=10 ** 9 if job.data == LONG.encode() else counts.nanoseconds)
+
+
+# the parts of these tests that judge such a program, given runs of which the answers are known
+WRONG = {
+    with_no_end: failing_devices,
+    with_device: lambda program, tests, known: refuse_each(program, tests, known, ONE),
+    reads_on: ends_in_between,
+    takes_all: lambda program, tests, _: turned_bits(program, tests, DECODE, ENCODE, SHORT, 97),
+    says_yes: lambda program, tests, _: turned_texts(program, tests, DOCUMENTS, 7, 31),
+    is_slow: lambda program, tests, _: answers_to(program, tests, DECODE, [SHORT] * 9 + [LONG]),
 }
 
 
@@ -57,19 +91,16 @@ def few(program, tests):
         answers_to(program, tests, words, [line])
     come_back(program, tests, DECODE, ENCODE, [FORM, FORM.replace('"n_pig":0', '"n_pig":1')])
     come_back(program, tests, DECODE_RADIO, ENCODE_RADIO, [MESSAGE_FORM])
-    runs = [(words, line.encode()) for words, line in INPUTS]
-    known = [(run, alone(*run)) for run in runs]
+    known = [((words, line.encode()), alone(words, line.encode())) for words, line in INPUTS]
     at_once(program, tests, known)
     system_devices(tests, known[:1])
     test_stack(tests, known[:1])
-    long_document(tests, 500)
-    going_reader(tests)
 
 
 def reported(program, name, where, wrong):
     """How many tests failed of a program that is wrong there, or nothing where no number was given."""
     wrapper = program.room / name.replace(" ", "-")
-    wrapper.write_text(WRAPPER.format(program=PROGRAM, where=where, wrong=wrong))
+    wrapper.write_text(WRAPPER.format(program=built(), where=where, wrong=wrong))
     wrapper.chmod(0o755)
     said = {**os.environ, "BALISECHECK": str(wrapper), "CC": "none", "HOSTILE_SECONDS": str(SECONDS)}
     ran = subprocess.run([sys.executable, HERE / "hostile", "--few"], env=said, capture_output=True, text=True,
@@ -89,52 +120,22 @@ class Changed:
         return [self.change(job, *found) for job, found in zip(jobs, self.program.play(jobs))]
 
 
-def wrong_wrappers(program, tests):
-    """Each wrapper is reported, and the one that does nothing wrong is not."""
-    tests.equal("control: a wrapper that is never wrong", reported(program, "nothing", "1 = 0", ""), 0)
-    for name, (where, wrong) in WRAPPERS.items():
-        failed = reported(program, name, where, wrong)
-        tests.figures["wrong programs that were reported"] += bool(failed)
-        tests.holds(f"control: {name} is wrong, and this is reported", bool(failed), failed)
-
-
-def judged_by(tests, judge):
-    """How many tests fail in a part, apart from those that are counted here."""
-    judged = type(tests)(shown=0)
-    judge(judged)
-    return judged.failed
-
-
-def right_answers(program, tests, known):
-    """No part reports the program as it is."""
-    for part, judge in PARTS.items():
-        failed = judged_by(tests, lambda judged, judge=judge: judge(program, judged, known))
-        tests.equal(f"control: {part}, and nothing is wrong", failed, 0)
-
-
-def wrong_answers(program, tests, known):
-    """Each program that answers wrongly is reported."""
-    for name, part, change in WRONG:
-        changed = Changed(program, change)
-        failed = judged_by(tests, lambda judged, part=part, changed=changed: PARTS[part](changed, judged, known))
-        tests.figures["wrong programs that were reported"] += failed > 0
-        tests.holds(f"control: {part} reports {name}", failed > 0)
-
-
-def wrong_processes(tests):
-    """Each process that answers wrongly without a shim is reported."""
-    for name, judge in WRONG_PROCESSES:
-        failed = judged_by(tests, judge)
-        tests.figures["wrong programs that were reported"] += failed > 0
-        tests.holds(f"control: {name} is reported", failed > 0)
+def judged(program, judge, known):
+    """How many tests of a part fail of this program."""
+    tests = Tests(shown=0)
+    judge(program, tests, known)
+    return tests.failed
 
 
 def control(program, tests, whole=True):
-    """All of the above, as in the gate."""
+    """Each wrong program is reported, and the right one is not."""
     del whole
-    wrong_wrappers(program, tests)
-    wrong_processes(tests)
+    tests.equal("control: a wrapper that is never wrong", reported(program, "nothing", "1 = 0", ""), 0)
+    for name, (where, wrong) in WRAPPERS.items():
+        failed = reported(program, name, where, wrong)
+        tests.holds(f"control: {name} is wrong, and this is reported", bool(failed), failed)
     if program.shim is not None:
         known = undisturbed(program, tests, [("decode", DECODE, SHORT.encode())])
-        right_answers(program, tests, known)
-        wrong_answers(program, tests, known)
+        for change, judge in WRONG.items():
+            tests.equal(f"control: before {change.__name__}", judged(program, judge, known), 0)
+            tests.holds(f"control: {change.__name__} is reported", judged(Changed(program, change), judge, known) > 0)

@@ -4,7 +4,7 @@ import os
 import subprocess
 import sys
 
-from hostile_program import DEVICE, HERE, MEMORY, PROGRAM, SECONDS, Answer, Job, alone, stops
+from hostile_program import DEVICE, HERE, MEMORY, SECONDS, Answer, Job, alone, program as built, stops
 from hostile_runs import (CHECK, COMMANDS, DECODE, DECODE_RADIO, ENCODE, ENCODE_RADIO, FORM, MESSAGE, SHORT, long_runs,
                           runs)
 
@@ -112,7 +112,7 @@ def system_devices(tests, known):
 def going_reader(tests):
     """A reader of the pipe that goes away after the first line. The program ends too, and doesn't wait for another."""
     lines = (SHORT + "\n").encode() * 10000
-    ran = alone(["-c", '"$0" decode | head -n 1', PROGRAM], lines, program="sh")
+    ran = alone(["-c", '"$0" decode | head -n 1', built()], lines, path="sh")
     tests.equal("a reader that goes away", (ran.status, ran.stdout), (0, FORM + "\n"))
 
 
@@ -131,7 +131,7 @@ def at_once(program, tests, known):
         file = program.room / "input"
         file.write_bytes(data)
         pipe = subprocess.PIPE
-        both = [subprocess.Popen([PROGRAM, *words], stdin=file.open("rb"), stdout=pipe, stderr=pipe) for _ in range(2)]
+        both = [subprocess.Popen([built(), *words], stdin=file.open("rb"), stdout=pipe, stderr=pipe) for _ in range(2)]
         for run in both:
             out, err = said_by(run)
             tests.figures["runs beside another on the same input"] += 1

@@ -9,9 +9,8 @@ import subprocess
 import sys
 import tempfile
 
-HERE = pathlib.Path(__file__).resolve().parent
-PROGRAM = os.environ.get("BALISECHECK", str(HERE.parent / "crates" / "balisecheck" / "out" / "balisecheck"))
-MEMORY, DEVICE = "balisecheck: memory\n", "balisecheck: device\n"
+from runner import DEVICE, HERE, MEMORY, Answer, Tests, program  # noqa: F401  (others take them from here)
+
 # how the shim refuses requests for memory, and how its devices fail; the names are those of hostile_shim.c
 NOTHING, ONE, FROM, EACH_NTH, ONE_IN_N = range(5)
 INTERRUPTED, EACH_INTERRUPTED, TAKES_NONE = 3, 4, 5
@@ -21,7 +20,6 @@ SECONDS = int(os.environ.get("HOSTILE_SECONDS", "60"))  # how long a run may tak
 Device = collections.namedtuple("Device", "failing call piece", defaults=(NOTHING, 0, 0))
 Job = collections.namedtuple("Job", "words data refused request seed reader writer seconds",
                              defaults=(NOTHING, 1, 0, Device(), Device(), SECONDS))
-Answer = collections.namedtuple("Answer", "status stdout stderr")
 Counts = collections.namedtuple("Counts", "requests refused reads failed_reads writes failed_writes nanoseconds")
 
 
@@ -33,10 +31,8 @@ def status_of(waited):
 class Program:
     """The built program, or another one. Its runs are counted."""
 
-    def __init__(self, path=PROGRAM):
-        if not os.access(path, os.X_OK):
-            sys.exit(f"tests/hostile: no program at {path}: build it, or name one by BALISECHECK")
-        self.path = path
+    def __init__(self, path=None):
+        self.path = path or program()
         self.room = pathlib.Path(tempfile.mkdtemp(prefix="hostile-"))
         self.runs = 0
         self.shim = self.compiled()
@@ -69,7 +65,7 @@ class Program:
         """The answers to jobs with the same words."""
         self.runs += len(jobs)
         if self.shim is None:
-            return [(alone(words, job.data, job.seconds, program=self.path), None) for job in jobs]
+            return [(alone(words, job.data, job.seconds, path=self.path), None) for job in jobs]
         with open(self.room / "jobs", "wb") as file:
             for job in jobs:
                 head = len(job.data), job.seconds, job.refused, job.request, job.seed, *job.reader, *job.writer
@@ -91,35 +87,15 @@ def parted(answers, stdout, stderr):
         out, err = out_end, err_end
 
 
-def alone(words, data, seconds=SECONDS, limits="", program=PROGRAM, **files):
+def alone(words, data, seconds=SECONDS, limits="", path=None, **files):
     """The answer of a process without a shim, after these lines of a shell. One that takes too long is killed."""
-    command = ["sh", "-c", f'{limits} exec "$0" "$@"', program, *words] if limits else [program, *words]
+    command = [path or program(), *words]
+    command = ["sh", "-c", f'{limits} exec "$0" "$@"', *command] if limits else command
     try:
         ran = subprocess.run(command, input=data, timeout=seconds, check=False, **(files or {"capture_output": True}))
     except subprocess.TimeoutExpired as late:
         return Answer(-signal.SIGALRM, (late.stdout or b"").decode("latin-1"), (late.stderr or b"").decode("latin-1"))
     return Answer(ran.returncode, (ran.stdout or b"").decode("latin-1"), (ran.stderr or b"").decode("latin-1"))
-
-
-class Tests:
-    """How many tests passed and failed so far, and what was counted besides."""
-
-    def __init__(self, shown=100):
-        self.passed, self.failed, self.shown = 0, 0, shown
-        self.figures = collections.Counter()
-
-    def holds(self, name, holds, *seen):
-        """A test. The first ones that fail are shown."""
-        if holds:
-            self.passed += 1
-            return
-        self.failed += 1
-        if self.failed <= self.shown:
-            print(f"failed: {name}", *(f"  {str(one)[:1000]!r}" for one in seen), sep="\n", file=sys.stderr)
-
-    def equal(self, name, found, wanted):
-        """A test that passes where what was found is what was wanted."""
-        self.holds(name, found == wanted, f"found:  {found}", f"wanted: {wanted}")
 
 
 def stops(answer, wanted, stderr):

@@ -1,11 +1,10 @@
 """The runs that are disturbed: words and input of each. Nothing of them is random."""
 import re
 
-from cases import answer, blocks, filled, greatest_lists
+from cases import answer, greatest_lists
 from hostile_lists import long_inputs, radio_messages, telegrams
-from hostile_program import HERE
+from runner import EXAMPLES, blocks, filled, in_full
 
-EXAMPLES = HERE.parent / "examples"
 DECODE, ENCODE, CHECK = ("decode",), ("encode",), ("check",)
 DECODE_RADIO, ENCODE_RADIO = ("decode", "--radio"), ("encode", "--radio")
 COMMANDS = (DECODE, ENCODE, CHECK, DECODE_RADIO, ENCODE_RADIO)
@@ -26,9 +25,8 @@ RAW = '{"nid_packet":44,"q_dir":2,"l_packet":%d,"body":"%s"}'
 
 def documents():
     """Each document of the tests and of the examples."""
-    for name, line, *_ in blocks(HERE / "cases" / "documents.txt"):
-        line = re.sub(r"<(.*?) (\d+)>", lambda found: found[1] * int(found[2]), line)
-        yield name, re.sub(r"\w+\.{2,3}\w \w*", lambda found: filled(found[0]), line).encode()
+    for name, line, *_ in blocks("documents.txt"):
+        yield name, in_full(line).encode()
     yield "two aspects", TWO_ASPECTS.encode()
     yield "two aspects that differ in their marks and are not told apart", MIXED_UP.encode()
     for file in sorted((EXAMPLES / "check").glob("*.json")):
@@ -39,7 +37,7 @@ def documents():
 
 def refused_documents():
     """A document of each telegram and each message that is refused."""
-    for name, line, why in blocks(HERE / "cases" / "telegrams.txt"):
+    for name, line, why in blocks("telegrams.txt"):
         if why.startswith("refused"):
             yield f"a group of {name}", ('{"groups":[{"balises":["%s"]}],"messages":[]}' % filled(line)).encode()
     for name, line in faulty_messages():
@@ -82,7 +80,7 @@ def decodes():
     yield "a text that is not hexadecimal", SHORT[:-1]
     yield "a text of a wrong size", SHORT + "00"
     yield "a telegram, and one with its pad bits set", f"{SHORT}\n{SHORT[:-1]}1"
-    for name, line, why in blocks(HERE / "cases" / "telegrams.txt"):
+    for name, line, why in blocks("telegrams.txt"):
         if why.startswith("refused"):
             yield name, filled(line)
 

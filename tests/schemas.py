@@ -4,26 +4,20 @@
 All examples have to be valid. Then forms and documents are made of the examples, each with one thing changed. What the
 program accepts has to be valid, and what it refuses for a reason that a schema can tell must not be.
 
-BALISECHECK names the program; the second part is left out where it lacks the command, and all but the look at the
-files where python has no `jsonschema`. The last line is `the schemas: N passed, M failed`, and the exit status is 1 if
-a test failed.
+BALISECHECK names the program. All but the look at the files is left out where python has no `jsonschema`. The last
+line is `the schemas: N passed, M failed`, and the exit status is 1 if a test failed.
 """
 import copy
 import json
-import os
-import pathlib
 import re
-import subprocess
-import sys
+
+from runner import EXAMPLES, TOP, Tests, run
 
 try:
     import jsonschema
 except ImportError:
     jsonschema = None
 
-TOP = pathlib.Path(__file__).resolve().parent.parent
-EXAMPLES = TOP / "examples"
-PROGRAM = os.environ.get("BALISECHECK", str(TOP / "crates" / "balisecheck" / "out" / "balisecheck"))
 SCHEMAS = {name: json.loads((TOP / "schemas" / f"{name}.json").read_text())
            for name in ("telegram", "message", "line")}
 VALIDATORS = {name: jsonschema and jsonschema.Draft202012Validator(schema) for name, schema in SCHEMAS.items()}
@@ -36,35 +30,6 @@ UNTOLD_FORM = re.compile(r"refused: line 1: (?:form range at (?:.*/body|/packets
 UNTOLD_TEXT = re.compile(r"refused: (?:group \d+: aspects"
                          r"|(?:group \d+(?: aspect \d+)? balise \d+|message \d+): (?:short|spare|length|no ).*)\n")
 SPARE_MARK, NO_ASPECTS = "spare at 15 end 17\n", '"aspects": []'
-
-
-class Tests:
-    """How many tests passed and failed so far."""
-
-    def __init__(self):
-        self.passed, self.failed = 0, 0
-
-    def holds(self, fact, name):
-        """A test that passes where the fact holds."""
-        if fact:
-            self.passed += 1
-            return
-        self.failed += 1
-        print(f"failed: {name}", file=sys.stderr)
-
-
-def run(words, text):
-    """The status and the output of the program."""
-    done = subprocess.run([PROGRAM, *words], input=text.encode(), capture_output=True, check=False)
-    return done.returncode, done.stdout.decode()
-
-
-def has_command(*words):
-    """Whether the program has the command; says so where it has not."""
-    there = os.access(PROGRAM, os.X_OK) and not run(words, "")[1].startswith("refused: usage")
-    if not there:
-        print(f"not tried, since the program has no `{' '.join(words)}`", file=sys.stderr)
-    return there
 
 
 def is_valid(name, value):
@@ -176,28 +141,28 @@ def changed(values):
 def test_files(tests):
     """What the schemas of telegrams and messages share is the same in both."""
     shared = SCHEMAS["telegram"]["$defs"]
-    tests.holds(all(SCHEMAS["message"]["$defs"].get(name) == shared[name] for name in shared), "shared definitions")
+    tests.holds("shared definitions", all(SCHEMAS["message"]["$defs"].get(name) == shared[name] for name in shared))
 
 
 def test_examples(tests):
     """The schemas are schemas, and each example is valid."""
     for name, schema in SCHEMAS.items():
-        tests.holds(not list(jsonschema.Draft202012Validator(jsonschema.Draft202012Validator.META_SCHEMA)
-                             .iter_errors(schema)), f"{name} is a schema")
+        meta = jsonschema.Draft202012Validator(jsonschema.Draft202012Validator.META_SCHEMA)
+        tests.holds(f"{name} is a schema", meta.is_valid(schema))
     for name, values in (("telegram", telegrams()), ("message", messages()), ("line", documents())):
         for value in values:
-            tests.holds(is_valid(name, value), f"valid: {json.dumps(value)}")
+            tests.holds(f"valid: {json.dumps(value)}", is_valid(name, value))
 
 
 def test_changed(tests, name, words, values, untold):
     """What the program accepts is valid; what it refuses is not, but for what no schema can tell."""
     for value in changed(values):
         text = json.dumps(value)
-        status, said = run(words, text)
+        status, said, _ = run(words, text)
         told = said.endswith(SPARE_MARK) or NO_ASPECTS in text
         if status == 2 and untold.fullmatch(said) and not told:
             continue
-        tests.holds(is_valid(name, value) == (status < 2), f"{' '.join(words)} says {said.strip()[:90]} of {text}")
+        tests.holds(f"{' '.join(words)} of {text}", is_valid(name, value) == (status < 2), said)
 
 
 def main():
@@ -205,18 +170,14 @@ def main():
     tests = Tests()
     test_files(tests)
     if jsonschema is None:
-        print("only the files were looked at, since python has no jsonschema", file=sys.stderr)
+        print("the schemas: all but the files is left out, since python has no jsonschema")
     else:
         test_examples(tests)
-        if has_command("encode"):
-            test_changed(tests, "telegram", ["encode"], telegrams(), UNTOLD_FORM)
-        if has_command("encode", "--radio"):
-            test_changed(tests, "message", ["encode", "--radio"], messages(), UNTOLD_FORM)
-        if has_command("check"):
-            lines = [*documents("sound-line"), *documents("controlled-group")]
-            test_changed(tests, "line", ["check"], lines, UNTOLD_TEXT)
-    print(f"the schemas: {tests.passed} passed, {tests.failed} failed")
-    sys.exit(tests.failed > 0)
+        test_changed(tests, "telegram", ["encode"], telegrams(), UNTOLD_FORM)
+        test_changed(tests, "message", ["encode", "--radio"], messages(), UNTOLD_FORM)
+        lines = [*documents("sound-line"), *documents("controlled-group")]
+        test_changed(tests, "line", ["check"], lines, UNTOLD_TEXT)
+    tests.end("the schemas")
 
 
 if __name__ == "__main__":

@@ -50,14 +50,11 @@ def test_texts_of_the_repository() -> None:
 
 
 def test_texts_of_program_tests() -> None:
-    text = (TOP / "tests/program.sh").read_text("utf-8")
-    whys = re.findall(r"refuses_(?:form|message|stream) '([^']+)'", text)
-    whys += re.findall(r"^(form [a-z ]+ at \S+)\t", text, re.MULTILINE)
-    whys += [re.split(r"'|\"|\\n", why)[0] for why in re.findall(r"refused: ((?:line|message) [0-9].*)", text)]
-    assert len(whys) >= 40
-    for why in (why for why in whys if "$" not in why):
-        line = f"refused: {why}" if why.startswith(("line ", "message ")) else f"refused: line 1: {why}"
-        assert known(line), line
+    runs = (TOP / "tests/cases/runs.txt").read_text("utf-8")
+    forms = (TOP / "tests/cases/forms.txt").read_text("utf-8")
+    lines = re.findall(r"^(?:> )?(refused: .*)$", runs + forms, re.MULTILINE)
+    assert len(lines) >= 180
+    assert [line for line in lines if not known(line) and "usage" not in line] == []
 
 
 def test_document_has_the_grammar() -> None:

@@ -1,20 +1,32 @@
-"""Random and mutated inputs, without an answer that is known beforehand.
+#!/usr/bin/env python3
+"""Random and mutated inputs for every command, without an answer that is known beforehand.
+
+    bench/fuzz.py --seconds S [--seed N]   for S seconds in all
+    bench/fuzz.py --inputs M [--seed N]    M inputs a command; --command WORDS: of this command alone
 
 Lines are packed into one process up to the first one that is refused, and the rest goes into the next process: a line
 is an input, and each is answered by itself. Documents, and streams whose messages may be cut anywhere, have a process
-each. The inputs depend on the seed and on what the program answered alone; the clock only says when they end.
+each. The inputs depend on the seed and on what the program answered alone; the clock only says when they end. A failed test is
+an answer that no document names, a record that does not come back, or an input that is slow for its length. BALISECHECK
+names the program. The last line is `random inputs: N passed, M failed`.
 """
+import argparse
 import json
+import pathlib
 import random
 import re
+import sys
 import time
 
-from hostile_data import come_back, timed
-from hostile_documents import TEXT, records_in
-from hostile_program import Job
-from hostile_runs import (CHECK, COMMANDS, DECODE, DECODE_RADIO, ENCODE, ENCODE_RADIO, decodes, documents, encodes,
-                          messages, streams)
-from hostile_texts import is_documented
+sys.dont_write_bytecode = True  # so that no folder of it comes into being beside the tests
+sys.path.insert(0, str(pathlib.Path(__file__).resolve().parents[1] / "tests"))
+
+from hostile_data import come_back, timed  # noqa: E402  (the path comes first)
+from hostile_documents import TEXT, records_in  # noqa: E402
+from hostile_program import Job, Program, Tests  # noqa: E402
+from hostile_runs import (CHECK, COMMANDS, DECODE, DECODE_RADIO, ENCODE, ENCODE_RADIO, decodes, documents,  # noqa: E402
+                          encodes, messages, streams)
+from hostile_texts import is_documented  # noqa: E402
 
 OTHER = {DECODE: ENCODE, ENCODE: DECODE, DECODE_RADIO: ENCODE_RADIO, ENCODE_RADIO: DECODE_RADIO}
 NUMBERS = (b"0", b"1", b"2", b"3", b"7", b"31", b"32", b"120", b"127", b"255", b"1023", b"8191", b"32767", b"65536",
@@ -214,3 +226,25 @@ def fuzz(program, tests, seconds, seed, inputs=None, commands=COMMANDS):
         refused = tests.figures[f"{name}: refused"]
         print(f"{name}: {tried} inputs in {program.runs - runs} processes, {refused} refused, "
               f"{tried / spent:.0f} a second, seed {seed}", flush=True)
+
+
+def main():
+    """Runs what the command line says."""
+    parser = argparse.ArgumentParser(description="Random inputs for the built program.")
+    parser.add_argument("--seconds", type=float, default=60, help="so long in all, 60 if not given")
+    parser.add_argument("--inputs", type=int, help="so many inputs a command")
+    parser.add_argument("--seed", type=int, default=1, help="of the inputs, 1 if not given")
+    parser.add_argument("--command", choices=[" ".join(words) for words in COMMANDS], help="of this command alone")
+    said, program, tests = parser.parse_args(), Program(), Tests()
+    try:
+        commands = [words for words in COMMANDS if said.command in (None, " ".join(words))]
+        fuzz(program, tests, said.seconds, said.seed, said.inputs, commands)
+    finally:
+        program.close()
+    for name, number in tests.figures.items():
+        print(f"{number} {name}")
+    tests.end("random inputs")
+
+
+if __name__ == "__main__":
+    main()

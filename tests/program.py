@@ -1,0 +1,222 @@
+#!/usr/bin/env python3
+"""Tests of the built program from outside: what no contract can speak of. Words, standard input and output, standard
+error, exit status, devices that fail and memory that ends. What is written for telegrams, messages and whole runs is
+data: examples/, and tests/cases, of which cases.py makes lines.
+
+BALISECHECK names the program. The last line is `the program: N passed, M failed`, and the exit status is 1 if a test
+failed.
+"""
+import json
+import re
+import shlex
+import shutil
+import subprocess
+
+import cases
+from runner import DEVICE, EXAMPLES, MEMORY, TOP, Answer, Tests, answered, blocks, filled, in_full, program, respelled, run
+
+TELEGRAM = filled("a1007f802000..f c0")
+FORM, MESSAGE = cases.answer(210, []), "03048000001900080021e810901ff801f400"
+AUTHORITY = json.loads((EXAMPLES / "radio-movement-authority.json").read_text())
+REPORT = json.loads((EXAMPLES / "radio-position-report.json").read_text())
+PAGE = TOP / "balisecheck.1"
+LEAST_CASES = 4831
+
+
+def decoded(line):
+    """What is written for one line."""
+    return run(("decode",), f"{line}\n")
+
+
+def test_cases(tests):
+    """The telegrams of the cases in one run; the lines that are refused in one run each, since the first ends a run."""
+    found = list(cases.telegrams())
+    tests.holds("there are as many cases as ever", len(found) >= LEAST_CASES, len(found))
+    accepted = [case for case in found if not case[2].startswith("refused: ")]
+    answer = run(("decode",), "".join(f"{line}\n" for _, line, _ in accepted))
+    tests.equal("the telegrams of the cases", (answer.status, answer.stderr), (0, ""))
+    written = answer.stdout.splitlines()
+    tests.equal("a line for each telegram", len(written), len(accepted))
+    for (name, _, wanted), line in zip(accepted, written):
+        tests.equal(name, line, wanted)
+    for name, line, wanted in found:
+        if wanted.startswith("refused: "):
+            tests.equal(name, decoded(line), answered(f"{wanted}\n"))
+    forms = "".join(f"{wanted}\n" for *_, wanted in accepted)
+    tests.lines("the forms of the cases", run(("decode",), run(("encode",), forms).stdout).stdout, forms)
+
+
+def test_bytes(tests):
+    """Bytes that stand in no line of text, each at each place of a telegram."""
+    for byte in (b"\0", b"\xff"):
+        for place in range(54):
+            line = TELEGRAM[:place].encode() + byte + TELEGRAM[place + 1:].encode()
+            tests.equal(f"{byte} as digit {place}", run(("decode",), line), answered("refused: line 1: not hexadecimal\n"))
+
+
+def test_messages(tests):
+    """All radio messages of the cases in one stream, and their forms, each with the text that it is written as."""
+    found = list(cases.messages())
+    tests.holds("there are as many messages as ever", len(found) >= 34, len(found))
+    _, texts, forms, again = ["".join(f"{it}\n" for it in column) for column in zip(*found)]
+    tests.lines("the radio messages of the cases", run(("decode", "--radio"), texts).stdout, forms)
+    tests.lines("the forms of the radio messages", run(("encode", "--radio"), forms).stdout, again)
+
+
+def test_examples(tests):
+    """Each example decodes to the lines beside it, and these encode to it, also in another spelling."""
+    for path in sorted(EXAMPLES.glob("*.json")):
+        flag = ["--radio"] * path.name.startswith("radio-")
+        text, forms = path.with_suffix(".txt").read_text(), path.read_text()
+        others = "".join(f"{respelled(line)}\n" for line in forms.splitlines())
+        tests.equal(f"the example {path.stem}", run(("decode", *flag), text), answered(forms))
+        tests.equal(f"the form of the example {path.stem}", run(("encode", *flag), forms), answered(text))
+        tests.equal(f"the form of the example {path.stem}, spelled in another way", run(("encode", *flag), others), answered(text))
+    for name, said in (("pad-bits-set", f"{FORM}\nrefused: line 3: pad bits set\n"), ("spare-mark", "refused: line 1: spare at 15 end 17\n")):
+        tests.equal(f"the example {name}", run(("decode",), (EXAMPLES / f"{name}.txt").read_text()), answered(said))
+
+
+def parsed(lines, names):
+    """The words, the input and the answer of a block of runs.txt."""
+    words, given, out, err = [], b"", "", ""
+    for line in lines:
+        mark, _, rest = re.sub(rf"@({'|'.join(names)})", lambda found: names[found[1]], line).partition(" ")
+        rest = in_full(rest)
+        if mark == "$":
+            words.append(shlex.split(rest))
+        elif mark in ("<", "<<"):
+            given += rest.encode().decode("unicode_escape").encode("latin-1") + b"\n" * (mark == "<")
+        elif mark == ">":
+            out += f"{rest}\n"
+        elif mark == "!":
+            err += f"{rest}\n"
+        else:
+            raise ValueError(f"runs.txt has a line of another form: {line}")
+    return words, given, answered(out, err)
+
+
+def test_runs(tests):
+    """Each run of runs.txt is answered as it says there."""
+    (_, *lines), *others = blocks("runs.txt")
+    names = {name: in_full(text) for name, text in (line[1:].split(" ", 1) for line in lines)}
+    for name, *lines in others:
+        every, given, wanted = parsed(lines, names)
+        for words in every:
+            tests.equal(f"{name}: {' '.join(words)}", run(words, given), wanted)
+
+
+def test_greatest(tests):
+    """The greatest message and the greatest report have 1,023 bytes; a bit more is refused."""
+    raw = {"nid_packet": 44, "q_dir": 2}
+    for form, packets, head, most in ((AUTHORITY, [*AUTHORITY["packets"], raw], 23, 8020),
+                                      (REPORT, [REPORT["packets"][0], {"nid_packet": 44}], 21, 7975)):
+        for bits in (most, most + 1):
+            last = {**packets[-1], "l_packet": bits + head, "body": "00" * ((bits + 7) // 8)}
+            answer = run(("encode", "--radio"), json.dumps({**form, "packets": [*packets[:-1], last]}))
+            if bits == most:
+                tests.equal("the greatest message has 1,023 bytes", len(answer.stdout), 2 * 1023 + 1)
+            else:
+                tests.equal("a bit more is too big", answer, answered("refused: line 1: too big\n"))
+    form = (EXAMPLES / "authority-with-profiles.json").read_text().replace('"user_bits":830', '"user_bits":210')
+    tests.equal("packets of a long telegram in a short one", run(("encode",), form), answered("refused: line 1: too big\n"))
+
+
+def test_streams(tests):
+    """Two messages may be cut anywhere into lines."""
+    two, wanted = MESSAGE * 2, answered(f"{(EXAMPLES / 'radio-movement-authority.json').read_text()}" * 2)
+    for cut in range(2, 73, 2):
+        folded = "\n".join(two[at:at + cut] for at in range(0, len(two), cut))
+        tests.equal(f"two messages in lines of {cut} digits", run(("decode", "--radio"), f"{folded}\n"), wanted)
+        parted = f"{two[:cut]}\r\n\n{two[cut:]}\n"
+        tests.equal(f"two messages cut after {cut} digits", run(("decode", "--radio"), parted), wanted)
+
+
+def test_long_lines(tests):
+    """The program reads blocks of 65,536 bytes; a line may have any length. A refused one ends the run."""
+    for length in (65534, 65535, 65536, 65537, 65538, 131072, 1000000):
+        why = "not hexadecimal" if length % 2 else "wrong size"
+        one, two = f"refused: line 1: {why}\n", f"{FORM}\nrefused: line 2: {why}\n"
+        tests.equal(f"a line of {length} digits", run(("decode",), f"{'f' * length}\n{TELEGRAM}\n"), answered(one))
+        tests.equal(f"{length} digits after a telegram", run(("decode",), f"{TELEGRAM}\n{'f' * length}"), answered(two))
+        tests.equal(f"{length} bytes, the last of which is no digit",
+                    run(("decode",), f"{'f' * (length - 1)}g\n{TELEGRAM}\n"), answered("refused: line 1: not hexadecimal\n"))
+
+
+def test_blocks(tests):
+    """Empty lines up to a place near the end of a block, and telegrams that go on in the next one."""
+    for before in (65424, 65480, 65481, 65482, 65483, 65509, 65534, 65535, 65536):
+        given = "\n" * before + f"{TELEGRAM}\r\n{TELEGRAM}\n"
+        tests.equal(f"telegrams after {before} bytes", run(("decode",), given), answered(f"{FORM}\n" * 2))
+
+
+def test_much(tests):
+    """More than the buffer before standard output holds, and a pipe that takes only what it has room for."""
+    tests.lines("two thousand lines", run(("decode",), f"{TELEGRAM}\n" * 2000).stdout, f"{FORM}\n" * 2000)
+
+
+def section(name):
+    """The lines of this section of the manual page."""
+    found = re.search(rf"^\.SH {name}\n(.*?)(?=^\.SH|\Z)", PAGE.read_text(), re.MULTILINE | re.DOTALL)
+    return found[1].splitlines()
+
+
+def test_manual(tests):
+    """The page has each command of the program and no other, each status, and an example that writes what it says."""
+    if shutil.which("groff"):
+        laid = subprocess.run(["groff", "-man", "-ww", "-z", PAGE], capture_output=True, text=True, check=False)
+        tests.equal("the manual page is laid out", laid.stdout + laid.stderr, "")
+    else:
+        print("the layout of the manual page is left out, since groff is not there")
+    names = [re.sub(r"\\", "", line[3:]) for line in section("DESCRIPTION") if re.match(r"\.B [a-z]", line)]
+    names = [name for name in names if not name.startswith("balisecheck")]
+    tests.equal("the manual page has all commands", len(names), 5)
+    for name in names:
+        tests.holds(f"the manual page has {name}", not run(name.split()).stdout.startswith("refused: usage"))
+    statuses = [line[3:] for line in section("EXIT STATUS") if re.fullmatch(r"\.B \d", line)]
+    tests.equal("the manual page has all statuses", statuses, list("0123"))
+    shown = [line.replace(r"\(aq", "'") for line in section("EXAMPLE") if not line.startswith(".")]
+    shell = 'balisecheck() { "$PROGRAM" "$@"; }\n'
+    commands = "".join(f"printf '%s\\n' {shlex.quote(line)}; {line[2:]}\n" for line in shown if line.startswith("$ "))
+    ran = subprocess.run(["bash", "-c", shell + commands], env={"PROGRAM": program(), "PATH": "/usr/bin:/bin"},
+                         stdout=subprocess.PIPE, stderr=subprocess.STDOUT, text=True, check=False)
+    tests.lines("the example of the manual page", ran.stdout, "".join(f"{line}\n" for line in shown))
+
+
+def test_devices(tests):
+    """Input that cannot be read, and a full device, into which each command writes in its own way."""
+    failed, stopped = Answer(3, "", DEVICE), (3, DEVICE)
+    tests.equal("standard input is a folder", run(("decode",), limits=f"exec <{shlex.quote(str(TOP))}"), failed)
+    tests.equal("standard input is closed", run(("decode",), limits="exec <&-"), failed)
+    tests.equal("an argument is no text", run((b"\xff",)), failed)
+    form, message = FORM, (EXAMPLES / "radio-movement-authority.json").read_text()
+    for words, given in (("decode", TELEGRAM), ("decode", "zz"), ("decode", f"{TELEGRAM}\nzz"), ("decode --radio", MESSAGE),
+                         ("decode --radio", "030080"), ("encode", form), ("encode --radio", message),
+                         ("check", '{"groups":[],"messages":[]}'), ("check", ""), ("help", "")):
+        with open("/dev/full", "wb") as full:
+            answer = run(words.split(), input=f"{given}\n".encode(), stdout=full)
+        tests.equal(f"{words} of {given[:60]} into a full device", (answer.status, answer.stderr), stopped)
+
+
+def test_memory(tests):
+    """With little memory: no more of a stream is kept than a line and a message, and a line that never ends is
+    answered by `memory`, after the answers to the lines before it."""
+    few = "ulimit -v 100000"
+    many = run(("decode", "--radio"), f"{MESSAGE * 2}\n" * 100000, few)
+    tests.equal("many messages", (many.status, many.stdout == (EXAMPLES / "radio-movement-authority.json").read_text() * 200000), (0, True))
+    for words, first, endless in (("decode", f"{TELEGRAM}\n", "yes"), ("check", "", "yes ' '")):
+        command = f"{{ printf '%s' \"$2\"; {endless} | tr -d '\\n'; }} | ( {few}; exec \"$0\" \"$1\" )"
+        ran = subprocess.run(["bash", "-c", command, program(), words, first], capture_output=True, text=True, check=False)
+        tests.equal(f"memory for {words}", Answer(ran.returncode, ran.stdout, ran.stderr), answered(f"{FORM}\n" * bool(first), MEMORY))
+
+
+def main():
+    """Runs all tests."""
+    tests = Tests()
+    for test in (test_cases, test_bytes, test_messages, test_examples, test_runs, test_greatest, test_streams, test_long_lines,
+                 test_blocks, test_much, test_manual, test_devices, test_memory):
+        test(tests)
+    tests.end("the program")
+
+
+if __name__ == "__main__":
+    main()

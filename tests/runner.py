@@ -1,0 +1,152 @@
+"""What the tests of the built program share: the program and its runs, the texts of tests/cases, and the count.
+
+A test is a name, what was found and what is wanted. A driver makes tests and ends by `Tests.end`, whose last line is
+'TITLE: N passed, M failed'. BALISECHECK names the program; else it is the one that ./balisecheck would run.
+"""
+import collections
+import functools
+import json
+import os
+import pathlib
+import re
+import subprocess
+import sys
+
+sys.dont_write_bytecode = True  # so that no folder of it comes into being beside the tests
+HERE = pathlib.Path(__file__).resolve().parent
+TOP, CASES, EXAMPLES = HERE.parent, HERE / "cases", HERE.parent / "examples"
+MEMORY, DEVICE = "balisecheck: memory\n", "balisecheck: device\n"
+Answer = collections.namedtuple("Answer", "status stdout stderr")
+
+
+# ---- the program
+
+
+@functools.lru_cache(None)
+def program():
+    """The path of the program, which has to be there."""
+    named = os.environ.get("BALISECHECK")
+    if not named:
+        asked = subprocess.run([TOP / "balisecheck"], env={**os.environ, "BALISECHECK_PATH": "1"}, text=True,
+                               stdout=subprocess.PIPE, check=False)
+        named = asked.stdout.strip()
+    if not named or not os.access(named, os.X_OK):
+        print(f"no program {named}: make it by ./build, or name one by BALISECHECK\n0 passed, 1 failed")
+        sys.exit(1)
+    return os.path.abspath(named)
+
+
+def in_bytes(text):
+    """A text as the bytes that it was read from."""
+    return text if isinstance(text, bytes) else text.encode(errors="surrogateescape")
+
+
+def run(words, data=b"", limits="", **files):
+    """The answer of the program to this input, or with these files, after these lines of a shell."""
+    command = [program(), *words]
+    command = ["sh", "-c", f'{limits}\nexec "$0" "$@"', *command] if limits else command
+    files = files or {"input": in_bytes(data)}
+    files = {"stdout": subprocess.PIPE, "stderr": subprocess.PIPE, **files}
+    ran = subprocess.run(command, check=False, **files)
+    out, err = ((it or b"").decode(errors="surrogateescape") for it in (ran.stdout, ran.stderr))
+    return Answer(ran.returncode, out, err)
+
+
+def answered(stdout, stderr=""):
+    """The answer that writes this: the status goes with the last line, or with what is said beside it."""
+    last = stdout.rstrip("\n").split("\n")[-1]
+    status = 3 if stderr in (MEMORY, DEVICE) else 2 if last.startswith("refused: ") else int(stdout.startswith("no: "))
+    return Answer(status, stdout, stderr)
+
+
+# ---- the count
+
+
+class Tests:
+    """How many tests passed and failed so far, and what was counted besides."""
+
+    def __init__(self, shown=100):
+        self.passed, self.failed, self.shown = 0, 0, shown
+        self.figures = collections.Counter()
+
+    def holds(self, name, holds, *seen):
+        """A test. The first ones that fail are shown."""
+        self.passed, self.failed = self.passed + bool(holds), self.failed + (not holds)
+        if not holds and self.failed <= self.shown:
+            print(f"failed: {str(name)[:500]}", *(f"  {str(one)[:1000]!r}" for one in seen), sep="\n", file=sys.stderr)
+
+    def equal(self, name, found, wanted):
+        """A test that passes where what was found is what is wanted."""
+        self.holds(name, found == wanted, f"found:  {found}", f"wanted: {wanted}")
+
+    def lines(self, name, found, wanted):
+        """The same of texts, of which the first lines that differ are shown."""
+        pairs = zip(found.split("\n") + ["the end"], wanted.split("\n") + ["the end"])
+        one, other = next((pair for pair in pairs if pair[0] != pair[1]), ("", ""))
+        self.holds(name, found == wanted, f"found:  {one}", f"wanted: {other}")
+
+    def end(self, title):
+        """Ends the process, with the count as its last line."""
+        print(f"{title}: {self.passed} passed, {self.failed} failed")
+        sys.exit(self.failed > 0)
+
+
+# ---- the texts of the cases
+
+
+def blocks(name):
+    """The blocks of lines between empty lines of a file of cases, without comments."""
+    lines = [line for line in (CASES / name).read_text(encoding="utf-8").split("\n") if not line.startswith("#")]
+    return [block.split("\n") for block in "\n".join(lines).strip("\n").split("\n\n")]
+
+
+def filled(line):
+    """The line, its dots replaced by digits up to a short or a long telegram."""
+    found = re.fullmatch(r"(\w*?)(\.{2,3})(\w) ?(.*)", line)
+    if not found:
+        return line
+    digits, dots, digit, end = found.groups()
+    return digits.ljust(52 if dots == ".." else 206, digit) + end
+
+
+def in_full(line):
+    """The line in full: `<TEXT N>` is the text N times, innermost first, and dots in digits go on with a digit."""
+    repeated = re.compile(r"<([^<>]*) (\d+)>")
+    while repeated.search(line):
+        line = repeated.sub(lambda found: found[1] * int(found[2]), line)
+    return re.sub(r"\w+\.{2,3}\w \w*", lambda found: filled(found[0]), line)
+
+
+# ---- the same JSON in another spelling
+
+
+class Number(str):
+    """A number as it is spelled."""
+
+
+class Members(list):
+    """The keys of an object with their values, in their order."""
+
+
+def escaped(text):
+    """The text in quotes, its first letter as an escape."""
+    return json.dumps(text) if not text else f'"\\u{ord(text[0]):04X}{json.dumps(text[1:])[1:]}'
+
+
+def written(value):
+    """The JSON of a value, with blanks and escapes."""
+    if isinstance(value, Members):
+        twice = len({key for key, _ in value}) < len(value)
+        pairs = value if twice else value[::-1]
+        return "{ " + " ,\t".join(f"{escaped(key)} : {written(member)}" for key, member in pairs) + "\t}"
+    if isinstance(value, list):
+        return "[ " + " , ".join(map(written, value)) + " ]"
+    if isinstance(value, str) and not isinstance(value, Number):
+        return escaped(value)
+    return value if isinstance(value, Number) else json.dumps(value)
+
+
+def respelled(line):
+    """The same JSON, its keys in the reverse order unless one comes twice, with blanks and escapes."""
+    value = json.loads(line, object_pairs_hook=Members, parse_int=Number, parse_float=Number)
+    return f" {written(value)}\t"
