@@ -23,8 +23,7 @@ def add_words(parser: argparse.ArgumentParser) -> None:
     """The words of this command."""
     add_input_words(parser)
     parser.add_argument("--explain", action="store_true", help="show cause and remedy of each finding")
-    parser.add_argument("--all", action="store_true",
-                        help=f"go on after {checking.GREATEST_REFUSED:,} refused telegrams")
+    parser.add_argument("--all", action="store_true", help=checking.ALL_HELP)
     parser.add_argument("--json", metavar="FILE", help="write all of the answer as JSON; - is standard output")
     parser.add_argument("--document", metavar="FILE",
                         help="write the document that the program has checked; - is standard output")

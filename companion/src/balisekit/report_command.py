@@ -16,13 +16,14 @@ def add_words(parser: argparse.ArgumentParser) -> None:
     """The words of this command."""
     add_input_words(parser)
     parser.add_argument("--html", metavar="FILE", required=True, help="where to write; - is standard output")
+    parser.add_argument("--all", action="store_true", help=checking.ALL_HELP)
 
 
 def run(words: argparse.Namespace) -> int:
     """Does it. The answer is the exit status."""
     files.look_at_target(words.html)
     program, table, messages = inputs(words)
-    checked = checking.check(program, table, messages, words.by_position)
+    checked = checking.check(program, table, messages, words.by_position, words.all)
     sheet = style("page.css") + style("picture.css")
     ids = group_ids(checked.table.groups)
     page = pieces("report.html", cover=cover(checked), findings=[told(place, ids) for place in checked.findings],
