@@ -5,14 +5,15 @@ import argparse
 import json
 import sys
 import textwrap
-from typing import Any, Dict, Iterator, TextIO
+from collections import Counter
+from typing import Any, Dict, Iterator, List, TextIO, Tuple
 
 from balisekit import checking, files
 from balisekit.checking import Accepted, Checked, LeftOut, Place, Refused, RefusedMessage
 from balisekit.commands import Command, add_input_words, inputs
 from balisekit.errors import NoAnswer
 from balisekit.explain import explanations
-from balisekit.model import Group, Row
+from balisekit.model import Group, Row, Table
 from balisekit.wording import (balise_words, clean, group_words, message_refused, message_words,
                                telegram_refused)
 
@@ -75,6 +76,7 @@ def lines(checked: Checked, explain: bool = False, by_position: bool = False) ->
         yield f"    program: {place.finding.line}"
     if explain:
         yield from _explained(checked)
+    yield aspects_found(checked.table)
     yield last_line(checked)
 
 
@@ -99,6 +101,18 @@ def finding_words(place: Place) -> str:
     parts += [finding.direction] if finding.direction else []
     name = finding.name + (f" by {group_words(place.earlier)}" if place.earlier else "")
     return "  ".join([words, *parts]) + f": {name}"
+
+
+def aspects_found(table: Table) -> str:
+    """How many aspects the groups of the table have. Nothing else shows that the table lacks a whole aspect."""
+    (most, groups), *others = counts_of_aspects(table)
+    first = f"{most} in {groups} group{'s' if groups > 1 else ''}"
+    return f"aspects found: {', '.join([first, *(f'{count} in {some}' for count, some in others)])}"
+
+
+def counts_of_aspects(table: Table) -> List[Tuple[int, int]]:
+    """Each number of aspects, the greatest first, and how many groups have it."""
+    return sorted(Counter(len(group.aspects) for group in table.groups).items(), reverse=True)
 
 
 def _explained(checked: Checked) -> Iterator[str]:
@@ -138,6 +152,8 @@ def as_json(checked: Checked) -> Dict[str, Any]:
         "messages": None if checked.messages is None else {"path": checked.messages.path,
                                                            "sha256": checked.messages.sha256},
         "counts": {"telegrams": len(checked.table.rows), "groups": len(checked.table.groups),
+                   "aspects": [{"aspects": count, "groups": groups}
+                               for count, groups in counts_of_aspects(checked.table)],
                    "not_looked_at": checked.not_looked_at},
         "telegrams": [_telegram_json(one) for one in checked.accepted.values()],
         "read_messages": [{"line_of_file": one.message.number, "name": one.message.name, "form": one.form}

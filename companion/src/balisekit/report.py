@@ -7,7 +7,7 @@ from datetime import datetime, timezone
 from typing import Dict, Iterator, List, Mapping, Optional, Sequence, Tuple
 
 from balisekit import __version__
-from balisekit.check_command import finding_words, last_line
+from balisekit.check_command import aspects_found, finding_words, last_line
 from balisekit.checking import Checked, Place
 from balisekit.canvas import Picture
 from balisekit.explain import Explanation, explanations
@@ -71,6 +71,8 @@ class Cover:
     refused: Tuple[Tuple[str, str, str], ...]
     """Of each refused telegram or message: where it is, the program's words, and its link."""
     left_out: Tuple[Tuple[str, str], ...]
+    aspects: str
+    """How many aspects the groups have."""
     notes: Tuple[str, ...]
 
 
@@ -102,7 +104,7 @@ def cover(checked: Checked) -> Cover:
     papers += [] if program.about else [("version", "not a released program")]
     return Cover(date(), tuple(inputs), tuple(papers), __version__, last_line(checked), checked.status == 0,
                  tuple(refused), tuple((group_words(one.group), clean(one.why)) for one in checked.left_out),
-                 tuple(notes))
+                 aspects_found(table), tuple(notes))
 
 
 def told(place: Place, ids: Dict[str, str]) -> Told:
