@@ -140,8 +140,8 @@ def _uneven(name: str, aspects: List[Aspect]) -> List[TableError]:
     """A fault for each aspect that has fewer balises than another one."""
     most = max(aspects, key=lambda aspect: len(aspect.rows))
     return [TableError(f'aspect "{one.name}" of group "{name}" has {_balises(one)} ({_rows(one.rows)}), and aspect '
-                       f'"{most.name}" has {len(most.rows)} ({_rows(most.rows)}): a row is missing, or one too many; the '
-                       "column balise or name tells which", row=one.rows[0].number)
+                       f'"{most.name}" has {len(most.rows)} ({_rows(most.rows)}): a row is missing, or one too many; '
+                       "the column balise or name tells which", row=one.rows[0].number)
             for one in aspects if len(one.rows) < len(most.rows)]
 
 

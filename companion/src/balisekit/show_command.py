@@ -5,7 +5,7 @@ import argparse
 import re
 import sys
 import textwrap
-from typing import Dict, Iterator, List, Mapping, Optional, Sequence, Union
+from typing import Dict, Generator, Iterator, List, Mapping, Optional, Sequence, Union
 
 from balisekit import messages_file
 from balisekit.bit_places import bit_lines
@@ -15,7 +15,7 @@ from balisekit.commands import Command, add_input_words, inputs
 from balisekit.geometry import DIRECTIONS, infill, kilometres
 from balisekit.grammar import Refusal
 from balisekit.model import Group, Messages, Table
-from balisekit.places import Here
+from balisekit.places import Here, Identities
 from balisekit.program import Program, Record
 from balisekit.showing import LEGEND, WIDTH, text
 from balisekit.values import Form
@@ -59,11 +59,11 @@ class _Shown:
             yield from self._standard_input(Program.find(words.program))
         elif words.table is None:
             messages = messages_file.read(words.messages)
-            yield from self._messages(Program.find(words.program), messages)
+            yield from self._messages(Program.find(words.program), messages, Identities((), {}))
         else:
             program, table, messages_beside = inputs(words)
-            yield from self._telegrams(program, table)
-            yield from self._messages(program, messages_beside)
+            forms = yield from self._telegrams(program, table)
+            yield from self._messages(program, messages_beside, Identities(table.groups, forms))
 
     def _standard_input(self, program: Program) -> Iterator[List[str]]:
         """The telegrams of standard input, one a line."""
@@ -76,7 +76,8 @@ class _Shown:
             yield telegram(f"line {number}", text_of_line, answer, Here(), self.words.bits)
         self.not_looked_at, self.what = len(texts) - tried, "lines"
 
-    def _telegrams(self, program: Program, table: Table) -> Iterator[List[str]]:
+    def _telegrams(self, program: Program, table: Table) -> Generator[List[str], None, Mapping[int, Form]]:
+        """The telegrams of the table. The answer has the forms of those that can be read."""
         answers: Dict[int, Answer] = {}
         for row, answer in zip(table.rows, self._answers(program, [row.telegram for row in table.rows])):
             answers[row.number] = answer
@@ -88,13 +89,14 @@ class _Shown:
                 if number in answers:
                     row = rows[number]
                     yield telegram(balise_words(group, row), row.telegram, answers[number], here, self.words.bits)
+        return forms
 
     def _answers(self, program: Program, texts: Sequence[str]) -> Iterator[Answer]:
         for answer in until_too_many(program.decode(texts), self.words.all):
             self.refused = self.refused or isinstance(answer, Refusal)
             yield answer
 
-    def _messages(self, program: Program, messages: Optional[Messages]) -> Iterator[List[str]]:
+    def _messages(self, program: Program, messages: Optional[Messages], groups: Identities) -> Iterator[List[str]]:
         read = messages.messages if messages else ()
         for message, answer in zip(read, program.messages([one.text for one in read])):
             heading = f"message of {message_words(message)}"
@@ -102,7 +104,8 @@ class _Shown:
                 self.refused = True
                 yield [f"{heading}: {message_refused(message.text, answer)}", f"    program: {answer.text}"]
             else:
-                yield [heading, *_body(message.text, answer.form, Here(), self.words.bits)]
+                form = answer.form
+                yield [heading, *_body(message.text, form, groups.here(form), self.words.bits)]
 
 
 def places_of_rows(group: Group, forms: Mapping[int, Form]) -> Dict[int, Here]:
