@@ -242,6 +242,15 @@ def test_premises_are_those_of_the_document() -> None:
     assert len(premises()) == 8 and metres(1) == "0.1 m"
 
 
+def test_a_list_is_a_list(tmp_path: Path) -> None:
+    """What a yes means has a list of four, without the document's hyphens."""
+    _, page = _report(_table(tmp_path / "t.csv", {"group": "A", "telegram": HEADER}), tmp_path / "r.html")
+    said = page.split("What a yes means")[1].split("<h2>")[0]
+    items = re.findall(r"<li>(.+?)</li>", said)
+    assert len(items) == 4 and items[0].startswith("Each aspect of each group is well formed")
+    assert said.count("<ul>") == 1 and not re.search(r">\s*- ", said)
+
+
 @pytest.mark.parametrize("name, words", [
     ("line-show.txt", ["show", "LINE"]), ("signal-e.svg", ["draw", "LINE", "--group", "Signal E"])])
 def test_outputs_beside_the_example(name: str, words: List[str], capfdbinary: pytest.CaptureFixture[bytes]) -> None:

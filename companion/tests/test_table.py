@@ -5,13 +5,15 @@ import csv
 import datetime
 import io
 import os
+import sys
+import zipfile
 from decimal import Decimal
 from pathlib import Path
-from typing import Any, Callable, List, Sequence
+from typing import Any, Callable, Dict, List, Sequence
 
 import pytest
 
-from balisekit import messages_file, table as tables
+from balisekit import messages_file, table as tables, xlsx_file
 from balisekit.errors import KitError, TableError, TableErrors
 from balisekit.model import Table
 from conftest import Run
@@ -259,6 +261,25 @@ class TestWorkbooks:
     def test_cells_that_cannot_be_read(self, tmp_path: Path, row: Sequence[Any], said: str) -> None:
         """What spreadsheets do to cells."""
         assert fault(self.book(tmp_path, [["group", "telegram"], row])).startswith(said)
+
+    def test_a_workbook_that_is_too_large(self, tmp_path: Path, monkeypatch: pytest.MonkeyPatch) -> None:
+        """Its size is looked at before it is unpacked: zeros take a thousandth of their size in the file."""
+        pytest.importorskip("openpyxl")
+        assert xlsx_file.GREATEST == 500_000_000
+        monkeypatch.setattr(xlsx_file, "GREATEST", 5_000_000)
+        path = tmp_path / "table.xlsx"
+        with zipfile.ZipFile(path, "w", zipfile.ZIP_DEFLATED) as parts:
+            parts.writestr("xl/worksheets/sheet1.xml", bytes(6_000_000))
+        assert path.stat().st_size < 10_000
+        assert fault(path) == "the workbook has 6,000,000 bytes unpacked, more than 5,000,000"
+
+    def test_without_openpyxl(self, run: Run, tmp_path: Path, monkeypatch: pytest.MonkeyPatch) -> None:
+        """One line says which package is missing, and what to do without it. CSV needs none."""
+        path = self.book(tmp_path, [["group", "telegram"], ["A", ALONE]])
+        modules: Dict[str, Any] = sys.modules
+        monkeypatch.setitem(modules, "openpyxl", None)
+        assert run("check", path) == (2, [], [
+            f"balisekit: {path}: reading .xlsx needs openpyxl (Debian: python3-openpyxl); or save it as CSV"])
 
 
 def test_tables_that_are_made() -> None:

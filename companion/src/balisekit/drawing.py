@@ -59,8 +59,8 @@ def draw(title: str, contents: Sequence[Content], kilometres: Kilometres, titled
     greatest = max(greatest, least + 1000)
     sheet = Sheet(least, greatest, kilometres)
     if titled:
-        sheet.y = 20
-        sheet.text("title", clean(title), 40, sheet.y)
+        sheet.text("title", clean(title), 40, 20)
+        sheet.y = 28
     top = _speed_top(ways for _, ways in rows)
     last = max((place for place, (one, ways) in enumerate(rows) if any(ways) and not one.infill), default=None)
     for place, (content, ways) in enumerate(rows):

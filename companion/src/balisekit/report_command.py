@@ -3,11 +3,10 @@ from __future__ import annotations
 
 import argparse
 
-from balisekit import checking, files
+from balisekit import checking, files, premises
 from balisekit.check_command import last_line
 from balisekit.commands import Command, add_input_words, inputs
 from balisekit.pages import hash_of, pieces, style
-from balisekit.premises import premises
 from balisekit.report import blocks, cover, explained, group_ids, told
 from balisekit.showing import LEGEND
 
@@ -28,7 +27,7 @@ def run(words: argparse.Namespace) -> int:
     ids = group_ids(checked.table.groups)
     page = pieces("report.html", cover=cover(checked), findings=[told(place, ids) for place in checked.findings],
                   explained=explained(checked), blocks=blocks(checked), style=sheet, style_hash=hash_of(str(sheet)),
-                  legend=LEGEND, premises=premises())
+                  legend=LEGEND, premises=premises.blocks())
     with files.writing(words.html) as file:
         for piece in page:
             file.write(piece.encode("utf-8"))
