@@ -82,7 +82,7 @@ def test_aspects_are_counted(run: Run, table: Write, tmp_path: Path) -> None:
     path = table("group,aspect,telegram", f"A,x,{ALONE}", f"A,y,{ALONE}", f"B,,{OTHER}", f"C,x,{ALONE}",
                  f"C,y,{ALONE}", f"D,x,{SPARE}", f"D,y,{SPARE}", f"D,z,{SPARE}")
     _, out, _ = run("check", path, "--json", tmp_path / "out.json")
-    assert out[-2] == "aspects found: 3 in 1 group, 2 in 2, 1 in 1"
+    assert out[-2] == "aspects found: 3 in 1 group (D), 2 in 2 (A, C), 1 in 1 (B)"
     assert json.loads((tmp_path / "out.json").read_text())["counts"]["aspects"] == [
         {"aspects": 3, "groups": 1}, {"aspects": 2, "groups": 2}, {"aspects": 1, "groups": 1}]
 

@@ -5,7 +5,6 @@ import argparse
 import json
 import sys
 import textwrap
-from collections import Counter
 from typing import Any, Dict, Iterator, List, TextIO, Tuple
 
 from balisekit import checking, files
@@ -18,6 +17,8 @@ from balisekit.wording import (balise_words, clean, group_words, message_refused
                                telegram_refused)
 
 WIDTH = 116
+NAMED = 3
+"""So many groups with one number of aspects are named."""
 
 
 def add_words(parser: argparse.ArgumentParser) -> None:
@@ -105,14 +106,21 @@ def finding_words(place: Place) -> str:
 
 def aspects_found(table: Table) -> str:
     """How many aspects the groups of the table have. Nothing else shows that the table lacks a whole aspect."""
-    (most, groups), *others = counts_of_aspects(table)
-    first = f"{most} in {groups} group{'s' if groups > 1 else ''}"
-    return f"aspects found: {', '.join([first, *(f'{count} in {some}' for count, some in others)])}"
+    parts: List[str] = []
+    for count, groups in groups_by_aspects(table):
+        word = "" if parts else " group" if len(groups) == 1 else " groups"
+        few = len(groups) <= NAMED and len(groups) < len(table.groups)
+        names = f" ({', '.join(clean(group.name) for group in groups)})" if few else ""
+        parts.append(f"{count} in {len(groups)}{word}{names}")
+    return f"aspects found: {', '.join(parts)}"
 
 
-def counts_of_aspects(table: Table) -> List[Tuple[int, int]]:
-    """Each number of aspects, the greatest first, and how many groups have it."""
-    return sorted(Counter(len(group.aspects) for group in table.groups).items(), reverse=True)
+def groups_by_aspects(table: Table) -> List[Tuple[int, List[Group]]]:
+    """Each number of aspects, the greatest first, and the groups that have it."""
+    found: Dict[int, List[Group]] = {}
+    for group in table.groups:
+        found.setdefault(len(group.aspects), []).append(group)
+    return sorted(found.items(), reverse=True)
 
 
 def _explained(checked: Checked) -> Iterator[str]:
@@ -152,8 +160,8 @@ def as_json(checked: Checked) -> Dict[str, Any]:
         "messages": None if checked.messages is None else {"path": checked.messages.path,
                                                            "sha256": checked.messages.sha256},
         "counts": {"telegrams": len(checked.table.rows), "groups": len(checked.table.groups),
-                   "aspects": [{"aspects": count, "groups": groups}
-                               for count, groups in counts_of_aspects(checked.table)],
+                   "aspects": [{"aspects": count, "groups": len(groups)}
+                               for count, groups in groups_by_aspects(checked.table)],
                    "not_looked_at": checked.not_looked_at},
         "telegrams": [_telegram_json(one) for one in checked.accepted.values()],
         "read_messages": [{"line_of_file": one.message.number, "name": one.message.name, "form": one.form}
