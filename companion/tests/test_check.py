@@ -20,26 +20,27 @@ Write = Callable[..., Path]
 TOP = Path(__file__).resolve().parents[2]
 HEADING = "group,name,km,aspect,telegram"
 SOUND = [HEADING, f"Signal A,A1,13.850,,{FIRST}", f"Signal A,A2,13.853,,{SECOND}", f"Signal B,B1,15,,{OTHER}"]
+ASPECTS = "aspects found: 1 in {} groups"
 YES = "program: yes: groups 2, messages 0"
 
 
 def test_yes(run: Run, table: Write) -> None:
     path = table(*SOUND)
-    assert run("check", path) == (0, [f"{path}: 3 telegrams of 2 groups", YES], [])
+    assert run("check", path) == (0, [f"{path}: 3 telegrams of 2 groups", ASPECTS.format(2), YES], [])
 
 
 def test_findings(run: Run, table: Write) -> None:
     status, out, _ = run("check", table(*SOUND, f"Signal C,C1,16,,{OTHER}"))
     assert status == 1 and out[1:] == [
         "row 5  Signal C  km 16.000: identity used before by row 4  Signal B  km 15.000",
-        "    program: F14 group 2: identity used before", "program: no: findings 1"]
+        "    program: F14 group 2: identity used before", ASPECTS.format(3), "program: no: findings 1"]
 
 
 def test_refused(run: Run, table: Write) -> None:
     status, out, _ = run("check", table(HEADING, f"A,A1,13.850,green,{FAULTY}", f"B,,,,{ALONE}"))
     assert status == 2 and out[1:] == [
         'row 2  A  km 13.850  aspect "green"  balise 0 "A1": Q_DIR of packet 21 (second packet) is 3, which is spare',
-        "    program: spare at 127 end 129", "left out: row 2  A  km 13.850: refused: row 2",
+        "    program: spare at 127 end 129", "left out: row 2  A  km 13.850: refused: row 2", ASPECTS.format(2),
         "INCOMPLETE: 1 of 2 telegrams refused, 1 of 2 groups left out"]
 
 
@@ -74,7 +75,16 @@ def test_by_position(run: Run, table: Write) -> None:
     assert run("check", path)[0] == 1
     status, out, _ = run("check", path, "--by-position")
     assert (status, out[1:]) == (0, ["balises are ordered by N_PIG, as --by-position says",
-                                     "program: yes: groups 1, messages 0"])
+                                     "aspects found: 1 in 1 group", "program: yes: groups 1, messages 0"])
+
+
+def test_aspects_are_counted(run: Run, table: Write, tmp_path: Path) -> None:
+    path = table("group,aspect,telegram", f"A,x,{ALONE}", f"A,y,{ALONE}", f"B,,{OTHER}", f"C,x,{ALONE}",
+                 f"C,y,{ALONE}", f"D,x,{SPARE}", f"D,y,{SPARE}", f"D,z,{SPARE}")
+    _, out, _ = run("check", path, "--json", tmp_path / "out.json")
+    assert out[-2] == "aspects found: 3 in 1 group (D), 2 in 2 (A, C), 1 in 1 (B)"
+    assert json.loads((tmp_path / "out.json").read_text())["counts"]["aspects"] == [
+        {"aspects": 3, "groups": 1}, {"aspects": 2, "groups": 2}, {"aspects": 1, "groups": 1}]
 
 
 @pytest.mark.parametrize("telegram, said, program", [

@@ -19,8 +19,10 @@ from balisekit.geometry import Kilometres
 from balisekit.drawing import Content, draw
 from balisekit.pages import pieces, style
 from balisekit.premises import of_document, premises
+from balisekit.program import Program
 from balisekit.values import metres
 from cases_of_program import TOP
+from telegrams import MESSAGE
 
 LINE = TOP / "examples" / "table" / "line.csv"
 HEADER = "a1007f802000" + "f" * 40 + "c0"
@@ -169,10 +171,84 @@ def test_open_profiles_and_their_beginning() -> None:
     assert "arrow" in looks and "none" in looks and "endmark" not in looks and "step open" in looks
 
 
+def _messages(path: Path, *forms: Dict[str, Any]) -> Path:
+    texts = [one.line for one in Program.find().encode(forms, radio=True)]
+    assert not any(text.startswith("refused") for text in texts), texts
+    path.write_text("".join(f"{text};to train {place}\n" for place, text in enumerate(texts)))
+    return path
+
+
+def _movement(group: int, *packets: Dict[str, Any]) -> Dict[str, Any]:
+    """A message 3 with an authority of 2,000 m, and these packets."""
+    authority = {"nid_packet": 15, "q_dir": 1, "q_scale": 1, "end_speed": 0, "end_timeout": 1023, "sections": [],
+                 "l_endsection": 2000}
+    return {"nid_message": 3, "t_train": 100, "m_ack": 0, "nid_c": 352, "nid_bg": group,
+            "packets": [*packets, authority]}
+
+
+def test_messages_are_drawn_and_shown(tmp_path: Path, capsys: pytest.CaptureFixture[str]) -> None:
+    """Places count from the group of NID_LRBG: in kilometres where the table has one group with that identity."""
+    messages = _messages(tmp_path / "m.txt", _movement(101, _profile(1, (0, 20), (1500, 127))), _movement(9))
+    position = (TOP / "examples" / "radio-position-report.txt").read_text().strip()
+    messages.write_text(messages.read_text() + f"{position};position\n0304;cut\n")
+    words = ["--messages", str(messages)]
+    _, page = _report(LINE, tmp_path / "r.html", *words)
+    text = "".join(_Page(page).texts)
+    assert "its places count from rows 2 to 5  Signal A  km 12.300" in text
+    assert "F13: 500 m are missing, from 1500 m, km 13.800 to 2000 m, km 14.300, nominal" in text
+    assert "D_LRBG 500 m [500]" in text and "F13 message 0 packet 0 nominal: speed profile short" in text
+    sections = page.split('<section class="group" id="m')[1:]
+    assert [section.count('<svg class="picture"') for section in sections] == [1, 1, 0, 0]
+    assert "km " not in sections[1] and "metres from the group of NID_LRBG (NID_C 352, NID_BG 9)" in sections[1]
+    assert cli.main(["draw", str(LINE), *words, "--message", "1", "--svg", str(tmp_path / "m.svg")]) == 0
+    assert any(title.startswith("F13: 500 m are missing") for title in _titles(tmp_path / "m.svg"))
+    capsys.readouterr()
+    cli.main(["show", str(LINE), *words])
+    said = capsys.readouterr().out
+    assert "end of the authority at 2000 m, km 14.300" in said and "= end of the authority at 2000 m;" in said
+
+
+def test_two_groups_with_one_identity_give_a_message_no_kilometres(tmp_path: Path) -> None:
+    """Nobody knows which of them it is."""
+    form = json.loads((TOP / "examples" / "header-only.json").read_text())
+    texts = [one.line for one in Program.find().encode([{**form, "nid_c": 352, "nid_bg": 7}])]
+    table = _table(tmp_path / "t.csv", {"group": "A", "km": "1.000", "telegram": texts[0]},
+                   {"group": "B", "km": "2.000", "telegram": texts[0]})
+    _, page = _report(table, tmp_path / "r.html", "--messages", str(_messages(tmp_path / "m.txt", _movement(7))))
+    assert "km " not in page.split('<section class="group" id="m')[1]
+
+
+@pytest.mark.parametrize("words, said", [
+    (["--message", "1"], "--message needs --messages FILE"),
+    (["--message", "9", "--messages", "M"], "line 9 of M has no message"),
+    (["--message", "1", "--messages", "M"], "message of line 1: L_MESSAGE is 18, but the message has 17 bytes: "
+                                            "program: length at 8 end 18"),
+    (["--message", "2", "--messages", "M"], "message of line 2: it has no authority, gradient or speed profile")])
+def test_messages_that_cannot_be_drawn(words: List[str], said: str, tmp_path: Path,
+                                       capsys: pytest.CaptureFixture[str]) -> None:
+    """One line, status 2, and no file."""
+    position = (TOP / "examples" / "radio-position-report.txt").read_text().strip()
+    messages = tmp_path / "m.txt"
+    messages.write_text(f"{MESSAGE[:-2]}\n{position}\n")
+    named = [str(messages) if word == "M" else word for word in words]
+    assert cli.main(["draw", str(LINE), *named, "--svg", str(tmp_path / "m.svg")]) == 2
+    assert capsys.readouterr().err == f"balisekit: {said.replace(' M ', f' {messages} ')}\n"
+    assert sorted(os.listdir(tmp_path)) == ["m.txt"]
+
+
 def test_premises_are_those_of_the_document() -> None:
     """The package has what docs/FINDINGS.md says."""
     assert premises() == of_document((TOP / "docs" / "FINDINGS.md").read_text("utf-8"))
     assert len(premises()) == 8 and metres(1) == "0.1 m"
+
+
+def test_a_list_is_a_list(tmp_path: Path) -> None:
+    """What a yes means has a list of four, without the document's hyphens."""
+    _, page = _report(_table(tmp_path / "t.csv", {"group": "A", "telegram": HEADER}), tmp_path / "r.html")
+    said = page.split("What a yes means")[1].split("<h2>")[0]
+    items = re.findall(r"<li>(.+?)</li>", said)
+    assert len(items) == 4 and items[0].startswith("Each aspect of each group is well formed")
+    assert said.count("<ul>") == 1 and not re.search(r">\s*- ", said)
 
 
 @pytest.mark.parametrize("name, words", [

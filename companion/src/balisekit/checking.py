@@ -4,7 +4,7 @@ from __future__ import annotations
 import json
 import tempfile
 from dataclasses import dataclass
-from typing import Any, Dict, Iterator, List, Mapping, Optional, Sequence, Set, Tuple
+from typing import Any, Dict, Iterable, Iterator, List, Mapping, Optional, Sequence, Set, Tuple, Union
 
 from balisekit.errors import NoAnswer
 from balisekit.grammar import Finding, Refusal, Verdict
@@ -13,6 +13,8 @@ from balisekit.program import Program, Record, Report
 
 GREATEST_REFUSED = 10_000
 """After so many refused telegrams the others are not tried."""
+ALL_HELP = f"go on after {GREATEST_REFUSED:,} refused telegrams"
+Answer = Union[Record, Refusal]
 
 
 @dataclass(frozen=True)
@@ -123,7 +125,7 @@ def check(program: Program, table: Table, messages: Optional[Messages] = None, b
 
     After 10,000 refused telegrams the others are not tried, unless `everything` is asked for.
     """
-    accepted, refused = _try_rows(program, table.rows, GREATEST_REFUSED if not everything else len(table.rows))
+    accepted, refused = _try_rows(program, table.rows, everything)
     left = len(table.rows) - len(accepted) - len(refused)
     left_out, kept = _sort_out(table.groups, accepted, {one.row.number for one in refused})
     if by_position:
@@ -152,15 +154,24 @@ def document(kept: Sequence[Group], messages: Sequence[AcceptedMessage]) -> Iter
     yield "\n]}\n"
 
 
-def _try_rows(program: Program, rows: Sequence[Row], most: int) -> Tuple[Dict[int, Accepted], Tuple[Refused, ...]]:
+def until_too_many(answers: Iterable[Answer], everything: bool) -> Iterator[Answer]:
+    """The answers up to the 10,000th refusal, or all of them if `everything` is asked for."""
+    refused = 0
+    for answer in answers:
+        yield answer
+        refused += isinstance(answer, Refusal)
+        if refused >= GREATEST_REFUSED and not everything:
+            return
+
+
+def _try_rows(program: Program, rows: Sequence[Row], everything: bool
+              ) -> Tuple[Dict[int, Accepted], Tuple[Refused, ...]]:
     accepted: Dict[int, Accepted] = {}
     refused: List[Refused] = []
-    for place, answer in enumerate(program.decode([row.telegram for row in rows])):
+    for place, answer in enumerate(until_too_many(program.decode([row.telegram for row in rows]), everything)):
         row = rows[place]
         if isinstance(answer, Refusal):
             refused.append(Refused(row, answer, rows[place + 1 - (answer.number or 1)].number))
-            if len(refused) >= most:
-                break
         else:
             accepted[row.number] = Accepted(row, answer)
     return accepted, tuple(refused)

@@ -1,41 +1,80 @@
-"""`balisekit draw`: a group as SVG."""
+"""`balisekit draw`: a group, or a radio message, as SVG."""
 from __future__ import annotations
 
 import argparse
 from dataclasses import replace
+from typing import Optional
 
 from balisekit import checking, files
+from balisekit.canvas import Picture
 from balisekit.commands import Command, add_input_words, inputs
 from balisekit.errors import TableError
-from balisekit.model import Table
+from balisekit.model import Messages, Table
 from balisekit.pages import pieces, style
-from balisekit.pictures import picture_of
-from balisekit.wording import balise_words, quoted, telegram_refused
+from balisekit.pictures import picture_of, picture_of_message
+from balisekit.places import Identities
+from balisekit.program import Program
+from balisekit.wording import balise_words, message_refused, message_words, quoted, telegram_refused
 
 
 def add_words(parser: argparse.ArgumentParser) -> None:
     """The words of this command."""
     add_input_words(parser)
-    parser.add_argument("--group", metavar="NAME", required=True, help="the group's name in the table")
+    what = parser.add_mutually_exclusive_group(required=True)
+    what.add_argument("--group", metavar="NAME", help="the group's name in the table")
+    what.add_argument("--message", metavar="LINE", type=int, help="the message in this line of --messages")
     parser.add_argument("--svg", metavar="FILE", default="-", help="where to write; standard output else")
 
 
 def run(words: argparse.Namespace) -> int:
     """Does it. The answer is the exit status."""
     files.look_at_target(words.svg)
-    program, table, _ = inputs(words)
-    alone = _only(table, words.group)
-    checked = checking.check(program, alone, by_position=words.by_position)
+    program, table, messages = inputs(words)
+    if words.group is not None:
+        picture = _group(program, _only(table, words.group), words.by_position)
+    else:
+        picture = _message(program, table, _only_message(messages, words.message))
+    with files.writing(words.svg) as file:
+        for piece in pieces("group.svg", picture=picture, style=style("picture.css")):
+            file.write(piece.encode("utf-8"))
+    return 0
+
+
+def _group(program: Program, alone: Table, by_position: bool) -> Picture:
+    """The picture of the group that this table has alone."""
+    checked = checking.check(program, alone, by_position=by_position)
     for refused in checked.refused:
         row = refused.row
         raise TableError(f"{balise_words(alone.groups[0], row)}: {telegram_refused(row.telegram, refused.refusal)}: "
                          f"program: {refused.refusal.text}")
     forms = {number: one.form for number, one in checked.accepted.items()}
-    picture = picture_of(checked.kept[0], forms, [place.finding for place in checked.findings])
-    with files.writing(words.svg) as file:
-        for piece in pieces("group.svg", picture=picture, style=style("picture.css")):
-            file.write(piece.encode("utf-8"))
-    return 0
+    return picture_of(checked.kept[0], forms, [place.finding for place in checked.findings], titled=True)
+
+
+def _message(program: Program, table: Table, alone: Messages) -> Picture:
+    """The picture of the message that this file has alone."""
+    checked = checking.check(program, table, alone)
+    heading = f"message of {message_words(alone.messages[0])}"
+    for refused in checked.refused_messages:
+        raise TableError(f"{heading}: {message_refused(refused.message.text, refused.refusal)}: "
+                         f"program: {refused.refusal.text}")
+    form = checked.accepted_messages[0].form
+    where = Identities(table.groups, {number: one.form for number, one in checked.accepted.items()}).here(form)
+    findings = [place.finding for place in checked.findings if place.message is not None]
+    picture = picture_of_message(heading, form, findings, where.kilometres, titled=True)
+    if picture is None:
+        raise TableError(f"{heading}: it has no authority, gradient or speed profile")
+    return picture
+
+
+def _only_message(messages: Optional[Messages], line: int) -> Messages:
+    """The file of messages with the one of this line alone."""
+    if messages is None:
+        raise TableError("--message needs --messages FILE")
+    found = tuple(one for one in messages.messages if one.number == line)
+    if not found:
+        raise TableError(f"line {line} of {messages.path} has no message")
+    return replace(messages, messages=found)
 
 
 def _only(table: Table, name: str) -> Table:
@@ -47,4 +86,4 @@ def _only(table: Table, name: str) -> Table:
     return replace(table, groups=groups, rows=tuple(row for row in table.rows if row.number in wanted))
 
 
-COMMAND = Command("draw", "draw a group as SVG", add_words, run)
+COMMAND = Command("draw", "draw a group or a message as SVG", add_words, run)

@@ -50,14 +50,17 @@ def _reach(one: Way) -> Iterable[int]:
         yield profile.reach if profile.reach is not None else max(places) * 11 // 10 + 1000
 
 
-def draw(title: str, contents: Sequence[Content], kilometres: Kilometres) -> Picture:
-    """The picture of a group: a row for each content."""
+def draw(title: str, contents: Sequence[Content], kilometres: Kilometres, titled: bool = False) -> Picture:
+    """The picture of a group: a row for each content, below the title if it is to be seen."""
     rows = [(one, [way(one.forms, direction, one.infill) for direction in DIRECTIONS]) for one in contents]
     ends = {direction: max((place for _, ways in rows for place in _reach(ways[index])), default=0)
             for index, direction in enumerate(DIRECTIONS)}
     least, greatest = -ends[REVERSE], ends[NOMINAL]
     greatest = max(greatest, least + 1000)
     sheet = Sheet(least, greatest, kilometres)
+    if titled:
+        sheet.text("title", clean(title), 40, 20)
+        sheet.y = 28
     top = _speed_top(ways for _, ways in rows)
     last = max((place for place, (one, ways) in enumerate(rows) if any(ways) and not one.infill), default=None)
     for place, (content, ways) in enumerate(rows):
@@ -146,7 +149,7 @@ def _gradient(sheet: Sheet, profile: Profile, direction: str) -> None:
         words = value_words("g_a", element.value, Around({}, element.form))
         look = "level" if element.value == 0 else "up" if up else "down"
         left, right = sheet.rect(look, f"{words} {where}", (begin, end), sheet.top, sheet.height)
-        sheet.inside("small", words, left, right, sheet.top + 14)
+        sheet.inside("small halo", words, left, right, sheet.top + 14)
     _ending(sheet, profile, direction, "gradient profile")
 
 
@@ -225,7 +228,7 @@ def _authority(sheet: Sheet, authority: Authority, direction: str) -> None:
     if authority.overlap is not None:
         labels.append(f"OL {metres(authority.overlap)}")
     sheet.mark("supervised", f"supervised location: {sheet.place(authority.supervised, direction)}, {direction}",
-               sign * authority.supervised, top - 10, 34)
+               sign * authority.supervised, top - 10, 28)
     labels.append(f"SvL {metres(authority.supervised)}")
     main = authority.form.get("v_main")
     if main is not None:

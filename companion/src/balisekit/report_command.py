@@ -3,11 +3,10 @@ from __future__ import annotations
 
 import argparse
 
-from balisekit import checking, files
+from balisekit import checking, files, premises
 from balisekit.check_command import last_line
 from balisekit.commands import Command, add_input_words, inputs
 from balisekit.pages import hash_of, pieces, style
-from balisekit.premises import premises
 from balisekit.report import blocks, cover, explained, group_ids, told
 from balisekit.showing import LEGEND
 
@@ -16,18 +15,19 @@ def add_words(parser: argparse.ArgumentParser) -> None:
     """The words of this command."""
     add_input_words(parser)
     parser.add_argument("--html", metavar="FILE", required=True, help="where to write; - is standard output")
+    parser.add_argument("--all", action="store_true", help=checking.ALL_HELP)
 
 
 def run(words: argparse.Namespace) -> int:
     """Does it. The answer is the exit status."""
     files.look_at_target(words.html)
     program, table, messages = inputs(words)
-    checked = checking.check(program, table, messages, words.by_position)
+    checked = checking.check(program, table, messages, words.by_position, words.all)
     sheet = style("page.css") + style("picture.css")
     ids = group_ids(checked.table.groups)
     page = pieces("report.html", cover=cover(checked), findings=[told(place, ids) for place in checked.findings],
                   explained=explained(checked), blocks=blocks(checked), style=sheet, style_hash=hash_of(str(sheet)),
-                  legend=LEGEND, premises=premises())
+                  legend=LEGEND, premises=premises.blocks())
     with files.writing(words.html) as file:
         for piece in page:
             file.write(piece.encode("utf-8"))
