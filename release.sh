@@ -6,7 +6,8 @@
 #                                  and its checksum beside it; DIR is out/ if it is left out
 #
 # `store` takes the program of these sources that the gate or ./build has left in out/. Run the gate before: `store`
-# tests nothing. Two runs of `tarball` on one commit give the same bytes.
+# tests nothing. `tarball` wants to see in out/ that `tests/edits --all` has judged every edit of these sources. Two runs
+# of it on one commit give the same bytes.
 set -euo pipefail
 
 cd "$(dirname "${BASH_SOURCE[0]}")"
@@ -36,6 +37,12 @@ sum_of() {
 is_right() {
     grep -qsx "sources $(dist/sources)" "$1/ABOUT" || fail "the program in $1 is of other sources: $2"
     grep -qx "program $(sum_of "$1/balisecheck")" "$1/ABOUT" || fail "the program in $1 is damaged: $2"
+}
+
+# are_judged: fails where tests/edits --all has not judged every edit of these sources.
+are_judged() {
+    [ -e out/edits ] && [ "$(head -n 2 out/edits)" = "$(tests/edits --sums)" ] ||
+        fail 'not every edit of these sources was judged: tests/edits --all'
 }
 
 # The least C library that has all that a program calls.
@@ -78,6 +85,7 @@ tarball() {
     to=$(cd "$to" && pwd)
     is_committed "${handed[@]}" VERSION dist crates.txt HANDLES crates
     is_right "$dist" './release.sh store'
+    are_judged
     room=$(mktemp -d)
     trap 'rm -rf "$room"' EXIT
     git archive --prefix="$name/" HEAD "${handed[@]}" | tar -x -C "$room"
