@@ -6,9 +6,10 @@
 
 Lines are packed into one process up to the first one that is refused, and the rest goes into the next process: a line
 is an input, and each is answered by itself. Documents, and streams whose messages may be cut anywhere, have a process
-each. The inputs depend on the seed and on what the program answered alone; the clock only says when they end. A failed test is
-an answer that no document names, a record that does not come back, or an input that is slow for its length. BALISECHECK
-names the program. The last line is `random inputs: N passed, M failed`.
+each. The inputs depend on the seed and on what the program answered alone; the clock only says when they end. A failed
+test is an answer that no document names, a record that does not come back, or an input that is slow for its length.
+
+BALISECHECK names the program. The last line is `random inputs: N passed, M failed`.
 """
 import argparse
 import json

@@ -14,7 +14,8 @@ from hostile_documents import turned_texts
 from hostile_failing import ends_in_between, failing_devices, refuse_each, undisturbed
 from hostile_process import at_once, system_devices, test_stack
 from hostile_program import ONE, Tests, alone
-from hostile_runs import CHECK, DECODE, DECODE_RADIO, ENCODE, ENCODE_RADIO, FORM, LONG, MESSAGE, MESSAGE_FORM, SHORT, TWO_ASPECTS
+from hostile_runs import (CHECK, DECODE, DECODE_RADIO, ENCODE, ENCODE_RADIO, FORM, LONG, MESSAGE, MESSAGE_FORM, SHORT,
+                          TWO_ASPECTS)
 from runner import DEVICE, HERE, Answer, program as built
 
 SECONDS = 2  # how long a run of a wrapper may take
@@ -31,7 +32,7 @@ program='{program}'
 WRAPPERS = {
     "a byte": ("$((count % 3)) = 1", """"$program" "$@" >"$0.out"; status=$?; sed s/0/1/ "$0.out"; exit $status"""),
     "a hang": ("$count = 4", "exec sleep 100"),
-    "a full device unseen": ("1 = 1", """"$program" "$@" >"$0.out"; status=$?; cat "$0.out" 2>/dev/null; exit $status"""),
+    "a full device unseen": ("1 = 1", """"$program" "$@" >"$0.out"; s=$?; cat "$0.out" 2>/dev/null; exit $s"""),
     "a signal with little stack": ('"$(ulimit -s)" = 512', "kill -SEGV $$"),
 }
 YES, RECORD = Answer(0, "yes: groups 1, messages 0\n", ""), Answer(0, FORM + "\n", "")

@@ -13,11 +13,13 @@ import shutil
 import subprocess
 
 import cases
-from runner import DEVICE, EXAMPLES, MEMORY, TOP, Answer, Tests, answered, blocks, filled, in_full, program, respelled, run
+from runner import (DEVICE, EXAMPLES, MEMORY, TOP, Answer, Tests, answered, blocks, filled, in_full, program, respelled,
+                    run)
 
 TELEGRAM = filled("a1007f802000..f c0")
 FORM, MESSAGE = cases.answer(210, []), "03048000001900080021e810901ff801f400"
-AUTHORITY = json.loads((EXAMPLES / "radio-movement-authority.json").read_text())
+NO_DIGITS = answered("refused: line 1: not hexadecimal\n")
+AUTHORITY_FORM = (EXAMPLES / "radio-movement-authority.json").read_text()
 REPORT = json.loads((EXAMPLES / "radio-position-report.json").read_text())
 PAGE = TOP / "balisecheck.1"
 LEAST_CASES = 4831
@@ -51,7 +53,7 @@ def test_bytes(tests):
     for byte in (b"\0", b"\xff"):
         for place in range(54):
             line = TELEGRAM[:place].encode() + byte + TELEGRAM[place + 1:].encode()
-            tests.equal(f"{byte} as digit {place}", run(("decode",), line), answered("refused: line 1: not hexadecimal\n"))
+            tests.equal(f"{byte} as digit {place}", run(("decode",), line), NO_DIGITS)
 
 
 def test_messages(tests):
@@ -71,8 +73,9 @@ def test_examples(tests):
         others = "".join(f"{respelled(line)}\n" for line in forms.splitlines())
         tests.equal(f"the example {path.stem}", run(("decode", *flag), text), answered(forms))
         tests.equal(f"the form of the example {path.stem}", run(("encode", *flag), forms), answered(text))
-        tests.equal(f"the form of the example {path.stem}, spelled in another way", run(("encode", *flag), others), answered(text))
-    for name, said in (("pad-bits-set", f"{FORM}\nrefused: line 3: pad bits set\n"), ("spare-mark", "refused: line 1: spare at 15 end 17\n")):
+        tests.equal(f"{path.stem}, spelled in another way", run(("encode", *flag), others), answered(text))
+    for name, said in (("pad-bits-set", f"{FORM}\nrefused: line 3: pad bits set\n"),
+                       ("spare-mark", "refused: line 1: spare at 15 end 17\n")):
         tests.equal(f"the example {name}", run(("decode",), (EXAMPLES / f"{name}.txt").read_text()), answered(said))
 
 
@@ -108,7 +111,8 @@ def test_runs(tests):
 def test_greatest(tests):
     """The greatest message and the greatest report have 1,023 bytes; a bit more is refused."""
     raw = {"nid_packet": 44, "q_dir": 2}
-    for form, packets, head, most in ((AUTHORITY, [*AUTHORITY["packets"], raw], 23, 8020),
+    authority = json.loads(AUTHORITY_FORM)
+    for form, packets, head, most in ((authority, [*authority["packets"], raw], 23, 8020),
                                       (REPORT, [REPORT["packets"][0], {"nid_packet": 44}], 21, 7975)):
         for bits in (most, most + 1):
             last = {**packets[-1], "l_packet": bits + head, "body": "00" * ((bits + 7) // 8)}
@@ -118,12 +122,13 @@ def test_greatest(tests):
             else:
                 tests.equal("a bit more is too big", answer, answered("refused: line 1: too big\n"))
     form = (EXAMPLES / "authority-with-profiles.json").read_text().replace('"user_bits":830', '"user_bits":210')
-    tests.equal("packets of a long telegram in a short one", run(("encode",), form), answered("refused: line 1: too big\n"))
+    found = run(("encode",), form)
+    tests.equal("packets of a long telegram in a short one", found, answered("refused: line 1: too big\n"))
 
 
 def test_streams(tests):
     """Two messages may be cut anywhere into lines."""
-    two, wanted = MESSAGE * 2, answered(f"{(EXAMPLES / 'radio-movement-authority.json').read_text()}" * 2)
+    two, wanted = MESSAGE * 2, answered(AUTHORITY_FORM * 2)
     for cut in range(2, 73, 2):
         folded = "\n".join(two[at:at + cut] for at in range(0, len(two), cut))
         tests.equal(f"two messages in lines of {cut} digits", run(("decode", "--radio"), f"{folded}\n"), wanted)
@@ -139,7 +144,7 @@ def test_long_lines(tests):
         tests.equal(f"a line of {length} digits", run(("decode",), f"{'f' * length}\n{TELEGRAM}\n"), answered(one))
         tests.equal(f"{length} digits after a telegram", run(("decode",), f"{TELEGRAM}\n{'f' * length}"), answered(two))
         tests.equal(f"{length} bytes, the last of which is no digit",
-                    run(("decode",), f"{'f' * (length - 1)}g\n{TELEGRAM}\n"), answered("refused: line 1: not hexadecimal\n"))
+                    run(("decode",), f"{'f' * (length - 1)}g\n{TELEGRAM}\n"), NO_DIGITS)
 
 
 def test_blocks(tests):
@@ -188,10 +193,9 @@ def test_devices(tests):
     tests.equal("standard input is a folder", run(("decode",), limits=f"exec <{shlex.quote(str(TOP))}"), failed)
     tests.equal("standard input is closed", run(("decode",), limits="exec <&-"), failed)
     tests.equal("an argument is no text", run((b"\xff",)), failed)
-    form, message = FORM, (EXAMPLES / "radio-movement-authority.json").read_text()
-    for words, given in (("decode", TELEGRAM), ("decode", "zz"), ("decode", f"{TELEGRAM}\nzz"), ("decode --radio", MESSAGE),
-                         ("decode --radio", "030080"), ("encode", form), ("encode --radio", message),
-                         ("check", '{"groups":[],"messages":[]}'), ("check", ""), ("help", "")):
+    for words, given in (("decode", TELEGRAM), ("decode", "zz"), ("decode", f"{TELEGRAM}\nzz"), ("check", ""),
+                         ("help", ""), ("decode --radio", MESSAGE), ("decode --radio", "030080"), ("encode", FORM),
+                         ("encode --radio", AUTHORITY_FORM), ("check", '{"groups":[],"messages":[]}')):
         with open("/dev/full", "wb") as full:
             answer = run(words.split(), input=f"{given}\n".encode(), stdout=full)
         tests.equal(f"{words} of {given[:60]} into a full device", (answer.status, answer.stderr), stopped)
@@ -202,18 +206,20 @@ def test_memory(tests):
     answered by `memory`, after the answers to the lines before it."""
     few = "ulimit -v 100000"
     many = run(("decode", "--radio"), f"{MESSAGE * 2}\n" * 100000, few)
-    tests.equal("many messages", (many.status, many.stdout == (EXAMPLES / "radio-movement-authority.json").read_text() * 200000), (0, True))
+    tests.equal("many messages", (many.status, many.stdout == AUTHORITY_FORM * 200000), (0, True))
     for words, first, endless in (("decode", f"{TELEGRAM}\n", "yes"), ("check", "", "yes ' '")):
         command = f"{{ printf '%s' \"$2\"; {endless} | tr -d '\\n'; }} | ( {few}; exec \"$0\" \"$1\" )"
-        ran = subprocess.run(["bash", "-c", command, program(), words, first], capture_output=True, text=True, check=False)
-        tests.equal(f"memory for {words}", Answer(ran.returncode, ran.stdout, ran.stderr), answered(f"{FORM}\n" * bool(first), MEMORY))
+        ran = subprocess.run(["bash", "-c", command, program(), words, first], capture_output=True, text=True,
+                             check=False)
+        wanted = answered(f"{FORM}\n" * bool(first), MEMORY)
+        tests.equal(f"memory for {words}", Answer(ran.returncode, ran.stdout, ran.stderr), wanted)
 
 
 def main():
     """Runs all tests."""
     tests = Tests()
-    for test in (test_cases, test_bytes, test_messages, test_examples, test_runs, test_greatest, test_streams, test_long_lines,
-                 test_blocks, test_much, test_manual, test_devices, test_memory):
+    for test in (test_cases, test_bytes, test_messages, test_examples, test_runs, test_greatest, test_streams,
+                 test_long_lines, test_blocks, test_much, test_manual, test_devices, test_memory):
         test(tests)
     tests.end("the program")
 

@@ -1,8 +1,9 @@
 #!/usr/bin/env python3
-"""Runs the commands that documents show as they stand there, on the examples and on files made here, after the functions
-of examples/find-field.sh: those with what they have to write (blocks marked `console`), and the commands of the table of
-docs/REFUSALS.md that mend files. Each document has to have commands, and each file made here has to be used. The sums of
-L_PACKET in docs/FORMATS.md are compared with the examples, and the functions are tried with what they have to refuse.
+"""Runs the commands that documents show as they stand there, on the examples and on files made here, after the
+functions of examples/find-field.sh: those with what they have to write (blocks marked `console`), and the commands of
+the table of docs/REFUSALS.md that mend files. Each document has to have commands, and each file made here has to be
+used. The sums of L_PACKET in docs/FORMATS.md are compared with the examples, and the functions are tried with what they
+have to refuse.
 
 BALISECHECK names the program. The last line is `the recipes: N passed, M failed`, and the exit status is 1 if a test
 failed.
@@ -16,13 +17,15 @@ import tempfile
 
 from runner import EXAMPLES, TOP, Tests, program, run
 
-DOCUMENTS = ("README.md", "examples/README.md", "docs/REFUSALS.md", "docs/FORMATS.md", "docs/FINDINGS.md", "docs/BALISEKIT.md")
+DOCUMENTS = ("README.md", "examples/README.md",
+             *(f"docs/{name}.md" for name in ("REFUSALS", "FORMATS", "FINDINGS", "BALISEKIT")))
 FUNCTIONS = EXAMPLES / "find-field.sh"
 # Telegrams of group 1 in country 1: without packets, with a cover marker, and three that are refused.
 ONES = b"f" * 38
 TELEGRAM, MARKED, SPARE = b"a1007f802000ff%bc0" % ONES, b"a1007f802000c011%bc0" % ONES[2:], b"a101ff802000ff%bc0" % ONES
 PADDED, OLD = TELEGRAM[:-1] + b"1", b"90007f802000ff%bc0" % ONES
-FAULTY, LOST = b"a1007f802000c15022a0d4800151402b80d9000105083e87ffffc0", b"a1007f802000c15022a0d400151402a8139000105083e87ffffc0"
+FAULTY = b"a1007f802000c15022a0d4800151402b80d9000105083e87ffffc0"
+LOST = b"a1007f802000c15022a0d400151402a8139000105083e87ffffc0"
 THREE = TELEGRAM, MARKED, SPARE
 # A telegram, an empty line, a telegram, and one that is refused at line 4; then the same in each file that is mended.
 GOOD = b"%b\n\n%b\n%b\n" % THREE
@@ -46,11 +49,13 @@ OTHERS = {
     "faulty.txt": FAULTY + b"\n",
     "lost.txt": LOST + b"\n",
     "lengths.txt": b"%b\n%b\n\n%b00\n%b\n" % (TELEGRAM, TELEGRAM[:-1], TELEGRAM, MARKED),
-    "batch.txt": b"%b\n%b\n\r\n%b\n%b \n%b\n%b\n%b" % (TELEGRAM, SPARE, TELEGRAM, TELEGRAM, PADDED, OLD, TELEGRAM.upper()),
+    "batch.txt": b"%b\n%b\n\r\n%b\n%b \n%b\n%b\n%b"
+                 % (TELEGRAM, SPARE, TELEGRAM, TELEGRAM, PADDED, OLD, TELEGRAM.upper()),
     "numbered.txt": b"%b\n\n\r\n%b\r\n%b" % (TELEGRAM, MARKED, TELEGRAM),
     "names.txt": b"Signal A, km 12.300\nSignal B, km 13.850\n",
-    "line.txt": (EXAMPLES / "duplicated-pair.txt").read_bytes() + b"\n" + TELEGRAM.replace(b"2000ff", b"2001ff") + b"\n",
-    "aspects.txt": b"a10283802000ff%bc0\na11303802000ff%bc0\n\na10284002000ff%bc0\na11304002000ff%bc0\n" % ((ONES,) * 4),
+    "line.txt": b"%b\n%b\n" % ((EXAMPLES / "duplicated-pair.txt").read_bytes(), TELEGRAM.replace(b"2000ff", b"2001ff")),
+    "aspects.txt": b"a10283802000ff%b\na11303802000ff%b\n\na10284002000ff%b\na11304002000ff%b\n"
+                   % ((ONES + b"c0",) * 4),
 }
 IS_ZERO = "line 1 has no hexadecimal digit for bit"
 
@@ -74,7 +79,8 @@ class Recipes(Tests):
     def shell(self, command):
         """What a command writes to standard output and says beside it, in a bash of its own."""
         ran = subprocess.run(["bash", "-c", '. "$0" && eval "$1"', FUNCTIONS, command], cwd=self.files, check=False,
-                             stdin=subprocess.DEVNULL, capture_output=True, env={**os.environ, "BALISECHECK": program()})
+                             stdin=subprocess.DEVNULL, capture_output=True,
+                             env={**os.environ, "BALISECHECK": program()})
         return ran.stdout.decode(errors="surrogateescape"), ran.stderr.decode(errors="surrogateescape")
 
     def writes(self, command, wanted):
@@ -132,21 +138,24 @@ def test_line_ends(tests, commands):
 
 def test_mending(tests):
     """The rows of the table whose first cell is a file and whose last cell is a command."""
-    tests.equal("the good lines", run(("decode",), GOOD).stdout.splitlines()[-1:], ["refused: line 4: spare at 15 end 17"])
+    last = run(("decode",), GOOD).stdout.splitlines()[-1:]
+    tests.equal("the good lines", last, ["refused: line 4: spare at 15 end 17"])
     rows = dict(re.findall(r"(?m)^\| `(\w+\.txt)`.*\| `(.*mended\.txt)` \|$", (TOP / "docs/REFUSALS.md").read_text()))
     tests.equal("each file is in the table", sorted(rows), sorted(TO_MEND))
     for name in rows.keys() & TO_MEND.keys():
         tests.mends(name, rows[name])
-    for code, mark, named in (("utf-16-be", b"\xfe\xff", "UTF-16 "), ("utf-16-le", b"", "UTF-16LE "), ("utf-16-be", b"", "UTF-16BE ")):
+    for code, mark, named in (("utf-16-be", b"\xfe\xff", "UTF-16 "), ("utf-16-le", b"", "UTF-16LE "),
+                              ("utf-16-be", b"", "UTF-16BE ")):
         tests.put({"utf16.txt": mark + GOOD.decode().encode(code)})
         tests.mends("utf16.txt", rows["utf16.txt"].replace("UTF-16 ", named))
 
 
 def test_functions(tests):
-    """Numbers that are too great, places after the end, lines that are not there, capitals, and lines that end in blanks."""
+    """Numbers too great, places after the end, lines that are not there, capitals, and lines that end in blanks."""
     telegram, spare, blanks = TELEGRAM.decode(), SPARE.decode(), "printf '%s \\t\\r\\n' " + TELEGRAM.decode()
     tests.writes('all_refused missing.txt; echo "status $?"', "status 3\n")
-    tests.writes("./balisecheck decode <batch.txt | json_lines 2>refused.txt | jq -c .packets | number_lines batch.txt", "1 []\n")
+    tests.writes("./balisecheck decode <batch.txt | json_lines 2>refused.txt | jq -c .packets | number_lines batch.txt",
+                 "1 []\n")
     tests.refuses(f"put_number 1 15 17 4 <<<{telegram}", "4 is no number of 2 bits")
     tests.refuses(f"put_number 1 15 17 x <<<{telegram}", "x is no number of 2 bits")
     tests.refuses(f"put_number 1 214 218 3 <<<{telegram}", f"{IS_ZERO} 217")
@@ -187,7 +196,8 @@ def test_zeros(tests):
 
 def test_sums(tests):
     """Each `.. examples/FILE.txt .. : SUM = L_PACKET` says how many bits the file's first packet has."""
-    found = re.findall(r"(examples/[^ ]*\.txt)` [^.\n]*: ([0-9 +×]*) = ([0-9]+)", (TOP / "docs/FORMATS.md").read_text())
+    text = (TOP / "docs/FORMATS.md").read_text()
+    found = re.findall(r"(examples/[^ ]*\.txt)` [^.\n]*: ([0-9 +×]*) = ([0-9]+)", text)
     for name, terms, bits in found:
         total = sum(eval_product(term) for term in terms.split("+"))
         listed = tests.shell(f"list_packets 1 <{name} | head -n 1")[0]

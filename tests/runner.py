@@ -16,6 +16,7 @@ sys.dont_write_bytecode = True  # so that no folder of it comes into being besid
 HERE = pathlib.Path(__file__).resolve().parent
 TOP, CASES, EXAMPLES = HERE.parent, HERE / "cases", HERE.parent / "examples"
 MEMORY, DEVICE = "balisecheck: memory\n", "balisecheck: device\n"
+LONGEST = 120  # seconds that a run may take
 Answer = collections.namedtuple("Answer", "status stdout stderr")
 
 
@@ -47,7 +48,10 @@ def run(words, data=b"", limits="", **files):
     command = ["sh", "-c", f'{limits}\nexec "$0" "$@"', *command] if limits else command
     files = files or {"input": in_bytes(data)}
     files = {"stdout": subprocess.PIPE, "stderr": subprocess.PIPE, **files}
-    ran = subprocess.run(command, check=False, **files)
+    try:
+        ran = subprocess.run(command, check=False, timeout=LONGEST, **files)
+    except subprocess.TimeoutExpired:
+        return Answer(None, "", f"no answer in {LONGEST} s\n")
     out, err = ((it or b"").decode(errors="surrogateescape") for it in (ran.stdout, ran.stderr))
     return Answer(ran.returncode, out, err)
 

@@ -39,7 +39,8 @@ def is_valid(name, value):
 
 def forms(names):
     """The forms in the examples of these names."""
-    return [json.loads(line) for path in sorted(EXAMPLES.glob(f"{names}.json")) for line in path.read_text().splitlines()]
+    paths = sorted(EXAMPLES.glob(f"{names}.json"))
+    return [json.loads(line) for path in paths for line in path.read_text().splitlines()]
 
 
 def telegrams():
