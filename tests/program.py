@@ -6,11 +6,13 @@ data: examples/, and tests/cases, of which cases.py makes lines.
 BALISECHECK names the program. The last line is `the program: N passed, M failed`, and the exit status is 1 if a test
 failed.
 """
+import contextlib
 import json
 import re
 import shlex
 import shutil
 import subprocess
+import threading
 
 import cases
 from runner import (DEVICE, EXAMPLES, MEMORY, TOP, Answer, Tests, answered, blocks, filled, in_full, program, respelled,
@@ -23,6 +25,7 @@ AUTHORITY_FORM = (EXAMPLES / "radio-movement-authority.json").read_text()
 REPORT = json.loads((EXAMPLES / "radio-position-report.json").read_text())
 PAGE = TOP / "balisecheck.1"
 LEAST_CASES = 4831
+PATIENCE = 10  # seconds that the answers to two lines may take
 
 
 def decoded(line):
@@ -159,6 +162,31 @@ def test_much(tests):
     tests.lines("two thousand lines", run(("decode",), f"{TELEGRAM}\n" * 2000).stdout, f"{FORM}\n" * 2000)
 
 
+def conversation(words, line):
+    """What the program answers to a line, and to it again, while its input is open, and its status in the end."""
+    found = []
+    with subprocess.Popen([program(), *words], stdin=subprocess.PIPE, stdout=subprocess.PIPE, text=True) as waiting:
+        clock = threading.Timer(PATIENCE, waiting.kill)
+        clock.start()
+        with contextlib.suppress(BrokenPipeError):
+            for _ in range(2):
+                print(line, file=waiting.stdin, flush=True)
+                found.append(waiting.stdout.readline())
+            waiting.stdin.close()
+        status = waiting.wait()
+        clock.cancel()
+    return found, status
+
+
+def test_waiting(tests):
+    """Each command that reads lines answers a line before the next one is sent."""
+    authority = AUTHORITY_FORM.rstrip("\n")
+    for words, line, answer in ((["decode"], TELEGRAM, FORM), (["encode"], FORM, TELEGRAM),
+                                (["decode", "--radio"], MESSAGE, authority),
+                                (["encode", "--radio"], authority, MESSAGE)):
+        tests.equal(f"{' '.join(words)} answers line by line", conversation(words, line), ([f"{answer}\n"] * 2, 0))
+
+
 def section(name):
     """The lines of this section of the manual page."""
     found = re.search(rf"^\.SH {name}\n(.*?)(?=^\.SH|\Z)", PAGE.read_text(), re.MULTILINE | re.DOTALL)
@@ -219,7 +247,7 @@ def main():
     """Runs all tests."""
     tests = Tests()
     for test in (test_cases, test_bytes, test_messages, test_examples, test_runs, test_greatest, test_streams,
-                 test_long_lines, test_blocks, test_much, test_manual, test_devices, test_memory):
+                 test_long_lines, test_blocks, test_much, test_waiting, test_manual, test_devices, test_memory):
         test(tests)
     tests.end("the program")
 
