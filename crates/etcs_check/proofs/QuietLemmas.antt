@@ -13,7 +13,7 @@ use Rattle.etcs_group.specs.Places.{At}
 use Rattle.etcs_group.proofs.PlaceLemmas.{at_list_any}
 use Rattle.etcs_check.specs.Aspects.{aspect_of, group_facts, is_untold, rule_facts, whole, whole_facts}
 use Rattle.etcs_check.specs.Findings.{all_rules}
-use Rattle.etcs_check.specs.Greatest.{greatest, is_before, is_sought, reach_of}
+use Rattle.etcs_check.specs.Greatest.{greatest, is_before, is_sought}
 use Rattle.etcs_check.specs.Profiles.{AreReached, gradient_reach, limit_of, speed_reach}
 use Rattle.etcs_check.specs.Quiet.{IsQuiet, IsQuietBalise}
 use Rattle.etcs_check.specs.declared.finding.Rule.{Rule}
@@ -56,9 +56,9 @@ reached-by_profiles packets limit is gradient speed none i a location at has = (
     profiles reach there long =
         profiles-from_list reach packets (and_right (list_any (λ p. is_some (limit_of p)) packets) _ (ap not there))
         (λ j p at.
-            let not_short : is_sought (soughts.Short limit) p ≡ false = false_from_ne_true _ (λ short.
-                both_ways _ none (at_list_any (is_sought (soughts.Short limit)) packets j p at short)) in
-            short-before reach packets p ∙ ap (λ o. is_before reach o p) (sym is) ∙ long p not_short)
+        let not_short : is_sought (soughts.Short limit) p ≡ false = false_from_ne_true _ (λ short.
+        both_ways _ none (at_list_any (is_sought (soughts.Short limit)) packets j p at short)) in
+        short-before reach packets p ∙ ap (λ o. is_before reach o p) (sym is) ∙ long p not_short)
 
 -- ---- a group of one aspect
 
@@ -105,7 +105,7 @@ module _
       let identity = whole_facts site used (group ∷ []) rules.IdentityUsed in
       let told = balises_empty rules.NotToldApart (whole site) (is_untold (group ∷ [])) group (λ b t at. refl) in
       let all : group_facts site used (group ∷ []) ≡ flat_map (whole_facts site used (group ∷ [])) all_rules =
-          λ i. flat_map (λ rule. whole_alone site used rule i) all_rules in
+      λ i. flat_map (λ rule. whole_alone site used rule i) all_rules in
       all ∙ ap (λ l. identity ++ (l ++ [])) told ∙ append-nil identity
 
 -- what a quiet aspect says of its group, if it is the only one, as an index finds it

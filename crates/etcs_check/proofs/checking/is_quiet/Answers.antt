@@ -24,7 +24,7 @@ pub returns : goal.returns
 returns c = λ yes.
     quiet-from_parts c.args.group.now
     (λ b t at.
-        let within = slice_get_within c.args.group.now b t at in
-        c.places.invariant b t (omega (arith, within, c.places-test.false)) at)
+    let within = slice_get_within c.args.group.now b t at in
+    c.places.invariant b t (omega (arith, within, c.places-test.false)) at)
     (by_run (λ (run : Run). AreReached (said_by run c.args.group.now))
     (c.is_quiet_in.ensures c.if-not-is_quiet_in.false) (c.is_quiet_in-2.ensures yes))

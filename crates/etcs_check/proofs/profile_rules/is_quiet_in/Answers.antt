@@ -1,5 +1,5 @@
 use Rattle.std.proofs.Common.{not, is_some, sym, ap, ◌∙◌}
-use Rattle.std.proofs.lemmas.Bool.{not-false, not-true}
+use Rattle.std.proofs.lemmas.Bool.{not-true}
 use Rattle.etcs_group.specs.Packets.{said_by}
 use Rattle.etcs_check.proofs.QuietLemmas.{reached-by_profiles, reached-without_authority}
 use Rattle.etcs_check.proofs.profile_rules.is_quiet_in.Goals as goal
