@@ -54,12 +54,13 @@ instructions() {
         sed -n 's/.*Collected : *\([0-9]*\).*/\1/p'
 }
 
-# per_byte INPUT COMMAND WORD..: the instructions for each byte of the input, without those of a start, which reads
-# nothing.
+# per_byte INPUT COMMAND WORD..: the instructions for each byte of the input, without those for no input, or for a
+# document of no groups.
 per_byte() {
-    local input=$1
+    local input=$1 start=/dev/null
     shift
-    awk -v all="$(instructions "$input" "$@")" -v start="$(instructions /dev/null "$@")" -v bytes="$(wc -c <"$input")" \
+    [ "${*: -1}" != check ] || { start=$room/no_groups && echo '{"groups":[],"messages":[]}' >"$start"; }
+    awk -v all="$(instructions "$input" "$@")" -v start="$(instructions "$start" "$@")" -v bytes="$(wc -c <"$input")" \
         'BEGIN { if (all <= start) exit 1; printf "%.1f", (all - start) / bytes }' || fail 'no instructions are counted'
 }
 

@@ -1,10 +1,11 @@
 #!/usr/bin/env bash
 # Counts instructions a byte of input, for each command's work: bench/instructions.sh [PROGRAM..]
 #
-# The inputs are those of bench/forms.sh and bench/documents.sh: 1,000 telegrams, 1,000 messages, 500 groups. Those
-# of a start are left out. With several programs each has a column, and the last one says what the last program takes
-# of the first. No load of the machine changes the counts, so two versions are compared by them. It needs valgrind, and
-# no toolchain. Without a word it counts those of the program that ./balisecheck would run.
+# The inputs are those of bench/forms.sh and bench/documents.sh: 1,000 telegrams, 1,000 messages, 500 groups. What a
+# command takes for no input, or for a document of no groups, is left out. With several programs each has a column, and
+# one more says what the last program takes of the first. No load of the machine changes the counts, so two versions
+# are compared by them. It needs valgrind, and no toolchain. Without a word it counts those of the program that
+# ./balisecheck would run.
 set -euo pipefail
 
 here=$(cd "$(dirname "${BASH_SOURCE[0]}")" && pwd)
