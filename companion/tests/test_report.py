@@ -208,6 +208,26 @@ def test_messages_are_drawn_and_shown(tmp_path: Path, capsys: pytest.CaptureFixt
     assert "end of the authority at 2000 m, km 14.300" in said and "= end of the authority at 2000 m;" in said
 
 
+@pytest.mark.parametrize("length", [1, 300, 2000, 9000])
+@pytest.mark.parametrize("direction", [0, 1, 2])
+def test_texts_are_within_the_picture(length: int, direction: int, tmp_path: Path) -> None:
+    """Whatever is found missing, and whatever is short: no text is cut off at an edge."""
+    long: Dict[str, Any] = {"nid_packet": 15, "q_dir": direction, "q_scale": 1, "end_speed": 0, "end_timeout": 1023,
+                            "sections": [], "l_endsection": 9000}
+    forms = [{**_movement(9), "packets": [{**long, "l_endsection": length}]},
+             {**_movement(9), "packets": [long, _profile(direction, (0, 20), (9000 - length, 127))]}]
+    messages = _messages(tmp_path / "m.txt", *forms)
+    for line in ("1", "2"):
+        words = ["--messages", str(messages), "--message", line, "--svg", str(tmp_path / "m.svg")]
+        assert cli.main(["draw", str(LINE), *words]) == 0
+        picture = ElementTree.parse(tmp_path / "m.svg").getroot()
+        for one in picture.iter("{http://www.w3.org/2000/svg}text"):
+            look, said, x = str(one.get("class")), str(one.text), float(str(one.get("x")))
+            long_one = len(said) * (7 if "red" in look else 6)
+            left = x - long_one * (0 if "begin" in look else 1 if "ending" in look else 0.5 if "middle" in look else 0)
+            assert left >= 0 and (left + long_one <= int(str(picture.get("width"))) or "tick" in look), (said, left)
+
+
 def test_two_groups_with_one_identity_give_a_message_no_kilometres(tmp_path: Path) -> None:
     """Nobody knows which of them it is."""
     form = json.loads((TOP / "examples" / "header-only.json").read_text())

@@ -160,7 +160,7 @@ def _message(one: AcceptedMessage, places: Sequence[Place], groups: Identities) 
     where = f"its places count from {group_words(group)}" if group else ""
     picture = picture_of_message(heading, form, [place.finding for place in places], here.kilometres)
     return Block(f"m{one.message.number}", heading, where, "", picture, tuple(told(place, {}) for place in places),
-                 (Telegram("", heading, clean(one.message.text), text(form, here)),))
+                 (Telegram("", "in words", clean(one.message.text), text(form, here)),))
 
 
 def _refused_message(one: RefusedMessage) -> Block:
