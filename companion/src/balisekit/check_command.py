@@ -5,27 +5,27 @@ import argparse
 import json
 import sys
 import textwrap
-from typing import Any, Dict, Iterator, List, TextIO, Tuple
+from typing import Any, Dict, Iterator, TextIO
 
 from balisekit import checking, files
+from balisekit.aspect_counts import aspects_found, groups_by_aspects
 from balisekit.checking import Accepted, Checked, LeftOut, Place, Refused, RefusedMessage
 from balisekit.commands import Command, add_input_words, inputs
 from balisekit.errors import NoAnswer
 from balisekit.explain import explanations
-from balisekit.model import Group, Row, Table
+from balisekit.model import Group, Row
 from balisekit.wording import (balise_words, clean, group_words, message_refused, message_words,
                                telegram_refused)
 
 WIDTH = 116
-NAMED = 3
-"""So many groups with one number of aspects are named."""
 
 
 def add_words(parser: argparse.ArgumentParser) -> None:
     """The words of this command."""
     add_input_words(parser)
     parser.add_argument("--explain", action="store_true", help="show cause and remedy of each finding")
-    parser.add_argument("--all", action="store_true", help=checking.ALL_HELP)
+    parser.add_argument("--all", action="store_true",
+                        help=f"go on after {checking.GREATEST_REFUSED:,} refused telegrams")
     parser.add_argument("--json", metavar="FILE", help="write all of the answer as JSON; - is standard output")
     parser.add_argument("--document", metavar="FILE",
                         help="write the document that the program has checked; - is standard output")
@@ -102,25 +102,6 @@ def finding_words(place: Place) -> str:
     parts += [finding.direction] if finding.direction else []
     name = finding.name + (f" by {group_words(place.earlier)}" if place.earlier else "")
     return "  ".join([words, *parts]) + f": {name}"
-
-
-def aspects_found(table: Table) -> str:
-    """How many aspects the groups of the table have. Nothing else shows that the table lacks a whole aspect."""
-    parts: List[str] = []
-    for count, groups in groups_by_aspects(table):
-        word = "" if parts else " group" if len(groups) == 1 else " groups"
-        few = len(groups) <= NAMED and len(groups) < len(table.groups)
-        names = f" ({', '.join(clean(group.name) for group in groups)})" if few else ""
-        parts.append(f"{count} in {len(groups)}{word}{names}")
-    return f"aspects found: {', '.join(parts)}"
-
-
-def groups_by_aspects(table: Table) -> List[Tuple[int, List[Group]]]:
-    """Each number of aspects, the greatest first, and the groups that have it."""
-    found: Dict[int, List[Group]] = {}
-    for group in table.groups:
-        found.setdefault(len(group.aspects), []).append(group)
-    return sorted(found.items(), reverse=True)
 
 
 def _explained(checked: Checked) -> Iterator[str]:

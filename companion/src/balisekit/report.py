@@ -7,7 +7,8 @@ from datetime import datetime, timezone
 from typing import Dict, Iterator, List, Mapping, Optional, Sequence, Tuple
 
 from balisekit import __version__
-from balisekit.check_command import aspects_found, finding_words, last_line
+from balisekit.aspect_counts import aspects_found
+from balisekit.check_command import finding_words, last_line
 from balisekit.checking import AcceptedMessage, Checked, Place, RefusedMessage
 from balisekit.canvas import Picture
 from balisekit.explain import Explanation, explanations
