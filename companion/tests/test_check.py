@@ -163,6 +163,22 @@ def test_after_too_many_refused(run: Run, table: Write, monkeypatch: pytest.Monk
     assert run("check", table("group,telegram", *rows), "--all")[1][-1].startswith("INCOMPLETE: 5 of 5 telegrams")
 
 
+def test_after_too_many_refused_messages(run: Run, table: Write, monkeypatch: pytest.MonkeyPatch, tmp_path: Path
+                                         ) -> None:
+    monkeypatch.setattr(checking, "GREATEST_REFUSED", 3)
+    path = table(*SOUND)
+    radio = table(MESSAGE, *["0304"] * 3, MESSAGE, "0304", name="messages.txt")
+    status, out, _ = run("check", path, "--messages", radio, "--json", tmp_path / "out.json")
+    assert status == 2 and "and 2 messages not looked at: --all goes on" in out
+    assert out[-1] == ("INCOMPLETE: 0 of 3 telegrams refused, 3 of 6 messages refused, 0 of 2 groups left out, "
+                       "2 messages not looked at")
+    assert json.loads((tmp_path / "out.json").read_text())["counts"]["messages_not_looked_at"] == 2
+    assert "4 of 6 messages refused" in run("check", path, "--messages", radio, "--all")[1][-1]
+    status, out, _ = run("show", "--messages", radio)
+    assert status == 2 and "and 2 messages not looked at: --all goes on" in out
+    assert "not looked at" not in "".join(run("show", "--messages", radio, "--all")[1])
+
+
 @pytest.mark.parametrize("target", ["folder", "none/file", "device"])
 def test_targets_that_cannot_be_written(run: Run, table: Write, tmp_path: Path, target: str) -> None:
     (tmp_path / "folder").mkdir()

@@ -24,8 +24,7 @@ def add_words(parser: argparse.ArgumentParser) -> None:
     """The words of this command."""
     add_input_words(parser)
     parser.add_argument("--explain", action="store_true", help="show cause and remedy of each finding")
-    parser.add_argument("--all", action="store_true",
-                        help=f"go on after {checking.GREATEST_REFUSED:,} refused telegrams")
+    parser.add_argument("--all", action="store_true", help=checking.ALL_HELP)
     parser.add_argument("--json", metavar="FILE", help="write all of the answer as JSON; - is standard output")
     parser.add_argument("--document", metavar="FILE",
                         help="write the document that the program has checked; - is standard output")
@@ -72,6 +71,8 @@ def lines(checked: Checked, explain: bool = False, by_position: bool = False) ->
     yield from (f"left out: {group_words(one.group)}: {one.why}" for one in checked.left_out)
     if checked.not_looked_at:
         yield f"and {checked.not_looked_at} rows not looked at: --all goes on"
+    if checked.messages_not_looked_at:
+        yield f"and {checked.messages_not_looked_at} messages not looked at: --all goes on"
     for place in checked.findings:
         yield f"{finding_words(place)}"
         yield f"    program: {place.finding.line}"
@@ -125,6 +126,8 @@ def last_line(checked: Checked) -> str:
         parts.append(f"{len(checked.refused_messages)} of {len(checked.messages.messages)} messages refused")
     parts.append(f"{len(checked.left_out)} of {len(groups)} groups left out")
     parts += [f"{checked.not_looked_at} rows not looked at"] if checked.not_looked_at else []
+    some = checked.messages_not_looked_at
+    parts += [f"{some} messages not looked at"] if some else []
     return "INCOMPLETE: " + ", ".join(parts)
 
 
@@ -143,7 +146,8 @@ def as_json(checked: Checked) -> Dict[str, Any]:
         "counts": {"telegrams": len(checked.table.rows), "groups": len(checked.table.groups),
                    "aspects": [{"aspects": count, "groups": len(groups)}
                                for count, groups in groups_by_aspects(checked.table)],
-                   "not_looked_at": checked.not_looked_at},
+                   "not_looked_at": checked.not_looked_at,
+                   "messages_not_looked_at": checked.messages_not_looked_at},
         "telegrams": [_telegram_json(one) for one in checked.accepted.values()],
         "read_messages": [{"line_of_file": one.message.number, "name": one.message.name, "form": one.form}
                           for one in checked.accepted_messages],

@@ -100,6 +100,8 @@ def cover(checked: Checked) -> Cover:
     notes = [clean(note) for note in table.notes]
     notes += [f"columns passed over: {', '.join(map(clean, table.passed_over))}"] if table.passed_over else []
     notes += [f"{checked.not_looked_at} rows were not looked at"] if checked.not_looked_at else []
+    some = checked.messages_not_looked_at
+    notes += [f"{some} messages were not looked at"] if some else []
     papers = [("file", clean(program.path)), ("SHA-256", program.sha256)]
     papers += [(key, value) for key, value in program.about.items() if key != "program"]
     papers += [] if program.about else [("version", "not a released program")]
