@@ -12,6 +12,7 @@ import pytest
 
 import line_table
 from balisekit import checking, explain
+from balisekit.errors import TableErrors
 from balisekit.program import Program
 from conftest import Run
 from telegrams import ALONE, FAULTY, FIRST, MESSAGE, OTHER, SECOND, SPARE
@@ -162,6 +163,22 @@ def test_after_too_many_refused(run: Run, table: Write, monkeypatch: pytest.Monk
     assert run("check", table("group,telegram", *rows), "--all")[1][-1].startswith("INCOMPLETE: 5 of 5 telegrams")
 
 
+def test_after_too_many_refused_messages(run: Run, table: Write, monkeypatch: pytest.MonkeyPatch, tmp_path: Path
+                                         ) -> None:
+    monkeypatch.setattr(checking, "GREATEST_REFUSED", 3)
+    path = table(*SOUND)
+    radio = table(MESSAGE, *["0304"] * 3, MESSAGE, "0304", name="messages.txt")
+    status, out, _ = run("check", path, "--messages", radio, "--json", tmp_path / "out.json")
+    assert status == 2 and "and 2 messages not looked at: --all goes on" in out
+    assert out[-1] == ("INCOMPLETE: 0 of 3 telegrams refused, 3 of 6 messages refused, 0 of 2 groups left out, "
+                       "2 messages not looked at")
+    assert json.loads((tmp_path / "out.json").read_text())["counts"]["messages_not_looked_at"] == 2
+    assert "4 of 6 messages refused" in run("check", path, "--messages", radio, "--all")[1][-1]
+    status, out, _ = run("show", "--messages", radio)
+    assert status == 2 and "and 2 messages not looked at: --all goes on" in out
+    assert "not looked at" not in "".join(run("show", "--messages", radio, "--all")[1])
+
+
 @pytest.mark.parametrize("target", ["folder", "none/file", "device"])
 def test_targets_that_cannot_be_written(run: Run, table: Write, tmp_path: Path, target: str) -> None:
     (tmp_path / "folder").mkdir()
@@ -179,6 +196,35 @@ def test_nothing_half_written(run: Run, table: Write, tmp_path: Path) -> None:
 def test_no_program(run: Run, table: Write) -> None:
     status, out, err = run("check", table(*SOUND), "--program", "/bin/false")
     assert (status, out, err) == (3, [], ["balisekit: /bin/false is not the program that this version knows"])
+
+
+def test_a_killed_program(run: Run, table: Write, tmp_path: Path) -> None:
+    stand = tmp_path / "stand"
+    usage = "refused: usage is balisecheck check, decode [--radio] or encode [--radio]"
+    stand.write_text("#!/bin/sh\ncase $1 in\ncheck) echo 'yes: groups 0, messages 0' ;;\n"
+                     f"--version) echo '{usage}'; exit 2 ;;\n*) kill -9 $$ ;;\nesac\n")
+    stand.chmod(0o755)
+    status, out, err = run("check", table(*SOUND), "--program", stand, "--json", tmp_path / "out.json")
+    assert (status, out) == (3, []) and err == [f"balisekit: no answer of {stand}: decode: killed by signal 9"]
+    assert not (tmp_path / "out.json").exists()
+
+
+def test_columns_that_are_passed_over_are_listed(run: Run, table: Write) -> None:
+    _, out, _ = run("check", table("group,telegram,Remark,a\x1bb", f"A,{ALONE},x,y"))
+    assert out[1] == "columns passed over: Remark, a\\x1bb"
+
+
+def test_a_traceback_is_for_debug_alone(run: Run, table: Write, monkeypatch: pytest.MonkeyPatch) -> None:
+    path = table("group,telegram", ",00")
+    with pytest.raises(TableErrors):
+        run("check", path, "--debug")
+
+    def wrong(*_: object) -> None:
+        raise RuntimeError("wrong")
+    monkeypatch.setattr(checking, "check", wrong)
+    status, out, err = run("check", table(*SOUND))
+    assert (status, out, err) == (3, [], ["balisekit: an error of balisekit itself, RuntimeError: wrong; --debug shows "
+                                          "where it comes from"])
 
 
 def test_wrong_words(run: Run) -> None:

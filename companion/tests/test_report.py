@@ -8,6 +8,7 @@ import os
 import re
 import sys
 import xml.etree.ElementTree as ElementTree
+from decimal import Decimal
 from html.parser import HTMLParser
 from pathlib import Path
 from typing import Any, Dict, List, Optional, Tuple
@@ -206,6 +207,45 @@ def test_messages_are_drawn_and_shown(tmp_path: Path, capsys: pytest.CaptureFixt
     cli.main(["show", str(LINE), *words])
     said = capsys.readouterr().out
     assert "end of the authority at 2000 m, km 14.300" in said and "= end of the authority at 2000 m;" in said
+
+
+def test_an_authority_has_all_its_places() -> None:
+    """Sections, end, danger point, overlap and supervised location, in both directions, with their numbers."""
+    packet = {"nid_packet": 12, "q_dir": 2, "q_scale": 1, "v_main": 24, "end_speed": 4, "end_timeout": 60,
+              "sections": [{"l_section": 800}], "l_endsection": 900, "danger_point": {"d_dp": 60, "v_releasedp": 5},
+              "overlap": {"d_startol": 100, "t_ol": 30, "d_ol": 120, "v_releaseol": 126}}
+    form = {"m_dup": 0, "packets": [packet]}
+    picture = draw("A", [Content("", [form])], Kilometres(Decimal(10), 1))
+    titles = {one.title for one in picture.shapes if one.title}
+    for direction, along in (("nominal", 1), ("reverse", -1)):
+        def km(metres_along: int) -> str:
+            return f"{metres_along} m, km {10 + along * Decimal(metres_along) / 1000:.3f}, {direction}"
+        assert titles >= {f"section 0: 800 m, to {km(800)}", f"end section: 900 m, to {km(1700)}",
+                          f"end of the authority: {km(1700)}", f"danger point: {km(1760)}",
+                          f"overlap: 120 m, to {km(1820)}", f"supervised location: {km(1820)}"}
+    texts = [one.text for one in picture.shapes if "V_MAIN" in one.text]
+    said = "V_MAIN 120 km/h; V_LOA 20 km/h; end 1700 m; DP 1760 m; OL 1820 m; SvL 1820 m"
+    assert texts == [f"nominal: {said}", f"reverse: {said}"]
+
+
+@pytest.mark.parametrize("length", [1, 300, 2000, 9000])
+@pytest.mark.parametrize("direction", [0, 1, 2])
+def test_texts_are_within_the_picture(length: int, direction: int, tmp_path: Path) -> None:
+    """Whatever is found missing, and whatever is short: no text is cut off at an edge."""
+    long: Dict[str, Any] = {"nid_packet": 15, "q_dir": direction, "q_scale": 1, "end_speed": 0, "end_timeout": 1023,
+                            "sections": [], "l_endsection": 9000}
+    forms = [{**_movement(9), "packets": [{**long, "l_endsection": length}]},
+             {**_movement(9), "packets": [long, _profile(direction, (0, 20), (9000 - length, 127))]}]
+    messages = _messages(tmp_path / "m.txt", *forms)
+    for line in ("1", "2"):
+        words = ["--messages", str(messages), "--message", line, "--svg", str(tmp_path / "m.svg")]
+        assert cli.main(["draw", str(LINE), *words]) == 0
+        picture = ElementTree.parse(tmp_path / "m.svg").getroot()
+        for one in picture.iter("{http://www.w3.org/2000/svg}text"):
+            look, said, x = str(one.get("class")), str(one.text), float(str(one.get("x")))
+            long_one = len(said) * (7 if "red" in look else 6)
+            left = x - long_one * (0 if "begin" in look else 1 if "ending" in look else 0.5 if "middle" in look else 0)
+            assert left >= 0 and (left + long_one <= int(str(picture.get("width"))) or "tick" in look), (said, left)
 
 
 def test_two_groups_with_one_identity_give_a_message_no_kilometres(tmp_path: Path) -> None:

@@ -38,3 +38,18 @@ def test_functions_are_short(path: Path) -> None:
     """Less than 40 lines each."""
     functions = [node for node in ast.walk(ast.parse(path.read_text("utf-8"))) if isinstance(node, ast.FunctionDef)]
     assert [node.name for node in functions if (node.end_lineno or 0) - node.lineno + 1 >= LONGEST] == []
+
+
+@pytest.mark.parametrize("path", SOURCES, ids=NAMES)
+def test_what_is_public_has_a_docstring(path: Path) -> None:
+    """Modules, and the classes and functions of the package whose names have no underscore in front."""
+    tree = ast.parse(path.read_text("utf-8"))
+    assert ast.get_docstring(tree)
+    found = [tree.body] if path.parent.name == "balisekit" else []
+    lacks = []
+    while found:
+        for node in found.pop():
+            if isinstance(node, (ast.FunctionDef, ast.ClassDef)) and not node.name.startswith("_"):
+                lacks += [] if ast.get_docstring(node) else [node.name]
+                found += [node.body] if isinstance(node, ast.ClassDef) else []
+    assert lacks == []

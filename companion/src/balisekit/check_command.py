@@ -5,20 +5,19 @@ import argparse
 import json
 import sys
 import textwrap
-from typing import Any, Dict, Iterator, List, TextIO, Tuple
+from typing import Any, Dict, Iterator, TextIO
 
 from balisekit import checking, files
+from balisekit.aspect_counts import aspects_found, groups_by_aspects
 from balisekit.checking import Accepted, Checked, LeftOut, Place, Refused, RefusedMessage
 from balisekit.commands import Command, add_input_words, inputs
 from balisekit.errors import NoAnswer
 from balisekit.explain import explanations
-from balisekit.model import Group, Row, Table
+from balisekit.model import Group, Row
 from balisekit.wording import (balise_words, clean, group_words, message_refused, message_words,
                                telegram_refused)
 
 WIDTH = 116
-NAMED = 3
-"""So many groups with one number of aspects are named."""
 
 
 def add_words(parser: argparse.ArgumentParser) -> None:
@@ -72,6 +71,8 @@ def lines(checked: Checked, explain: bool = False, by_position: bool = False) ->
     yield from (f"left out: {group_words(one.group)}: {one.why}" for one in checked.left_out)
     if checked.not_looked_at:
         yield f"and {checked.not_looked_at} rows not looked at: --all goes on"
+    if checked.messages_not_looked_at:
+        yield f"and {checked.messages_not_looked_at} messages not looked at: --all goes on"
     for place in checked.findings:
         yield f"{finding_words(place)}"
         yield f"    program: {place.finding.line}"
@@ -104,25 +105,6 @@ def finding_words(place: Place) -> str:
     return "  ".join([words, *parts]) + f": {name}"
 
 
-def aspects_found(table: Table) -> str:
-    """How many aspects the groups of the table have. Nothing else shows that the table lacks a whole aspect."""
-    parts: List[str] = []
-    for count, groups in groups_by_aspects(table):
-        word = "" if parts else " group" if len(groups) == 1 else " groups"
-        few = len(groups) <= NAMED and len(groups) < len(table.groups)
-        names = f" ({', '.join(clean(group.name) for group in groups)})" if few else ""
-        parts.append(f"{count} in {len(groups)}{word}{names}")
-    return f"aspects found: {', '.join(parts)}"
-
-
-def groups_by_aspects(table: Table) -> List[Tuple[int, List[Group]]]:
-    """Each number of aspects, the greatest first, and the groups that have it."""
-    found: Dict[int, List[Group]] = {}
-    for group in table.groups:
-        found.setdefault(len(group.aspects), []).append(group)
-    return sorted(found.items(), reverse=True)
-
-
 def _explained(checked: Checked) -> Iterator[str]:
     """The lines of docs/FINDINGS.md on each rule that has a finding."""
     known = explanations()
@@ -144,6 +126,8 @@ def last_line(checked: Checked) -> str:
         parts.append(f"{len(checked.refused_messages)} of {len(checked.messages.messages)} messages refused")
     parts.append(f"{len(checked.left_out)} of {len(groups)} groups left out")
     parts += [f"{checked.not_looked_at} rows not looked at"] if checked.not_looked_at else []
+    some = checked.messages_not_looked_at
+    parts += [f"{some} messages not looked at"] if some else []
     return "INCOMPLETE: " + ", ".join(parts)
 
 
@@ -162,7 +146,8 @@ def as_json(checked: Checked) -> Dict[str, Any]:
         "counts": {"telegrams": len(checked.table.rows), "groups": len(checked.table.groups),
                    "aspects": [{"aspects": count, "groups": len(groups)}
                                for count, groups in groups_by_aspects(checked.table)],
-                   "not_looked_at": checked.not_looked_at},
+                   "not_looked_at": checked.not_looked_at,
+                   "messages_not_looked_at": checked.messages_not_looked_at},
         "telegrams": [_telegram_json(one) for one in checked.accepted.values()],
         "read_messages": [{"line_of_file": one.message.number, "name": one.message.name, "form": one.form}
                           for one in checked.accepted_messages],

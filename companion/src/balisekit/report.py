@@ -7,7 +7,8 @@ from datetime import datetime, timezone
 from typing import Dict, Iterator, List, Mapping, Optional, Sequence, Tuple
 
 from balisekit import __version__
-from balisekit.check_command import aspects_found, finding_words, last_line
+from balisekit.aspect_counts import aspects_found
+from balisekit.check_command import finding_words, last_line
 from balisekit.checking import AcceptedMessage, Checked, Place, RefusedMessage
 from balisekit.canvas import Picture
 from balisekit.explain import Explanation, explanations
@@ -99,6 +100,8 @@ def cover(checked: Checked) -> Cover:
     notes = [clean(note) for note in table.notes]
     notes += [f"columns passed over: {', '.join(map(clean, table.passed_over))}"] if table.passed_over else []
     notes += [f"{checked.not_looked_at} rows were not looked at"] if checked.not_looked_at else []
+    some = checked.messages_not_looked_at
+    notes += [f"{some} messages were not looked at"] if some else []
     papers = [("file", clean(program.path)), ("SHA-256", program.sha256)]
     papers += [(key, value) for key, value in program.about.items() if key != "program"]
     papers += [] if program.about else [("version", "not a released program")]
@@ -160,7 +163,7 @@ def _message(one: AcceptedMessage, places: Sequence[Place], groups: Identities) 
     where = f"its places count from {group_words(group)}" if group else ""
     picture = picture_of_message(heading, form, [place.finding for place in places], here.kilometres)
     return Block(f"m{one.message.number}", heading, where, "", picture, tuple(told(place, {}) for place in places),
-                 (Telegram("", heading, clean(one.message.text), text(form, here)),))
+                 (Telegram("", "in words", clean(one.message.text), text(form, here)),))
 
 
 def _refused_message(one: RefusedMessage) -> Block:

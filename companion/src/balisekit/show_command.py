@@ -10,7 +10,7 @@ from typing import Dict, Generator, Iterator, List, Mapping, Optional, Sequence,
 from balisekit import messages_file
 from balisekit.bit_places import bit_lines
 from balisekit.cells import digits as digits_of
-from balisekit.checking import ALL_HELP, until_too_many
+from balisekit.checking import ALL_HELP, greatest_refused, until_too_many
 from balisekit.commands import Command, add_input_words, inputs
 from balisekit.geometry import DIRECTIONS, infill, kilometres
 from balisekit.grammar import Refusal
@@ -37,8 +37,9 @@ def run(words: argparse.Namespace) -> int:
     for lines in shown.blocks():
         print("\n".join(lines))
         print()
-    if shown.not_looked_at:
-        print(f"and {shown.not_looked_at} {shown.what} not looked at: --all goes on\n")
+    for what, count in shown.not_looked_at.items():
+        if count:
+            print(f"and {count} {what} not looked at: --all goes on\n")
     print(textwrap.fill(LEGEND, WIDTH))
     return 2 if shown.refused else 0
 
@@ -49,8 +50,7 @@ class _Shown:
     def __init__(self, words: argparse.Namespace) -> None:
         self.words = words
         self.refused = False
-        self.not_looked_at = 0
-        self.what = "rows"
+        self.not_looked_at: Dict[str, int] = {}
 
     def blocks(self) -> Iterator[List[str]]:
         """The lines of each telegram and message."""
@@ -74,14 +74,14 @@ class _Shown:
         for (number, text_of_line), answer in zip(texts, self._answers(program, [one for _, one in texts])):
             tried += 1
             yield telegram(f"line {number}", text_of_line, answer, Here(), self.words.bits)
-        self.not_looked_at, self.what = len(texts) - tried, "lines"
+        self.not_looked_at["lines"] = len(texts) - tried
 
     def _telegrams(self, program: Program, table: Table) -> Generator[List[str], None, Mapping[int, Form]]:
         """The telegrams of the table. The answer has the forms of those that can be read."""
         answers: Dict[int, Answer] = {}
         for row, answer in zip(table.rows, self._answers(program, [row.telegram for row in table.rows])):
             answers[row.number] = answer
-        self.not_looked_at = len(table.rows) - len(answers)
+        self.not_looked_at["rows"] = len(table.rows) - len(answers)
         forms = {number: answer.form for number, answer in answers.items() if isinstance(answer, Record)}
         for group in table.groups:
             rows = {row.number: row for row in group.rows()}
@@ -98,7 +98,10 @@ class _Shown:
 
     def _messages(self, program: Program, messages: Optional[Messages], groups: Identities) -> Iterator[List[str]]:
         read = messages.messages if messages else ()
-        for message, answer in zip(read, program.messages([one.text for one in read])):
+        self.not_looked_at["messages"] = len(read)
+        answers = program.messages([one.text for one in read], greatest_refused(self.words.all))
+        for message, answer in zip(read, answers):
+            self.not_looked_at["messages"] -= 1
             heading = f"message of {message_words(message)}"
             if isinstance(answer, Refusal):
                 self.refused = True
