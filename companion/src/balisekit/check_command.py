@@ -4,19 +4,15 @@ from __future__ import annotations
 import argparse
 import json
 import sys
-import textwrap
 from typing import Any, Dict, Iterator, TextIO
 
-from balisekit import checking, files
+from balisekit import checking, explain, files
 from balisekit.checking import Accepted, Checked, LeftOut, Place, Refused, RefusedMessage
 from balisekit.commands import Command, add_input_words, inputs
 from balisekit.errors import NoAnswer
-from balisekit.explain import explanations
 from balisekit.model import Group, Row
 from balisekit.wording import (balise_words, clean, group_words, message_refused, message_words,
                                telegram_refused)
-
-WIDTH = 116
 
 
 def add_words(parser: argparse.ArgumentParser) -> None:
@@ -53,7 +49,7 @@ def run(words: argparse.Namespace) -> int:
     return checked.status
 
 
-def lines(checked: Checked, explain: bool = False, by_position: bool = False) -> Iterator[str]:
+def lines(checked: Checked, explained: bool = False, by_position: bool = False) -> Iterator[str]:
     """The answer in words. The last line is the program's, or says that the answer is not whole."""
     table = checked.table
     yield f"{clean(table.path)}: {len(table.rows)} telegrams of {len(table.groups)} groups"
@@ -74,7 +70,7 @@ def lines(checked: Checked, explain: bool = False, by_position: bool = False) ->
     for place in checked.findings:
         yield f"{finding_words(place)}"
         yield f"    program: {place.finding.line}"
-    if explain:
+    if explained:
         yield from _explained(checked)
     yield last_line(checked)
 
@@ -104,13 +100,9 @@ def finding_words(place: Place) -> str:
 
 def _explained(checked: Checked) -> Iterator[str]:
     """The lines of docs/FINDINGS.md on each rule that has a finding."""
-    known = explanations()
+    known = explain.explanations()
     for rule in sorted({place.finding.rule for place in checked.findings}):
-        one = known[rule]
-        yield f"F{rule}: {one.name}"
-        for head, text in (("What it says", one.says), ("How urgent", one.urgent), ("Usual cause", one.cause),
-                           ("How to correct it", one.remedy)):
-            yield from textwrap.wrap(f"{head}. {text}", WIDTH, initial_indent="    ", subsequent_indent="    ")
+        yield from explain.lines(f"F{rule}", known[rule])
 
 
 def last_line(checked: Checked) -> str:
