@@ -14,8 +14,9 @@ COMMANDS = (check_command.COMMAND, show_command.COMMAND, draw_command.COMMAND, r
             links_command.COMMAND)
 STATUSES = """\
 exit status:
-  0  the program says yes to all that was handed in, or the command has done what it is asked for
-  1  findings of `check`, or what `links` has found
+  0  the program says yes to all that was handed in, nothing is open or found, or the command has done what it is
+     asked for
+  1  findings of `check`, entries of accepted findings at fault, or what `links` has found
   2  refused: a telegram or message, so that the answer is INCOMPLETE, or a table or words that cannot be read
   3  no answer: no program, a file that cannot be written, an interrupt
 
