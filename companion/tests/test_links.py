@@ -84,8 +84,9 @@ def test_the_page_has_what_is_written(run: Run, monkeypatch: pytest.MonkeyPatch)
     block = r"^```console\n\$ \./balisekit (.+?)( \| tail -n 2)?\n(.+?)```$"
     blocks = re.findall(block, PAGE, re.MULTILINE | re.DOTALL)
     guide = (TOP / "docs" / "BALISEKIT.md").read_text("utf-8")
-    blocks += re.findall(block.replace(r"\./balisekit (", r"\./balisekit (links "), guide, re.MULTILINE | re.DOTALL)
-    assert len(blocks) == 11
+    block = block.replace(r"\./balisekit (", r"\./balisekit ((?:links|diff) ")
+    blocks += re.findall(block, guide, re.MULTILINE | re.DOTALL)
+    assert len(blocks) == 12
     for words, cut, said in blocks:
         out = run(*shlex.split(words))[1]
         assert said.splitlines() == (out[-2:] if cut else out)
