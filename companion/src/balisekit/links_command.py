@@ -3,7 +3,6 @@ from __future__ import annotations
 
 import argparse
 import json
-import re
 import sys
 from decimal import Decimal
 from typing import Any, Dict, Iterator, TextIO
@@ -14,23 +13,16 @@ from balisekit.commands import Command, add_input_words, inputs
 from balisekit.errors import TableError
 from balisekit.links import Found, Links, look
 from balisekit.stations import line_of
+from balisekit.track_words import add_tolerance
 from balisekit.wording import balise_words, clean, message_refused, message_words, telegram_refused
 
 NOT_PROVED = "L1 to L9 are rules of balisekit, which is not proved: they compare what the program has decoded"
 
 
-def tolerance(text: str) -> Decimal:
-    """A number of metres."""
-    if not re.fullmatch(r"[0-9]{1,5}([.,][0-9])?", text):
-        raise argparse.ArgumentTypeError(f"{text[:40]} is no number of metres: write 5 or 2.5")
-    return Decimal(text.replace(",", "."))
-
-
 def add_words(parser: argparse.ArgumentParser) -> None:
     """The words of this command."""
     add_input_words(parser)
-    parser.add_argument("--tolerance", metavar="METRES", type=tolerance, default=Decimal(),
-                        help="by how much the kilometres of the table may be wrong, beside Q_LOCACC; 0 else")
+    add_tolerance(parser)
     parser.add_argument("--explain", action="store_true", help="show cause and remedy of each rule that has found")
     parser.add_argument("--json", metavar="FILE", help="write all of the answer as JSON; - is standard output")
 
