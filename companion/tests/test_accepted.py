@@ -46,8 +46,8 @@ def test_nothing_open(run: Run, table: Write) -> None:
     status, out, _ = run("check", path, "--accepted", file)
     assert status == 0 and out[1:] == [
         "row 3  B: identity used before by row 2  A", "    program: F14 group 1: identity used before",
-        "    accepted: by design (J. Doe, 2026-01-02)", "program: no: findings 1", "findings 1: accepted 1, open 0",
-        "no open findings"]
+        "    accepted: by design (J. Doe, 2026-01-02)", "aspects found: 1 in 2 groups", "program: no: findings 1",
+        "findings 1: accepted 1, open 0", "no open findings"]
     assert not any("yes" in line for line in out)
 
 

@@ -12,6 +12,7 @@ import pytest
 
 import line_table
 from balisekit import checking, explain
+from balisekit.errors import TableErrors
 from balisekit.program import Program
 from conftest import Run
 from telegrams import ALONE, FAULTY, FIRST, MESSAGE, OTHER, SECOND, SPARE
@@ -20,26 +21,27 @@ Write = Callable[..., Path]
 TOP = Path(__file__).resolve().parents[2]
 HEADING = "group,name,km,aspect,telegram"
 SOUND = [HEADING, f"Signal A,A1,13.850,,{FIRST}", f"Signal A,A2,13.853,,{SECOND}", f"Signal B,B1,15,,{OTHER}"]
+ASPECTS = "aspects found: 1 in {} groups"
 YES = "program: yes: groups 2, messages 0"
 
 
 def test_yes(run: Run, table: Write) -> None:
     path = table(*SOUND)
-    assert run("check", path) == (0, [f"{path}: 3 telegrams of 2 groups", YES], [])
+    assert run("check", path) == (0, [f"{path}: 3 telegrams of 2 groups", ASPECTS.format(2), YES], [])
 
 
 def test_findings(run: Run, table: Write) -> None:
     status, out, _ = run("check", table(*SOUND, f"Signal C,C1,16,,{OTHER}"))
     assert status == 1 and out[1:] == [
         "row 5  Signal C  km 16.000: identity used before by row 4  Signal B  km 15.000",
-        "    program: F14 group 2: identity used before", "program: no: findings 1"]
+        "    program: F14 group 2: identity used before", ASPECTS.format(3), "program: no: findings 1"]
 
 
 def test_refused(run: Run, table: Write) -> None:
     status, out, _ = run("check", table(HEADING, f"A,A1,13.850,green,{FAULTY}", f"B,,,,{ALONE}"))
     assert status == 2 and out[1:] == [
         'row 2  A  km 13.850  aspect "green"  balise 0 "A1": Q_DIR of packet 21 (second packet) is 3, which is spare',
-        "    program: spare at 127 end 129", "left out: row 2  A  km 13.850: refused: row 2",
+        "    program: spare at 127 end 129", "left out: row 2  A  km 13.850: refused: row 2", ASPECTS.format(2),
         "INCOMPLETE: 1 of 2 telegrams refused, 1 of 2 groups left out"]
 
 
@@ -74,7 +76,16 @@ def test_by_position(run: Run, table: Write) -> None:
     assert run("check", path)[0] == 1
     status, out, _ = run("check", path, "--by-position")
     assert (status, out[1:]) == (0, ["balises are ordered by N_PIG, as --by-position says",
-                                     "program: yes: groups 1, messages 0"])
+                                     "aspects found: 1 in 1 group", "program: yes: groups 1, messages 0"])
+
+
+def test_aspects_are_counted(run: Run, table: Write, tmp_path: Path) -> None:
+    path = table("group,aspect,telegram", f"A,x,{ALONE}", f"A,y,{ALONE}", f"B,,{OTHER}", f"C,x,{ALONE}",
+                 f"C,y,{ALONE}", f"D,x,{SPARE}", f"D,y,{SPARE}", f"D,z,{SPARE}")
+    _, out, _ = run("check", path, "--json", tmp_path / "out.json")
+    assert out[-2] == "aspects found: 3 in 1 group (D), 2 in 2 (A, C), 1 in 1 (B)"
+    assert json.loads((tmp_path / "out.json").read_text())["counts"]["aspects"] == [
+        {"aspects": 3, "groups": 1}, {"aspects": 2, "groups": 2}, {"aspects": 1, "groups": 1}]
 
 
 @pytest.mark.parametrize("telegram, said, program", [
@@ -152,6 +163,22 @@ def test_after_too_many_refused(run: Run, table: Write, monkeypatch: pytest.Monk
     assert run("check", table("group,telegram", *rows), "--all")[1][-1].startswith("INCOMPLETE: 5 of 5 telegrams")
 
 
+def test_after_too_many_refused_messages(run: Run, table: Write, monkeypatch: pytest.MonkeyPatch, tmp_path: Path
+                                         ) -> None:
+    monkeypatch.setattr(checking, "GREATEST_REFUSED", 3)
+    path = table(*SOUND)
+    radio = table(MESSAGE, *["0304"] * 3, MESSAGE, "0304", name="messages.txt")
+    status, out, _ = run("check", path, "--messages", radio, "--json", tmp_path / "out.json")
+    assert status == 2 and "and 2 messages not looked at: --all goes on" in out
+    assert out[-1] == ("INCOMPLETE: 0 of 3 telegrams refused, 3 of 6 messages refused, 0 of 2 groups left out, "
+                       "2 messages not looked at")
+    assert json.loads((tmp_path / "out.json").read_text())["counts"]["messages_not_looked_at"] == 2
+    assert "4 of 6 messages refused" in run("check", path, "--messages", radio, "--all")[1][-1]
+    status, out, _ = run("show", "--messages", radio)
+    assert status == 2 and "and 2 messages not looked at: --all goes on" in out
+    assert "not looked at" not in "".join(run("show", "--messages", radio, "--all")[1])
+
+
 @pytest.mark.parametrize("target", ["folder", "none/file", "device"])
 def test_targets_that_cannot_be_written(run: Run, table: Write, tmp_path: Path, target: str) -> None:
     (tmp_path / "folder").mkdir()
@@ -171,6 +198,35 @@ def test_no_program(run: Run, table: Write) -> None:
     assert (status, out, err) == (3, [], ["balisekit: /bin/false is not the program that this version knows"])
 
 
+def test_a_killed_program(run: Run, table: Write, tmp_path: Path) -> None:
+    stand = tmp_path / "stand"
+    usage = "refused: usage is balisecheck check, decode [--radio] or encode [--radio]"
+    stand.write_text("#!/bin/sh\ncase $1 in\ncheck) echo 'yes: groups 0, messages 0' ;;\n"
+                     f"--version) echo '{usage}'; exit 2 ;;\n*) kill -9 $$ ;;\nesac\n")
+    stand.chmod(0o755)
+    status, out, err = run("check", table(*SOUND), "--program", stand, "--json", tmp_path / "out.json")
+    assert (status, out) == (3, []) and err == [f"balisekit: no answer of {stand}: decode: killed by signal 9"]
+    assert not (tmp_path / "out.json").exists()
+
+
+def test_columns_that_are_passed_over_are_listed(run: Run, table: Write) -> None:
+    _, out, _ = run("check", table("group,telegram,Remark,a\x1bb", f"A,{ALONE},x,y"))
+    assert out[1] == "columns passed over: Remark, a\\x1bb"
+
+
+def test_a_traceback_is_for_debug_alone(run: Run, table: Write, monkeypatch: pytest.MonkeyPatch) -> None:
+    path = table("group,telegram", ",00")
+    with pytest.raises(TableErrors):
+        run("check", path, "--debug")
+
+    def wrong(*_: object) -> None:
+        raise RuntimeError("wrong")
+    monkeypatch.setattr(checking, "check", wrong)
+    status, out, err = run("check", table(*SOUND))
+    assert (status, out, err) == (3, [], ["balisekit: an error of balisekit itself, RuntimeError: wrong; --debug shows "
+                                          "where it comes from"])
+
+
 def test_wrong_words(run: Run) -> None:
     assert run("check")[0] == run("nothing")[0] == 2 and run("--help")[0] == 0
 
@@ -180,6 +236,8 @@ def test_example(run: Run, monkeypatch: pytest.MonkeyPatch, program: Program) ->
     status, out, _ = run("check", "examples/table/line.csv")
     assert status == 2 and out == (TOP / "examples/table/line.txt").read_text("utf-8").splitlines()
     assert line_table.table(program) == line_table.LINE.read_text("utf-8")
+    block = (TOP / "docs/BALISEKIT.md").read_text("utf-8").split("$ ./balisekit check examples/table/line.csv\n")[1]
+    assert block.split("\n```")[0].splitlines() == out
 
 
 def test_start_script(table: Write, tmp_path: Path) -> None:

@@ -64,6 +64,12 @@ def test_document_has_the_grammar() -> None:
     assert f"```text\n{grammar.GRAMMAR.strip()}\n```" in (TOP / "docs/FORMATS.md").read_text("utf-8")
 
 
+def test_hostile_use_has_the_same_grammar() -> None:
+    """tests/hostile_texts.py takes the expressions from here."""
+    text = (TOP / "tests/hostile_texts.py").read_text("utf-8")
+    assert "\nfrom balisekit import grammar" in text and "grammar." in text
+
+
 def test_names_are_those_of_the_rules() -> None:
     headings = re.findall(r"^## F(\d+): (.+)$", (TOP / "docs/FINDINGS.md").read_text("utf-8"), re.MULTILINE)
     assert grammar.NAMES == {int(rule): name for rule, name in headings}

@@ -8,6 +8,7 @@ import os
 import re
 import sys
 import xml.etree.ElementTree as ElementTree
+from decimal import Decimal
 from html.parser import HTMLParser
 from pathlib import Path
 from typing import Any, Dict, List, Optional, Tuple
@@ -19,8 +20,10 @@ from balisekit.geometry import Kilometres
 from balisekit.drawing import Content, draw
 from balisekit.pages import pieces, style
 from balisekit.premises import of_document, premises
+from balisekit.program import Program
 from balisekit.values import metres
 from cases_of_program import TOP
+from telegrams import MESSAGE
 
 LINE = TOP / "examples" / "table" / "line.csv"
 HEADER = "a1007f802000" + "f" * 40 + "c0"
@@ -169,10 +172,123 @@ def test_open_profiles_and_their_beginning() -> None:
     assert "arrow" in looks and "none" in looks and "endmark" not in looks and "step open" in looks
 
 
+def _messages(path: Path, *forms: Dict[str, Any]) -> Path:
+    texts = [one.line for one in Program.find().encode(forms, radio=True)]
+    assert not any(text.startswith("refused") for text in texts), texts
+    path.write_text("".join(f"{text};to train {place}\n" for place, text in enumerate(texts)))
+    return path
+
+
+def _movement(group: int, *packets: Dict[str, Any]) -> Dict[str, Any]:
+    """A message 3 with an authority of 2,000 m, and these packets."""
+    authority = {"nid_packet": 15, "q_dir": 1, "q_scale": 1, "end_speed": 0, "end_timeout": 1023, "sections": [],
+                 "l_endsection": 2000}
+    return {"nid_message": 3, "t_train": 100, "m_ack": 0, "nid_c": 352, "nid_bg": group,
+            "packets": [*packets, authority]}
+
+
+def test_messages_are_drawn_and_shown(tmp_path: Path, capsys: pytest.CaptureFixture[str]) -> None:
+    """Places count from the group of NID_LRBG: in kilometres where the table has one group with that identity."""
+    messages = _messages(tmp_path / "m.txt", _movement(101, _profile(1, (0, 20), (1500, 127))), _movement(9))
+    position = (TOP / "examples" / "radio-position-report.txt").read_text().strip()
+    messages.write_text(messages.read_text() + f"{position};position\n0304;cut\n")
+    words = ["--messages", str(messages)]
+    _, page = _report(LINE, tmp_path / "r.html", *words)
+    text = "".join(_Page(page).texts)
+    assert "its places count from rows 2 to 5  Signal A  km 12.300" in text
+    assert "F13: 500 m are missing, from 1500 m, km 13.800 to 2000 m, km 14.300, nominal" in text
+    assert "D_LRBG 500 m [500]" in text and "F13 message 0 packet 0 nominal: speed profile short" in text
+    sections = page.split('<section class="group" id="m')[1:]
+    assert [section.count('<svg class="picture"') for section in sections] == [1, 1, 0, 0]
+    assert "km " not in sections[1] and "metres from the group of NID_LRBG (NID_C 352, NID_BG 9)" in sections[1]
+    assert cli.main(["draw", str(LINE), *words, "--message", "1", "--svg", str(tmp_path / "m.svg")]) == 0
+    assert any(title.startswith("F13: 500 m are missing") for title in _titles(tmp_path / "m.svg"))
+    capsys.readouterr()
+    cli.main(["show", str(LINE), *words])
+    said = capsys.readouterr().out
+    assert "end of the authority at 2000 m, km 14.300" in said and "= end of the authority at 2000 m;" in said
+
+
+def test_an_authority_has_all_its_places() -> None:
+    """Sections, end, danger point, overlap and supervised location, in both directions, with their numbers."""
+    packet = {"nid_packet": 12, "q_dir": 2, "q_scale": 1, "v_main": 24, "end_speed": 4, "end_timeout": 60,
+              "sections": [{"l_section": 800}], "l_endsection": 900, "danger_point": {"d_dp": 60, "v_releasedp": 5},
+              "overlap": {"d_startol": 100, "t_ol": 30, "d_ol": 120, "v_releaseol": 126}}
+    form = {"m_dup": 0, "packets": [packet]}
+    picture = draw("A", [Content("", [form])], Kilometres(Decimal(10), 1))
+    titles = {one.title for one in picture.shapes if one.title}
+    for direction, along in (("nominal", 1), ("reverse", -1)):
+        def km(metres_along: int) -> str:
+            return f"{metres_along} m, km {10 + along * Decimal(metres_along) / 1000:.3f}, {direction}"
+        assert titles >= {f"section 0: 800 m, to {km(800)}", f"end section: 900 m, to {km(1700)}",
+                          f"end of the authority: {km(1700)}", f"danger point: {km(1760)}",
+                          f"overlap: 120 m, to {km(1820)}", f"supervised location: {km(1820)}"}
+    texts = [one.text for one in picture.shapes if "V_MAIN" in one.text]
+    said = "V_MAIN 120 km/h; V_LOA 20 km/h; end 1700 m; DP 1760 m; OL 1820 m; SvL 1820 m"
+    assert texts == [f"nominal: {said}", f"reverse: {said}"]
+
+
+@pytest.mark.parametrize("length", [1, 300, 2000, 9000])
+@pytest.mark.parametrize("direction", [0, 1, 2])
+def test_texts_are_within_the_picture(length: int, direction: int, tmp_path: Path) -> None:
+    """Whatever is found missing, and whatever is short: no text is cut off at an edge."""
+    long: Dict[str, Any] = {"nid_packet": 15, "q_dir": direction, "q_scale": 1, "end_speed": 0, "end_timeout": 1023,
+                            "sections": [], "l_endsection": 9000}
+    forms = [{**_movement(9), "packets": [{**long, "l_endsection": length}]},
+             {**_movement(9), "packets": [long, _profile(direction, (0, 20), (9000 - length, 127))]}]
+    messages = _messages(tmp_path / "m.txt", *forms)
+    for line in ("1", "2"):
+        words = ["--messages", str(messages), "--message", line, "--svg", str(tmp_path / "m.svg")]
+        assert cli.main(["draw", str(LINE), *words]) == 0
+        picture = ElementTree.parse(tmp_path / "m.svg").getroot()
+        for one in picture.iter("{http://www.w3.org/2000/svg}text"):
+            look, said, x = str(one.get("class")), str(one.text), float(str(one.get("x")))
+            long_one = len(said) * (7 if "red" in look else 6)
+            left = x - long_one * (0 if "begin" in look else 1 if "ending" in look else 0.5 if "middle" in look else 0)
+            assert left >= 0 and (left + long_one <= int(str(picture.get("width"))) or "tick" in look), (said, left)
+
+
+def test_two_groups_with_one_identity_give_a_message_no_kilometres(tmp_path: Path) -> None:
+    """Nobody knows which of them it is."""
+    form = json.loads((TOP / "examples" / "header-only.json").read_text())
+    texts = [one.line for one in Program.find().encode([{**form, "nid_c": 352, "nid_bg": 7}])]
+    table = _table(tmp_path / "t.csv", {"group": "A", "km": "1.000", "telegram": texts[0]},
+                   {"group": "B", "km": "2.000", "telegram": texts[0]})
+    _, page = _report(table, tmp_path / "r.html", "--messages", str(_messages(tmp_path / "m.txt", _movement(7))))
+    assert "km " not in page.split('<section class="group" id="m')[1]
+
+
+@pytest.mark.parametrize("words, said", [
+    (["--message", "1"], "--message needs --messages FILE"),
+    (["--message", "9", "--messages", "M"], "line 9 of M has no message"),
+    (["--message", "1", "--messages", "M"], "message of line 1: L_MESSAGE is 18, but the message has 17 bytes: "
+                                            "program: length at 8 end 18"),
+    (["--message", "2", "--messages", "M"], "message of line 2: it has no authority, gradient or speed profile")])
+def test_messages_that_cannot_be_drawn(words: List[str], said: str, tmp_path: Path,
+                                       capsys: pytest.CaptureFixture[str]) -> None:
+    """One line, status 2, and no file."""
+    position = (TOP / "examples" / "radio-position-report.txt").read_text().strip()
+    messages = tmp_path / "m.txt"
+    messages.write_text(f"{MESSAGE[:-2]}\n{position}\n")
+    named = [str(messages) if word == "M" else word for word in words]
+    assert cli.main(["draw", str(LINE), *named, "--svg", str(tmp_path / "m.svg")]) == 2
+    assert capsys.readouterr().err == f"balisekit: {said.replace(' M ', f' {messages} ')}\n"
+    assert sorted(os.listdir(tmp_path)) == ["m.txt"]
+
+
 def test_premises_are_those_of_the_document() -> None:
     """The package has what docs/FINDINGS.md says."""
     assert premises() == of_document((TOP / "docs" / "FINDINGS.md").read_text("utf-8"))
     assert len(premises()) == 8 and metres(1) == "0.1 m"
+
+
+def test_a_list_is_a_list(tmp_path: Path) -> None:
+    """What a yes means has a list of four, without the document's hyphens."""
+    _, page = _report(_table(tmp_path / "t.csv", {"group": "A", "telegram": HEADER}), tmp_path / "r.html")
+    said = page.split("What a yes means")[1].split("<h2>")[0]
+    items = re.findall(r"<li>(.+?)</li>", said)
+    assert len(items) == 4 and items[0].startswith("Each aspect of each group is well formed")
+    assert said.count("<ul>") == 1 and not re.search(r">\s*- ", said)
 
 
 @pytest.mark.parametrize("name, words", [

@@ -7,17 +7,18 @@ import re
 from collections import Counter
 from decimal import Decimal
 from pathlib import Path
-from typing import Any
+from typing import Any, List
 
 import pytest
 
-from balisekit import cli
+from balisekit import checking, cli
 from balisekit.bit_places import bit_lines
 from balisekit.errors import NoAnswer
 from balisekit.geometry import Kilometres
 from balisekit.places import Here
 from balisekit.showing import WIDTH, form_lines, text
 from cases_of_program import CASES, EXAMPLES, TOP, value_at
+from telegrams import SPARE
 
 READ = [case for case in (*CASES, *EXAMPLES[False], *EXAMPLES[True]) if not case.answer.startswith("refused: ")]
 NAME = r"(?:user bits|body|[A-Z]+_[A-Z]+(?: of NID_PRVLRBG)?)"
@@ -135,3 +136,49 @@ def test_messages_are_shown(tmp_path: Path, capsys: pytest.CaptureFixture[str]) 
     assert cli.main(["show", str(table), "--messages", str(messages)]) == 2
     said = capsys.readouterr().out
     assert "from the train" in said and "D_LRBG 500 m [500]" in said and "    program: " in said
+
+
+def test_messages_are_shown_without_a_table(tmp_path: Path, capsys: pytest.CaptureFixture[str]) -> None:
+    """`--messages` alone: nothing is read from standard input."""
+    messages = tmp_path / "m.txt"
+    messages.write_text((TOP / "examples" / "radio-position-report.txt").read_text().strip() + ";from the train\n")
+    assert cli.main(["show", "--messages", str(messages)]) == 0
+    said = capsys.readouterr().out
+    assert said.startswith("message of line 1  from the train\n") and "D_LRBG 500 m [500]" in said
+
+
+@pytest.mark.parametrize("line", ["{}", " 0x{}", '"{}"', "{}h", "'{}", "\u00a0{}H\t"])
+def test_standard_input_is_cleaned_as_cells_are(line: str, capsys: pytest.CaptureFixture[str],
+                                                monkeypatch: pytest.MonkeyPatch) -> None:
+    """Blanks, quotes, 0x, h, and what stands between pairs of digits."""
+    digits = (TOP / "examples" / "linking.txt").read_text().strip()
+    pairs = [digits[at:at + 2] for at in range(0, len(digits), 2)]
+    texts = [line.format(one) for one in (digits, " ".join(pairs), ":".join(pairs), "-".join(pairs))]
+    _input(monkeypatch, "\n".join([digits, *texts]).encode())
+    assert cli.main(["show"]) == 0
+    said = capsys.readouterr().out.split("\n\n")
+    assert len({one.split("\n", 1)[1] for one in said[:5]}) == 1
+
+
+def test_an_empty_body_has_no_bits() -> None:
+    """A packet that is its head alone, in words and bit by bit."""
+    case = next(case for case in READ if '"body":""' in case.answer)
+    form = json.loads(case.answer)
+    assert "body no bits []" in text(form)
+    assert any(re.fullmatch(r" +no bits +body no bits \[\]", line) for line in bit_lines(case.text, form))
+
+
+@pytest.mark.parametrize("words", [[], ["--all"]])
+def test_show_stops_after_too_many_refused(words: List[str], tmp_path: Path, monkeypatch: pytest.MonkeyPatch,
+                                           capsys: pytest.CaptureFixture[str]) -> None:
+    """As `check` does, and it says how many were not looked at."""
+    monkeypatch.setattr(checking, "GREATEST_REFUSED", 3)
+    table = tmp_path / "t.csv"
+    table.write_text("group,telegram\n" + "".join(f"G{place},{SPARE}\n" for place in range(5)))
+    assert cli.main(["show", str(table), *words]) == 2
+    said = capsys.readouterr().out
+    assert said.count("    program: spare at 15 end 17\n") == (5 if words else 3)
+    assert ("\nand 2 rows not looked at: --all goes on\n" in said) == (not words)
+    _input(monkeypatch, f"{SPARE}\n".encode() * 7)
+    assert cli.main(["show", *words]) == 2
+    assert ("\nand 4 lines not looked at: --all goes on\n" in capsys.readouterr().out) == (not words)

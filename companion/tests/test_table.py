@@ -5,13 +5,15 @@ import csv
 import datetime
 import io
 import os
+import sys
+import zipfile
 from decimal import Decimal
 from pathlib import Path
-from typing import Any, Callable, List, Sequence
+from typing import Any, Callable, Dict, List, Sequence
 
 import pytest
 
-from balisekit import messages_file, table as tables
+from balisekit import messages_file, table as tables, xlsx_file
 from balisekit.errors import KitError, TableError, TableErrors
 from balisekit.model import Table
 from conftest import Run
@@ -101,10 +103,17 @@ BAD: Sequence[Any] = [
     ([H, "A,"], "row 2, column telegram: empty, or a formula"),
     ([H, "A,9.00720E+52"], "row 2, column telegram: a number, not digits: the spreadsheet has changed it"),
     ([H, f"A,{ALONE}", f"B,{OTHER}", f"A,{OTHER}"],
-     'row 4, column group: group "A" is in rows 2 to 2 already: put its rows together'),
+     'row 4, column group: group "A" is in row 2 already: put its rows together'),
     ([H, *[f"A,{ALONE}"] * 9], 'row 10: group "A" has 9 balises, and at most 8 are possible'),
     (["group,aspect,telegram", f"A,x,{ALONE}", f"A,y,{ALONE}", f"A,y,{ALONE}"],
-     'row 3: aspect "y" of group "A" has 2 balises, and aspect "x" has 1'),
+     'row 2: aspect "x" of group "A" has 1 balise (row 2), and aspect "y" has 2 (rows 3, 4): a row is missing, or one '
+     "too many; the column balise or name tells which"),
+    (["group,aspect,balise,telegram", f"A,x,1,{ALONE}", f"A,x,2,{ALONE}", f"A,y,1,{ALONE}"],
+     'row 3: balise 2 of group "A" has no telegram for aspect "y" (row 4): add the row, or write * as the aspect'),
+    (["group,aspect,name,telegram", f"A,x,A1,{ALONE}", f"A,x,A2,{ALONE}", f"A,y,A1,{ALONE}", f"A,z,A1,{ALONE}"],
+     'row 3: balise "A2" of group "A" has no telegram for aspects "y" (row 4), "z" (row 5): add the row'),
+    (["group,aspect,km,telegram", f"A,x,1.000,{ALONE}", f"A,y,1.000,{ALONE}", f"A,y,1.003,{ALONE}"],
+     'row 4: the balise at km 1.003 of group "A" has no telegram for aspect "x" (row 2): add the row'),
     (["group,aspect,telegram", f"A,x,{ALONE}", f"A,,{ALONE}"],
      "row 3, column aspect: empty beside named aspects: write *"),
     (["group,aspect,telegram", f"A,*,{ALONE}", f"A,,{ALONE}"],
@@ -183,11 +192,25 @@ def test_a_file_that_is_being_written(table: Write, monkeypatch: pytest.MonkeyPa
     assert fault(path) == "the file is being written"
 
 
+def test_aspects_that_lack_balises_have_a_line_each(table: Write) -> None:
+    """Each balise that lacks an aspect is named, and the other groups' faults as well."""
+    with pytest.raises(TableErrors) as raised:
+        tables.read(str(table("group,aspect,name,telegram", f"A,*,A1,{ALONE}", f"A,x,A2,{ALONE}", f"A,y,A3,{ALONE}",
+                              f"A,y,A2,{ALONE}", f"A,z,A3,{ALONE}", f"B,x,,{ALONE}", f"B,,,{ALONE}")))
+    lines = [line.split(": ", 1)[1].split(":")[0] + ":" + line.split(": ", 1)[1].split(":")[1]
+             for line in raised.value.lines()]
+    assert lines == ['row 3: balise "A2" of group "A" has no telegram for aspect "z" (rows 2, 6)',
+                     'row 4: balise "A3" of group "A" has no telegram for aspect "x" (rows 2, 3)',
+                     "row 8, column aspect: empty beside named aspects"]
+
+
 def test_notes(table: Write) -> None:
     read = tables.read(str(table("group,balise,telegram", f"Signal A,1,{ALONE}", f"signal  a,1,{OTHER}",
                                  f"signal  a,3,{OTHER}")))
     assert read.notes == ('groups "Signal A" and "signal  a" differ in case or blanks alone',
                           'group "signal  a": the balises are numbered 1, 3')
+    read = tables.read(str(table("group,aspect,balise,telegram", f"A,x,1,{ALONE}", f"A,y,2,{ALONE}")))
+    assert read.notes == ('group "A": aspects "x" and "y" number their balises differently',)
 
 
 def test_messages(table: Write) -> None:
@@ -238,6 +261,25 @@ class TestWorkbooks:
     def test_cells_that_cannot_be_read(self, tmp_path: Path, row: Sequence[Any], said: str) -> None:
         """What spreadsheets do to cells."""
         assert fault(self.book(tmp_path, [["group", "telegram"], row])).startswith(said)
+
+    def test_a_workbook_that_is_too_large(self, tmp_path: Path, monkeypatch: pytest.MonkeyPatch) -> None:
+        """Its size is looked at before it is unpacked: zeros take a thousandth of their size in the file."""
+        pytest.importorskip("openpyxl")
+        assert xlsx_file.GREATEST == 500_000_000
+        monkeypatch.setattr(xlsx_file, "GREATEST", 5_000_000)
+        path = tmp_path / "table.xlsx"
+        with zipfile.ZipFile(path, "w", zipfile.ZIP_DEFLATED) as parts:
+            parts.writestr("xl/worksheets/sheet1.xml", bytes(6_000_000))
+        assert path.stat().st_size < 10_000
+        assert fault(path) == "the workbook has 6,000,000 bytes unpacked, more than 5,000,000"
+
+    def test_without_openpyxl(self, run: Run, tmp_path: Path, monkeypatch: pytest.MonkeyPatch) -> None:
+        """One line says which package is missing, and what to do without it. CSV needs none."""
+        path = self.book(tmp_path, [["group", "telegram"], ["A", ALONE]])
+        modules: Dict[str, Any] = sys.modules
+        monkeypatch.setitem(modules, "openpyxl", None)
+        assert run("check", path) == (2, [], [
+            f"balisekit: {path}: reading .xlsx needs openpyxl (Debian: python3-openpyxl); or save it as CSV"])
 
 
 def test_tables_that_are_made() -> None:

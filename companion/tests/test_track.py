@@ -11,7 +11,7 @@ import pytest
 
 import link_tables
 from balisekit import csv_writing
-from balisekit.canvas import Picture, Shape
+from balisekit.canvas import LEFT, RIGHT, WIDTH, Picture, Shape
 from balisekit.links import look
 from balisekit.track_drawing import LANES, track_pictures, tracks_of
 from balisekit.track_view import pages
@@ -23,6 +23,7 @@ Write = Callable[..., Path]
 Form = Dict[str, Any]
 LINE = TOP / "examples" / "table" / "line.csv"
 LINKS = TOP / "examples" / "links"
+ROOM = WIDTH - LEFT - RIGHT
 SVG = "{http://www.w3.org/2000/svg}"
 
 
@@ -39,7 +40,7 @@ def looks(picture: Picture, look_wanted: str) -> List[Shape]:
 
 def place(picture_x: str) -> float:
     """The kilometre of a coordinate on a page that begins at km 0."""
-    return (float(picture_x) - 96) / 870 * 5
+    return (float(picture_x) - LEFT) / ROOM * 5
 
 
 def authority(direction: int = 1) -> List[Form]:
@@ -55,7 +56,7 @@ def test_directions(nominal: str, direction: int, wanted: Tuple[int, int]) -> No
     for name in ("speed", "up", "section0"):
         one, = looks(picture, name)
         assert abs(place(one.x) - wanted[0]) < 0.01
-        assert abs(place(one.x) + float(one.width) / 870 * 5 - wanted[1]) < 0.01
+        assert abs(place(one.x) + float(one.width) / ROOM * 5 - wanted[1]) < 0.01
     assert looks(picture, "end") and looks(picture, "supervised")
     assert "from km 2.000 to km" in looks(picture, "section0")[0].title
 
@@ -69,14 +70,14 @@ def test_pages_of_five_kilometres() -> None:
     assert [one.title for one in pictures] == ["km 0 to 5", "km 5 to 10", "km 90 to 95"]
     for picture in pictures[:2]:
         one, = looks(picture, "section0")
-        assert abs(float(one.width) - 87) < 0.2
+        assert abs(float(one.width) - ROOM / 10) < 0.2
         assert len(looks(picture, "arc")) == 1
         for shape in picture.shapes:
             if shape.kind == "rect":
-                assert 95.9 <= float(shape.x) and float(shape.x) + float(shape.width) <= 966.2
+                assert LEFT - 0.1 <= float(shape.x) and float(shape.x) + float(shape.width) <= LEFT + ROOM + 0.2
     ends = [[float(number) for number in re.findall(r"-?[0-9.]+", looks(picture, "arc")[0].path)]
             for picture in pictures[:2]]
-    assert ends[0][4] == 966 and ends[1][0] == 96 and abs(ends[0][5] - ends[1][1]) < 1
+    assert ends[0][4] == LEFT + ROOM and ends[1][0] == LEFT and abs(ends[0][5] - ends[1][1]) < 1
     line = line_with(*some)
     assert [len(page.stations) for page in pages(line, look(line), "", None)] == [1, 1, 1]
 
@@ -197,4 +198,4 @@ def test_far_away_ends_make_no_pages() -> None:
     packets[0].update(q_scale=2, l_endsection=32_767)
     pictures = drawn((group("A", "1", nominal="rising"), [header(1, *packets)]))
     assert [one.title for one in pictures] == ["km 0 to 5", "km 5 to 10"]
-    assert Decimal(looks(pictures[1], "section0")[0].width) == Decimal("870.0")
+    assert Decimal(looks(pictures[1], "section0")[0].width) == Decimal(ROOM)

@@ -22,9 +22,14 @@ def bit_lines(digits: str, form: Form) -> Iterator[str]:
             packet = field.packet
             name = packet_name(field.number or 0, form.get("nid_message") != 136)
             yield f"  packet {packet}: {name}"
-        last = field.at + field.width - 1
-        place = f"bit {field.at}" if field.width == 1 else f"bits {field.at} to {last}"
-        yield f"    {place:<17} {_words(field, known)}"
+        yield f"    {_place(field):<17} {_words(field, known)}"
+
+
+def _place(field: Field) -> str:
+    """The first and the last bit of a field. The body of a packet may be empty."""
+    if field.width < 2:
+        return f"bit {field.at}" if field.width else "no bits"
+    return f"bits {field.at} to {field.at + field.width - 1}"
 
 
 def _words(field: Field, known: Mapping[str, Shown]) -> str:

@@ -10,7 +10,7 @@ from typing import List, Tuple
 from balisekit.geometry import NOMINAL, REVERSE, Kilometres, kilometre
 from balisekit.values import metres
 
-WIDTH, LEFT, RIGHT = 1000, 96, 34
+WIDTH, LEFT, RIGHT = 800, 84, 34
 LETTER = 62
 """The width of a letter, in tenths of a pixel."""
 

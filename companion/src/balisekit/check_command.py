@@ -9,6 +9,7 @@ from typing import Any, Dict, Iterator, Optional, TextIO
 
 from balisekit import accepted, accepted_output, checking, explain, files, junit
 from balisekit.accepted import Judged
+from balisekit.aspect_counts import aspects_found, groups_by_aspects
 from balisekit.checking import Accepted, Checked, LeftOut, Place, Refused, RefusedMessage
 from balisekit.commands import Command, add_input_words, inputs
 from balisekit.errors import NoAnswer
@@ -21,8 +22,7 @@ def add_words(parser: argparse.ArgumentParser) -> None:
     """The words of this command."""
     add_input_words(parser)
     parser.add_argument("--explain", action="store_true", help="show cause and remedy of each finding")
-    parser.add_argument("--all", action="store_true",
-                        help=f"go on after {checking.GREATEST_REFUSED:,} refused telegrams")
+    parser.add_argument("--all", action="store_true", help=checking.ALL_HELP)
     parser.add_argument("--accepted", metavar="FILE", help="a CSV file of findings that were accepted, and by whom")
     parser.add_argument("--propose", metavar="FILE",
                         help="write entries for the open findings, to be signed; - is standard output")
@@ -93,6 +93,8 @@ def lines(checked: Checked, explained: bool = False, by_position: bool = False,
     yield from (f"left out: {group_words(one.group)}: {one.why}" for one in checked.left_out)
     if checked.not_looked_at:
         yield f"and {checked.not_looked_at} rows not looked at: --all goes on"
+    if checked.messages_not_looked_at:
+        yield f"and {checked.messages_not_looked_at} messages not looked at: --all goes on"
     entries = judged.by_finding if judged else (None,) * len(checked.findings)
     for place, entry in zip(checked.findings, entries):
         yield f"{finding_words(place)}"
@@ -101,6 +103,7 @@ def lines(checked: Checked, explained: bool = False, by_position: bool = False,
             yield f"    {accepted_output.accepted_words(entry)}"
     if explained:
         yield from _explained(checked)
+    yield aspects_found(checked.table)
     yield from accepted_output.closing_lines(judged, last_line(checked)) if judged else (last_line(checked),)
 
 
@@ -144,6 +147,8 @@ def last_line(checked: Checked) -> str:
         parts.append(f"{len(checked.refused_messages)} of {len(checked.messages.messages)} messages refused")
     parts.append(f"{len(checked.left_out)} of {len(groups)} groups left out")
     parts += [f"{checked.not_looked_at} rows not looked at"] if checked.not_looked_at else []
+    some = checked.messages_not_looked_at
+    parts += [f"{some} messages not looked at"] if some else []
     return "INCOMPLETE: " + ", ".join(parts)
 
 
@@ -162,7 +167,10 @@ def as_json(checked: Checked, judged: Optional[Judged] = None) -> Dict[str, Any]
         "messages": None if checked.messages is None else {"path": checked.messages.path,
                                                            "sha256": checked.messages.sha256},
         "counts": {"telegrams": len(checked.table.rows), "groups": len(checked.table.groups),
-                   "not_looked_at": checked.not_looked_at},
+                   "aspects": [{"aspects": count, "groups": len(groups)}
+                               for count, groups in groups_by_aspects(checked.table)],
+                   "not_looked_at": checked.not_looked_at,
+                   "messages_not_looked_at": checked.messages_not_looked_at},
         "telegrams": [_telegram_json(one) for one in checked.accepted.values()],
         "read_messages": [{"line_of_file": one.message.number, "name": one.message.name, "form": one.form}
                           for one in checked.accepted_messages],

@@ -4,7 +4,7 @@ from __future__ import annotations
 import json
 import tempfile
 from dataclasses import dataclass
-from typing import Any, Dict, Iterator, List, Mapping, Optional, Sequence, Set, Tuple
+from typing import Any, Dict, Iterable, Iterator, List, Mapping, Optional, Sequence, Set, Tuple, Union
 
 from balisekit.errors import NoAnswer
 from balisekit.grammar import Finding, Refusal, Verdict
@@ -13,6 +13,8 @@ from balisekit.program import Program, Record, Report
 
 GREATEST_REFUSED = 10_000
 """After so many refused telegrams the others are not tried."""
+ALL_HELP = f"go on after {GREATEST_REFUSED:,} refused telegrams or messages"
+Answer = Union[Record, Refusal]
 
 
 @dataclass(frozen=True)
@@ -105,6 +107,12 @@ class Checked:
     findings: Tuple[Place, ...]
 
     @property
+    def messages_not_looked_at(self) -> int:
+        """How many messages were not tried, after too many refused ones."""
+        tried = len(self.accepted_messages) + len(self.refused_messages)
+        return len(self.messages.messages) - tried if self.messages else 0
+
+    @property
     def whole(self) -> bool:
         """Whether all that was handed in has been checked."""
         return not (self.refused or self.refused_messages or self.left_out or self.not_looked_at)
@@ -121,14 +129,14 @@ def check(program: Program, table: Table, messages: Optional[Messages] = None, b
           everything: bool = False) -> Checked:
     """Tries each telegram and message, and hands what can be read to `check`.
 
-    After 10,000 refused telegrams the others are not tried, unless `everything` is asked for.
+    After 10,000 refused telegrams or messages the others are not tried, unless `everything` is asked for.
     """
-    accepted, refused = _try_rows(program, table.rows, GREATEST_REFUSED if not everything else len(table.rows))
+    accepted, refused = _try_rows(program, table.rows, everything)
     left = len(table.rows) - len(accepted) - len(refused)
     left_out, kept = _sort_out(table.groups, accepted, {one.row.number for one in refused})
     if by_position:
         kept = tuple(_by_position(group, accepted) for group in kept)
-    good, bad = _try_messages(program, messages)
+    good, bad = _try_messages(program, messages, everything)
     report = None
     if kept or good or not (refused or bad):
         report = _ask(program, kept, good)
@@ -152,26 +160,41 @@ def document(kept: Sequence[Group], messages: Sequence[AcceptedMessage]) -> Iter
     yield "\n]}\n"
 
 
-def _try_rows(program: Program, rows: Sequence[Row], most: int) -> Tuple[Dict[int, Accepted], Tuple[Refused, ...]]:
+def until_too_many(answers: Iterable[Answer], everything: bool) -> Iterator[Answer]:
+    """The answers up to the 10,000th refusal, or all of them if `everything` is asked for."""
+    refused = 0
+    for answer in answers:
+        yield answer
+        refused += isinstance(answer, Refusal)
+        if refused >= GREATEST_REFUSED and not everything:
+            return
+
+
+def _try_rows(program: Program, rows: Sequence[Row], everything: bool
+              ) -> Tuple[Dict[int, Accepted], Tuple[Refused, ...]]:
     accepted: Dict[int, Accepted] = {}
     refused: List[Refused] = []
-    for place, answer in enumerate(program.decode([row.telegram for row in rows])):
+    for place, answer in enumerate(until_too_many(program.decode([row.telegram for row in rows]), everything)):
         row = rows[place]
         if isinstance(answer, Refusal):
             refused.append(Refused(row, answer, rows[place + 1 - (answer.number or 1)].number))
-            if len(refused) >= most:
-                break
         else:
             accepted[row.number] = Accepted(row, answer)
     return accepted, tuple(refused)
 
 
-def _try_messages(program: Program, messages: Optional[Messages]
+def greatest_refused(everything: bool) -> Optional[int]:
+    """After how many refused messages the others are not tried."""
+    return None if everything else GREATEST_REFUSED
+
+
+def _try_messages(program: Program, messages: Optional[Messages], everything: bool
                   ) -> Tuple[Tuple[AcceptedMessage, ...], Tuple[RefusedMessage, ...]]:
     accepted: List[AcceptedMessage] = []
     refused: List[RefusedMessage] = []
     tried = messages.messages if messages else ()
-    for message, answer in zip(tried, program.messages([one.text for one in tried])):
+    answers = program.messages([one.text for one in tried], greatest_refused(everything))
+    for message, answer in zip(tried, answers):
         if isinstance(answer, Refusal):
             refused.append(RefusedMessage(message, answer))
         else:

@@ -26,7 +26,8 @@ def add_input_words(parser: argparse.ArgumentParser, table_needed: bool = True) 
     if table_needed:
         parser.add_argument("table", metavar="TABLE", help=text)
     else:
-        parser.add_argument("table", metavar="TABLE", nargs="?", help=text)
+        parser.add_argument("table", metavar="TABLE", nargs="?",
+                            help=f"{text}; without it and --messages, telegrams of standard input, one a line")
     parser.add_argument("--messages", metavar="FILE", help="radio messages, one a line, a name behind ;")
     parser.add_argument("--sheet", metavar="NAME", help="which sheet of an .xlsx")
     parser.add_argument("--by-position", action="store_true",

@@ -111,6 +111,8 @@ def refused_lines(word: str, checked: Checked) -> Iterator[str]:
         yield f"    program: {bad.refusal.text}"
     if checked.not_looked_at:
         yield f"not looked at in {word}: {checked.not_looked_at} rows"
+    if checked.messages_not_looked_at:
+        yield f"not looked at in {word}: {checked.messages_not_looked_at} messages"
 
 
 def last_line(found: Difference) -> str:
@@ -153,7 +155,12 @@ def _page(path: str, found: Difference) -> None:
              for word, side in (("old", found.old), ("new", found.new))]
     findings = [(word, [(finding_words(place), place.finding.line) for place in places])
                 for word, places in (("gone", found.findings_gone), ("new", found.findings_new))]
-    refused = [*refused_lines("old", found.old.checked), *refused_lines("new", found.new.checked)]
+    refused: List[List[str]] = []
+    for line in (*refused_lines("old", found.old.checked), *refused_lines("new", found.new.checked)):
+        if line.startswith("    program: "):
+            refused[-1][1] = line[len("    program: "):]
+        else:
+            refused.append([line, ""])
     page = pieces("diff.html", style=sheet, style_hash=hash_of(str(sheet)), date=date(), found=found, sides=sides,
                   findings=findings, refused=refused, last_line=last_line(found), where=where, not_proved=NOT_PROVED,
                   program=found.new.checked.program)

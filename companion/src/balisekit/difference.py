@@ -88,8 +88,7 @@ class Difference:
     @property
     def whole(self) -> bool:
         """Whether all telegrams and messages could be compared."""
-        return all(not (one.refused or one.refused_messages or one.not_looked_at)
-                   for one in (self.old.checked, self.new.checked))
+        return self.old.checked.whole and self.new.checked.whole
 
     @property
     def status(self) -> int:

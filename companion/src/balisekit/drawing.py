@@ -14,6 +14,9 @@ from balisekit.values import Around, Form, metres, value_words
 from balisekit.wording import clean
 
 SPEED_HEIGHT, GRADIENT_HEIGHT, AUTHORITY_HEIGHT = 58, 20, 50
+LINE = 12
+BOLD_LETTER = 70
+"""The width of a bold letter, in tenths of a pixel."""
 
 
 @dataclass(frozen=True)
@@ -50,14 +53,17 @@ def _reach(one: Way) -> Iterable[int]:
         yield profile.reach if profile.reach is not None else max(places) * 11 // 10 + 1000
 
 
-def draw(title: str, contents: Sequence[Content], kilometres: Kilometres) -> Picture:
-    """The picture of a group: a row for each content."""
+def draw(title: str, contents: Sequence[Content], kilometres: Kilometres, titled: bool = False) -> Picture:
+    """The picture of a group: a row for each content, below the title if it is to be seen."""
     rows = [(one, [way(one.forms, direction, one.infill) for direction in DIRECTIONS]) for one in contents]
     ends = {direction: max((place for _, ways in rows for place in _reach(ways[index])), default=0)
             for index, direction in enumerate(DIRECTIONS)}
     least, greatest = -ends[REVERSE], ends[NOMINAL]
     greatest = max(greatest, least + 1000)
     sheet = Sheet(least, greatest, kilometres)
+    if titled:
+        sheet.text("title", clean(title), 40, 20)
+        sheet.y = 28
     top = _speed_top(ways for _, ways in rows)
     last = max((place for place, (one, ways) in enumerate(rows) if any(ways) and not one.infill), default=None)
     for place, (content, ways) in enumerate(rows):
@@ -86,7 +92,8 @@ def _row(sheet: Sheet, content: Content, ways: Sequence[Way], top: int) -> None:
     sheet.start = sheet.y
     if any(ways[1:]):
         sheet.text("small ending", "← reverse", sheet.x(0) - 60, sheet.y)
-        sheet.text("small begin", "nominal →", sheet.x(0) + 60, sheet.y)
+        if ways[0]:
+            sheet.text("small begin", "nominal →", sheet.x(0) + 60, sheet.y)
     for some in zip_longest(*[one.speeds for one in ways]):
         _lane(sheet, "speed, km/h", SPEED_HEIGHT)
         for direction, profile in zip(DIRECTIONS, some):
@@ -102,10 +109,12 @@ def _row(sheet: Sheet, content: Content, ways: Sequence[Way], top: int) -> None:
                 _gap(sheet, content, profile, ways)
     _missing(sheet, content, ways, 10)
     for few in zip_longest(*[one.authorities for one in ways]):
-        _lane(sheet, "authority", AUTHORITY_HEIGHT)
-        for direction, authority in zip(DIRECTIONS, few):
-            if authority:
-                _authority(sheet, authority, direction)
+        _lane(sheet, "authority", AUTHORITY_HEIGHT + (LINE if all(few) else 0))
+        labels = [_authority(sheet, authority, direction) for direction, authority in zip(DIRECTIONS, few) if authority]
+        for place, label in enumerate(labels):
+            words = f"{DIRECTIONS[place]}: {label}" if len(labels) > 1 else label
+            at = max(40, min(sheet.x(0) + 40, WIDTH * 10 - len(words) * LETTER))
+            sheet.text("small begin halo", words, at, sheet.top + 40 + place * LINE)
 
 
 def _lane(sheet: Sheet, label: str, height: int) -> None:
@@ -146,7 +155,7 @@ def _gradient(sheet: Sheet, profile: Profile, direction: str) -> None:
         words = value_words("g_a", element.value, Around({}, element.form))
         look = "level" if element.value == 0 else "up" if up else "down"
         left, right = sheet.rect(look, f"{words} {where}", (begin, end), sheet.top, sheet.height)
-        sheet.inside("small", words, left, right, sheet.top + 14)
+        sheet.inside("small halo", words, left, right, sheet.top + 14)
     _ending(sheet, profile, direction, "gradient profile")
 
 
@@ -178,12 +187,18 @@ def _gap(sheet: Sheet, content: Content, profile: Profile, ways: Sequence[Way]) 
         title = (f"F{rule}: {length} are missing, from {sheet.place(profile.reach, short.direction)} "
                  f"to {sheet.place(supervised, short.direction)}, {short.direction}")
         left, right = sheet.rect("gap", title, (sign * profile.reach, sign * supervised), sheet.top, sheet.height)
-        words = f"F{rule}: {length}"
-        if (len(words) + 3) * LETTER < right - left:
-            sheet.text("red middle", words, (left + right) // 2, sheet.top + 14)
-            continue
-        anchor = "ending" if right + len(words) * LETTER > (WIDTH - 4) * 10 else "begin"
-        sheet.text(f"red {anchor}", words, left - 30 if anchor == "ending" else right + 30, sheet.top + 12)
+        _red(sheet, f"F{rule}: {length}", left, right)
+
+
+def _red(sheet: Sheet, words: str, left: int, right: int) -> None:
+    """A bold text about what lies between these coordinates: within it if there is room, else below the lane."""
+    room, middle = len(words) * BOLD_LETTER, (left + right) // 2
+    if room + 2 * BOLD_LETTER < right - left:
+        sheet.text("red middle", words, middle, sheet.top + 14)
+        return
+    below = sheet.top + sheet.height
+    sheet.text("red begin", words, max(40, min(middle - room // 2, WIDTH * 10 - room - 20)), below + LINE - 1)
+    sheet.y = max(sheet.y, below + LINE + 2)
 
 
 def _missing(sheet: Sheet, content: Content, ways: Sequence[Way], rule: int) -> None:
@@ -197,11 +212,12 @@ def _missing(sheet: Sheet, content: Content, ways: Sequence[Way], rule: int) -> 
         supervised = ways[DIRECTIONS.index(short.direction)].supervised
         if supervised is not None:
             title = f"F{rule}: {name} up to {sheet.place(supervised, short.direction)}, {short.direction}"
-            _, right = sheet.rect("gap", title, (0, _sign(short.direction) * supervised), sheet.top, sheet.height)
-            sheet.text("red begin", f"F{rule}: {name}", min(right + 30, (WIDTH - 110) * 10), sheet.top + 14)
+            left, right = sheet.rect("gap", title, (0, _sign(short.direction) * supervised), sheet.top, sheet.height)
+            _red(sheet, f"F{rule}: {name}", left, right)
 
 
-def _authority(sheet: Sheet, authority: Authority, direction: str) -> None:
+def _authority(sheet: Sheet, authority: Authority, direction: str) -> str:
+    """Draws it. The answer is its numbers in words."""
     sign, top, begin = _sign(direction), sheet.top + 12, 0
     cuts = [*authority.cuts, authority.end]
     for place, cut in enumerate(cuts):
@@ -225,19 +241,13 @@ def _authority(sheet: Sheet, authority: Authority, direction: str) -> None:
     if authority.overlap is not None:
         labels.append(f"OL {metres(authority.overlap)}")
     sheet.mark("supervised", f"supervised location: {sheet.place(authority.supervised, direction)}, {direction}",
-               sign * authority.supervised, top - 10, 34)
+               sign * authority.supervised, top - 10, 28)
     labels.append(f"SvL {metres(authority.supervised)}")
     main = authority.form.get("v_main")
     if main is not None:
         labels.insert(0, f"V_MAIN {value_words('v_main', main, Around())}")
     labels.insert(1, f"V_LOA {value_words('end_speed', authority.form['end_speed'], Around())}")
-    words = "; ".join(labels)
-    room = len(words) * LETTER
-    if sign < 0 and room < sheet.x(0) - 40:
-        sheet.text("small ending", words, sheet.x(0) - 40, top + 28)
-    else:
-        at = sheet.x(0) + 40 if sign > 0 else 40
-        sheet.text("small begin", words, max(40, min(at, WIDTH * 10 - room)), top + 28)
+    return "; ".join(labels)
 
 
 def _base(sheet: Sheet, content: Content, has_axis: bool) -> None:

@@ -18,9 +18,8 @@ def groups_of(rows: Sequence[Row], by_position: bool = False) -> Tuple[Tuple[Gro
     last, faults = "", []
     for row in rows:
         if row.group in blocks and row.group != last:
-            earlier = blocks[row.group]
-            faults.append(TableError(f'group "{row.group}" is in rows {earlier[0].number} to {earlier[-1].number} '
-                                     "already: put its rows together", row=row.number, column="group"))
+            faults.append(TableError(f'group "{row.group}" is in {_rows(blocks[row.group])} already: put its rows '
+                                     "together", row=row.number, column="group"))
         blocks.setdefault(row.group, []).append(row)
         last = row.group
     groups, notes = [], _alike(blocks)
@@ -29,8 +28,8 @@ def groups_of(rows: Sequence[Row], by_position: bool = False) -> Tuple[Tuple[Gro
             aspects, gaps = _aspects(name, block, by_position)
             groups.append(Group(name, aspects))
             notes += gaps
-        except TableError as fault:
-            faults.append(fault)
+        except (TableError, TableErrors) as fault:
+            faults += fault.faults if isinstance(fault, TableErrors) else [fault]
     if faults:
         raise TableErrors(faults)
     return tuple(groups), tuple(notes)
@@ -60,6 +59,7 @@ def _aspects(name: str, block: List[Row], by_position: bool) -> Tuple[Tuple[Aspe
         aspects.append(Aspect(aspect, rows))
         notes += gaps
     _look_at_counts(name, aspects)
+    notes += _numbered_otherwise(name, aspects)
     _look_at_places(aspects)
     _look_at_nominal(block)
     if not by_position:
@@ -85,15 +85,64 @@ def _order(rows: List[Row]) -> Tuple[Tuple[Row, ...], List[str]]:
 
 
 def _look_at_counts(name: str, aspects: List[Aspect]) -> None:
-    first = aspects[0]
     for aspect in aspects:
         count = len(aspect.rows)
         if count > GREATEST_COUNT:
             raise TableError(f'group "{name}" has {count} balises, and at most {GREATEST_COUNT} are possible: '
                              "are they of several aspects?", row=aspect.rows[GREATEST_COUNT].number)
-        if count != len(first.rows):
-            raise TableError(f'aspect "{aspect.name}" of group "{name}" has {count} balises, and aspect '
-                             f'"{first.name}" has {len(first.rows)}', row=aspect.rows[0].number)
+    if len({len(aspect.rows) for aspect in aspects}) > 1:
+        raise TableErrors(_lacking(name, aspects) or _uneven(name, aspects))
+
+
+def _lacking(name: str, aspects: List[Aspect]) -> List[TableError]:
+    """A fault for each balise that lacks aspects, if the balises of the aspects can be told by a column."""
+    for column, words in (("balise", "balise {}"), ("name", 'balise "{}"'), ("km", "the balise at km {}")):
+        keys = [[getattr(row, column) for row in aspect.rows] for aspect in aspects]
+        if any({"", None} & set(some) or len(set(some)) < len(some) for some in keys):
+            continue
+        first = {key: row for aspect, some in zip(reversed(aspects), reversed(keys))
+                 for key, row in zip(some, aspect.rows)}
+        return [TableError(f'{words.format(key)} of group "{name}" has no telegram for {_listed(lacks)}: add the row, '
+                           f"or write {EVERY} as the aspect of a telegram that is sent in every aspect", row=row.number)
+                for key, row in first.items()
+                for lacks in [[aspect for aspect, some in zip(aspects, keys) if key not in some]] if lacks]
+    return []
+
+
+def _balises(aspect: Aspect) -> str:
+    return f"{len(aspect.rows)} balise{'s' if len(aspect.rows) > 1 else ''}"
+
+
+def _listed(aspects: List[Aspect]) -> str:
+    """Aspects with their rows."""
+    shown = [f'"{aspect.name}" ({_rows(aspect.rows)})' for aspect in aspects]
+    return ("aspects " if len(shown) > 1 else "aspect ") + ", ".join(shown)
+
+
+def _rows(rows: Sequence[Row]) -> str:
+    """The numbers of these rows, which may be many."""
+    numbers = sorted(row.number for row in rows)
+    if len(numbers) > 2 and numbers[-1] - numbers[0] + 1 == len(numbers):
+        return f"rows {numbers[0]} to {numbers[-1]}"
+    return f"row{'s' if len(numbers) > 1 else ''} {', '.join(map(str, numbers))}"
+
+
+def _numbered_otherwise(name: str, aspects: List[Aspect]) -> List[str]:
+    """A note where aspects have other numbers in the column `balise`: their order alone counts."""
+    numbers = [[row.balise for row in aspect.rows] for aspect in aspects]
+    other = next((aspect for aspect, some in zip(aspects, numbers) if some != numbers[0]), None)
+    if other is None:
+        return []
+    return [f'group "{name}": aspects "{aspects[0].name}" and "{other.name}" number their balises differently']
+
+
+def _uneven(name: str, aspects: List[Aspect]) -> List[TableError]:
+    """A fault for each aspect that has fewer balises than another one."""
+    most = max(aspects, key=lambda aspect: len(aspect.rows))
+    return [TableError(f'aspect "{one.name}" of group "{name}" has {_balises(one)} ({_rows(one.rows)}), and aspect '
+                       f'"{most.name}" has {len(most.rows)} ({_rows(most.rows)}): a row is missing, or one too many; '
+                       "the column balise or name tells which", row=one.rows[0].number)
+            for one in aspects if len(one.rows) < len(most.rows)]
 
 
 def _look_at_places(aspects: List[Aspect]) -> None:

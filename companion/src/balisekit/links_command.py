@@ -50,7 +50,7 @@ def run(words: argparse.Namespace) -> int:
 
 def status_of(checked: Checked, links: Links) -> int:
     """2 if a telegram or message was refused, else 1 if something was found, else 0."""
-    if checked.refused or checked.refused_messages or checked.not_looked_at:
+    if not checked.whole:
         return 2
     return 1 if links.found else 0
 
@@ -86,6 +86,7 @@ def last_line(checked: Checked, links: Links) -> str:
     if checked.messages and checked.refused_messages:
         parts.append(f"{len(checked.refused_messages)} of {len(checked.messages.messages)} messages refused")
     parts += [f"{checked.not_looked_at} rows not looked at"] if checked.not_looked_at else []
+    parts += [f"{checked.messages_not_looked_at} messages not looked at"] if checked.messages_not_looked_at else []
     if parts:
         return f"INCOMPLETE: {', '.join(parts)}; links: {many} found of L1 to L9 in the rest"
     return f"links: {many} found of L1 to L9 in {groups} groups"

@@ -1,30 +1,46 @@
 """Pictures of groups and messages: their contents, with the findings that the program has written about them."""
 from __future__ import annotations
 
-from typing import List, Mapping, Sequence
+from typing import List, Mapping, Optional, Sequence, Tuple
 
 from balisekit.checking import Checked, Place
 from balisekit.canvas import Picture
 from balisekit.drawing import Content, Short, draw
-from balisekit.geometry import DIRECTIONS, Site, infill, kilometres
+from balisekit.geometry import DIRECTIONS, Kilometres, Site, infill, kilometres, way
 from balisekit.grammar import Finding
 from balisekit.model import Group
 from balisekit.values import Form
 from balisekit.wording import quoted
 
 
-def picture_of(group: Group, forms: Mapping[int, Form], findings: Sequence[Finding]) -> Picture:
-    """The picture of a group whose telegrams the program has read."""
+def picture_of(group: Group, forms: Mapping[int, Form], findings: Sequence[Finding], titled: bool = False) -> Picture:
+    """The picture of a group whose telegrams the program has read. One that stands alone has a title."""
     contents: List[Content] = []
     for place, aspect in enumerate(group.aspects):
         read = [forms[row.number] for row in aspect.rows]
         title = f"aspect {quoted(aspect.name)}" if aspect.name else "in every aspect"
-        short = tuple(_short(one) for one in findings
-                      if one.rule in (10, 11, 12, 13) and (one.aspect or 0) == place and one.direction)
-        contents.append(Content(title, read, short))
-        if any(infill(read, direction) for direction in DIRECTIONS):
-            contents.append(Content(f"{title}, infill: metres from the group of packet 136", read, infill=True))
-    return draw(group.name, contents, kilometres(group))
+        contents += _contents(title, read, [one for one in findings if (one.aspect or 0) == place])
+    return draw(group.name, contents, kilometres(group), titled)
+
+
+def picture_of_message(title: str, form: Form, findings: Sequence[Finding], where: Kilometres,
+                       titled: bool = False) -> Optional[Picture]:
+    """The picture of a message 3, whose places count from the group of NID_LRBG. A message 136 has none."""
+    if form["nid_message"] == 136 or not any(way([form], direction, elsewhere) for direction in DIRECTIONS
+                                             for elsewhere in (False, True)):
+        return None
+    lrbg = f"NID_C {form['nid_c']}, NID_BG {form['nid_bg']}"
+    return draw(title, _contents(f"metres from the group of NID_LRBG ({lrbg})", [form], findings), where, titled)
+
+
+def _contents(title: str, forms: Sequence[Form], findings: Sequence[Finding]) -> List[Content]:
+    """What these telegrams say of places from their own group, and from the group of a packet 136."""
+    short: Tuple[Short, ...] = tuple(
+        _short(one) for one in findings if one.rule in (10, 11, 12, 13) and one.direction)
+    contents = [Content(title, forms, short)]
+    if any(infill(forms, direction) for direction in DIRECTIONS):
+        contents.append(Content(f"{title}, infill: metres from the group of packet 136", forms, infill=True))
+    return contents
 
 
 def _short(finding: Finding) -> Short:

@@ -2,9 +2,11 @@
 from __future__ import annotations
 
 from dataclasses import dataclass
-from typing import Callable, Dict, Iterator, Mapping, Tuple
+from typing import Callable, Dict, Iterator, Mapping, Optional, Sequence, Tuple
 
-from balisekit.geometry import DIRECTIONS, ELEMENT_KEYS, Kilometres, NOMINAL, Site, authority, holds, kilometre, profile
+from balisekit.geometry import (DIRECTIONS, ELEMENT_KEYS, Kilometres, NOMINAL, Site, authority, holds, infill,
+                                kilometre, kilometres, profile)
+from balisekit.model import Group
 from balisekit.values import Form, metres, unit_dm
 
 Notes = Iterator[Tuple[str, str]]
@@ -26,6 +28,28 @@ class Here:
         if len(words) == 2:
             words = words[:1] if words[0] == words[1] else [f"{words[0]} ({NOMINAL})", f"{words[1]} (reverse)"]
         return ", ".join([metres(place_dm), *words])
+
+
+class Identities:
+    """The groups of a table by their identities: NID_C and NID_BG of the first balise, in the first aspect."""
+
+    def __init__(self, groups: Sequence[Group], forms: Mapping[int, Form]) -> None:
+        self.known: Dict[Tuple[int, int], Optional[Group]] = {}
+        for group in groups:
+            form = forms.get(group.aspects[0].rows[0].number)
+            if form is not None:
+                identity = form["nid_c"], form["nid_bg"]
+                self.known[identity] = None if identity in self.known else group
+
+    def group_of(self, message: Form) -> Optional[Group]:
+        """The group of NID_LRBG, from which a message's distances count, if the table has exactly one with it."""
+        return self.known.get((message.get("nid_c", -1), message.get("nid_bg", -1)))
+
+    def here(self, message: Form) -> Here:
+        """From where the distances of a message count. Those behind a packet 136 count from another group."""
+        group = self.group_of(message)
+        elsewhere = {site.packet for direction in DIRECTIONS for site in infill([message], direction)}
+        return Here(Kilometres() if group is None else kilometres(group), tuple(sorted(elsewhere)))
 
 
 def place_notes(form: Form, here: Here) -> Dict[str, str]:

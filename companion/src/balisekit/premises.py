@@ -7,8 +7,9 @@ from __future__ import annotations
 import json
 import re
 import sys
+from itertools import groupby
 from pathlib import Path
-from typing import List
+from typing import List, Tuple
 
 MADE = Path(__file__).with_name("templates") / "premises.json"
 BEGINNINGS = ("An aspect of a group, or", "- ", "A yes rests", "A yes does not cover", "The rules ask how far")
@@ -26,6 +27,12 @@ def premises() -> List[str]:
     """What a yes means, rests on and does not cover, a paragraph each."""
     paragraphs: List[str] = json.loads(MADE.read_text("utf-8"))
     return paragraphs
+
+
+def blocks() -> List[Tuple[bool, List[str]]]:
+    """The paragraphs in blocks, and whether each block is a list. An item begins with a hyphen, which is dropped."""
+    parts = groupby(premises(), lambda paragraph: paragraph.startswith("- "))
+    return [(is_list, [one[2:] if is_list else one for one in some]) for is_list, some in parts]
 
 
 if __name__ == "__main__":

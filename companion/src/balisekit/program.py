@@ -100,14 +100,18 @@ class Program:
                 return self._check(room)
             return self._check(document)
 
-    def messages(self, messages: Iterable[Union[str, bytes]]) -> Iterator[Union[Record, Refusal]]:
+    def messages(self, messages: Iterable[Union[str, bytes]], most: Optional[int] = None
+                 ) -> Iterator[Union[Record, Refusal]]:
         """A record, or the refusal, for each radio message: its bytes, or their hexadecimal text.
 
         `decode --radio` reads a stream, in which a wrong L_MESSAGE takes bytes of the next message. So `check` looks at
-        the messages first, and only those that it can read become a stream.
+        the messages first, and only those that it can read become a stream. The last answer is the refusal with the
+        number `most`, if there are so many.
         """
         texts = [one.hex() if isinstance(one, bytes) else _line(one) for one in messages]
-        refused = self._refused_messages(texts)
+        refused = self._refused_messages(texts, most)
+        if most is not None and len(refused) == most:
+            texts = texts[:max(refused, default=-1) + 1]
         read = [text for place, text in enumerate(texts) if place not in refused]
         records = self._each(["decode", "--radio"], read)
         for place in range(len(texts)):
@@ -119,11 +123,11 @@ class Program:
                 raise self._no_answer("decode --radio: it refuses a message that `check` can read")
             yield Record(record)
 
-    def _refused_messages(self, texts: Sequence[str]) -> Dict[int, Refusal]:
-        """The refusals of these messages, by their places."""
+    def _refused_messages(self, texts: Sequence[str], most: Optional[int]) -> Dict[int, Refusal]:
+        """The refusals of these messages, or the first of them, by their places."""
         refused: Dict[int, Refusal] = {}
         first = 0
-        while first < len(texts):
+        while first < len(texts) and len(refused) != most:
             part = texts[first:first + PART]
             answer = self.check({"groups": [], "messages": part})
             if isinstance(answer, Refusal):

@@ -7,15 +7,16 @@ from datetime import datetime, timezone
 from typing import Dict, Iterator, List, Mapping, Optional, Sequence, Tuple
 
 from balisekit import __version__
+from balisekit.aspect_counts import aspects_found
 from balisekit.check_command import finding_words, last_line
-from balisekit.checking import Checked, Place
+from balisekit.checking import AcceptedMessage, Checked, Place, RefusedMessage
 from balisekit.canvas import Picture
 from balisekit.explain import Explanation, explanations
 from balisekit.geometry import kilometre
 from balisekit.grammar import Finding
 from balisekit.model import Group, Row
-from balisekit.pictures import picture_of
-from balisekit.places import Here
+from balisekit.pictures import picture_of, picture_of_message
+from balisekit.places import Here, Identities
 from balisekit.show_command import places_of_rows
 from balisekit.showing import text
 from balisekit.values import Form
@@ -71,6 +72,8 @@ class Cover:
     refused: Tuple[Tuple[str, str, str], ...]
     """Of each refused telegram or message: where it is, the program's words, and its link."""
     left_out: Tuple[Tuple[str, str], ...]
+    aspects: str
+    """How many aspects the groups have."""
     notes: Tuple[str, ...]
 
 
@@ -97,12 +100,14 @@ def cover(checked: Checked) -> Cover:
     notes = [clean(note) for note in table.notes]
     notes += [f"columns passed over: {', '.join(map(clean, table.passed_over))}"] if table.passed_over else []
     notes += [f"{checked.not_looked_at} rows were not looked at"] if checked.not_looked_at else []
+    some = checked.messages_not_looked_at
+    notes += [f"{some} messages were not looked at"] if some else []
     papers = [("file", clean(program.path)), ("SHA-256", program.sha256)]
     papers += [(key, value) for key, value in program.about.items() if key != "program"]
     papers += [] if program.about else [("version", "not a released program")]
     return Cover(date(), tuple(inputs), tuple(papers), __version__, last_line(checked), checked.status == 0,
                  tuple(refused), tuple((group_words(one.group), clean(one.why)) for one in checked.left_out),
-                 tuple(notes))
+                 aspects_found(table), tuple(notes))
 
 
 def told(place: Place, ids: Dict[str, str]) -> Told:
@@ -145,17 +150,27 @@ def blocks(checked: Checked) -> Iterator[Block]:
                  for number in numbers if number in refused}
         yield Block(ids[group.name], clean(group.name), _where(group), clean(left_out.get(group.name, "")), picture,
                     tuple(told(place, ids) for place in places), tuple(_telegrams(group, forms, words)))
-    for one in checked.accepted_messages:
-        number = one.message.number
-        heading = f"message of {message_words(one.message)}"
-        shown = Telegram("", heading, one.message.text, text(one.form))
-        yield Block(f"m{number}", heading, "", "", None,
-                    tuple(told(place, ids) for place in by_message.get(number, [])), (shown,))
-    for bad in checked.refused_messages:
-        heading = f"message of {message_words(bad.message)}"
-        words_of = message_refused(bad.message.text, bad.refusal)
-        shown = Telegram("", f"{heading}: {words_of}", bad.message.text, "", bad.refusal.text)
-        yield Block(f"m{bad.message.number}", heading, "", "refused", None, (), (shown,))
+    groups = Identities(checked.table.groups, {number: one.form for number, one in checked.accepted.items()})
+    for message in checked.accepted_messages:
+        yield _message(message, by_message.get(message.message.number, []), groups)
+    yield from map(_refused_message, checked.refused_messages)
+
+
+def _message(one: AcceptedMessage, places: Sequence[Place], groups: Identities) -> Block:
+    """The block of a message that the program has read."""
+    form, heading = one.form, f"message of {message_words(one.message)}"
+    group, here = groups.group_of(form), groups.here(form)
+    where = f"its places count from {group_words(group)}" if group else ""
+    picture = picture_of_message(heading, form, [place.finding for place in places], here.kilometres)
+    return Block(f"m{one.message.number}", heading, where, "", picture, tuple(told(place, {}) for place in places),
+                 (Telegram("", "in words", clean(one.message.text), text(form, here)),))
+
+
+def _refused_message(one: RefusedMessage) -> Block:
+    heading = f"message of {message_words(one.message)}"
+    sentence = f"{heading}: {message_refused(one.message.text, one.refusal)}"
+    shown = Telegram("", sentence, clean(one.message.text), "", one.refusal.text)
+    return Block(f"m{one.message.number}", heading, "", "refused", None, (), (shown,))
 
 
 def _row(group: Group, number: int) -> Row:

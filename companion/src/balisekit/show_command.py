@@ -5,14 +5,17 @@ import argparse
 import re
 import sys
 import textwrap
-from typing import Dict, Iterator, List, Mapping, Optional, Sequence, Union
+from typing import Dict, Generator, Iterator, List, Mapping, Optional, Sequence, Union
 
+from balisekit import messages_file
 from balisekit.bit_places import bit_lines
+from balisekit.cells import digits as digits_of
+from balisekit.checking import ALL_HELP, greatest_refused, until_too_many
 from balisekit.commands import Command, add_input_words, inputs
 from balisekit.geometry import DIRECTIONS, infill, kilometres
 from balisekit.grammar import Refusal
 from balisekit.model import Group, Messages, Table
-from balisekit.places import Here
+from balisekit.places import Here, Identities
 from balisekit.program import Program, Record
 from balisekit.showing import LEGEND, WIDTH, text
 from balisekit.values import Form
@@ -25,46 +28,87 @@ def add_words(parser: argparse.ArgumentParser) -> None:
     """The words of this command."""
     add_input_words(parser, table_needed=False)
     parser.add_argument("--bits", action="store_true", help="show each field with its bit places")
+    parser.add_argument("--all", action="store_true", help=ALL_HELP)
 
 
 def run(words: argparse.Namespace) -> int:
     """Does it. The answer is the exit status."""
-    refused = False
-    for lines in _standard_input(words) if words.table is None else _table(words):
-        refused = refused or lines[-1].startswith("    program: ")
+    shown = _Shown(words)
+    for lines in shown.blocks():
         print("\n".join(lines))
         print()
+    for what, count in shown.not_looked_at.items():
+        if count:
+            print(f"and {count} {what} not looked at: --all goes on\n")
     print(textwrap.fill(LEGEND, WIDTH))
-    return 2 if refused else 0
+    return 2 if shown.refused else 0
 
 
-def _standard_input(words: argparse.Namespace) -> Iterator[List[str]]:
-    """The telegrams of standard input, one a line."""
-    program = Program.find(words.program)
-    said = sys.stdin.buffer.read().decode("utf-8", "backslashreplace")
-    texts = [line.strip() for line in re.split("\r\n|\r|\n", said)]
-    numbers = [number for number, line in enumerate(texts, 1) if line]
-    answers = program.decode([texts[number - 1] for number in numbers])
-    for number, answer in zip(numbers, answers):
-        yield telegram(f"line {number}", texts[number - 1], answer, Here(), words.bits)
+class _Shown:
+    """What is shown, and what is found out on the way."""
 
+    def __init__(self, words: argparse.Namespace) -> None:
+        self.words = words
+        self.refused = False
+        self.not_looked_at: Dict[str, int] = {}
 
-def _table(words: argparse.Namespace) -> Iterator[List[str]]:
-    """The telegrams of the table, and the messages."""
-    program, table, messages = inputs(words)
-    yield from _telegrams(program, table, words.bits)
-    yield from _messages(program, messages, words.bits)
+    def blocks(self) -> Iterator[List[str]]:
+        """The lines of each telegram and message."""
+        words = self.words
+        if words.table is None and words.messages is None:
+            yield from self._standard_input(Program.find(words.program))
+        elif words.table is None:
+            messages = messages_file.read(words.messages)
+            yield from self._messages(Program.find(words.program), messages, Identities((), {}))
+        else:
+            program, table, messages_beside = inputs(words)
+            forms = yield from self._telegrams(program, table)
+            yield from self._messages(program, messages_beside, Identities(table.groups, forms))
 
+    def _standard_input(self, program: Program) -> Iterator[List[str]]:
+        """The telegrams of standard input, one a line."""
+        said = sys.stdin.buffer.read().decode("utf-8", "backslashreplace")
+        lines = enumerate(re.split("\r\n|\r|\n", said), 1)
+        texts = [(number, digits_of(line) or line.strip()) for number, line in lines if line.strip()]
+        tried = 0
+        for (number, text_of_line), answer in zip(texts, self._answers(program, [one for _, one in texts])):
+            tried += 1
+            yield telegram(f"line {number}", text_of_line, answer, Here(), self.words.bits)
+        self.not_looked_at["lines"] = len(texts) - tried
 
-def _telegrams(program: Program, table: Table, bits: bool) -> Iterator[List[str]]:
-    answers: Dict[int, Answer] = {}
-    for row, answer in zip(table.rows, program.decode([row.telegram for row in table.rows])):
-        answers[row.number] = answer
-    forms = {number: answer.form for number, answer in answers.items() if isinstance(answer, Record)}
-    for group in table.groups:
-        for number, here in places_of_rows(group, forms).items():
-            row = next(row for row in group.rows() if row.number == number)
-            yield telegram(balise_words(group, row), row.telegram, answers[number], here, bits)
+    def _telegrams(self, program: Program, table: Table) -> Generator[List[str], None, Mapping[int, Form]]:
+        """The telegrams of the table. The answer has the forms of those that can be read."""
+        answers: Dict[int, Answer] = {}
+        for row, answer in zip(table.rows, self._answers(program, [row.telegram for row in table.rows])):
+            answers[row.number] = answer
+        self.not_looked_at["rows"] = len(table.rows) - len(answers)
+        forms = {number: answer.form for number, answer in answers.items() if isinstance(answer, Record)}
+        for group in table.groups:
+            rows = {row.number: row for row in group.rows()}
+            for number, here in places_of_rows(group, forms).items():
+                if number in answers:
+                    row = rows[number]
+                    yield telegram(balise_words(group, row), row.telegram, answers[number], here, self.words.bits)
+        return forms
+
+    def _answers(self, program: Program, texts: Sequence[str]) -> Iterator[Answer]:
+        for answer in until_too_many(program.decode(texts), self.words.all):
+            self.refused = self.refused or isinstance(answer, Refusal)
+            yield answer
+
+    def _messages(self, program: Program, messages: Optional[Messages], groups: Identities) -> Iterator[List[str]]:
+        read = messages.messages if messages else ()
+        self.not_looked_at["messages"] = len(read)
+        answers = program.messages([one.text for one in read], greatest_refused(self.words.all))
+        for message, answer in zip(read, answers):
+            self.not_looked_at["messages"] -= 1
+            heading = f"message of {message_words(message)}"
+            if isinstance(answer, Refusal):
+                self.refused = True
+                yield [f"{heading}: {message_refused(message.text, answer)}", f"    program: {answer.text}"]
+            else:
+                form = answer.form
+                yield [heading, *_body(message.text, form, groups.here(form), self.words.bits)]
 
 
 def places_of_rows(group: Group, forms: Mapping[int, Form]) -> Dict[int, Here]:
@@ -80,16 +124,6 @@ def places_of_rows(group: Group, forms: Mapping[int, Form]) -> Dict[int, Here]:
             elsewhere = tuple(sorted(site.packet for site in sites if site.balise == balise))
             found.setdefault(row.number, Here(where, elsewhere))
     return dict(sorted(found.items()))
-
-
-def _messages(program: Program, messages: Optional[Messages], bits: bool) -> Iterator[List[str]]:
-    read = messages.messages if messages else ()
-    for message, answer in zip(read, program.messages([one.text for one in read])):
-        if isinstance(answer, Refusal):
-            yield [f"message of {message_words(message)}: {message_refused(message.text, answer)}",
-                   f"    program: {answer.text}"]
-        else:
-            yield [f"message of {message_words(message)}", *_body(message.text, answer.form, Here(), bits)]
 
 
 def telegram(heading: str, digits: str, answer: Answer, here: Here, bits: bool) -> List[str]:

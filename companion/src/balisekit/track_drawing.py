@@ -7,7 +7,7 @@ from __future__ import annotations
 from decimal import Decimal
 from typing import Iterator, List, Optional, Sequence, Tuple
 
-from balisekit.canvas import LETTER, RIGHT, WIDTH, Picture, Sheet, tenths
+from balisekit.canvas import LEFT, LETTER, RIGHT, WIDTH, Picture, Sheet, tenths
 from balisekit.geometry import NOMINAL, Authority, Kilometres, Profile, Way, kilometre
 from balisekit.links import Links
 from balisekit.stations import Line
@@ -150,7 +150,7 @@ def _label(band: Band) -> str:
 
 def _lanes(page: Page) -> List[List[Band]]:
     """The bands of a page in as many lanes as they need, so that no two of them overlap."""
-    room = PAGE // (WIDTH - 130)
+    room = PAGE // (WIDTH - LEFT - RIGHT)
     lanes: List[Tuple[int, List[Band]]] = []
     for band in sorted(page.bands, key=lambda one: one.begin):
         begin = max(band.begin, page.begin)

@@ -262,7 +262,8 @@ def variable_name(key: str, parent: Form) -> str:
 def body_words(around: Around) -> str:
     """How many bits of a body count: all but the packet's head, which has no Q_DIR from train to track."""
     head = 23 if around.from_track else 21
-    return f"{around.packet.get('l_packet', head) - head} bits, not decoded"
+    count = around.packet.get("l_packet", head) - head
+    return f"{count} bits, not decoded" if count else "no bits"
 
 
 def value_words(key: str, value: Union[int, str], around: Around) -> str:

@@ -1,0 +1,53 @@
+"""docs/BALISEKIT.md and the help of each command name the same words and statuses."""
+from __future__ import annotations
+
+import argparse
+import re
+from typing import List, Set
+
+import pytest
+
+from balisekit import cli
+from balisekit.cells import COLUMNS
+from cases_of_program import TOP
+
+PAGE = (TOP / "docs" / "BALISEKIT.md").read_text("utf-8")
+COMMANDS = [command.name for command in cli.COMMANDS]
+OF_PIP_AND_HELP = {"--help", "--version"}
+
+
+def _options(command: str) -> Set[str]:
+    """The words of a command that begin with hyphens."""
+    parser = argparse.ArgumentParser(add_help=False)
+    next(one for one in cli.COMMANDS if one.name == command).add_words(parser)
+    return set(re.findall("--[a-z][a-z-]*", parser.format_help()))
+
+
+@pytest.mark.parametrize("command", COMMANDS)
+def test_the_page_has_each_word_of_a_command(command: str) -> None:
+    """In some sentence, or in a table; and the command has a section."""
+    assert f"\n## {command}\n" in PAGE
+    assert _options(command) - set(re.findall("--[a-z][a-z-]*", PAGE)) == set()
+
+
+def test_the_page_has_no_word_that_is_none() -> None:
+    """Each word of the page is one of a command."""
+    known = set().union(*map(_options, COMMANDS)) | {"--debug"}
+    assert set(re.findall("--[a-z][a-z-]*", PAGE)) - known - OF_PIP_AND_HELP == set()
+
+
+def test_columns_and_statuses() -> None:
+    """The page has a row for each column, and a row for each status, as the help has a line."""
+    columns = re.findall(r"^\| `([a-z]+)` \|", PAGE.split("## check")[0], re.MULTILINE)
+    assert sorted(columns) == sorted(COLUMNS)
+    statuses = re.findall(r"^\| ([0-3]) \|", PAGE.split("## Statuses")[1], re.MULTILINE)
+    assert statuses == re.findall(r"^  ([0-3])  ", cli.STATUSES, re.MULTILINE) == ["0", "1", "2", "3"]
+
+
+@pytest.mark.parametrize("words", [["--help"], *[[command, "--help"] for command in COMMANDS]])
+def test_help_ends_with_0(words: List[str], capsys: pytest.CaptureFixture[str]) -> None:
+    """And it names the statuses, or the words."""
+    with pytest.raises(SystemExit) as ended:
+        cli.main(words)
+    said = capsys.readouterr().out
+    assert ended.value.code == 0 and ("exit status:" in said if len(words) == 1 else "--program" in said)

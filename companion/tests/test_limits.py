@@ -1,0 +1,126 @@
+"""Great tables in the time that is promised, and an interrupt in the middle of the work.
+
+Times are those of the processor, of balisekit and the program together: those of the clock depend on what else runs.
+"""
+from __future__ import annotations
+
+import csv
+import os
+import resource
+import signal
+import subprocess
+import sys
+import time
+from pathlib import Path
+from typing import Any, Callable, Dict, List, Tuple
+
+import pytest
+
+import line_table
+from balisekit import checking
+from balisekit.program import Program
+from cases_of_program import TOP
+from telegrams import ALONE, SPARE
+
+Write = Callable[..., Path]
+GROUPS = 1000
+STAND = '''#!/bin/sh
+case "$*" in
+check) echo 'yes: groups 0, messages 0'; exit 0 ;;
+--version) echo 'refused: usage is balisecheck check, decode [--radio] or encode [--radio]'; exit 2 ;;
+esac
+touch "$0.started"
+exec sleep 60
+'''
+
+
+def _words(program: Program, *words: object) -> List[str]:
+    return [sys.executable, str(TOP / "balisekit"), *map(str, words), "--program", program.path]
+
+
+def _timed(command: List[str]) -> Tuple[int, List[str], float]:
+    """The status, the lines of standard output, and the processor's time in seconds."""
+    before = resource.getrusage(resource.RUSAGE_CHILDREN)
+    done = subprocess.run(command, stdout=subprocess.PIPE, check=False)
+    after = resource.getrusage(resource.RUSAGE_CHILDREN)
+    seconds = after.ru_utime + after.ru_stime - before.ru_utime - before.ru_stime
+    return done.returncode, done.stdout.decode().splitlines(), seconds
+
+
+@pytest.fixture(scope="module")
+def great(tmp_path_factory: pytest.TempPathFactory, program: Program) -> Path:
+    """A table of 1,000 groups of two balises and three aspects, each with an identity of its own."""
+    signals: Dict[str, List[Any]] = {}
+    for item in line_table.items():
+        signals.setdefault(item[0], []).append(item)
+    del signals["Infill of D"]
+    kinds = list(signals.values())
+    items = [(f"{item[0]}.{number}", *item[1:5], {**item[5], "nid_bg": number + 1})
+             for number in range(GROUPS) for item in kinds[number % len(kinds)]]
+    path = tmp_path_factory.mktemp("great") / "great.csv"
+    with open(path, "w", encoding="utf-8", newline="") as file:
+        rows = csv.writer(file)
+        rows.writerow(line_table.HEADING)
+        rows.writerows([*item[:5], text.line] for item, text in zip(items, program.encode([one[5] for one in items])))
+    return path
+
+
+def test_a_report_of_1000_groups(great: Path, program: Program, tmp_path: Path) -> None:
+    """In less than 20 seconds, with a picture for each group."""
+    page = tmp_path / "report.html"
+    status, out, seconds = _timed(_words(program, "report", great, "--html", page))
+    assert status == 1 and out[-1].startswith("program: no: findings ")
+    assert page.read_text("utf-8").count('<svg class="picture"') == GROUPS
+    assert seconds < 20
+
+
+def test_100000_rows_with_1000_bad_ones(table: Write, program: Program) -> None:
+    """In less than a minute, and each of them is named."""
+    rows = [f"G{place},{ALONE if place % 100 else SPARE}" for place in range(100_000)]
+    status, out, seconds = _timed(_words(program, "check", table("group,telegram", *rows)))
+    assert status == 2 and out.count("    program: spare at 15 end 17") == 1000
+    assert out[-1] == "INCOMPLETE: 1000 of 100000 telegrams refused, 1000 of 100000 groups left out"
+    assert seconds < 60
+
+
+def test_the_limit_is_10000() -> None:
+    """What happens there is tried with smaller limits by the tests of `check` and `show`."""
+    assert checking.GREATEST_REFUSED == 10_000 and "10,000" in checking.ALL_HELP
+
+
+def _wait_for(there: Callable[[], bool]) -> None:
+    until = time.monotonic() + 120
+    while not there():
+        assert time.monotonic() < until
+        time.sleep(0.005)
+
+
+def _interrupted(command: List[str], there: Callable[[], bool]) -> Tuple[int, bytes]:
+    """The status and standard error of a command that is interrupted as a terminal does it, once this is there."""
+    with subprocess.Popen(command, stdout=subprocess.PIPE, stderr=subprocess.PIPE, start_new_session=True) as run:
+        _wait_for(there)
+        os.killpg(run.pid, signal.SIGINT)
+        _, said = run.communicate(timeout=120)
+    return run.returncode, said
+
+
+@pytest.mark.parametrize("words", [["check", "--json", "out"], ["show"], ["report", "--html", "out"],
+                                   ["draw", "--group", "A", "--svg", "out"]])
+def test_an_interrupt_while_the_program_runs(words: List[str], table: Write, tmp_path: Path) -> None:
+    """One line, status 3, and no file."""
+    stand = tmp_path / "stand"
+    stand.write_text(STAND)
+    stand.chmod(0o755)
+    path = table("group,telegram", f"A,{ALONE}")
+    command = [sys.executable, str(TOP / "balisekit"), words[0], str(path), "--program", str(stand),
+               *[str(tmp_path / word) if word == "out" else word for word in words[1:]]]
+    assert _interrupted(command, (tmp_path / "stand.started").exists) == (3, b"balisekit: interrupted\n")
+    assert sorted(os.listdir(tmp_path)) == ["stand", "stand.started", "table.csv"]
+
+
+def test_an_interrupt_while_a_file_is_written(great: Path, program: Program, tmp_path: Path) -> None:
+    """What was there before stays as it was, and nothing is left beside it."""
+    (tmp_path / "report.html").write_text("before")
+    command = _words(program, "report", great, "--html", tmp_path / "report.html")
+    assert _interrupted(command, lambda: len(os.listdir(tmp_path)) > 1) == (3, b"balisekit: interrupted\n")
+    assert os.listdir(tmp_path) == ["report.html"] and (tmp_path / "report.html").read_text() == "before"
