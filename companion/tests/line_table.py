@@ -27,6 +27,8 @@ ENDS = [*SIGNALS.values(), 24300, 25900]
 GRADIENTS = ((12000, 2), (14200, -5), (16000, 0), (17700, 4), (20500, -3), (23000, 1))
 SPEEDS = ((12000, 120), (15900, 100), (18900, 120), (22000, 80))
 OVERLAP = 200
+INFILL = (SIGNALS["D"] - 400, 201)
+"""Place and number of the infill group."""
 Form = Dict[str, Any]
 Item = Tuple[str, str, str, str, str, Form]
 
@@ -69,11 +71,13 @@ def authority(length: int, speed: int) -> Form:
                   overlap=overlap)
 
 
-def linking(signal: int) -> Form:
-    """The next two groups of signals."""
-    links = [{"d_link": ENDS[one] - ENDS[one - 1], "nid_bg": 101 + one, "q_linkorientation": 1, "q_linkreaction": 1,
-              "q_locacc": 5} for one in (signal + 1, signal + 2)]
-    return packet(5, links=links)
+def linking(signal: int) -> List[Form]:
+    """The groups up to the second signal from here, as far as the table goes, and the infill group among them."""
+    places = [(at, 101 + one) for one, at in enumerate(SIGNALS.values())]
+    ahead = sorted([*places[signal + 1:signal + 3], *([INFILL] if signal in (1, 2) else [])])
+    links = [{"d_link": at - before, "nid_bg": identity, "q_linkorientation": 1, "q_linkreaction": 1, "q_locacc": 5}
+             for (before, _), (at, identity) in zip([places[signal], *ahead], ahead)]
+    return [packet(5, links=links)] if links else []
 
 
 def telegram(identity: int, position: int, total: int, counter: int, *packets: Form) -> Form:
@@ -98,8 +102,8 @@ def items() -> Iterator[Item]:
     for signal, (name, at) in enumerate(SIGNALS.items()):
         group, identity = f"Signal {name}", 101 + signal
         if name == "D":
-            yield from infill(at - 400, identity)
-        yield group, f"{name}1", f"{at / 1000:.3f}", "*", "0", telegram(identity, 0, 1, 255, linking(signal))
+            yield from infill(INFILL[0], identity)
+        yield group, f"{name}1", f"{at / 1000:.3f}", "*", "0", telegram(identity, 0, 1, 255, *linking(signal))
         for counter, (aspect, packets) in enumerate(aspects(signal, name), 1):
             form = telegram(identity, 1, 1, counter, *packets)
             yield group, f"{name}2", f"{(at + 3) / 1000:.3f}", aspect, "1", form
@@ -112,7 +116,7 @@ def infill(at: int, identity: int) -> Iterator[Item]:
     for counter, (aspect, packets) in enumerate(contents, 1):
         profiles = [gradients(at + 400, 1550), speeds(at + 400, 1550)] if packets else []
         reference = {"nid_packet": 136, "q_dir": 1, "l_packet": 38, "body": body}
-        form = telegram(201, 0, 0, counter, reference, *packets, *profiles)
+        form = telegram(INFILL[1], 0, 0, counter, reference, *packets, *profiles)
         yield "Infill of D", "D0", f"{at / 1000:.3f}", aspect, "0", form
 
 

@@ -62,5 +62,5 @@ def test_a_screenshot_and_a_print(page: Path, tmp_path: Path) -> None:
 def test_pictures_are_kept() -> None:
     """The pictures that were looked at, none of them great."""
     kept = sorted(PICTURES.glob("*.png"))
-    assert [path.name for path in kept] == ["draw.png", "page.png", "print.png"]
+    assert [path.name for path in kept] == ["diff.png", "draw.png", "page.png", "print.png", "track.png"]
     assert all(1_000 < path.stat().st_size <= 100_000 for path in kept)

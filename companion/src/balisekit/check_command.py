@@ -3,21 +3,19 @@ from __future__ import annotations
 
 import argparse
 import json
+import os
 import sys
-import textwrap
-from typing import Any, Dict, Iterator, TextIO
+from typing import Any, Dict, Iterator, Optional, TextIO
 
-from balisekit import checking, files
+from balisekit import accepted, accepted_output, checking, explain, files, junit
+from balisekit.accepted import Judged
 from balisekit.aspect_counts import aspects_found, groups_by_aspects
 from balisekit.checking import Accepted, Checked, LeftOut, Place, Refused, RefusedMessage
 from balisekit.commands import Command, add_input_words, inputs
 from balisekit.errors import NoAnswer
-from balisekit.explain import explanations
 from balisekit.model import Group, Row
 from balisekit.wording import (balise_words, clean, group_words, message_refused, message_words,
                                telegram_refused)
-
-WIDTH = 116
 
 
 def add_words(parser: argparse.ArgumentParser) -> None:
@@ -25,6 +23,10 @@ def add_words(parser: argparse.ArgumentParser) -> None:
     add_input_words(parser)
     parser.add_argument("--explain", action="store_true", help="show cause and remedy of each finding")
     parser.add_argument("--all", action="store_true", help=checking.ALL_HELP)
+    parser.add_argument("--accepted", metavar="FILE", help="a CSV file of findings that were accepted, and by whom")
+    parser.add_argument("--propose", metavar="FILE",
+                        help="write entries for the open findings, to be signed; - is standard output")
+    parser.add_argument("--junit", metavar="FILE", help="write a case for each group and message as JUnit does")
     parser.add_argument("--json", metavar="FILE", help="write all of the answer as JSON; - is standard output")
     parser.add_argument("--document", metavar="FILE",
                         help="write the document that the program has checked; - is standard output")
@@ -32,28 +34,48 @@ def add_words(parser: argparse.ArgumentParser) -> None:
 
 def run(words: argparse.Namespace) -> int:
     """Does it. The answer is the exit status."""
-    targets = [path for path in (words.json, words.document) if path]
+    targets = [path for path in (words.json, words.document, words.propose, words.junit) if path]
     if targets.count("-") > 1:
         raise NoAnswer("standard output is named twice")
     for path in targets:
         files.look_at_target(path)
+    if words.propose and os.path.exists(words.propose):
+        raise NoAnswer(f"{words.propose}: it is there already: name a new file, so that no entry is lost")
+    entries = accepted.read(words.accepted) if words.accepted else None
     program, table, messages = inputs(words)
     checked = checking.check(program, table, messages, words.by_position, words.all)
+    judged = accepted.judge(checked, entries, accepted.today()) if entries else None
+    status = judged.status if judged else checked.status
+    _write(words, checked, judged)
+    out: TextIO = sys.stderr if "-" in targets else sys.stdout
+    for line in lines(checked, words.explain, words.by_position, judged):
+        print(line, file=out)
+    return status
+
+
+def _write(words: argparse.Namespace, checked: Checked, judged: Optional[Judged]) -> None:
+    """The files that are asked for."""
+    if words.propose:
+        _file(words.propose, accepted_output.proposal(checked, judged, accepted.today()))
+    if words.junit:
+        said = dict(enumerate(map(finding_words, checked.findings)))
+        with files.writing(words.junit) as file:
+            file.write(junit.document(checked, judged, said, list(lines(checked, judged=judged))[-1]))
     if words.document:
         with files.writing(words.document) as file:
             for piece in checking.document(checked.kept, checked.accepted_messages):
                 file.write(piece.encode("utf-8"))
     if words.json:
-        with files.writing(words.json) as file:
-            file.write(json.dumps(as_json(checked), indent=1, ensure_ascii=False).encode("utf-8", "backslashreplace"))
-            file.write(b"\n")
-    out: TextIO = sys.stderr if "-" in targets else sys.stdout
-    for line in lines(checked, words.explain, words.by_position):
-        print(line, file=out)
-    return checked.status
+        _file(words.json, json.dumps(as_json(checked, judged), indent=1, ensure_ascii=False) + "\n")
 
 
-def lines(checked: Checked, explain: bool = False, by_position: bool = False) -> Iterator[str]:
+def _file(path: str, text: str) -> None:
+    with files.writing(path) as file:
+        file.write(text.encode("utf-8", "backslashreplace"))
+
+
+def lines(checked: Checked, explained: bool = False, by_position: bool = False,
+          judged: Optional[Judged] = None) -> Iterator[str]:
     """The answer in words. The last line is the program's, or says that the answer is not whole."""
     table = checked.table
     yield f"{clean(table.path)}: {len(table.rows)} telegrams of {len(table.groups)} groups"
@@ -73,13 +95,16 @@ def lines(checked: Checked, explain: bool = False, by_position: bool = False) ->
         yield f"and {checked.not_looked_at} rows not looked at: --all goes on"
     if checked.messages_not_looked_at:
         yield f"and {checked.messages_not_looked_at} messages not looked at: --all goes on"
-    for place in checked.findings:
+    entries = judged.by_finding if judged else (None,) * len(checked.findings)
+    for place, entry in zip(checked.findings, entries):
         yield f"{finding_words(place)}"
         yield f"    program: {place.finding.line}"
-    if explain:
+        if entry:
+            yield f"    {accepted_output.accepted_words(entry)}"
+    if explained:
         yield from _explained(checked)
     yield aspects_found(checked.table)
-    yield last_line(checked)
+    yield from accepted_output.closing_lines(judged, last_line(checked)) if judged else (last_line(checked),)
 
 
 def _refused(refused: Refused, groups: Dict[int, Group]) -> Iterator[str]:
@@ -107,13 +132,9 @@ def finding_words(place: Place) -> str:
 
 def _explained(checked: Checked) -> Iterator[str]:
     """The lines of docs/FINDINGS.md on each rule that has a finding."""
-    known = explanations()
+    known = explain.explanations()
     for rule in sorted({place.finding.rule for place in checked.findings}):
-        one = known[rule]
-        yield f"F{rule}: {one.name}"
-        for head, text in (("What it says", one.says), ("How urgent", one.urgent), ("Usual cause", one.cause),
-                           ("How to correct it", one.remedy)):
-            yield from textwrap.wrap(f"{head}. {text}", WIDTH, initial_indent="    ", subsequent_indent="    ")
+        yield from explain.lines(f"F{rule}", known[rule])
 
 
 def last_line(checked: Checked) -> str:
@@ -131,11 +152,13 @@ def last_line(checked: Checked) -> str:
     return "INCOMPLETE: " + ", ".join(parts)
 
 
-def as_json(checked: Checked) -> Dict[str, Any]:
+def as_json(checked: Checked, judged: Optional[Judged] = None) -> Dict[str, Any]:
     """All of the answer for other tools."""
     verdict = checked.verdict.line if checked.verdict else None
+    with_entries = {"accepted": accepted_output.as_json(judged)} if judged else {}
     return {
-        "status": checked.status,
+        **with_entries,
+        "status": judged.status if judged else checked.status,
         "last_line": last_line(checked),
         "verdict" if checked.whole else "rest": verdict,
         "program": {"path": checked.program.path, "sha256": checked.program.sha256, **dict(checked.program.about)},

@@ -1,4 +1,4 @@
-"""The command line: `balisekit check`, `show`, `draw` and `report`."""
+"""The command line: `balisekit check`, `show`, `draw`, `report`, `links` and `diff`."""
 from __future__ import annotations
 
 import argparse
@@ -6,15 +6,18 @@ import os
 import sys
 from typing import List, Optional
 
-from balisekit import __version__, check_command, draw_command, report_command, show_command
+from balisekit import (__version__, check_command, diff_command, draw_command, links_command, report_command,
+                       show_command)
 from balisekit.errors import KitError
 from balisekit.wording import clean
 
-COMMANDS = (check_command.COMMAND, show_command.COMMAND, draw_command.COMMAND, report_command.COMMAND)
+COMMANDS = (check_command.COMMAND, show_command.COMMAND, draw_command.COMMAND, report_command.COMMAND,
+            links_command.COMMAND, diff_command.COMMAND)
 STATUSES = """\
 exit status:
-  0  the program says yes to all that was handed in, or the command has done what it is asked for
-  1  findings of `check`
+  0  the program says yes to all that was handed in, nothing is open or found, or the command has done what it is
+     asked for
+  1  findings of `check`, entries of accepted findings at fault, or what `links` or `diff` has found
   2  refused: a telegram or message, so that the answer is INCOMPLETE, or a table or words that cannot be read
   3  no answer: no program, a file that cannot be written, an interrupt
 

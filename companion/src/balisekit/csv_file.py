@@ -3,7 +3,7 @@ from __future__ import annotations
 
 import csv
 import io
-from typing import Iterator, List
+from typing import Iterator, List, Sequence
 
 from balisekit.cells import COLUMNS, NEEDED, Sheet, headings
 from balisekit.errors import TableError
@@ -14,18 +14,18 @@ GREATEST_CELL = 100_000
 """In characters."""
 
 
-def read(content: bytes) -> Sheet:
-    """The cells of the file."""
+def read(content: bytes, known: Sequence[str] = COLUMNS, needed: Sequence[str] = NEEDED) -> Sheet:
+    """The cells of a file whose heading may have the known columns, and has the needed ones."""
     text, encoding = text_of(content)
     notes = ("it is not UTF-8: it was read as Windows-1252",) if encoding == "windows-1252" else ()
     separator = ""
     if text[:4].lower() == "sep=" and text[5:6] in ("\r", "\n"):
         separator, text = text[4], text[5:].removeprefix("\r").removeprefix("\n")
-    separator = separator or _separator(text)
+    separator = separator or _separator(text, known, needed)
     return Sheet(encoding, separator, _rows(text, separator), notes=notes)
 
 
-def _separator(text: str) -> str:
+def _separator(text: str, columns: Sequence[str], needed: Sequence[str]) -> str:
     """The one by which the heading has the needed columns, and the most that are known."""
     best, most = ",", 0
     for separator in SEPARATORS:
@@ -33,7 +33,7 @@ def _separator(text: str) -> str:
             found = set(headings(next(_reader(text, separator), [])))
         except csv.Error:
             continue
-        known = len(found.intersection(COLUMNS)) + (len(COLUMNS) if found.issuperset(NEEDED) else 0)
+        known = len(found.intersection(columns)) + (len(columns) if found.issuperset(needed) else 0)
         if known > most:
             best, most = separator, known
     return best

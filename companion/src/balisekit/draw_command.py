@@ -1,4 +1,4 @@
-"""`balisekit draw`: a group, or a radio message, as SVG."""
+"""`balisekit draw`: a group, a radio message or a whole track as SVG."""
 from __future__ import annotations
 
 import argparse
@@ -14,6 +14,7 @@ from balisekit.pages import pieces, style
 from balisekit.pictures import picture_of, picture_of_message
 from balisekit.places import Identities
 from balisekit.program import Program
+from balisekit.track_words import add_track_words, draw_track
 from balisekit.wording import balise_words, message_refused, message_words, quoted, telegram_refused
 
 
@@ -23,6 +24,9 @@ def add_words(parser: argparse.ArgumentParser) -> None:
     what = parser.add_mutually_exclusive_group(required=True)
     what.add_argument("--group", metavar="NAME", help="the group's name in the table")
     what.add_argument("--message", metavar="LINE", type=int, help="the message in this line of --messages")
+    what.add_argument("--track", metavar="NAME", nargs="?", const="",
+                      help="a whole track, in strips of 5 km; without NAME the only one, or the one without a name")
+    add_track_words(parser)
     parser.add_argument("--svg", metavar="FILE", default="-", help="where to write; standard output else")
 
 
@@ -30,6 +34,8 @@ def run(words: argparse.Namespace) -> int:
     """Does it. The answer is the exit status."""
     files.look_at_target(words.svg)
     program, table, messages = inputs(words)
+    if words.track is not None:
+        return draw_track(words, program, table)
     if words.group is not None:
         picture = _group(program, _only(table, words.group), words.by_position)
     else:
@@ -86,4 +92,4 @@ def _only(table: Table, name: str) -> Table:
     return replace(table, groups=groups, rows=tuple(row for row in table.rows if row.number in wanted))
 
 
-COMMAND = Command("draw", "draw a group or a message as SVG", add_words, run)
+COMMAND = Command("draw", "draw a group, a message or a track as SVG", add_words, run)

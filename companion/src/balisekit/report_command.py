@@ -6,9 +6,16 @@ import argparse
 from balisekit import checking, files, premises
 from balisekit.check_command import last_line
 from balisekit.commands import Command, add_input_words, inputs
+from balisekit.links import Links, look
 from balisekit.pages import hash_of, pieces, style
 from balisekit.report import blocks, cover, explained, group_ids, told
 from balisekit.showing import LEGEND
+from balisekit.stations import line_of
+from balisekit.track_drawing import track_pictures, tracks_of
+from balisekit.track_words import add_track_words, look_at_aspect
+from balisekit.wording import clean
+
+DISTANCE = "one whose distance differs from the kilometres (L2, a rule of balisekit)"
 
 
 def add_words(parser: argparse.ArgumentParser) -> None:
@@ -16,18 +23,24 @@ def add_words(parser: argparse.ArgumentParser) -> None:
     add_input_words(parser)
     parser.add_argument("--html", metavar="FILE", required=True, help="where to write; - is standard output")
     parser.add_argument("--all", action="store_true", help=checking.ALL_HELP)
+    add_track_words(parser)
 
 
 def run(words: argparse.Namespace) -> int:
     """Does it. The answer is the exit status."""
     files.look_at_target(words.html)
     program, table, messages = inputs(words)
+    look_at_aspect(table, words.aspect)
     checked = checking.check(program, table, messages, words.by_position, words.all)
-    sheet = style("page.css") + style("picture.css")
+    sheet = style("page.css") + style("picture.css") + style("track.css")
     ids = group_ids(checked.table.groups)
+    line = line_of(checked)
+    tracks = tracks_of(line)
+    links = look(line, words.tolerance) if tracks else Links((), ())
     page = pieces("report.html", cover=cover(checked), findings=[told(place, ids) for place in checked.findings],
                   explained=explained(checked), blocks=blocks(checked), style=sheet, style_hash=hash_of(str(sheet)),
-                  legend=LEGEND, premises=premises.blocks())
+                  legend=LEGEND, premises=premises.blocks(), links_rule=DISTANCE, aspect=words.aspect,
+                  tracks=((clean(name), track_pictures(line, links, name, words.aspect)) for name in tracks))
     with files.writing(words.html) as file:
         for piece in page:
             file.write(piece.encode("utf-8"))

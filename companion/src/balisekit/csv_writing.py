@@ -1,0 +1,29 @@
+"""CSV that is written: no cell of it is a formula for a spreadsheet."""
+from __future__ import annotations
+
+import csv
+import io
+from typing import Iterable, Sequence
+
+FORMULAS = ("=", "+", "-", "@", "\t", "\r")
+"""With what a cell begins that a spreadsheet may take for a formula."""
+
+
+def safe(cell: str) -> str:
+    """The cell, with an apostrophe before what may be a formula, and before an apostrophe that would be taken off."""
+    return f"'{cell}" if cell.startswith(FORMULAS) or plain(cell) != cell else cell
+
+
+def plain(cell: str) -> str:
+    """A cell that `safe` has made, as it was."""
+    bare = cell[1:] if cell.startswith("'") else ""
+    return bare if bare.startswith(FORMULAS) or bare != "" and plain(bare) != bare else cell
+
+
+def text(heading: Sequence[str], rows: Iterable[Sequence[str]]) -> str:
+    """A CSV file of these rows."""
+    out = io.StringIO(newline="")
+    writer = csv.writer(out, lineterminator="\n")
+    writer.writerow(heading)
+    writer.writerows([safe(cell) for cell in row] for row in rows)
+    return out.getvalue()

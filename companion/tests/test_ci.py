@@ -1,0 +1,152 @@
+"""`--junit`, and the job files of examples/ci: in an empty folder with a release's tarball alone."""
+from __future__ import annotations
+
+import hashlib
+import re
+import shutil
+import subprocess
+import tarfile
+import xml.etree.ElementTree as ElementTree
+from pathlib import Path
+from typing import Any, Callable, Dict, List
+
+import pytest
+
+from balisekit import csv_writing
+from balisekit.accepted import COLUMNS
+from balisekit.program import Program
+from cases_of_program import TOP
+from conftest import Run
+from telegrams import ALONE, MESSAGE, OTHER, SPARE
+
+Write = Callable[..., Path]
+HEADING = ",".join(COLUMNS)
+SOUND = ["group,telegram", f"A,{ALONE}", f"B,{OTHER}"]
+JOBS = sorted((TOP / "examples" / "ci").glob("*.yml"))
+NAME = "balisecheck-0-x86_64-linux"
+
+
+def entry(**fields: str) -> str:
+    """A row of accepted.csv about F14 of the group with identity 1."""
+    values = {"rule": "F14", "nid_c": "1", "nid_bg": "1", "reason": "by design", "who": "J. Doe", "date": "2026-01-02",
+              **fields}
+    return csv_writing.text([values.get(name, "") for name in COLUMNS], []).rstrip("\n")
+
+
+def read(path: Path) -> Any:
+    """The suite of a file, by Debian's reader."""
+    junitparser = pytest.importorskip("junitparser")
+    suites = list(junitparser.JUnitXml.fromfile(str(path)))
+    assert len(suites) == 1
+    return suites[0]
+
+
+def results(suite: Any) -> Dict[str, List[str]]:
+    """What became of each case."""
+    return {f"{case.classname} {case.name}": [type(one).__name__ for one in case.result] for case in suite}
+
+
+def test_a_case_for_each_group_and_message(run: Run, table: Write, tmp_path: Path) -> None:
+    path = table(*SOUND, f"C,{OTHER}", f"D,{SPARE}", f"E,{ALONE}", name="t.csv")
+    radio = table(f"{MESSAGE};one", "0400c0;two", name="m.txt")
+    file = table(HEADING, entry(), entry(rule="F1"), name="accepted.csv")
+    status = run("check", path, "--messages", radio, "--accepted", file, "--junit", tmp_path / "out.xml")[0]
+    suite = read(tmp_path / "out.xml")
+    assert status == 2 and results(suite) == {
+        "group A": [], "group B": [], "group C": ["Failure"], "group D": ["Error"], "group E": ["Skipped"],
+        "message line 1  one": ["Failure"], "message line 2  two": ["Error"], "accepted row 3": ["Failure"]}
+    assert (suite.tests, suite.failures, suite.errors, suite.skipped) == (8, 3, 2, 1)
+    whole = {case.name: case.result[0] for case in suite if case.result}
+    assert whole["E"].message == "accepted: by design (J. Doe, 2026-01-02)"
+    assert whole["C"].message == "1 open: F14 group 2: identity used before"
+    assert "    program: F14 group 2: identity used before" in whole["C"].text
+    assert whole["D"].message == "left out: refused: row 5" and "M_DUP is 3" in whole["D"].text
+    assert whole["row 3"].message == "unused: no finding is as it says"
+    said = (tmp_path / "out.xml").read_text("utf-8")
+    assert "presented by balisekit, which is not proved" in said and "INCOMPLETE: " in said
+
+
+def test_a_yes(run: Run, table: Write, tmp_path: Path) -> None:
+    assert run("check", table(*SOUND), "--junit", tmp_path / "out.xml")[0] == 0
+    assert results(read(tmp_path / "out.xml")) == {"group A": [], "group B": []}
+
+
+def test_names_are_text(run: Run, table: Write, tmp_path: Path) -> None:
+    name = "<script>&\"'\x1b\u202e\ufffe=1+1"
+    path = table(content=csv_writing.text(["group", "telegram"], [[name, ALONE], ["B", ALONE]]).encode())
+    run("check", path, "--junit", tmp_path / "out.xml")
+    cases = list(ElementTree.parse(tmp_path / "out.xml").iter("testcase"))
+    assert cases[0].get("name") == "<script>&\"'\\x1b\\u202e\\ufffe=1+1" and len(cases) == 2
+
+
+def test_nothing_half_written(run: Run, table: Write, tmp_path: Path) -> None:
+    assert run("check", table(*SOUND), "--program", "/bin/false", "--junit", tmp_path / "out.xml")[0] == 3
+    assert run("check", table(*SOUND), "--junit", tmp_path)[0] == 3
+    assert not (tmp_path / "out.xml").exists()
+
+
+@pytest.fixture(scope="module")
+def release(tmp_path_factory: pytest.TempPathFactory, program: Program) -> Path:
+    """A folder with a tarball, as a release has it, and its checksum."""
+    room = tmp_path_factory.mktemp("release")
+    top = room / NAME
+    top.mkdir()
+    for name in ("balisekit", "companion/pyproject.toml"):
+        (top / name).parent.mkdir(exist_ok=True)
+        shutil.copy(TOP / name, top / name)
+    shutil.copytree(TOP / "companion" / "src", top / "companion" / "src", ignore=shutil.ignore_patterns("__pycache__"))
+    shutil.copy(program.path, top / "balisecheck")
+    tools = room / "tools"
+    tools.mkdir()
+    with tarfile.open(tools / f"{NAME}.tar.gz", "w:gz") as tar:
+        tar.add(top, NAME)
+    digest = hashlib.sha256((tools / f"{NAME}.tar.gz").read_bytes()).hexdigest()
+    (tools / f"{NAME}.tar.gz.sha256").write_text(f"{digest}  {NAME}.tar.gz\n")
+    return tools
+
+
+def steps(job: Path) -> List[str]:
+    """The commands of a job file."""
+    return [line for line in re.findall(r"^ +- (?:run: )?(.+)$", job.read_text("utf-8"), re.MULTILINE)
+            if "tools" in line]
+
+
+def run_job(job: Path, room: Path, release: Path, *tables: List[str]) -> int:
+    """Runs the commands of a job in a folder that has the tarball and the two tables. The answer is 0 where all do."""
+    shutil.copytree(release, room / "tools")
+    for name, lines in zip(("line.csv", "accepted.csv"), tables):
+        (room / name).write_text("".join(f"{line}\n" for line in lines), "utf-8")
+    for step in steps(job):
+        done = subprocess.run(["bash", "-e", "-c", step], cwd=room, env={"PATH": "/usr/bin:/bin", "HOME": str(room)},
+                              stdout=subprocess.DEVNULL, stderr=subprocess.DEVNULL, check=False)
+        if done.returncode:
+            return done.returncode
+    return 0
+
+
+@pytest.mark.parametrize("job, lines, entries, status", [
+    (JOBS[0], [*SOUND, f"C,{ALONE}"], [entry()], 0), (JOBS[0], [*SOUND, f"C,{ALONE}"], [], 1), (JOBS[1], SOUND, [], 0),
+    (JOBS[1], [*SOUND, f"C,{ALONE}"], [], 1), (JOBS[1], [*SOUND, f"C,{ALONE}"], [entry()], 0),
+    (JOBS[1], [*SOUND, f"C,{ALONE}"], [entry(until="2020-01-03")], 1), (JOBS[1], SOUND, [entry()], 1),
+    (JOBS[1], [*SOUND, f"C,{SPARE}"], [], 2)],
+    ids=["github accepted", "github new", "sound", "new", "accepted", "expired", "unused", "refused"])
+def test_jobs(job: Path, tmp_path: Path, release: Path, lines: List[str], entries: List[str], status: int) -> None:
+    """A new finding is red, an accepted one is not, and one whose date is past is red again."""
+    assert run_job(job, tmp_path, release, lines, [HEADING, *entries]) == status
+    assert (tmp_path / "balises.xml").is_file()
+
+
+@pytest.mark.parametrize("job", JOBS, ids=[path.stem for path in JOBS])
+def test_a_damaged_tarball_is_red(job: Path, tmp_path: Path, release: Path) -> None:
+    other = tmp_path / "other"
+    shutil.copytree(release, other)
+    with open(other / f"{NAME}.tar.gz", "ab") as file:
+        file.write(b"x")
+    (tmp_path / "room").mkdir()
+    assert run_job(job, tmp_path / "room", other, SOUND, [HEADING]) != 0
+    assert not (tmp_path / "room" / "balises.xml").exists()
+
+
+def test_job_files_are_short() -> None:
+    assert [path.name for path in JOBS] == ["github.yml", "gitlab-ci.yml"]
+    assert all(len(path.read_text("utf-8").splitlines()) <= 10 and len(steps(path)) == 2 for path in JOBS)

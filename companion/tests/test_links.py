@@ -1,0 +1,324 @@
+"""`links`: each of L1 to L9 is found by a table with that one fault, and by nothing else."""
+from __future__ import annotations
+
+import json
+import re
+import shlex
+from decimal import Decimal
+from pathlib import Path
+from typing import Any, Callable, Dict, List, Sequence, Tuple
+
+import pytest
+
+import link_tables
+from balisekit import explain
+from balisekit.links import look
+from balisekit.model import Aspect, Group, Message, Row
+from balisekit.program import Program
+from balisekit.stations import Line, line
+from cases_of_program import TOP
+from conftest import Run
+
+Write = Callable[..., Path]
+Form = Dict[str, Any]
+FOLDER = TOP / "examples" / "links"
+PAGE = (TOP / "docs" / "LINKS.md").read_text("utf-8")
+
+
+def group(name: str, *kms: str, nominal: str = "", track: str = "") -> Group:
+    """A group with these kilometres of its balises. Rows are numbered by the name's letters."""
+    first = sum(ord(letter) for letter in name) * 10
+    rows = [Row(first + place, name, "", km=Decimal(km) if km else None, nominal=nominal, track=track)
+            for place, km in enumerate(kms)]
+    return Group(name, (Aspect("", tuple(rows)),))
+
+
+def line_with(*some: Tuple[Group, List[Form]], messages: Sequence[Tuple[Message, Form]] = ()) -> Line:
+    """A line of groups with the forms of their balises."""
+    forms = {row.number: form for one, own in some for row, form in zip(one.rows(), own)}
+    return line([one for one, _ in some], forms, messages)
+
+
+def header(identity: int, *packets: Form, linked: int = 1) -> Form:
+    """A telegram of country 1."""
+    return {"nid_c": 1, "nid_bg": identity, "q_link": linked, "m_dup": 0, "packets": list(packets)}
+
+
+def found(one: Line, tolerance: str = "0") -> List[Tuple[int, str]]:
+    """The rules that have found something, and about which group."""
+    return [(each.rule, each.group.group.name if each.group else "") for each in look(one, Decimal(tolerance)).found]
+
+
+def test_the_example_tables_are_those_of_the_script(program: Program) -> None:
+    assert (FOLDER / "line.csv").read_text("utf-8") == link_tables.table(program, link_tables.rows_of())
+    for name, (_, change) in link_tables.FAULTS.items():
+        made = link_tables.table(program, link_tables.rows_of(change))
+        assert (FOLDER / f"{name}.csv").read_text("utf-8") == made, name
+
+
+@pytest.mark.parametrize("name", sorted(link_tables.FAULTS))
+def test_each_rule_finds_its_fault_alone(run: Run, name: str) -> None:
+    status, out, _ = run("links", FOLDER / f"{name}.csv")
+    rules = re.findall(r": links (L\d): ", "\n".join(out))
+    assert (status, rules) == (1, [f"L{link_tables.FAULTS[name][0]}"])
+    assert out[-1] == "links: 1 found of L1 to L9 in 4 groups"
+
+
+def test_the_line_without_fault_is_silent(run: Run) -> None:
+    status, out, _ = run("links", FOLDER / "line.csv")
+    assert status == 0 and out[1:] == [
+        "L1 to L9 are rules of balisekit, which is not proved: they compare what the program has decoded",
+        "links: none found of L1 to L9 in 4 groups"]
+    assert run("check", FOLDER / "line.csv")[1][-1] == "program: yes: groups 4, messages 0"
+
+
+def test_the_example_of_readme_has_none(run: Run) -> None:
+    status, out, _ = run("links", TOP / "examples" / "table" / "line.csv")
+    assert status == 2 and not any(": links L" in one for one in out)
+    assert out[-1] == "INCOMPLETE: 1 of 34 telegrams refused; links: none found of L1 to L9 in the rest"
+    assert any(one.startswith("note: rows 14 to 15  Infill of D  km 16.500: its direction") for one in out)
+
+
+def test_the_page_has_what_is_written(run: Run, monkeypatch: pytest.MonkeyPatch) -> None:
+    monkeypatch.chdir(TOP)
+    block = r"^```console\n\$ \./balisekit (.+?)( \| tail -n 2)?\n(.+?)```$"
+    blocks = re.findall(block, PAGE, re.MULTILINE | re.DOTALL)
+    guide = (TOP / "docs" / "BALISEKIT.md").read_text("utf-8")
+    block = block.replace(r"\./balisekit (", r"\./balisekit ((?:links|diff) ")
+    blocks += re.findall(block, guide, re.MULTILINE | re.DOTALL)
+    assert len(blocks) == 12
+    for words, cut, said in blocks:
+        out = run(*shlex.split(words))[1]
+        assert said.splitlines() == (out[-2:] if cut else out)
+
+
+def test_explain_is_what_the_page_says(run: Run) -> None:
+    known = explain.explanations("LINKS")
+    assert {str(rule): {key: value for key, value in vars(one).items() if key != "rule"} for rule, one in known.items()
+            } == {str(rule): parts for rule, parts in explain.of_document(PAGE, "LINKS").items()}
+    assert sorted(known) == list(range(1, 10)) and all(all(vars(one).values()) for one in known.values())
+    out = run("links", FOLDER / "group-passed-over.csv", "--explain")[1]
+    assert "L9: linked group passed over" in out and any("How to correct it. Add the group" in one for one in out)
+
+
+def test_json(run: Run, tmp_path: Path) -> None:
+    assert run("links", FOLDER / "distance-differs.csv", "--json", tmp_path / "out.json")[0] == 1
+    answer = json.loads((tmp_path / "out.json").read_text("utf-8"))
+    assert answer["status"] == 1 and answer["counts"]["groups"] == 4
+    one = answer["found"][0]
+    assert (one["rule"], one["group"], one["row"], one["link"], one["about"]) == ("L2", "A", 2, 0, "B")
+    assert (one["metres_by_d_link"], one["metres_by_kilometres"]) == ("1010", "1000.000")
+    status, out, err = run("links", FOLDER / "line.csv", "--json", "-")
+    assert status == 0 and json.loads("\n".join(out))["found"] == [] and err[-1].startswith("links: none found")
+
+
+def test_a_link_that_is_not_known_yet_is_no_finding() -> None:
+    chain = link_tables.linking(1, link_tables.link(1000, 16_383, 1), link_tables.link(1000, 3, 1))
+    between = (group("B", "1.000", nominal="rising"), [header(2)])
+    one = line_with((group("A", "0", "0.003"), [header(1, chain), header(1)]), between,
+                    (group("C", "2.000", nominal="rising"), [header(3)]))
+    assert found(one) == []
+    assert found(line_with((group("A", "0", "0.003"), [header(1, chain), header(1)]), between,
+                           (group("C", "2.1", nominal="rising"), [header(3)]))) == [(2, "C")]
+
+
+@pytest.mark.parametrize("accuracy, tolerance, wanted", [
+    (9, "0", [(2, "B")]), (10, "0", []), (5, "4.9", [(2, "B")]), (5, "5", []), (0, "10", [])])
+def test_a_distance_has_an_accuracy_and_a_tolerance(accuracy: int, tolerance: str, wanted: List[Any]) -> None:
+    chain = link_tables.linking(1, {**link_tables.link(1010, 2, 1), "q_locacc": accuracy})
+    one = line_with((group("A", "0", nominal="rising"), [header(1, chain)]),
+                    (group("B", "1", nominal="rising"), [header(2)]))
+    assert found(one, tolerance) == wanted
+
+
+@pytest.mark.parametrize("scale, unit", [(0, 1), (1, 10), (2, 100)])
+def test_units(scale: int, unit: int) -> None:
+    links = [link_tables.link(10_000 // unit, 2, 1), link_tables.link(20_000 // unit, 3, 1)]
+    chain = {**link_tables.linking(1, *links), "q_scale": scale}
+    one = line_with((group("A", "5", nominal="falling"), [header(1, chain)]),
+                    (group("B", "4", nominal="falling"), [header(2)]),
+                    (group("C", "2", nominal="falling"), [header(3)]))
+    assert found(one) == []
+
+
+def test_a_group_behind_the_train_and_one_wrong_distance() -> None:
+    links = [link_tables.link(1000, 2, 1), link_tables.link(1000, 3, 1)]
+    some = [(group("B", "1", nominal="rising"), [header(2)]), (group("C", "2", nominal="rising"), [header(3)])]
+    falling = line_with((group("A", "0", nominal="falling"), [header(1, link_tables.linking(1, *links))]), *some)
+    said = [one.said for one in look(falling).found if one.rule == 2][0]
+    assert said.startswith("B (km 1.000) is 1000 m from A (km 0.000) by D_LINK, and 1000 m behind it by the "
+                           "kilometres: they differ by 2000 m")
+    links[0]["d_link"] = 1006
+    rising = line_with((group("A", "0", nominal="rising"), [header(1, link_tables.linking(1, *links))]), *some)
+    assert found(rising) == [(2, "B")]
+
+
+def test_small_errors_add_up() -> None:
+    links = [link_tables.link(1004, 2, 1), link_tables.link(1004, 3, 1)]
+    one = line_with((group("A", "0", nominal="rising"), [header(1, link_tables.linking(1, *links))]),
+                    (group("B", "1", nominal="rising"), [header(2)]), (group("C", "2", nominal="rising"), [header(3)]))
+    assert found(one) == [(2, "C")]
+
+
+def test_a_single_balise_has_no_order() -> None:
+    chain = link_tables.linking(1, link_tables.link(1000, 2, 0))
+    one = line_with((group("A", "0", nominal="rising"), [header(1, chain)]),
+                    (group("B", "1", nominal="rising"), [header(2)]))
+    assert found(one) == []
+
+
+def test_tracks_are_chains_of_their_own() -> None:
+    chain = link_tables.linking(1, link_tables.link(500, 2, 0), link_tables.link(500, 3, 1))
+    one = line_with(
+        (group("A", "0", "0.003", track="1"), [header(1, chain), header(1)]),
+        (group("B", "7", "7.003", track="2"), [header(2), header(2)]),
+        (group("C", "1", nominal="rising", track="1"), [header(3)]),
+        (group("X", "0.7", nominal="rising", track="2"), [header(9)]))
+    assert found(one) == []
+    notes = look(one).notes
+    assert len(notes) == 1 and notes[0].endswith("link 0: B (km 7.000) is on another track, and is not compared")
+
+
+def test_aspects_and_duplicates_are_told_once() -> None:
+    chain = link_tables.linking(1, link_tables.link(1000, 5, 1))
+    fixed, switched = Row(2, "A", "", aspect="*", km=Decimal(0)), Row(3, "A", "", aspect="x", km=Decimal(1))
+    other = Row(4, "A", "", aspect="y", km=Decimal(1))
+    one = Group("A", (Aspect("x", (fixed, switched)), Aspect("y", (fixed, other))))
+    forms = {2: {**header(1, chain), "m_dup": 1}, 3: {**header(1, chain), "m_dup": 2},
+             4: {**header(1, chain), "m_dup": 2}}
+    assert [each.rule for each in look(line([one], forms)).found] == [1]
+
+
+def test_what_infill_says_is_noted_and_not_compared() -> None:
+    reference = {"nid_packet": 136, "q_dir": 1, "l_packet": 38, "body": "0004"}
+    one = line_with((group("A", "0", nominal="rising"), [header(1, reference, link_tables.linking(
+        1, link_tables.link(7, 99, 1)))]))
+    assert found(one) == [] and "count from the group of packet 136" in look(one).notes[0]
+
+
+def test_infill_has_profiles_of_its_own() -> None:
+    reference = {"nid_packet": 136, "q_dir": 1, "l_packet": 38, "body": "0004"}
+    packets = link_tables.authority()
+    packets[2]["elements"].pop()
+    one = line_with((group("A", "0", nominal="rising"), [header(1, reference, *packets)]))
+    assert found(one) == [(7, "")]
+
+
+def test_profiles_without_an_authority_are_free() -> None:
+    packets = link_tables.authority()
+    packets[1]["elements"].pop()
+    packets[2]["elements"][0]["d_static"] = 50
+    one = line_with((group("A", "0", "0.003"), [header(1, *packets[1:]), header(1)]))
+    assert found(one) == []
+
+
+def test_a_profile_that_another_one_completes() -> None:
+    packets = link_tables.authority()
+    late = {**packets[1], "elements": [{"d_gradient": 400, "q_gdir": 1, "g_a": 3}, {"d_gradient": 600, "q_gdir": 0,
+                                                                                    "g_a": 255}]}
+    assert found(line_with((group("A", "0", "0.003"), [header(1, *packets, late), header(1)]))) == []
+    alone = line_with((group("A", "0", "0.003"), [header(1, packets[0], packets[2], late), header(1)]))
+    assert found(alone) == [(8, "")]
+
+
+def test_messages_count_from_their_group() -> None:
+    form = {"nid_message": 3, "nid_c": 1, "nid_bg": 1, "packets": [
+        {"nid_packet": 15, "q_dir": 1, "q_scale": 1, "end_speed": 0, "end_timeout": 1023, "sections": [],
+         "l_endsection": 900},
+        link_tables.linking(1, link_tables.link(1100, 2, 1)), {**link_tables.authority()[1], "elements": [
+            {"d_gradient": 0, "q_gdir": 1, "g_a": 5}]}]}
+    some = [(group("A", "0", nominal="rising"), [header(1)]), (group("B", "1", nominal="rising"), [header(2)])]
+    one = line_with(*some, messages=[(Message(3, ""), form)])
+    assert found(one) == [(2, "B"), (7, "")]
+    assert look(one).found[0].words == "message of line 3  packet 1  nominal  link 0"
+    lost = line_with(*some, messages=[(Message(3, ""), {**form, "nid_bg": 77})])
+    assert found(lost) == [(7, "")] and "its group is not in the table" in look(lost).notes[0]
+
+
+def test_notes_on_groups() -> None:
+    chain = link_tables.linking(1, link_tables.link(1000, 2, 1))
+    one = line_with((group("A", "0"), [header(1, chain)]), (group("B", ""), [header(2)]), (group("C", "5"), []),
+                    (group("D", "6", nominal="rising"), [header(2)]))
+    notes = look(one).notes
+    assert found(one) == [] and [note.split(": ", 1)[1][:36] for note in notes] == [
+        "its direction along the kilometres i", "it has no kilometre: L2 and L9 are n",
+        "no telegram of it could be read, so ", "B has its identity too, and links ar"]
+
+
+def test_linked_by_many() -> None:
+    chain = link_tables.linking(1, link_tables.link(1000, 9, 1))
+    some = [(group(name, ""), [header(ord(name), chain)]) for name in "ABCDE"]
+    one = look(line_with(*some, (group("Z", ""), [header(9, linked=0)]))).found
+    assert [(each.rule, each.said) for each in one] == [
+        (4, "its Q_LINK is 0, and it is linked by A, B, C and 2 more")]
+
+
+def test_bad_input(run: Run, table: Write, tmp_path: Path) -> None:
+    path = table("group,telegram", "A," + "0" * 54)
+    assert run("links", path) == (2, [], [f"balisekit: {path}: no row has a kilometre: links needs the column km"])
+    assert run("links", path, "--tolerance", "-1")[0] == run("links", path, "--tolerance", "1e3")[0] == 2
+    assert run("links", tmp_path / "none.csv")[0] == 2 and run("links", tmp_path)[0] == 2
+    path = table("group,km,telegram", "A,1," + "0" * 54)
+    status, out, _ = run("links", path)
+    assert status == 2 and out[-1] == "INCOMPLETE: 1 of 1 telegrams refused; links: none found of L1 to L9 in the rest"
+    assert run("links", path, "--json", tmp_path)[0] == 3
+    assert run("links", path, "--program", "/bin/false", "--json", tmp_path / "x.json")[0] == 3
+    assert not (tmp_path / "x.json").exists()
+
+
+def test_never_a_yes(run: Run) -> None:
+    for path in sorted(FOLDER.glob("*.csv")):
+        assert "yes" not in "\n".join(run("links", path)[1])
+
+
+def test_names_move_no_cursor(run: Run, table: Write) -> None:
+    lines = (FOLDER / "distance-differs.csv").read_text("utf-8").replace("A,A1", "A\x1b[2J\u202e,A1").replace(
+        "A,A2", "A\x1b[2J\u202e,A2").splitlines()
+    out = "\n".join(run("links", table(*lines))[1])
+    assert ": links L2: " in out and not set(out) & {"\x1b", "\u202e"}
+
+
+def test_any_correct_line_is_silent() -> None:
+    hypothesis = pytest.importorskip("hypothesis")
+    st = hypothesis.strategies
+
+    def tried(places: List[int], up: bool, faces: List[bool], wrong: int, by: int) -> None:
+        metres = sorted(set(places))
+        hypothesis.assume(len(metres) > 2)
+        made = _line(metres if up else metres[::-1], up, (faces * 20)[:len(metres)])
+        assert found(made) == []
+        at = wrong % (len(metres) - 1)
+        spoilt = _line(metres if up else metres[::-1], up, (faces * 20)[:len(metres)], at, by)
+        assert found(spoilt) == [(2, f"G{at + 1}")]
+
+    hypothesis.given(st.lists(st.integers(0, 30_000), min_size=3, max_size=12), st.booleans(),
+                     st.lists(st.booleans(), min_size=1), st.integers(0, 50), st.integers(6, 500))(tried)()
+
+
+def _line(metres: List[int], up: bool, faces: List[bool], wrong: int = -1, by: int = 0) -> Line:
+    """Groups in the order in which a train passes them: each links the next one. One link may be wrong."""
+    some = []
+    for place, at in enumerate(metres):
+        forward = up == faces[place]
+        km = Decimal(at).scaleb(-3)
+        beside = km + (1 if forward else -1) * Decimal("0.0001")
+        packets = []
+        if place + 1 < len(metres):
+            distance = abs(metres[place + 1] - at) + (by if place == wrong else 0)
+            packets = [link_tables.linking(int(faces[place]), link_tables.link(distance, place + 1,
+                                                                               int(faces[place + 1])))]
+        some.append((group(f"G{place}", str(km), str(beside)), [header(place, *packets), header(place)]))
+    return _numbered(some)
+
+
+def _numbered(some: List[Tuple[Group, List[Form]]]) -> Line:
+    """The line, its rows numbered one after the other."""
+    forms: Dict[int, Form] = {}
+    groups = []
+    for one, own in some:
+        rows = []
+        for row, form in zip(one.rows(), own):
+            rows.append(Row(len(forms) + 2, row.group, "", km=row.km))
+            forms[len(forms) + 2] = form
+        groups.append(Group(one.name, (Aspect("", tuple(rows)),)))
+    return line(groups, forms)

@@ -1,0 +1,201 @@
+"""A whole track in `draw` and `report`: what stands on which page, and where."""
+from __future__ import annotations
+
+import re
+import xml.etree.ElementTree as ElementTree
+from decimal import Decimal
+from pathlib import Path
+from typing import Any, Callable, Dict, List, Tuple
+
+import pytest
+
+import link_tables
+from balisekit import csv_writing
+from balisekit.canvas import LEFT, RIGHT, WIDTH, Picture, Shape
+from balisekit.links import look
+from balisekit.track_drawing import LANES, track_pictures, tracks_of
+from balisekit.track_view import pages
+from cases_of_program import TOP
+from conftest import Run
+from test_links import group, header, line_with
+
+Write = Callable[..., Path]
+Form = Dict[str, Any]
+LINE = TOP / "examples" / "table" / "line.csv"
+LINKS = TOP / "examples" / "links"
+ROOM = WIDTH - LEFT - RIGHT
+SVG = "{http://www.w3.org/2000/svg}"
+
+
+def drawn(*some: Tuple[Any, List[Form]], track: str = "", aspect: Any = None) -> List[Picture]:
+    """The pictures of a line."""
+    line = line_with(*some)
+    return list(track_pictures(line, look(line), track, aspect))
+
+
+def looks(picture: Picture, look_wanted: str) -> List[Shape]:
+    """The shapes of a look."""
+    return [one for one in picture.shapes if one.look == look_wanted]
+
+
+def place(picture_x: str) -> float:
+    """The kilometre of a coordinate on a page that begins at km 0."""
+    return (float(picture_x) - LEFT) / ROOM * 5
+
+
+def authority(direction: int = 1) -> List[Form]:
+    """An authority of 1,000 m with its profiles."""
+    return [{**packet, "q_dir": direction} for packet in link_tables.authority()]
+
+
+@pytest.mark.parametrize("nominal, direction, wanted", [
+    ("rising", 1, (2, 3)), ("rising", 0, (1, 2)), ("falling", 1, (1, 2)), ("falling", 0, (2, 3))])
+def test_directions(nominal: str, direction: int, wanted: Tuple[int, int]) -> None:
+    """What a group says lies up or down the kilometres, as the train runs."""
+    picture, = drawn((group("A", "2", nominal=nominal), [header(1, *authority(direction))]))
+    for name in ("speed", "up", "section0"):
+        one, = looks(picture, name)
+        assert abs(place(one.x) - wanted[0]) < 0.01
+        assert abs(place(one.x) + float(one.width) / ROOM * 5 - wanted[1]) < 0.01
+    assert looks(picture, "end") and looks(picture, "supervised")
+    assert "from km 2.000 to km" in looks(picture, "section0")[0].title
+
+
+def test_pages_of_five_kilometres() -> None:
+    """Only pages on which there is something, each shape within its page; what goes on is on both."""
+    some = [(group("A", "4.5", nominal="rising"), [header(1, *authority(), link_tables.linking(
+        1, link_tables.link(1000, 2, 1)))]), (group("B", "5.5", nominal="rising"), [header(2)]),
+        (group("C", "93", nominal="rising"), [header(3)])]
+    pictures = drawn(*some)
+    assert [one.title for one in pictures] == ["km 0 to 5", "km 5 to 10", "km 90 to 95"]
+    for picture in pictures[:2]:
+        one, = looks(picture, "section0")
+        assert abs(float(one.width) - ROOM / 10) < 0.2
+        assert len(looks(picture, "arc")) == 1
+        for shape in picture.shapes:
+            if shape.kind == "rect":
+                assert LEFT - 0.1 <= float(shape.x) and float(shape.x) + float(shape.width) <= LEFT + ROOM + 0.2
+    ends = [[float(number) for number in re.findall(r"-?[0-9.]+", looks(picture, "arc")[0].path)]
+            for picture in pictures[:2]]
+    assert ends[0][4] == LEFT + ROOM and ends[1][0] == LEFT and abs(ends[0][5] - ends[1][1]) < 1
+    line = line_with(*some)
+    assert [len(page.stations) for page in pages(line, look(line), "", None)] == [1, 1, 1]
+
+
+def test_wrong_distances_are_red() -> None:
+    links = [link_tables.link(1010, 2, 1), link_tables.link(1000, 3, 1)]
+    back = link_tables.linking(0, link_tables.link(1000, 2, 0))
+    picture, = drawn((group("A", "0", nominal="rising"), [header(1, link_tables.linking(1, *links))]),
+                     (group("B", "1", nominal="rising"), [header(2)]),
+                     (group("C", "2", nominal="rising"), [header(3, back)]))
+    assert [one.title.split(";")[0] for one in looks(picture, "arc wrong")] == ["A links B: 1010 m by D_LINK, nominal"]
+    assert len(looks(picture, "arc")) == 1 and len(looks(picture, "arc back")) == 1
+    assert [one.text for one in looks(picture, "red middle")] == ["L2: 1010 m, by km 1000 m"]
+
+
+def test_a_group_without_direction_is_a_mark_alone() -> None:
+    picture, = drawn((group("A", "1"), [header(1, *authority())]))
+    assert len(looks(picture, "station")) == 1 and not looks(picture, "speed")
+    assert [one.text for one in looks(picture, "name middle")] == ["\u2022 A"]
+
+
+def test_names_and_bands_do_not_overlap() -> None:
+    """Groups that stand close have names and lanes below each other; too many lanes go on in another picture."""
+    some = [(group(f"Group {chr(65 + number)}{chr(65 + number // 2)}", f"1.{number:03}", nominal="rising"),
+             [header(number, *authority())]) for number in range(20)]
+    pictures = drawn(*some)
+    assert [one.title for one in pictures] == ["km 0 to 5, part 1 of 2", "km 0 to 5, part 2 of 2"]
+    assert [len(looks(one, "section0")) for one in pictures] == [LANES, 20 - LANES]
+    for picture in pictures:
+        for name, letter in (("name middle", 6.2), ("small", 6.2)):
+            boxes = []
+            for one in looks(picture, name):
+                width = len(one.text) * letter
+                left = float(one.x) - (width / 2 if "middle" in name else 0)
+                boxes.append((left, float(one.y), left + width))
+            for number, box in enumerate(boxes):
+                for other in boxes[number + 1:]:
+                    assert abs(box[1] - other[1]) >= 10 or box[2] <= other[0] + 0.1 or other[2] <= box[0] + 0.1
+        assert picture.height < 1400
+
+
+def test_an_open_profile_is_dashed_and_ends_somewhere() -> None:
+    packets = authority()
+    packets[2]["elements"].pop()
+    picture, = drawn((group("A", "1", nominal="rising"), [header(1, *packets)]))
+    one, = looks(picture, "step open")
+    assert "to an open end" in one.title
+
+
+def test_tracks_are_apart() -> None:
+    some = [(group("A", "1", nominal="rising", track="1"), [header(1, link_tables.linking(1, link_tables.link(
+        1000, 2, 1)))]), (group("B", "2", nominal="rising", track="2"), [header(2)])]
+    assert tracks_of(line_with(*some)) == ["1", "2"]
+    for track, name in (("1", "A"), ("2", "B")):
+        picture, = drawn(*some, track=track)
+        assert [one.text[2:] for one in looks(picture, "name middle")] == [name] and not looks(picture, "arc")
+
+
+def test_the_example(run: Run, tmp_path: Path) -> None:
+    """The picture beside the example is what is written; a refused telegram is named, with status 2."""
+    status = run("draw", LINE, "--track", "--aspect", "green", "--svg", tmp_path / "t.svg")[0]
+    assert status == 2
+    assert (tmp_path / "t.svg").read_bytes() == LINE.with_name("track-green.svg").read_bytes()
+    tree = ElementTree.parse(tmp_path / "t.svg")
+    titles = [one.text or "" for one in tree.iter(f"{SVG}title")]
+    assert any(title.startswith("Signal A links Signal C: 3000 m by D_LINK, nominal") for title in titles)
+    assert len(list(tree.iter(f"{SVG}svg"))) == 5
+
+
+def test_aspects(run: Run, tmp_path: Path) -> None:
+    for aspect, wanted in (("green", "160 km/h"), ("yellow", "120 km/h"), ("red", "train trip")):
+        run("draw", LINE, "--track", "--aspect", aspect, "--svg", tmp_path / "t.svg")
+        texts = [one.text or "" for one in ElementTree.parse(tmp_path / "t.svg").iter(f"{SVG}text")]
+        labels = [text for text in texts if text.startswith("Signal A, ")]
+        assert labels and all(f"{aspect}, V_MAIN" in text and wanted in text for text in labels)
+
+
+def test_bad_input(run: Run, table: Write, tmp_path: Path) -> None:
+    line = LINKS / "line.csv"
+    assert run("draw", line)[0] == run("draw", line, "--group", "A", "--track")[0] == 2
+    status, _, err = run("draw", line, "--track", "2")
+    assert (status, err) == (2, [f'balisekit: there is no track "2" with kilometres in {line}: ""'])
+    assert run("draw", line, "--track", "--aspect", "x")[2] == [f'balisekit: there is no aspect "x" in {line}']
+    assert run("report", line, "--aspect", "x", "--html", tmp_path / "r.html")[0] == 2
+    bare = table("group,telegram", "A,a1007f802000ffffffffffffffffffffffffffffffffffffffffc0")
+    status, _, err = run("draw", bare, "--track")
+    assert status == 2 and err[0].endswith("no group has a kilometre")
+    assert run("draw", line, "--track", "--svg", tmp_path)[0] == 3
+    assert run("draw", line, "--track", "--program", "/bin/false", "--svg", tmp_path / "x.svg")[0] == 3
+    assert run("report", bare, "--html", tmp_path / "bare.html")[0] == 0
+    assert 'class="strip"' not in (tmp_path / "bare.html").read_text("utf-8") and not (tmp_path / "x.svg").exists()
+
+
+def test_names_do_no_harm(run: Run, table: Write, tmp_path: Path) -> None:
+    name = "<script>&\"'\u202e"
+    rows = [line.split(",") for line in (LINKS / "distance-differs.csv").read_text("utf-8").splitlines()]
+    named = csv_writing.text([*rows[0], "track"], [[name if row[0] == "A" else row[0], *row[1:], name]
+                                                   for row in rows[1:]])
+    path = table(content=named.encode())
+    assert run("draw", path, "--track", "--svg", tmp_path / "t.svg")[0] == 0
+    tags = {one.tag.split("}")[1] for one in ElementTree.parse(tmp_path / "t.svg").iter()}
+    assert tags <= {"svg", "title", "style", "defs", "pattern", "rect", "path", "circle", "text"}
+    run("report", path, "--html", tmp_path / "r.html")
+    page = (tmp_path / "r.html").read_text("utf-8")
+    assert "<script" not in page and "\u202e" not in page and "links L2: " in page
+
+
+def test_the_report_has_the_track(run: Run, tmp_path: Path) -> None:
+    assert run("report", LINE, "--aspect", "green", "--html", tmp_path / "r.html")[0] == 2
+    page = (tmp_path / "r.html").read_text("utf-8")
+    assert page.count('class="strip"') == 4 and "Signal A links Signal B: 1550 m by D_LINK" in page
+    assert "L2, a rule of balisekit" in page and "km 10 to 15" in page
+
+
+def test_far_away_ends_make_no_pages() -> None:
+    """An authority of thousands of kilometres is cut off behind the last group."""
+    packets = authority()
+    packets[0].update(q_scale=2, l_endsection=32_767)
+    pictures = drawn((group("A", "1", nominal="rising"), [header(1, *packets)]))
+    assert [one.title for one in pictures] == ["km 0 to 5", "km 5 to 10"]
+    assert Decimal(looks(pictures[1], "section0")[0].width) == Decimal(ROOM)
