@@ -24,7 +24,7 @@ fn the_most_significant_bit_comes_first(rt: HostRuntime) -> Result<(), Fail> {
 fn numbers_of_every_width_are_appended_at_every_bit(rt: HostRuntime) -> Result<(), Fail> {
     for used in 0..8 {
         for width in 1..33u32 {
-            let number = 0x9e37_79b9u64 >> (32 - width);
+            let number = 0x9e37_79b9u64 % (1 << width);
             let mut bits = Bits::from_bytes(rt.alloc(), &[0x5a], used)?;
             bits.push_num(width, number)?;
             assert_eq!(rt; bits.len(), used + width as usize);
