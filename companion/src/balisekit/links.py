@@ -66,6 +66,11 @@ def look(line: Line, tolerance: Decimal = Decimal()) -> Links:
     return Links(tuple(sorted(found, key=lambda one: one.order)), tuple(_notes(line, some)))
 
 
+def wrong_distances(line: Line, tolerance: Decimal = Decimal()) -> Links:
+    """Looks for L2 alone."""
+    return Links(tuple(one for chain in chains(line) for one in _distances(chain, tolerance)), ())
+
+
 def named(identity: Identity) -> str:
     """An identity in words."""
     return f"group {identity[1]} of country or region {identity[0]}"
@@ -213,11 +218,16 @@ def _begins_late(profile: Profile, some: Sequence[Profile]) -> bool:
 
 def _passed_over(line: Line, chain: Chain) -> Iterator[Found]:
     """L9: a linked group between two neighbours of a chain that does not name it."""
+    known = chain.identities
     for one, other in known_pairs(chain):
-        for station in line.between(one, other):
-            if station.linked and station.identity not in chain.identities and not _unknown(station):
-                yield Found(9, chain.where, station, f"{name(station)} has Q_LINK 1 and stands between {name(one)} and "
-                            f"{name(other)}, and is not linked: a train that uses linking passes it over")
+        over = [station for station in line.between(one, other)
+                if station.linked and station.identity not in known and not _unknown(station)]
+        if over:
+            more = f" and {len(over) - 3} more" if len(over) > 3 else ""
+            names = ", ".join(map(name, over[:3])) + more
+            words = ("has", "stands", "is", "it") if len(over) == 1 else ("have", "stand", "are", "them")
+            yield Found(9, chain.where, over[0], f"{names} {words[0]} Q_LINK 1 and {words[1]} between {name(one)} and "
+                        f"{name(other)}, and {words[2]} not linked: a train that uses linking passes {words[3]} over")
 
 
 def _unknown(station: Station) -> bool:
