@@ -50,10 +50,11 @@ class Found:
 
 @dataclass(frozen=True)
 class Links:
-    """What was found of a line, and what could not be looked at."""
+    """The linking packets of a line, what was found of it, and what could not be looked at."""
 
+    chains: Tuple[Chain, ...]
     found: Tuple[Found, ...]
-    notes: Tuple[str, ...]
+    notes: Tuple[str, ...] = ()
 
 
 def look(line: Line, tolerance: Decimal = Decimal()) -> Links:
@@ -63,12 +64,13 @@ def look(line: Line, tolerance: Decimal = Decimal()) -> Links:
     for chain in some:
         found += [*_strangers(chain), *_distances(chain, tolerance), *_orientations(chain), *_passed_over(line, chain)]
     found += [*_unlinked(some), *_no_direction(line), *_no_identity(line), *_profiles(line)]
-    return Links(tuple(sorted(found, key=lambda one: one.order)), tuple(_notes(line, some)))
+    return Links(some, tuple(sorted(found, key=lambda one: one.order)), tuple(_notes(line, some)))
 
 
 def wrong_distances(line: Line, tolerance: Decimal = Decimal()) -> Links:
     """Looks for L2 alone."""
-    return Links(tuple(one for chain in chains(line) for one in _distances(chain, tolerance)), ())
+    some = tuple(chains(line))
+    return Links(some, tuple(one for chain in some for one in _distances(chain, tolerance)))
 
 
 def named(identity: Identity) -> str:
