@@ -322,3 +322,13 @@ def _numbered(some: List[Tuple[Group, List[Form]]]) -> Line:
             forms[len(forms) + 2] = form
         groups.append(Group(one.name, (Aspect("", tuple(rows)),)))
     return line(groups, forms)
+
+
+def test_several_that_are_passed_over_are_one_line() -> None:
+    chain = link_tables.linking(1, link_tables.link(1000, 2, 1))
+    some = [(group(f"X{number}", f"0.{number}", nominal="rising"), [header(10 + number)]) for number in range(1, 6)]
+    one = line_with((group("A", "0", nominal="rising"), [header(1, chain)]),
+                    (group("B", "1", nominal="rising"), [header(2)]), *some)
+    said, = (each.said for each in look(one).found)
+    assert said == ("X1 (km 0.100), X2 (km 0.200), X3 (km 0.300) and 2 more have Q_LINK 1 and stand between A "
+                    "(km 0.000) and B (km 1.000), and are not linked: a train that uses linking passes them over")

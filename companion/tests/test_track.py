@@ -12,8 +12,9 @@ import pytest
 import link_tables
 from balisekit import csv_writing
 from balisekit.canvas import LEFT, RIGHT, WIDTH, Picture, Shape
+from balisekit.geometry import kilometre
 from balisekit.links import look
-from balisekit.track_drawing import LANES, track_pictures, tracks_of
+from balisekit.track_drawing import LANES, _km, track_pictures, tracks_of
 from balisekit.track_view import pages
 from cases_of_program import TOP
 from conftest import Run
@@ -199,3 +200,8 @@ def test_far_away_ends_make_no_pages() -> None:
     pictures = drawn((group("A", "1", nominal="rising"), [header(1, *packets)]))
     assert [one.title for one in pictures] == ["km 0 to 5", "km 5 to 10"]
     assert Decimal(looks(pictures[1], "section0")[0].width) == Decimal(ROOM)
+
+
+@pytest.mark.parametrize("place", [0, 1, 10, 123_450, 123_456, -5, -123_450, 99_999_999])
+def test_kilometres_are_written_as_elsewhere(place: int) -> None:
+    assert _km(place) == f"km {kilometre(Decimal(place).scaleb(-4))}"

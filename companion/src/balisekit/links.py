@@ -50,10 +50,11 @@ class Found:
 
 @dataclass(frozen=True)
 class Links:
-    """What was found of a line, and what could not be looked at."""
+    """The linking packets of a line, what was found of it, and what could not be looked at."""
 
+    chains: Tuple[Chain, ...]
     found: Tuple[Found, ...]
-    notes: Tuple[str, ...]
+    notes: Tuple[str, ...] = ()
 
 
 def look(line: Line, tolerance: Decimal = Decimal()) -> Links:
@@ -63,7 +64,13 @@ def look(line: Line, tolerance: Decimal = Decimal()) -> Links:
     for chain in some:
         found += [*_strangers(chain), *_distances(chain, tolerance), *_orientations(chain), *_passed_over(line, chain)]
     found += [*_unlinked(some), *_no_direction(line), *_no_identity(line), *_profiles(line)]
-    return Links(tuple(sorted(found, key=lambda one: one.order)), tuple(_notes(line, some)))
+    return Links(some, tuple(sorted(found, key=lambda one: one.order)), tuple(_notes(line, some)))
+
+
+def wrong_distances(line: Line, tolerance: Decimal = Decimal()) -> Links:
+    """Looks for L2 alone."""
+    some = tuple(chains(line))
+    return Links(some, tuple(one for chain in some for one in _distances(chain, tolerance)))
 
 
 def named(identity: Identity) -> str:
@@ -213,11 +220,16 @@ def _begins_late(profile: Profile, some: Sequence[Profile]) -> bool:
 
 def _passed_over(line: Line, chain: Chain) -> Iterator[Found]:
     """L9: a linked group between two neighbours of a chain that does not name it."""
+    known = chain.identities
     for one, other in known_pairs(chain):
-        for station in line.between(one, other):
-            if station.linked and station.identity not in chain.identities and not _unknown(station):
-                yield Found(9, chain.where, station, f"{name(station)} has Q_LINK 1 and stands between {name(one)} and "
-                            f"{name(other)}, and is not linked: a train that uses linking passes it over")
+        over = [station for station in line.between(one, other)
+                if station.linked and station.identity not in known and not _unknown(station)]
+        if over:
+            more = f" and {len(over) - 3} more" if len(over) > 3 else ""
+            names = ", ".join(map(name, over[:3])) + more
+            words = ("has", "stands", "is", "it") if len(over) == 1 else ("have", "stand", "are", "them")
+            yield Found(9, chain.where, over[0], f"{names} {words[0]} Q_LINK 1 and {words[1]} between {name(one)} and "
+                        f"{name(other)}, and {words[2]} not linked: a train that uses linking passes {words[3]} over")
 
 
 def _unknown(station: Station) -> bool:

@@ -6,7 +6,7 @@ import argparse
 from balisekit import checking, files, premises
 from balisekit.check_command import last_line
 from balisekit.commands import Command, add_input_words, inputs
-from balisekit.links import Links, look
+from balisekit.links import wrong_distances
 from balisekit.pages import hash_of, pieces, style
 from balisekit.report import blocks, cover, explained, group_ids, told
 from balisekit.showing import LEGEND
@@ -36,7 +36,7 @@ def run(words: argparse.Namespace) -> int:
     ids = group_ids(checked.table.groups)
     line = line_of(checked)
     tracks = tracks_of(line)
-    links = look(line, words.tolerance) if tracks else Links((), ())
+    links = wrong_distances(line, words.tolerance)
     page = pieces("report.html", cover=cover(checked), findings=[told(place, ids) for place in checked.findings],
                   explained=explained(checked), blocks=blocks(checked), style=sheet, style_hash=hash_of(str(sheet)),
                   legend=LEGEND, premises=premises.blocks(), links_rule=DISTANCE, aspect=words.aspect,

@@ -10,7 +10,7 @@ from typing import Iterator, List, Optional, Sequence, Tuple
 from balisekit.canvas import LEFT, LETTER, RIGHT, WIDTH, Picture, Sheet, tenths
 from balisekit.geometry import NOMINAL, Authority, Kilometres, Profile, Way, kilometre
 from balisekit.links import Links
-from balisekit.stations import Line
+from balisekit.stations import Line, Station
 from balisekit.track_view import PAGE, Arc, Band, Page, open_end, pages, place_of
 from balisekit.values import Around, metres, value_words
 from balisekit.wording import clean, quoted
@@ -28,7 +28,8 @@ def track_pictures(line: Line, links: Links, track: str, aspect: Optional[str]) 
         lanes = _lanes(page)
         parts = [lanes[place:place + LANES] for place in range(0, len(lanes), LANES)] or [[]]
         for number, some in enumerate(parts):
-            yield _picture(page, track, aspect, some, f", part {number + 1} of {len(parts)}" if len(parts) > 1 else "")
+            part = f", part {number + 1} of {len(parts)}" if len(parts) > 1 else ""
+            yield _picture(page, track, aspect, some, part, number == 0)
 
 
 def tracks_of(line: Line) -> List[str]:
@@ -36,7 +37,9 @@ def tracks_of(line: Line) -> List[str]:
     return list(dict.fromkeys(station.track for station in line.stations if station.km is not None))
 
 
-def _picture(page: Page, track: str, aspect: Optional[str], lanes: Sequence[Sequence[Band]], part: str) -> Picture:
+def _picture(page: Page, track: str, aspect: Optional[str], lanes: Sequence[Sequence[Band]], part: str,
+             first: bool) -> Picture:
+    """One picture. Where a page has several, names and links are on its first one."""
     sheet = Sheet(page.begin, page.end, Kilometres())
     title = f"track {clean(track)}, " if track else ""
     title += f"km {page.begin // 10_000} to {page.end // 10_000}{part}"
@@ -44,13 +47,13 @@ def _picture(page: Page, track: str, aspect: Optional[str], lanes: Sequence[Sequ
     sheet.y = 18
     sheet.text("head", title, 40, sheet.y)
     sheet.text("small ending", shown, (WIDTH - RIGHT) * 10, sheet.y)
-    sheet.y += ARCS + 8
-    for arc in page.arcs:
+    sheet.y += ARCS + 8 if first else 18
+    for arc in page.arcs if first else ():
         _arc(sheet, arc)
-    for arc in page.arcs:
+    for arc in page.arcs if first else ():
         _wrong(sheet, arc)
     _axis(sheet)
-    _names(sheet, page)
+    _names(sheet, page.stations if first else ())
     top = max(20, -(-max((element.value * 5 for band in page.bands for one in band.ways for profile in one.speeds
                           for element in profile.elements), default=20) // 20) * 20)
     for lane in lanes:
@@ -65,7 +68,10 @@ def _picture(page: Page, track: str, aspect: Optional[str], lanes: Sequence[Sequ
 
 
 def _km(place: int) -> str:
-    return f"km {kilometre(Decimal(place).scaleb(-4))}"
+    """A place as `kilometre` writes it, without the way by decimal numbers, which takes most of the time."""
+    whole, part = divmod(abs(place), 10_000)
+    digits = f"{part:04}"
+    return f"km {'-' if place < 0 else ''}{whole}.{digits[:3]}{digits[3:].rstrip('0')}"
 
 
 def _axis(sheet: Sheet) -> None:
@@ -79,11 +85,11 @@ def _axis(sheet: Sheet) -> None:
     sheet.text("small", "km", 40, sheet.y + 15)
 
 
-def _names(sheet: Sheet, page: Page) -> None:
+def _names(sheet: Sheet, stations: Sequence[Station]) -> None:
     """Each group as a mark on the axis, and its name below, in as many rows as they need."""
     base = sheet.y
     rows: List[int] = []
-    for station in page.stations:
+    for station in stations:
         at = sheet.x(place_of(station))
         sign = {1: "\u25b8", -1: "\u25c2"}.get(station.rising or 0, "\u2022")
         name = f"{sign} {clean(station.group.name)}"

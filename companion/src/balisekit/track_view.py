@@ -8,7 +8,7 @@ from dataclasses import dataclass
 from decimal import Decimal
 from typing import Dict, Iterator, List, Optional, Sequence, Tuple
 
-from balisekit.chains import Chain, Link, chains
+from balisekit.chains import Chain, Link
 from balisekit.geometry import DIRECTIONS, Way, way
 from balisekit.links import Found, Links
 from balisekit.model import Aspect, Row
@@ -84,7 +84,7 @@ def pages(line: Line, links: Links, track: str, aspect: Optional[str]) -> List[P
     for band in _bands(line, stations, aspect):
         for number in _numbers(band.begin, band.end, least, greatest):
             places[number][1].append(band)
-    for arc in _arcs(line, links, track, aspect):
+    for arc in _arcs(links, track, aspect):
         for number in _numbers(min(arc.begin, arc.end), max(arc.begin, arc.end), least, greatest):
             places[number][2].append(arc)
     return [Page(number * PAGE, tuple(some), tuple(bands), tuple(arcs))
@@ -125,10 +125,10 @@ def open_end(one: Way) -> int:
     return max(known) + 2000
 
 
-def _arcs(line: Line, links: Links, track: str, aspect: Optional[str]) -> Iterator[Arc]:
+def _arcs(links: Links, track: str, aspect: Optional[str]) -> Iterator[Arc]:
     """The links between groups of the track that are sent in the chosen aspects."""
     wrong = {one.where.order: one for one in links.found if one.rule == 2}
-    for chain in chains(line):
+    for chain in links.chains:
         sender, row = chain.sender, chain.where.row
         if sender is None or row is None or sender.km is None or sender.track != track:
             continue

@@ -11,7 +11,7 @@ from typing import Optional
 from balisekit import checking, files
 from balisekit.canvas import WIDTH
 from balisekit.errors import TableError
-from balisekit.links import look
+from balisekit.links import wrong_distances
 from balisekit.model import Table
 from balisekit.pages import pieces, style
 from balisekit.program import Program
@@ -56,7 +56,7 @@ def draw_track(words: argparse.Namespace, program: Program, table: Table) -> int
         raise TableError(f"there is no track {quoted(track)} with kilometres in {clean(table.path)}: "
                          f"{', '.join(map(quoted, known)) or 'no group has a kilometre'}")
     look_at_aspect(table, words.aspect)
-    pictures = list(track_pictures(line, look(line, words.tolerance), track, words.aspect))
+    pictures = list(track_pictures(line, wrong_distances(line, words.tolerance), track, words.aspect))
     tops = list(accumulate([0, *(one.height for one in pictures)]))
     page = pieces("track.svg", title=f"track {clean(track)}" if track else "the track", width=WIDTH, height=tops[-1],
                   pictures=list(zip(tops, pictures)), style=style("picture.css") + style("track.css"))
