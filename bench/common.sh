@@ -88,9 +88,9 @@ below() {
         }' "$here/../crates.txt"
 }
 
-# build NAME LIBRARY..: proves and builds the program of bench/NAME, which uses these libraries, in a tree of its own with
-# the crates that it needs; sets built. What the crates' own checks keep in out/ is copied too, so that a crate that is
-# proved is not proved again.
+# build NAME LIBRARY..: proves and builds the program of bench/NAME, which uses these libraries, in a tree of its own
+# with the crates that it needs; sets built. What the crates' own checks keep in out/ is copied too, so that a crate
+# that is proved is not proved again.
 build() {
     local top=$room/$1 name=$1_bench main=$here/$1/main.rs crate
     shift
