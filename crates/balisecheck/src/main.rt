@@ -5,13 +5,16 @@
 #![tactic(auto)]
 
 mod advice;
+mod prompt;
 
 use crate::advice::advice_for;
+use crate::prompt::{Prompt, Shared};
 pub use etcs_run::{Counted, RunError, Status, run};
+use std::cell::RefCell;
 use std::io::{self, BufWriter, Write};
 use std::process::ExitCode;
 
-/// How many bytes of output are gathered before they are written.
+/// How many bytes of output are gathered before they are written, unless more input is waited for.
 const ROOM: usize = 65_536;
 
 /// The exit status of a run that stopped without a status.
@@ -44,12 +47,12 @@ fn run_words(rt: &HostRuntime, words: &[String]) -> Result<Status, RunError> {
         Ok(words) => words,
         Err(_) => return Err(RunError::Memory),
     };
-    let buffered = match BufWriter::with_capacity(alloc, ROOM, io::writer(rt)) {
-        Ok(buffered) => buffered,
+    let output = match BufWriter::with_capacity(alloc, ROOM, io::writer(rt)) {
+        Ok(buffered) => RefCell::new(buffered),
         Err(_) => return Err(RunError::Memory),
     };
-    let mut reader = Counted::new(rt.reader());
-    let mut writer = Counted::new(buffered);
+    let mut reader = Counted::new(Prompt::new(rt.reader(), &output));
+    let mut writer = Counted::new(Shared::new(&output));
     let answer = run(alloc, words.as_slice(), &mut reader, &mut writer);
     if let (Ok(Status::Refused), Some(text)) = (answer, advice_for(words.as_slice())) {
         let _ = eprintln!(rt; "balisecheck: {text}");

@@ -1,2 +1,2 @@
-mod DigitLemmas
+mod HexadecimalLemmas
 mod DecimalLemmas

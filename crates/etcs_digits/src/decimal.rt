@@ -1,5 +1,5 @@
-//! Numbers as decimal text. Each count of digits up to five has steps of its own, so that a text of
-//! known length is written.
+//! Numbers as decimal digits. Most numbers of a telegram have at most five, and each count of digits has
+//! an arm of its own, in which the compiler knows how many bytes to write.
 
 ghost use Rattle.std.specs.Prelude.{◌≡◌, ◌+◌, ◌/◌, ◌%◌, ◌<◌, ◌≤◌, ◌∷◌, [], decimal};
 ghost use Rattle.json.specs.Token.{number};
@@ -8,6 +8,7 @@ ghost use Rattle.json.specs.Written.{Writes};
 use json::Writer;
 use std::alloc::AllocError;
 
+// The two digits of each number below 100.
 static PAIRS: [u8; 200] =
     *b"00010203040506070809101112131415161718192021222324252627282930313233343536373839404142434445464748495051525354555657585960616263646566676869707172737475767778798081828384858687888990919293949596979899";
 
@@ -21,7 +22,8 @@ fn pair(n: u64) -> [u8; 2]
     [PAIRS[at], PAIRS[at + 1]]
 }
 
-// Sends the digits of a number.
+// Sends the digits of a number. They are ASCII, and so UTF-8: that is proved at the call without a
+// check, from the digits being those of the number. Asking `str::from_utf8` costs 15 instructions a number.
 #[inline(always)]
 fn send_digits<const N: usize>(out: &mut Writer, n: u64, digits: [u8; N]) -> Result<(), AllocError>
     requires { digits ≡ decimal n }
@@ -30,7 +32,7 @@ fn send_digits<const N: usize>(out: &mut Writer, n: u64, digits: [u8; N]) -> Res
     out.number(unsafe { str::from_utf8_unchecked(&digits) })
 }
 
-/// Sends a number, as [`Writer::u64`] does.
+/// Sends a number in decimal digits. The contract is that of [`Writer::u64`], its error included.
 pub fn send_decimal(out: &mut Writer, n: u64) -> Result<(), AllocError>
     ensures { Writes result out.old out.new (number (decimal n)) }
 {

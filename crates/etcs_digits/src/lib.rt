@@ -1,80 +1,13 @@
-//! Hexadecimal digits become bytes by a table, and what is no digit is left to `hex`.
+//! Digits as text, quickly: pairs of hexadecimal digits to bytes, and numbers to decimal digits.
+//!
+//! [`decode`] and [`decode_to_vec`] read digits by a table. A text with anything else in it is left to
+//! `hex`, which alone tells what is wrong, so their contracts are those of its calls. [`send_decimal`]
+//! writes a number as `json`'s writer does. Read `hexadecimal.rt`, then `decimal.rt`. The crate knows
+//! nothing of telegrams and messages.
 #![tactic(auto)]
 
-ghost use Rattle.std.specs.Prelude.{◌≡◌, ◌+◌, ◌*◌, ◌<◌, true, false, length, slice_index, ◌%◌, ◌⊎◌, IsTrue, IfOk, IfErr, Ok, MatchResult};
-ghost use Rattle.hex.specs.Hex.{decode_of, decode_pairs, decode_sized, hex_digit_value};
-ghost use Rattle.hex.specs.declared.error.FromHexError.TheVariants.{OddLength, OutOfMemory};
-
 mod decimal;
+mod hexadecimal;
 
-pub use crate::decimal::send_decimal;
-use hex::FromHexError;
-use std::alloc::Global;
-
-// The value of each byte as a hexadecimal digit, or 255.
-static VALUES: [u8; 256] = [
-    255, 255, 255, 255, 255, 255, 255, 255, 255, 255, 255, 255, 255, 255, 255, 255, 255, 255, 255,
-    255, 255, 255, 255, 255, 255, 255, 255, 255, 255, 255, 255, 255, 255, 255, 255, 255, 255, 255,
-    255, 255, 255, 255, 255, 255, 255, 255, 255, 255, 0, 1, 2, 3, 4, 5, 6, 7, 8, 9, 255, 255, 255,
-    255, 255, 255, 255, 10, 11, 12, 13, 14, 15, 255, 255, 255, 255, 255, 255, 255, 255, 255, 255,
-    255, 255, 255, 255, 255, 255, 255, 255, 255, 255, 255, 255, 255, 255, 255, 255, 10, 11, 12, 13,
-    14, 15, 255, 255, 255, 255, 255, 255, 255, 255, 255, 255, 255, 255, 255, 255, 255, 255, 255,
-    255, 255, 255, 255, 255, 255, 255, 255, 255, 255, 255, 255, 255, 255, 255, 255, 255, 255, 255,
-    255, 255, 255, 255, 255, 255, 255, 255, 255, 255, 255, 255, 255, 255, 255, 255, 255, 255, 255,
-    255, 255, 255, 255, 255, 255, 255, 255, 255, 255, 255, 255, 255, 255, 255, 255, 255, 255, 255,
-    255, 255, 255, 255, 255, 255, 255, 255, 255, 255, 255, 255, 255, 255, 255, 255, 255, 255, 255,
-    255, 255, 255, 255, 255, 255, 255, 255, 255, 255, 255, 255, 255, 255, 255, 255, 255, 255, 255,
-    255, 255, 255, 255, 255, 255, 255, 255, 255, 255, 255, 255, 255, 255, 255, 255, 255, 255, 255,
-    255, 255, 255, 255, 255, 255, 255, 255, 255, 255, 255, 255, 255, 255, 255, 255, 255, 255, 255,
-    255, 255, 255,
-];
-
-// Writes the bytes that the digits spell. An answer of false says nothing.
-#[inline(always)]
-fn decode_quickly(text: &[u8], out: &mut [u8]) -> bool
-    requires { length text.now ≡ 2 * length out.old }
-    ensures value { IsTrue result → decode_pairs 0 text.now ≡ Ok out.new }
-    ensures len { length out.new ≡ length out.old }
-{
-    let mut seen = 0u8;
-    'bytes: for i in 0..out.len() {
-        let high = VALUES[text[2 * i] as usize];
-        let low = VALUES[text[2 * i + 1] as usize];
-        seen |= high | low;
-        out[i] = (high << 4) | low;
-    }
-    seen < 16
-}
-
-/// Writes the bytes that the digits of a text spell, two digits of either case for each. Returns
-/// whether each byte of the text is a digit; if not, `out` carries no information.
-#[inline]
-pub fn decode(text: &[u8], out: &mut [u8]) -> bool
-    requires { length text.now ≡ 2 * length out.old }
-    ensures { MatchResult (decode_sized text.now (length out.old))
-        (λ bytes. (result ≡ true) × (out.new ≡ bytes))
-        (λ e. result ≡ false) }
-{
-    if decode_quickly(text, out) {
-        return true;
-    }
-    hex::decode_to_slice(text, out).is_ok()
-}
-
-/// The bytes that the digits of a text spell, two digits of either case for each.
-///
-/// The errors are those of [`hex::decode`].
-pub fn decode_to_vec(alloc: Global, text: &[u8]) -> Result<Vec<u8>, FromHexError>
-    ensures ok { IfOk result (λ bytes. decode_of text.now ≡ Ok bytes.items) }
-    ensures err { IfErr result (λ e. (e ≡ OutOfMemory) ⊎ (decode_of text.now ≡ Err e)) }
-    ensures odd { length text.now % 2 ≡ 1 → result ≡ Err OddLength }
-{
-    if text.len() % 2 != 0 {
-        return Err(FromHexError::OddLength);
-    }
-    let mut out = vec![in alloc; 0u8; text.len() / 2]?;
-    if decode_quickly(text, out.as_mut_slice()) {
-        return Ok(out);
-    }
-    hex::decode(alloc, text)
-}
+pub use decimal::send_decimal;
+pub use hexadecimal::{decode, decode_to_vec};

@@ -1,7 +1,7 @@
 //! The document of a line as a value, and what is told of findings that no line has.
 
 use etcs_check::{Finding, Rule, Site};
-use etcs_form::{check_text, read_line, report_counts};
+use etcs_form::{check_in_order, check_text, read_line, report, report_counts};
 use etcs_packet::Run;
 use std::test::Fail;
 
@@ -14,6 +14,31 @@ const LINE: &str = "{\"groups\":[{\"aspects\":[\
 \"a11304002000ffffffffffffffffffffffffffffffffffffffffc0\"]}]},\
 {\"balises\":[\"a100ff802001ffffffffffffffffffffffffffffffffffffffffc0\"]}],\
 \"messages\":[\"03048000001900080021e810901ff801f400\"]}";
+
+/// Documents, and the report of each: a second group with the identity of one with two aspects, and one aspect, whose
+/// findings name none.
+const REPORTED: [(&str, &str); 3] = [
+    (
+        "{\"groups\":[{\"aspects\":[\
+{\"balises\":[\"a10283802000ffffffffffffffffffffffffffffffffffffffffc0\",\
+\"a11303802000ffffffffffffffffffffffffffffffffffffffffc0\"]},\
+{\"balises\":[\"a10284002000ffffffffffffffffffffffffffffffffffffffffc0\",\
+\"a11304002000ffffffffffffffffffffffffffffffffffffffffc0\"]}]},\
+{\"balises\":[\"a1007f802000ffffffffffffffffffffffffffffffffffffffffc0\"]}],\"messages\":[]}",
+        "no: findings 1\nF14 group 1: identity used before\n",
+    ),
+    (
+        "{\"groups\":[{\"aspects\":[{\"balises\":[\
+\"a10283802000ffffffffffffffffffffffffffffffffffffffffc0\",\
+\"a11304002000ffffffffffffffffffffffffffffffffffffffffc0\"]}]}],\"messages\":[]}",
+        "no: findings 1\nF7 group 0 balise 1: counters differ\n",
+    ),
+    (
+        "{\"groups\":[{\"aspects\":[{\"balises\":[\
+\"a100ff802000ffffffffffffffffffffffffffffffffffffffffc0\"]}]}],\"messages\":[]}",
+        "no: findings 1\nF4 group 0 balise 0: mark points outside\n",
+    ),
+];
 
 // A finding at a place, in an aspect and in nominal running if it has them.
 fn finding(
@@ -60,6 +85,20 @@ fn findings_are_values(rt: HostRuntime) -> Result<(), Fail> {
     let verdict = check_text(rt.alloc(), LINE.as_bytes())?;
     assert!(rt; verdict.findings.as_slice() == wanted.as_slice());
     assert!(rt; !verdict.is_yes());
+    Ok(())
+}
+
+#[test]
+fn a_line_has_one_report_at_once_and_in_order(rt: HostRuntime) -> Result<(), Fail> {
+    let alloc = rt.alloc();
+    for (text, wanted) in REPORTED {
+        let verdict = check_text(alloc, text.as_bytes())?;
+        let at_once = report(alloc, &verdict.line, verdict.findings.as_slice())?;
+        assert_eq!(rt; at_once.as_str(), wanted);
+        let line = check_in_order(alloc, text.as_bytes())?;
+        let in_order = report_counts(alloc, line.groups, line.messages, line.findings.as_slice())?;
+        assert_eq!(rt; in_order.as_str(), wanted);
+    }
     Ok(())
 }
 

@@ -1,10 +1,12 @@
 //! Forms that no telegram and no message has room for, and records that are read of the forms of others.
 
 use crate::halt::Halt;
+use crate::token_messages::REPORTS;
+use crate::tokens::PACKETS;
 use etcs_form::{Form, FormError, InPieces, Step};
-use etcs_packet::RawPacket;
+use etcs_packet::{RawPacket, TrackPacket};
 use etcs_profile::{Authority, Linking};
-use etcs_radio::{RawTrainPacket, Report};
+use etcs_radio::{Message, RawTrainPacket, Report, TrainPacket};
 use json::Writer;
 use serde_json::Value;
 use std::alloc::Global;
@@ -82,5 +84,87 @@ fn a_record_has_its_own_number(rt: HostRuntime) -> Result<(), Fail> {
     assert!(rt; has_other_number::<Authority>(alloc, "{\"nid_packet\":21,\"x\":1}")?);
     assert!(rt; has_other_number::<Authority>(alloc, "{\"nid_packet\":255,\"x\":1}")?);
     assert!(rt; has_other_number::<Report>(alloc, "{\"nid_packet\":2,\"other\":1}")?);
+    Ok(())
+}
+
+#[test]
+fn each_packet_is_written_as_a_value(rt: HostRuntime) -> Result<(), Fail> {
+    let alloc = rt.alloc();
+    for packet in PACKETS {
+        assert!(rt; comes_back::<TrackPacket>(alloc, packet)?, "{packet}");
+    }
+    for authority in [PACKETS[4], PACKETS[5], PACKETS[6]] {
+        assert!(rt; comes_back::<Authority>(alloc, authority)?, "{authority}");
+    }
+    Ok(())
+}
+
+// The position report with this packet.
+fn position(alloc: Global, packet: &str) -> Result<String, Halt> {
+    Ok(format!(in alloc;
+        "{{\"nid_engine\":1,\"nid_message\":136,\"packets\":[{packet}],\"t_train\":200}}"
+    )?)
+}
+
+#[test]
+fn each_report_is_written_as_a_value(rt: HostRuntime) -> Result<(), Fail> {
+    let alloc = rt.alloc();
+    for packet in REPORTS {
+        assert!(rt; comes_back::<Report>(alloc, packet)?, "{packet}");
+        assert!(rt; comes_back::<TrainPacket>(alloc, packet)?, "{packet}");
+        let message = position(alloc, packet)?;
+        assert!(rt; comes_back::<Message>(alloc, message.as_str())?, "{packet}");
+    }
+    Ok(())
+}
+
+// What is wrong with the text as a form of the record, and the key that it is wrong at, or no key for the whole.
+fn fault_of<T: Form>(alloc: Global, text: &str) -> Result<(&'static str, &'static str), Halt> {
+    let error = match T::of_form(alloc, &value_of(alloc, text)?) {
+        Ok(_) => return Ok(("none", "")),
+        Err(error) => error,
+    };
+    let (why, path) = match &error {
+        FormError::Memory => return Err(Halt::Memory),
+        FormError::Missing(path) => ("missing", path),
+        FormError::Unknown(path) => ("unknown", path),
+        FormError::Kind(path) => ("kind", path),
+        FormError::Range(path) => ("range", path),
+    };
+    match path.as_slice() {
+        [] => Ok((why, "")),
+        [Step::Key(name)] => Ok((why, *name)),
+        _ => Ok((why, "deeper")),
+    }
+}
+
+#[test]
+fn an_authority_looks_at_its_number_first(rt: HostRuntime) -> Result<(), Fail> {
+    for (text, fault) in [
+        ("[12]", ("kind", "")),
+        ("{\"x\":1}", ("missing", "nid_packet")),
+        ("{\"nid_packet\":\"12\",\"x\":1}", ("kind", "nid_packet")),
+        ("{\"nid_packet\":21,\"x\":1}", ("range", "nid_packet")),
+        ("{\"nid_packet\":12,\"x\":1}", ("unknown", "")),
+        ("{\"nid_packet\":15,\"v_main\":1}", ("unknown", "")),
+        ("{\"nid_packet\":15,\"q_dir\":3}", ("range", "q_dir")),
+    ] {
+        assert!(rt; fault_of::<Authority>(rt.alloc(), text)? == fault, "{text}");
+    }
+    Ok(())
+}
+
+#[test]
+fn a_report_looks_at_its_number_first(rt: HostRuntime) -> Result<(), Fail> {
+    for (text, fault) in [
+        ("[]", ("kind", "")),
+        ("{\"other\":1}", ("missing", "nid_packet")),
+        ("{\"nid_packet\":\"0\",\"other\":1}", ("kind", "nid_packet")),
+        ("{\"nid_packet\":0,\"other\":1}", ("unknown", "")),
+        ("{\"nid_packet\":0,\"prv_nid_c\":1}", ("unknown", "")),
+        ("{\"nid_packet\":1,\"prv_nid_c\":1}", ("missing", "q_scale")),
+    ] {
+        assert!(rt; fault_of::<Report>(rt.alloc(), text)? == fault, "{text}");
+    }
     Ok(())
 }

@@ -14,7 +14,7 @@ const AUTHORITY: &str = "{\"end_speed\":0,\"end_timeout\":1023,\"l_endsection\":
 
 /// A position report of each kind: each state of the length, each level, with and without the group
 /// before.
-const REPORTS: [&str; 5] = [
+pub const REPORTS: [&str; 5] = [
     "{\"d_lrbg\":500,\"l_doubtover\":10,\"l_doubtunder\":11,\"m_level\":3,\"m_mode\":0,\"nid_bg\":1,\
 \"nid_c\":2,\"nid_packet\":0,\"q_dirlrbg\":0,\"q_dirtrain\":1,\"q_dlrbg\":2,\"q_length\":0,\
 \"q_scale\":1,\"v_train\":24}",

@@ -9,7 +9,7 @@ use std::alloc::Global;
 use std::test::Fail;
 
 /// A packet of each kind with each part that may be left out, and then without.
-const PACKETS: [&str; 14] = [
+pub const PACKETS: [&str; 14] = [
     "{\"nid_packet\":0,\"nid_vbcmk\":63}",
     "{\"nid_packet\":0,\"nid_vbcmk\":0}",
     "{\"links\":[{\"d_link\":1,\"nid_bg\":2,\"nid_c\":444,\"q_linkorientation\":0,\

@@ -21,6 +21,23 @@ fn the_most_significant_bit_comes_first(rt: HostRuntime) -> Result<(), Fail> {
 }
 
 #[test]
+fn numbers_of_every_width_are_appended_at_every_bit(rt: HostRuntime) -> Result<(), Fail> {
+    for used in 0..8 {
+        for width in 1..33u32 {
+            let number = 0x9e37_79b9u64 >> (32 - width);
+            let mut bits = Bits::from_bytes(rt.alloc(), &[0x5a], used)?;
+            bits.push_num(width, number)?;
+            assert_eq!(rt; bits.len(), used + width as usize);
+            assert!(rt;
+                bits.slice().num(used, width) == number,
+                "{width} bits after {used}"
+            );
+        }
+    }
+    Ok(())
+}
+
+#[test]
 fn the_last_byte_is_filled_with_zeros(rt: HostRuntime) -> Result<(), Fail> {
     let mut bytes = [255u8; 27];
     let bits = Bits::from_bytes(rt.alloc(), &bytes, 210)?;

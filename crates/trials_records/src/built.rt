@@ -1,7 +1,7 @@
 //! The parts of what is built and read, and how far profiles reach.
 
 use crate::spelled::{KINDS, fault, read_one};
-use etcs_bits::{DecodeError, Dir, FaultKind, Layout, Scale, Speed};
+use etcs_bits::{Bits, Cursor, DecodeError, Dir, FaultKind, Layout, Scale, Speed};
 use etcs_packet::{CoverMarker, RawPacket, TrackPacket};
 use etcs_profile::{Authority, Gradient, Linking, Reach, SpeedProfile, Transition};
 use std::alloc::Global;
@@ -46,6 +46,61 @@ fn profiles_have_their_parts(rt: HostRuntime) -> Result<(), Fail> {
     let speeds: SpeedProfile = read_one(rt.alloc(), KINDS[5])?;
     assert!(rt; speeds.dir() == Dir::Nominal && speeds.scale() == Scale::TenCentimetres);
     assert!(rt; speeds.first().front && speeds.further().is_empty());
+    assert!(rt; speeds.reach() == Reach::Open);
+    Ok(())
+}
+
+// Packet 12 with an end section of 1,000 metres, packets 21 and 27 with an end mark each: the bits of a
+// telegram after its header.
+const PACKETS: [u8; 30] = [
+    0x0c, 0x40, 0x92, 0x94, 0x01, 0xff, 0x80, 0x1f, 0x40, 0x0a, 0xa0, 0x4e, 0x80, 0x00, 0x41, 0x42,
+    0x01, 0x91, 0xfe, 0x36, 0x81, 0x58, 0x00, 0x00, 0x50, 0x00, 0xa7, 0x10, 0xfe, 0x04,
+];
+
+// The end of the authority that comes next.
+fn end(alloc: Global, cur: &mut Cursor<'_>) -> Result<u64, DecodeError> {
+    Ok(Authority::read(alloc, cur)?.end())
+}
+
+// How far the gradient profile reaches that comes next.
+fn gradient_reach(alloc: Global, cur: &mut Cursor<'_>) -> Result<Reach, DecodeError> {
+    Ok(Gradient::read(alloc, cur)?.reach())
+}
+
+// How far the speed profile reaches that comes next.
+fn speed_reach(alloc: Global, cur: &mut Cursor<'_>) -> Result<Reach, DecodeError> {
+    Ok(SpeedProfile::read(alloc, cur)?.reach())
+}
+
+#[test]
+fn an_authority_and_two_profiles_end_at_one_place(rt: HostRuntime) -> Result<(), Fail> {
+    let alloc = rt.alloc();
+    let bits = Bits::from_bytes(alloc, &PACKETS, 237)?;
+    let mut cur = Cursor::new(&bits);
+    assert!(rt; end(alloc, &mut cur) == Ok(10_000) && cur.at() == 73);
+    assert!(rt; gradient_reach(alloc, &mut cur) == Ok(Reach::Ends(10_000)) && cur.at() == 151);
+    assert!(rt; speed_reach(alloc, &mut cur) == Ok(Reach::Ends(10_000)) && cur.at() == 237);
+    Ok(())
+}
+
+#[test]
+fn a_profile_ends_at_its_first_mark(rt: HostRuntime) -> Result<(), Fail> {
+    // At 0, 100 and 50 times 10 m, with a mark at the second and the third; at 7 m with a mark; at 5 and 9
+    // times 10 cm without one.
+    let gradient: Gradient = read_one(
+        rt.alloc(),
+        "00010101 01 0000001100110 10 000000000000000 1 00000101 00010 \
+         000000001100100 1 11111111 000000000110010 0 11111111",
+    )?;
+    assert!(rt; gradient.reach() == Reach::Ends(10_000));
+    let digits = "00010101 01 0000000110110 01 000000000000111 0 11111111 00000";
+    let gradient: Gradient = read_one(rt.alloc(), digits)?;
+    assert!(rt; gradient.reach() == Reach::Ends(70));
+    let speeds: SpeedProfile = read_one(
+        rt.alloc(),
+        "00011011 01 0000001010110 00 000000000000101 0010100 0 00000 00001 \
+         000000000001001 0010100 0 00000",
+    )?;
     assert!(rt; speeds.reach() == Reach::Open);
     Ok(())
 }

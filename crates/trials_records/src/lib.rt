@@ -1,5 +1,5 @@
-//! Tests of records, packets, telegrams and messages that only code can ask: what is built and how
-//! far its limits go, which values are the same, lists of packets one by one, what a splitter answers,
+//! Tests of digits, records, packets, telegrams and messages that only code can ask: what is built and
+//! how far its limits go, which values are the same, lists of packets one by one, what a splitter answers,
 //! texts of errors, and that memory that is there suffices.
 //!
 //! They call public items alone, so that no other crate is proved again for them. What can be asked of
@@ -10,6 +10,10 @@
 mod bits;
 #[cfg(test)]
 mod built;
+#[cfg(test)]
+mod digits;
+#[cfg(test)]
+mod ends;
 #[cfg(test)]
 mod greatest;
 #[cfg(test)]

@@ -26,6 +26,28 @@ fn packets_of_each_layout_are_read_and_written(rt: HostRuntime) -> Result<(), Fa
     Ok(())
 }
 
+// Whether a list of so many cover markers is read, each in its place.
+fn are_all_read(alloc: Global, count: u64) -> Result<bool, DecodeError> {
+    let mut bits = Bits::new(alloc);
+    for number in 0..count {
+        bits.push_num(8, 0)?;
+        bits.push_num(6, number % 64)?;
+    }
+    bits.push_num(8, 255)?;
+    let found = read_packets(alloc, &mut Cursor::new(&bits), Stop::Telegram)?;
+    let mut out = Bits::new(alloc);
+    write_packets(found.as_slice(), &mut out)?;
+    out.push_num(8, 255)?;
+    Ok(found.len() as u64 == count && out.same(&bits))
+}
+
+#[test]
+fn lists_may_be_longer_than_their_first_room(rt: HostRuntime) {
+    for count in [0, 1, 6, 7, 8, 15, 55] {
+        assert!(rt; are_all_read(rt.alloc(), count) == Ok(true), "{count}");
+    }
+}
+
 // Whether there is a next packet.
 fn has_next(alloc: Global, cur: &mut Cursor<'_>) -> Result<bool, DecodeError> {
     Ok(next_item::<TrackPacket>(alloc, cur, Stop::Message)?.is_some())

@@ -1,9 +1,9 @@
 //! Which numbers a variable may have (SUBSET-026, 7.5).
 
-use crate::spelled::fault;
+use crate::spelled::{comes_back, fault, read_one};
 use etcs_bits::{
-    Bits, Country, Cursor, Dir, Dup, FaultKind, GroupNumber, Layout, Medium, Plain, ReleaseSpeed,
-    Scale, Speed, StaticSpeed, Total, Transmission, Version,
+    Bits, Country, Cursor, Dir, Dup, FaultKind, GroupNumber, Layout, Level, Medium, Plain,
+    ReleaseSpeed, Scale, Speed, StaticSpeed, Total, Transmission, Version,
 };
 use std::test::Fail;
 
@@ -33,6 +33,24 @@ fn a_speed_has_spare_numbers(rt: HostRuntime) {
         let released = n <= 120 || n == 126 || n == 127;
         assert!(rt; ReleaseSpeed::new(n).is_some() == released, "{n}");
     }
+}
+
+#[test]
+fn each_level_has_its_number(rt: HostRuntime) -> Result<(), Fail> {
+    for (level, digits, width) in [
+        (Level::L0, "000", 3),
+        (Level::Ntc(45), "001 00101101", 11),
+        (Level::L1, "010", 3),
+        (Level::L2, "011", 3),
+        (Level::L3, "100", 3),
+    ] {
+        let read: Level = read_one(rt.alloc(), digits)?;
+        assert!(rt;
+            read == level && comes_back(rt.alloc(), &level, width)?,
+            "{digits}"
+        );
+    }
+    Ok(())
 }
 
 #[test]

@@ -1,6 +1,6 @@
 //! Borrowed bits, at any place of their bytes.
 
-ghost use Rattle.std.specs.Prelude.{◌≤◌};
+ghost use Rattle.std.specs.Prelude.{◌<◌, ◌≤◌};
 
 use etcs_bits::{BitSlice, Bits, Cursor, Fault, FaultKind, Memory, Same};
 use std::alloc::Global;
@@ -48,6 +48,33 @@ fn every_width_is_read_at_every_place(rt: HostRuntime) {
             assert_eq!(rt; bits.num(from, width), number, "{width} bits at {from}");
         }
     }
+}
+
+// Whether a field of this width is taken at this place, with so many bits left there.
+fn is_taken(at: usize, left: usize, width: u32) -> Result<bool, Fault>
+    requires place { at < 8 }
+    requires enough { 63 ≤ left }
+    requires few { left < 66 }
+    requires low { 1 ≤ width }
+    requires high { width ≤ 32 }
+{
+    let bits = BitSlice::of_bytes(&BYTES, at + left);
+    let number = number_of(&bits.part(at, at + width as usize));
+    let mut cur = Cursor::over(bits);
+    let _before = cur.take_slice(at)?;
+    Ok(cur.take(width)? == number && cur.at() == at + width as usize)
+}
+
+#[test]
+fn every_width_is_taken_near_and_far_from_the_end(rt: HostRuntime) -> Result<(), Fail> {
+    for at in 0..8 {
+        for width in 1..33u32 {
+            assert!(rt; is_taken(at, 63, width)?, "{width} bits at {at}");
+            assert!(rt; is_taken(at, 64, width)?, "{width} bits at {at}");
+            assert!(rt; is_taken(at, 65, width)?, "{width} bits at {at}");
+        }
+    }
+    Ok(())
 }
 
 #[test]

@@ -5,9 +5,10 @@ use etcs_packet::{PacketView, Stop, next_view};
 use std::alloc::Global;
 use std::test::Fail;
 
-// Packet 44 with a body of 129 bits, and the end mark.
-const RAW: [u8; 20] = [
-    0x2c, 0x81, 0x30, 0, 0, 0, 0, 0, 0, 0, 0, 0, 0, 0, 0, 0, 0, 0, 0, 0xff,
+// A header of 50 bits, packet 44 with a body of 129 bits, and the end mark.
+const RAW: [u8; 27] = [
+    0xa1, 0x00, 0x7f, 0x80, 0x20, 0x00, 0xcb, 0x20, 0x4c, 0, 0, 0, 0, 0, 0, 0, 0, 0, 0, 0, 0, 0, 0,
+    0, 0, 0x3f, 0xc0,
 ];
 
 // Packet 21 with one further element, and the end mark.
@@ -42,11 +43,12 @@ fn next_known(alloc: Global, cur: &mut Cursor<'_>) -> Result<Option<u8>, DecodeE
 // Asks for no memory, so it passes too where every request for memory is refused.
 #[test]
 fn a_raw_body_is_borrowed(rt: HostRuntime) -> Result<(), Fail> {
-    let mut cur = Cursor::over(BitSlice::of_bytes(&RAW, 160));
+    let mut cur = Cursor::over(BitSlice::of_bytes(&RAW, 210));
+    let _header = cur.take_slice(50)?;
     assert!(rt; next_raw(rt.alloc(), &mut cur) == Ok(Some((44, Dir::Both, 129))));
-    assert!(rt; cur.at() == 152);
+    assert!(rt; cur.at() == 202);
     let end = next_view(rt.alloc(), &mut cur, Stop::Telegram)?;
-    assert!(rt; end.is_none() && cur.at() == 152);
+    assert!(rt; end.is_none() && cur.at() == 202);
     Ok(())
 }
 

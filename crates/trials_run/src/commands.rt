@@ -38,7 +38,7 @@ struct Case {
     status: Status,
 }
 
-const CASES: [Case; 8] = [
+const CASES: [Case; 9] = [
     Case {
         words: CHECK,
         input: "{\"groups\":[],\"messages\":[]}",
@@ -92,6 +92,12 @@ refused: message 1: length below 3\n",
         text: "a1007f802000ffffffffffffffffffffffffffffffffffffffffc0\n\
 refused: line 2: form kind at /\n",
         status: Status::Refused,
+    },
+    Case {
+        words: &["balisecheck", "encode"],
+        input: JSON,
+        text: "a1007f802000ffffffffffffffffffffffffffffffffffffffffc0\n",
+        status: Status::Done,
     },
     Case {
         words: &["balisecheck", "encode", "--radio"],

@@ -1,6 +1,6 @@
 //! Telegrams that make no message. None of this takes memory.
 
-use crate::shared::{ALONE, FIRST_7, SECOND_8, telegram};
+use crate::shared::{ALONE, FIRST, FIRST_7, SECOND, SECOND_8, telegram};
 use etcs_group::{Refused, assemble};
 use etcs_packet::Run;
 use etcs_telegram::Telegram;
@@ -31,6 +31,8 @@ fn a_list_is_refused_without_memory(rt: HostRuntime) {
     assert!(rt; are_refused(alloc, &[], Refused::Nothing));
     assert!(rt; is_refused(alloc, ALONE, UNMARKED, Refused::Disagree(1)));
     assert!(rt; is_refused(alloc, ALONE, ALONE, Refused::Order(1)));
+    assert!(rt; is_refused(alloc, SECOND, FIRST, Refused::Order(1)));
+    assert!(rt; is_refused(alloc, FIRST, FIRST, Refused::Order(1)));
     assert!(rt; is_refused(alloc, FIRST_7, SECOND_8, Refused::Counter(1)));
     match telegram(alloc, UNMARKED) {
         Ok(alone) => assert!(rt; are_refused(alloc, &[&alone], Refused::Absent(1))),

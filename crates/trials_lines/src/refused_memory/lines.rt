@@ -3,7 +3,8 @@
 use super::{Answer, expect_answers};
 use crate::halt::Halt;
 use crate::shared::{
-    ALONE, FIRST_7, FIRST_8, MESSAGE, REPORT, SECOND_7, SECOND_8, WITH_AUTHORITY, controlled, group,
+    ALONE, FIRST, FIRST_7, FIRST_8, MESSAGE, REPORT, SECOND, SECOND_7, SECOND_8, WITH_AUTHORITY,
+    controlled, group,
 };
 use etcs_bits::Memory;
 use etcs_check::{Finding, Line, check, check_group, check_message};
@@ -35,6 +36,14 @@ fn are_found(found: Result<Vec<Finding>, Memory>, count: usize) -> Answer {
 fn sound_line(alloc: Global) -> Answer {
     let line = line(alloc, 1)?;
     are_found(check(alloc, &line), 0)
+}
+
+// A line of a pair, whose check asks for no memory.
+fn sound_pair(alloc: Global) -> Answer {
+    let mut groups = Vec::new(alloc);
+    groups.push(controlled(alloc, &[&[FIRST, SECOND]])?)?;
+    let messages = Vec::new(alloc);
+    are_found(check(alloc, &Line { groups, messages }), 0)
 }
 
 fn repeated_group(alloc: Global) -> Answer {
@@ -93,8 +102,9 @@ fn mixed(alloc: Global) -> Answer {
     are_two(alloc, &pair, &Mixture { run, shown })
 }
 
-pub fn answers(alloc: Global) -> [Answer; 9] {
+pub fn answers(alloc: Global) -> [Answer; 10] {
     [
+        sound_pair(alloc),
         sound_line(alloc),
         repeated_group(alloc),
         sound_group(alloc),

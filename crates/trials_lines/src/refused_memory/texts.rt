@@ -1,4 +1,4 @@
-//! Texts of telegrams and of messages: they are read and written as ever, or memory ran out.
+//! Digits, and texts of telegrams and of messages: they are read and written as ever, or memory ran out.
 
 use super::{Answer, expect_answers, read_one};
 use crate::halt::Halt;
@@ -6,6 +6,7 @@ use crate::shared::{MESSAGE, REPORT};
 use etcs_bits::Bits;
 use etcs_packet::TrackPacket;
 use etcs_telegram::Telegram;
+use hex::FromHexError;
 use std::alloc::Global;
 
 /// A lone linked balise without packets.
@@ -62,8 +63,19 @@ fn message(alloc: Global, text: &str) -> Answer {
     Ok(written.as_str() == text && text_again.as_str() == text)
 }
 
-pub fn answers(alloc: Global) -> [Answer; 6] {
+// Two digits, a letter that is none, and a digit. Memory is asked for twice: for the bytes that the table
+// gives, and by `hex`.
+fn no_digits(alloc: Global) -> Answer {
+    match etcs_digits::decode_to_vec(alloc, b"0ag9") {
+        Ok(_) => Ok(false),
+        Err(FromHexError::OutOfMemory) => Err(Halt::Memory),
+        Err(why) => Ok(why == FromHexError::InvalidHexCharacter { c: 'g', index: 2 }),
+    }
+}
+
+pub fn answers(alloc: Global) -> [Answer; 7] {
     [
+        no_digits(alloc),
         telegram(alloc, TELEGRAM),
         telegram(alloc, PROFILES),
         telegram(alloc, COVERS),

@@ -1,8 +1,8 @@
 use Rattle.std.proofs.Common.{arith, ◌*◌, ◌∙◌, sym, ap, length-set}
 use Rattle.std.proofs.lemmas.Bool.Decides.{nat_tests}
 use Rattle.hex.proofs.Pairs.{decode_done, decode_start}
-use Rattle.etcs_digits.proofs.DigitLemmas.{decode_more}
-use Rattle.etcs_digits.proofs.decode_quickly.Goals as goal
+use Rattle.etcs_digits.proofs.HexadecimalLemmas.{decode_more}
+use Rattle.etcs_digits.proofs.hexadecimal.decode_quickly.Goals as goal
 
 pub bytes-init : goal.bytes-init
 bytes-init c = (c.requires, λ _. decode_start c.args.text.now c.args.out.now)

@@ -1,0 +1,78 @@
+//! Hexadecimal digits become bytes by a table, and a text with anything else is left to `hex`.
+
+ghost use Rattle.std.specs.Prelude.{◌≡◌, ◌*◌, true, false, length, ◌%◌, ◌⊎◌, IsTrue, IfOk, IfErr, Ok, MatchResult};
+ghost use Rattle.hex.specs.Hex.{decode_of, decode_pairs, decode_sized};
+ghost use Rattle.hex.specs.declared.error.FromHexError.TheVariants.{OddLength, OutOfMemory};
+
+use hex::FromHexError;
+use std::alloc::Global;
+
+// The value of each byte as a hexadecimal digit, or 255.
+static VALUES: [u8; 256] = [
+    255, 255, 255, 255, 255, 255, 255, 255, 255, 255, 255, 255, 255, 255, 255, 255, 255, 255, 255,
+    255, 255, 255, 255, 255, 255, 255, 255, 255, 255, 255, 255, 255, 255, 255, 255, 255, 255, 255,
+    255, 255, 255, 255, 255, 255, 255, 255, 255, 255, 0, 1, 2, 3, 4, 5, 6, 7, 8, 9, 255, 255, 255,
+    255, 255, 255, 255, 10, 11, 12, 13, 14, 15, 255, 255, 255, 255, 255, 255, 255, 255, 255, 255,
+    255, 255, 255, 255, 255, 255, 255, 255, 255, 255, 255, 255, 255, 255, 255, 255, 10, 11, 12, 13,
+    14, 15, 255, 255, 255, 255, 255, 255, 255, 255, 255, 255, 255, 255, 255, 255, 255, 255, 255,
+    255, 255, 255, 255, 255, 255, 255, 255, 255, 255, 255, 255, 255, 255, 255, 255, 255, 255, 255,
+    255, 255, 255, 255, 255, 255, 255, 255, 255, 255, 255, 255, 255, 255, 255, 255, 255, 255, 255,
+    255, 255, 255, 255, 255, 255, 255, 255, 255, 255, 255, 255, 255, 255, 255, 255, 255, 255, 255,
+    255, 255, 255, 255, 255, 255, 255, 255, 255, 255, 255, 255, 255, 255, 255, 255, 255, 255, 255,
+    255, 255, 255, 255, 255, 255, 255, 255, 255, 255, 255, 255, 255, 255, 255, 255, 255, 255, 255,
+    255, 255, 255, 255, 255, 255, 255, 255, 255, 255, 255, 255, 255, 255, 255, 255, 255, 255, 255,
+    255, 255, 255, 255, 255, 255, 255, 255, 255, 255, 255, 255, 255, 255, 255, 255, 255, 255, 255,
+    255, 255, 255,
+];
+
+// Writes the bytes that pairs of digits spell. An answer of false says nothing. There is one test for
+// the whole text, since a value that is no digit's makes `seen` too great for all that follow.
+#[inline(always)]
+fn decode_quickly(text: &[u8], out: &mut [u8]) -> bool
+    requires { length text.now ≡ 2 * length out.old }
+    ensures value { IsTrue result → decode_pairs 0 text.now ≡ Ok out.new }
+    ensures len { length out.new ≡ length out.old }
+{
+    let mut seen = 0u8;
+    'bytes: for i in 0..out.len() {
+        let high = VALUES[text[2 * i] as usize];
+        let low = VALUES[text[2 * i + 1] as usize];
+        seen |= high | low;
+        out[i] = (high << 4) | low;
+    }
+    seen < 16
+}
+
+/// Writes the bytes that pairs of hexadecimal digits spell, in upper or lower case, the high four bits
+/// first. Returns whether the text has nothing but digits. If not, `out` says nothing.
+#[inline]
+pub fn decode(text: &[u8], out: &mut [u8]) -> bool
+    requires { length text.now ≡ 2 * length out.old }
+    ensures { MatchResult (decode_sized text.now (length out.old))
+        (λ bytes. (result ≡ true) × (out.new ≡ bytes))
+        (λ e. result ≡ false) }
+{
+    if decode_quickly(text, out) {
+        return true;
+    }
+    hex::decode_to_slice(text, out).is_ok()
+}
+
+/// The bytes that pairs of hexadecimal digits spell, in upper or lower case, the high four bits first.
+///
+/// The errors are those of [`hex::decode`]. A text of an odd length takes no memory. One with a byte
+/// that is no digit may take the memory of its bytes twice.
+pub fn decode_to_vec(alloc: Global, text: &[u8]) -> Result<Vec<u8>, FromHexError>
+    ensures ok { IfOk result (λ bytes. decode_of text.now ≡ Ok bytes.items) }
+    ensures err { IfErr result (λ e. (e ≡ OutOfMemory) ⊎ (decode_of text.now ≡ Err e)) }
+    ensures odd { length text.now % 2 ≡ 1 → result ≡ Err OddLength }
+{
+    if text.len() % 2 != 0 {
+        return Err(FromHexError::OddLength);
+    }
+    let mut out = vec![in alloc; 0u8; text.len() / 2]?;
+    if decode_quickly(text, out.as_mut_slice()) {
+        return Ok(out);
+    }
+    hex::decode(alloc, text)
+}

@@ -1,0 +1,76 @@
+//! Digits that are read and written by tables, against `hex` and `json`, which know them all.
+
+use etcs_digits::{decode, decode_to_vec, send_decimal};
+use json::Writer;
+use std::alloc::{AllocError, Global};
+use std::test::Fail;
+
+// Whether these two bytes are read as `hex` reads them.
+fn is_read_as_by_hex(text: &[u8; 2]) -> bool {
+    let (mut byte, mut wanted) = ([0u8], [0u8]);
+    let is_read = decode(text, &mut byte);
+    let is_wanted = hex::decode_to_slice(text, &mut wanted).is_ok();
+    is_read == is_wanted && (!is_read || byte == wanted)
+}
+
+#[test]
+fn a_byte_is_a_digit_where_hex_says_so(rt: HostRuntime) {
+    for byte in 0..=255u8 {
+        assert!(rt; is_read_as_by_hex(&[byte, b'7']), "{byte}");
+        assert!(rt; is_read_as_by_hex(&[b'7', byte]), "{byte}");
+    }
+}
+
+// Whether the text has the bytes, or the error, that `hex` gives it.
+fn is_decoded_as_by_hex(alloc: Global, text: &[u8]) -> bool {
+    match (decode_to_vec(alloc, text), hex::decode(alloc, text)) {
+        (Ok(bytes), Ok(wanted)) => bytes.as_slice() == wanted.as_slice(),
+        (Err(why), Err(wanted)) => why == wanted,
+        _ => false,
+    }
+}
+
+#[test]
+fn texts_are_decoded_as_by_hex(rt: HostRuntime) {
+    for text in ["", "0", "0aF9", "0aF", "0ag9", " aF9", "0aF\u{e9}"] {
+        assert!(rt; is_decoded_as_by_hex(rt.alloc(), text.as_bytes()), "{text}");
+    }
+}
+
+#[test]
+fn the_high_digit_comes_first(rt: HostRuntime) -> Result<(), Fail> {
+    let bytes = decode_to_vec(rt.alloc(), b"0aF9")?;
+    assert!(rt; bytes.as_slice() == [0x0a, 0xf9].as_slice());
+    Ok(())
+}
+
+// Whether the number is written as `json` writes it.
+fn is_sent_as_by_json(alloc: Global, number: u64) -> Result<bool, AllocError> {
+    let mut out = Writer::new(Vec::new(alloc));
+    send_decimal(&mut out, number)?;
+    let mut wanted = Writer::new(Vec::new(alloc));
+    wanted.u64(number)?;
+    Ok(out.into_inner().as_slice() == wanted.into_inner().as_slice())
+}
+
+#[test]
+fn numbers_are_written_as_by_json(rt: HostRuntime) -> Result<(), Fail> {
+    let bounds = [
+        0,
+        9,
+        10,
+        99,
+        100,
+        999,
+        1000,
+        9999,
+        10_000,
+        99_999,
+        100_000,
+        u64::MAX,
+    ];
+    for number in bounds {
+        assert!(rt; is_sent_as_by_json(rt.alloc(), number)?, "{number}");
+    }
+    Ok(())
+}
