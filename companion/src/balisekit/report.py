@@ -127,7 +127,7 @@ def group_ids(groups: Sequence[Group]) -> Dict[str, str]:
 
 
 def blocks(checked: Checked, read: Mapping[int, Form]) -> Iterator[Block]:
-    """A block for each group, in the order of the table, and for each message. `read` has the telegrams by their rows."""
+    """A block for each group, in the table's order, and for each message. `read` has the telegrams by their rows."""
     ids = group_ids(checked.table.groups)
     by_group: Dict[str, List[Place]] = {}
     by_message: Dict[int, List[Place]] = {}
