@@ -5,9 +5,9 @@ Coordinates are whole tenths of a pixel. The template draws what stands here and
 from __future__ import annotations
 
 from dataclasses import dataclass, field
-from typing import List, Tuple
+from typing import List, NamedTuple, Tuple
 
-from balisekit.geometry import NOMINAL, REVERSE, Kilometres, kilometre
+from balisekit.geometry import NOMINAL, REVERSE, Kilometres
 from balisekit.values import metres
 
 WIDTH, LEFT, RIGHT = 800, 84, 34
@@ -15,8 +15,7 @@ LETTER = 62
 """The width of a letter, in tenths of a pixel."""
 
 
-@dataclass(frozen=True)
-class Shape:
+class Shape(NamedTuple):
     """A rectangle, a path or a text, and the numbers that its title says."""
 
     kind: str
@@ -94,8 +93,8 @@ class Sheet:
 
     def place(self, place: int, direction: str) -> str:
         """A place in words."""
-        km = self.kilometres.at(abs(place), direction)
-        return metres(abs(place)) + (f", km {kilometre(km)}" if km is not None else "")
+        km = self.kilometres.words(abs(place), direction)
+        return metres(abs(place)) + (f", km {km}" if km else "")
 
 
 def draw_axis(sheet: Sheet) -> None:
@@ -106,12 +105,12 @@ def draw_axis(sheet: Sheet) -> None:
     ticks = "".join(f"M{tenths(sheet.x(place))} {base}v4" for place in places)
     sheet.path("axis", "metres from the group",
                f"M{tenths(sheet.x(sheet.least))} {base}H{tenths(sheet.x(sheet.greatest))}{ticks}")
-    known = [(place, sheet.kilometres.at(abs(place), REVERSE if place < 0 else NOMINAL)) for place in places]
-    has_km = all(km is not None for _, km in known)
+    known = [(place, sheet.kilometres.words(abs(place), REVERSE if place < 0 else NOMINAL)) for place in places]
+    has_km = all(km for _, km in known)
     for place, km in known:
         sheet.text("tick", metres(abs(place)), sheet.x(place), base + 14)
-        if km is not None and has_km:
-            sheet.text("tick", kilometre(km), sheet.x(place), base + 25)
+        if has_km:
+            sheet.text("tick", km, sheet.x(place), base + 25)
     if has_km:
         sheet.text("small", "km", 40, base + 25)
     sheet.y = base + (32 if has_km else 20)

@@ -57,8 +57,10 @@ def chains(line: Line) -> Iterator[Chain]:
         for direction in DIRECTIONS:
             elsewhere = infill(source.forms, direction)
             for site, packet in passed(source.forms, direction):
+                if packet["nid_packet"] != 5 or site in elsewhere:
+                    continue
                 where = source.where(site, direction)
-                if packet["nid_packet"] == 5 and site not in elsewhere and where.order not in seen:
+                if where.order not in seen:
                     seen.add(where.order)
                     yield Chain(where, source.station, direction, tuple(_links(line, source, site, packet, direction)))
 

@@ -7,7 +7,8 @@ from __future__ import annotations
 
 from dataclasses import dataclass
 from decimal import Decimal
-from typing import Dict, FrozenSet, Iterator, List, Mapping, Optional, Sequence, Tuple
+from functools import cached_property
+from typing import Dict, FrozenSet, Iterator, List, Mapping, NamedTuple, Optional, Sequence, Tuple
 
 from balisekit.model import Group
 from balisekit.values import Form, unit_dm
@@ -18,12 +19,16 @@ ELEMENT_KEYS: Mapping[int, Tuple[str, str, int]] = {21: ("d_gradient", "g_a", 25
 """Of each profile: the keys of distance and value, and the value that is its end mark."""
 
 
-@dataclass(frozen=True)
-class Site:
+class Site(NamedTuple):
     """Where a packet stands: its balise in the group, and its place in the telegram, both counted from 0."""
 
     balise: int
     packet: int
+
+
+NONE: FrozenSet[Site] = frozenset()
+GREATEST = 10**15
+"""In decimetres. The kilometres of a table are far less."""
 
 
 @dataclass(frozen=True)
@@ -51,8 +56,7 @@ class Authority:
         return self.end if self.danger_point is None else self.danger_point
 
 
-@dataclass(frozen=True)
-class Element:
+class Element(NamedTuple):
     """What holds from one place of a profile on. Without `end` it holds on and on."""
 
     begin: int
@@ -107,14 +111,37 @@ class Kilometres:
         """The kilometre of a place, or None if it is not known."""
         if self.group is None or (self.rising is None and place_dm != 0):
             return None
-        along = (self.rising or 1) * (1 if direction == NOMINAL else -1)
-        return self.group + Decimal(along * place_dm).scaleb(-4)
+        return self.group + Decimal(self._along(direction) * place_dm).scaleb(-4)
+
+    @cached_property
+    def _whole(self) -> Optional[int]:
+        """The kilometre of the group in decimetres, where that is a whole number and no great one."""
+        place = Decimal() if self.group is None else self.group.scaleb(4)
+        return int(place) if abs(place) < GREATEST and place == int(place) else None
+
+    def words(self, place_dm: int, direction: str) -> str:
+        """The kilometre of a place as it is written, or nothing if it is not known."""
+        if self.group is None or (self.rising is None and place_dm != 0):
+            return ""
+        if self._whole is None:
+            return kilometre(self.group + Decimal(self._along(direction) * place_dm).scaleb(-4))
+        return kilometre_of(self._whole + self._along(direction) * place_dm)
+
+    def _along(self, direction: str) -> int:
+        return (self.rising or 1) * (1 if direction == NOMINAL else -1)
 
 
 def kilometre(km: Decimal) -> str:
     """A kilometre with three places behind the point, and more where it has more."""
     places = -int(km.normalize().as_tuple().exponent)
     return f"{km:.{max(3, places)}f}"
+
+
+def kilometre_of(place: int) -> str:
+    """A place of whole decimetres as `kilometre` writes it, without the way by decimal numbers, which takes long."""
+    whole, part = divmod(abs(place), 10_000)
+    digits = f"{part:04}"
+    return f"{'-' if place < 0 else ''}{whole}.{digits[:3]}{digits[3:].rstrip('0')}"
 
 
 def kilometres(group: Group) -> Kilometres:
@@ -199,6 +226,8 @@ def passed(forms: Sequence[Form], direction: str) -> Iterator[Tuple[Site, Form]]
 
 def infill(forms: Sequence[Form], direction: str) -> FrozenSet[Site]:
     """The packets that are passed behind a packet 136: their distances count from another group."""
+    if not any(packet["nid_packet"] == 136 for form in forms for packet in form["packets"]):
+        return NONE
     behind, sites = False, set()
     for site, packet in passed(forms, direction):
         if behind:

@@ -9,6 +9,8 @@ from typing import Any, Iterator
 from balisekit.errors import NoAnswer
 
 LACKS = "pictures and reports need jinja2 (Debian: python3-jinja2)"
+PIECES = 100
+"""So many pieces of a page become one."""
 TEMPLATES = Path(__file__).with_name("templates")
 
 
@@ -16,11 +18,15 @@ def pieces(template: str, **values: Any) -> Iterator[str]:
     """The page in pieces, so that it never stands in memory whole. All values are escaped."""
     try:
         from jinja2 import Environment, FileSystemLoader, StrictUndefined
+        from balisekit.shapes import svg
     except ImportError as error:
         raise NoAnswer(LACKS) from error
     environment = Environment(loader=FileSystemLoader(str(TEMPLATES)), autoescape=True, undefined=StrictUndefined,
                               trim_blocks=True, lstrip_blocks=True)
-    yield from environment.get_template(template).generate(**values)
+    environment.filters["svg"] = svg
+    page = environment.get_template(template).stream(**values)
+    page.enable_buffering(PIECES)
+    yield from page
 
 
 def style(name: str) -> Any:

@@ -5,7 +5,7 @@ from dataclasses import dataclass
 from typing import Callable, Dict, Iterator, Mapping, Optional, Sequence, Tuple
 
 from balisekit.geometry import (DIRECTIONS, ELEMENT_KEYS, Kilometres, NOMINAL, Site, authority, holds, infill,
-                                kilometre, kilometres, profile)
+                                kilometres, profile)
 from balisekit.model import Group
 from balisekit.values import Form, metres, unit_dm
 
@@ -23,8 +23,8 @@ class Here:
     def place(self, place_dm: int, packet: Form) -> str:
         """A place as "850 m, km 13.050", for a packet in both directions with the kilometre of either."""
         ways = [direction for direction in DIRECTIONS if holds(packet, direction)]
-        known = [(direction, self.kilometres.at(place_dm, direction)) for direction in ways]
-        words = [f"km {kilometre(km)}" for _, km in known if km is not None]
+        known = [self.kilometres.words(place_dm, direction) for direction in ways]
+        words = [f"km {km}" for km in known if km]
         if len(words) == 2:
             words = words[:1] if words[0] == words[1] else [f"{words[0]} ({NOMINAL})", f"{words[1]} (reverse)"]
         return ", ".join([metres(place_dm), *words])

@@ -126,8 +126,8 @@ def group_ids(groups: Sequence[Group]) -> Dict[str, str]:
     return {group.name: f"g{place}" for place, group in enumerate(groups)}
 
 
-def blocks(checked: Checked) -> Iterator[Block]:
-    """A block for each group, in the order of the table, and for each message."""
+def blocks(checked: Checked, read: Mapping[int, Form]) -> Iterator[Block]:
+    """A block for each group, in the table's order, and for each message. `read` has the telegrams by their rows."""
     ids = group_ids(checked.table.groups)
     by_group: Dict[str, List[Place]] = {}
     by_message: Dict[int, List[Place]] = {}
@@ -142,7 +142,7 @@ def blocks(checked: Checked) -> Iterator[Block]:
     for original in checked.table.groups:
         group = kept.get(original.name, original)
         numbers = {row.number for row in group.rows()}
-        forms = {number: checked.accepted[number].form for number in numbers if number in checked.accepted}
+        forms = {number: read[number] for number in numbers if number in read}
         places = by_group.get(group.name, [])
         findings: List[Finding] = [place.finding for place in places]
         picture = picture_of(group, forms, findings) if len(forms) == len(numbers) else None
@@ -150,7 +150,7 @@ def blocks(checked: Checked) -> Iterator[Block]:
                  for number in numbers if number in refused}
         yield Block(ids[group.name], clean(group.name), _where(group), clean(left_out.get(group.name, "")), picture,
                     tuple(told(place, ids) for place in places), tuple(_telegrams(group, forms, words)))
-    groups = Identities(checked.table.groups, {number: one.form for number, one in checked.accepted.items()})
+    groups = Identities(checked.table.groups, read)
     for message in checked.accepted_messages:
         yield _message(message, by_message.get(message.message.number, []), groups)
     yield from map(_refused_message, checked.refused_messages)

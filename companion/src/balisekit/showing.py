@@ -5,8 +5,8 @@ Lines are made by going through the JSON itself, so nothing of it is left out. W
 from __future__ import annotations
 
 import textwrap
-from dataclasses import dataclass
-from typing import Any, Iterator, List, Mapping, Tuple, Union
+from functools import lru_cache
+from typing import Any, Iterator, List, Mapping, NamedTuple, Tuple, Union
 
 from balisekit.places import Here, place_notes
 from balisekit.values import Around, Form, ORDER, value_words, variable_name
@@ -22,8 +22,7 @@ LEGEND = (
     "What follows a = is worked out by balisekit: places are sums of distances, counted from the group.")
 
 
-@dataclass(frozen=True)
-class Shown:
+class Shown(NamedTuple):
     """One value of the JSON."""
 
     path: str
@@ -38,8 +37,7 @@ class Shown:
         return f"{self.name} {self.words} [{self.raw}]" if self.words else f"{self.name} {self.raw}"
 
 
-@dataclass(frozen=True)
-class Line:
+class Line(NamedTuple):
     """Some values under one label, and what balisekit works out of them."""
 
     depth: int
@@ -56,12 +54,18 @@ def form_lines(form: Form, here: Here = Here()) -> List[Line]:
     return list(_lines("message" if is_message else "header", 0, form, "", around, notes))
 
 
+@lru_cache(maxsize=1024)
+def _ordered(keys: Tuple[str, ...]) -> List[str]:
+    """The keys of an object in the order of the standard. Objects have few sets of keys."""
+    return sorted(keys, key=lambda one: (ORDER.get(one, len(ORDER)), one))
+
+
 def _lines(label: str, depth: int, form: Form, path: str, around: Around, notes: Mapping[str, str]) -> Iterator[Line]:
     """The lines of an object: its values up to its first part, that part, and so on."""
     inner = Around(form if "nid_packet" in form else around.packet, form, around.from_track)
     anchor = path
     values: List[Shown] = []
-    for key in sorted(form, key=lambda one: (ORDER.get(one, len(ORDER)), one)):
+    for key in _ordered(tuple(form)):
         value, below = form[key], f"{path}/{key}"
         is_part = isinstance(value, (list, dict))
         if values and (is_part or key == "l_endsection"):
@@ -103,12 +107,18 @@ def text_of(line: Line) -> str:
     if line.note:
         if len(said) + 4 + len(line.note) > WIDTH:
             lines.append(said)
-            *full, said = textwrap.wrap(f"= {line.note}", WIDTH, initial_indent=" " * LABEL_WIDTH,
-                                        subsequent_indent=" " * (LABEL_WIDTH + 2))
+            *full, said = _wrapped(f"= {line.note}")
             lines.extend(full)
         else:
             said += f"  = {line.note}"
     return "\n".join([*lines, said])
+
+
+def _wrapped(note: str) -> List[str]:
+    """A note on lines of its own. Most of them need one alone."""
+    if LABEL_WIDTH + len(note) <= WIDTH:
+        return [" " * LABEL_WIDTH + note]
+    return textwrap.wrap(note, WIDTH, initial_indent=" " * LABEL_WIDTH, subsequent_indent=" " * (LABEL_WIDTH + 2))
 
 
 def text(form: Form, here: Here = Here()) -> str:

@@ -8,7 +8,7 @@ from decimal import Decimal
 from typing import Iterator, List, Optional, Sequence, Tuple
 
 from balisekit.canvas import LEFT, LETTER, RIGHT, WIDTH, Picture, Sheet, tenths
-from balisekit.geometry import NOMINAL, Authority, Kilometres, Profile, Way, kilometre
+from balisekit.geometry import NOMINAL, Authority, Kilometres, Profile, Way, kilometre, kilometre_of
 from balisekit.links import Links
 from balisekit.stations import Line, Station
 from balisekit.track_view import PAGE, Arc, Band, Page, open_end, pages, place_of
@@ -68,10 +68,8 @@ def _picture(page: Page, track: str, aspect: Optional[str], lanes: Sequence[Sequ
 
 
 def _km(place: int) -> str:
-    """A place as `kilometre` writes it, without the way by decimal numbers, which takes most of the time."""
-    whole, part = divmod(abs(place), 10_000)
-    digits = f"{part:04}"
-    return f"km {'-' if place < 0 else ''}{whole}.{digits[:3]}{digits[3:].rstrip('0')}"
+    """A place in words."""
+    return f"km {kilometre_of(place)}"
 
 
 def _axis(sheet: Sheet) -> None:

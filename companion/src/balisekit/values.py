@@ -5,8 +5,8 @@ English, and a function that says its number with unit or name. A number that sa
 """
 from __future__ import annotations
 
-from dataclasses import dataclass, field
-from typing import Any, Callable, Dict, Mapping, Tuple, Union
+from dataclasses import dataclass
+from typing import Any, Callable, Dict, Mapping, NamedTuple, Tuple, Union
 
 from balisekit.packets import MESSAGES, packet_name
 
@@ -31,12 +31,14 @@ OTHER_CATEGORY = {
 END_OF_PROFILE = "end of the profile"
 
 
-@dataclass(frozen=True)
-class Around:
+NO_FORM: Form = {}
+
+
+class Around(NamedTuple):
     """Where a number stands: its packet, and the object that has its key."""
 
-    packet: Form = field(default_factory=dict)
-    parent: Form = field(default_factory=dict)
+    packet: Form = NO_FORM
+    parent: Form = NO_FORM
     from_track: bool = True
 
 
