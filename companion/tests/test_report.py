@@ -279,7 +279,7 @@ def test_messages_that_cannot_be_drawn(words: List[str], said: str, tmp_path: Pa
 def test_premises_are_those_of_the_document() -> None:
     """The package has what docs/FINDINGS.md says."""
     assert premises() == of_document((TOP / "docs" / "FINDINGS.md").read_text("utf-8"))
-    assert len(premises()) == 8 and metres(1) == "0.1 m"
+    assert len(premises()) == 7 and metres(1) == "0.1 m"
 
 
 def test_a_list_is_a_list(tmp_path: Path) -> None:

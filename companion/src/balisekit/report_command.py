@@ -39,7 +39,8 @@ def run(words: argparse.Namespace) -> int:
     links = wrong_distances(line, words.tolerance)
     page = pieces("report.html", cover=cover(checked), findings=[told(place, ids) for place in checked.findings],
                   explained=explained(checked), blocks=blocks(checked, line.forms), style=sheet,
-                  style_hash=hash_of(str(sheet)), legend=LEGEND, premises=premises.blocks(), links_rule=DISTANCE, aspect=words.aspect,
+                  style_hash=hash_of(str(sheet)), legend=LEGEND, premises=premises.blocks(),
+                  links_rule=DISTANCE, aspect=words.aspect,
                   tracks=((clean(name), track_pictures(line, links, name, words.aspect)) for name in tracks))
     with files.writing(words.html) as file:
         for piece in page:
