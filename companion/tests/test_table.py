@@ -124,7 +124,7 @@ BAD: Sequence[Any] = [
     (["group,balise,telegram", f"A,1,{ALONE}", f"A,,{ALONE}"], "row 3, column balise: empty beside numbered balises"),
     (["group,balise,telegram", f"A,1.5,{ALONE}"], "row 2, column balise: 1.5 is no whole number"),
     (["group,km,telegram", f"A,13.850,{ALONE}", f"A,13.8x,{ALONE}"],
-     "row 3, column km: 13.8x is no kilometre: write 13.850"),
+     "row 3, column km: 13.8x is no kilometre: one is written like 13.850"),
     (["group,telegram,km", f"A,{ALONE},13,850"],
      "row 2: it has 4 cells, and the heading 3: is a decimal comma not quoted?"),
     (["group,km,telegram", f"A,1,{FIRST}", f"A,3,{SECOND}", f"A,2,{SECOND}"],

@@ -154,7 +154,7 @@ def _km(cell: str, kind: str) -> Optional[Decimal]:
     text = cell.replace("\u2212", "-")
     plain, plus = KM.fullmatch(text), KM_PLUS.fullmatch(text)
     if kind == "date" or cell and not plain and not plus:
-        raise TableError(f"{cell[:40]} is no kilometre: write 13.850, 13,850 or 13+850")
+        raise TableError(f"{cell[:40]} is no kilometre: one is written like 13.850, 13,850 or 13+850")
     if plus:
         return Decimal(f"{plus['whole']}.{plus['part']}{plus['more'] or ''}")
     return Decimal(f"{plain['whole']}.{plain['part'] or '0'}") if plain else None
