@@ -88,6 +88,36 @@ def test_aspects_are_counted(run: Run, table: Write, tmp_path: Path) -> None:
         {"aspects": 3, "groups": 1}, {"aspects": 2, "groups": 2}, {"aspects": 1, "groups": 1}]
 
 
+def lines_of(kinds: str) -> List[str]:
+    """A table of groups of these kinds: their names have the letters of their aspects."""
+    rows = [f"{name},{aspect},{ALONE}" for name in kinds.split() for aspect in name.split(":")[1] or "*"]
+    return ["group,aspect,telegram", *rows]
+
+
+@pytest.mark.parametrize("kinds, said", [
+    ("A:ryg B:yg", ['look: B:yg has 2 aspects, 1 other has 3: "r" too']),
+    ("A:ryg B:r C:ryg D:", ['look: B:r has 1 aspect, 2 others have 3: "g", "y" too']),
+    ("A:ryg B:ryg C:ryg D:ryg E:rg F:rg G:rg", [
+        f'look: {name}:rg has 2 aspects, 4 others have 3: "y" too' for name in "EFG"]),
+    ("A:ryg B:ryg C:ryg D:ryg E:rg F:rg G:rg H:rg", []),
+    ("A:ryg B:ryg C:ryx D:rgx E:rx", []),
+    ("A:rygw B:rygw C:rg D:rg E:rg F:rg G:xy H:xy I:rgw", ['look: I:rgw has 3 aspects, 2 others have 4: "y" too']),
+    ("A: B:ryg C:x D:", []), ("A:ryg B:ryx", [])])
+def test_fewer_aspects_than_others(run: Run, table: Write, tmp_path: Path, kinds: str, said: List[str]) -> None:
+    """A remark before the count, and no more: verdict and status are as without it."""
+    _, out, _ = run("check", table(*lines_of(kinds)), "--json", tmp_path / "out.json")
+    assert [line for line in out if line.startswith("look: ")] == said == out[-2 - len(said):-2]
+    assert json.loads((tmp_path / "out.json").read_text())["counts"]["look"] == said
+    assert out[-1].startswith("program: ")
+
+
+def test_a_remark_on_aspects_changes_no_yes(run: Run, table: Write) -> None:
+    status, out, _ = run("check", table("group,aspect,telegram", *[f"A,{one},{ALONE}" for one in "xyz"],
+                                        *[f"B,{one},{OTHER}" for one in "xy"]))
+    assert status == 0 and out[-3:] == ['look: B has 2 aspects, 1 other has 3: "z" too', "aspects found: "
+                                        "3 in 1 group (A), 2 in 1 (B)", "program: yes: groups 2, messages 0"]
+
+
 @pytest.mark.parametrize("telegram, said, program", [
     ("0" * 86, "it is coded (341 bits in 86 digits): export user bits", "wrong size"),
     ("0" * 256, "it is coded (1023 bits in 256 digits): export user bits", "wrong size"),

@@ -9,7 +9,7 @@ from typing import Any, Dict, Iterator, Optional, TextIO
 
 from balisekit import accepted, accepted_output, checking, explain, files, junit
 from balisekit.accepted import Judged
-from balisekit.aspect_counts import aspects_found, groups_by_aspects
+from balisekit.aspect_counts import aspects_found, fewer_aspects, groups_by_aspects
 from balisekit.checking import Accepted, Checked, LeftOut, Place, Refused, RefusedMessage
 from balisekit.commands import Command, add_input_words, inputs
 from balisekit.errors import NoAnswer
@@ -103,7 +103,8 @@ def lines(checked: Checked, explained: bool = False, by_position: bool = False,
             yield f"    {accepted_output.accepted_words(entry)}"
     if explained:
         yield from _explained(checked)
-    yield aspects_found(checked.table)
+    yield from fewer_aspects(table)
+    yield aspects_found(table)
     yield from accepted_output.closing_lines(judged, last_line(checked)) if judged else (last_line(checked),)
 
 
@@ -169,6 +170,7 @@ def as_json(checked: Checked, judged: Optional[Judged] = None) -> Dict[str, Any]
         "counts": {"telegrams": len(checked.table.rows), "groups": len(checked.table.groups),
                    "aspects": [{"aspects": count, "groups": len(groups)}
                                for count, groups in groups_by_aspects(checked.table)],
+                   "look": list(fewer_aspects(checked.table)),
                    "not_looked_at": checked.not_looked_at,
                    "messages_not_looked_at": checked.messages_not_looked_at},
         "telegrams": [_telegram_json(one) for one in checked.accepted.values()],

@@ -7,7 +7,7 @@ from datetime import datetime, timezone
 from typing import Dict, Iterator, List, Mapping, Optional, Sequence, Tuple
 
 from balisekit import __version__
-from balisekit.aspect_counts import aspects_found
+from balisekit.aspect_counts import aspects_found, fewer_aspects
 from balisekit.check_command import finding_words, last_line
 from balisekit.checking import AcceptedMessage, Checked, Place, RefusedMessage
 from balisekit.canvas import Picture
@@ -74,6 +74,8 @@ class Cover:
     left_out: Tuple[Tuple[str, str], ...]
     aspects: str
     """How many aspects the groups have."""
+    look: Tuple[str, ...]
+    """Which groups have fewer than others."""
     notes: Tuple[str, ...]
 
 
@@ -107,7 +109,7 @@ def cover(checked: Checked) -> Cover:
     papers += [] if program.about else [("version", "not a released program")]
     return Cover(date(), tuple(inputs), tuple(papers), __version__, last_line(checked), checked.status == 0,
                  tuple(refused), tuple((group_words(one.group), clean(one.why)) for one in checked.left_out),
-                 aspects_found(table), tuple(notes))
+                 aspects_found(table), tuple(fewer_aspects(table)), tuple(notes))
 
 
 def told(place: Place, ids: Dict[str, str]) -> Told:
