@@ -63,6 +63,8 @@ def _aspects(name: str, block: List[Row], by_position: bool) -> Tuple[Tuple[Aspe
     _look_at_places(aspects)
     _look_at_nominal(block)
     if not by_position:
+        _look_at_same(aspects, "name")
+        _look_at_same(aspects, "km")
         _look_at_kilometres(aspects)
     return tuple(aspects), notes
 
@@ -163,16 +165,20 @@ def _look_at_nominal(block: List[Row]) -> None:
                              row=row.number, column="nominal")
 
 
-def _look_at_kilometres(aspects: List[Aspect]) -> None:
-    """A balise has one kilometre, and those of a group rise or fall."""
+def _look_at_same(aspects: List[Aspect], column: str) -> None:
+    """A balise has one name and one kilometre in all aspects."""
     for place in range(len(aspects[0].rows)):
-        first = None
-        for aspect in aspects:
-            row = aspect.rows[place]
-            if row.km is not None and first is not None and first.km != row.km:
-                raise TableError(f"{row.km}, and row {first.number}, the same balise, has {first.km}",
-                                 row=row.number, column="km")
-            first = first or (row if row.km is not None else None)
+        rows = [aspect.rows[place] for aspect in aspects if getattr(aspect.rows[place], column) not in ("", None)]
+        for row in rows:
+            here, there = getattr(row, column), getattr(rows[0], column)
+            if here != there:
+                why = "the order of the rows" if row.balise is None else "the column balise"
+                raise TableError(f"{here}, and row {rows[0].number}, the same balise by {why}, has {there}",
+                                 row=row.number, column=column)
+
+
+def _look_at_kilometres(aspects: List[Aspect]) -> None:
+    """The kilometres of a group rise or fall."""
     known = [row for row in aspects[0].rows if row.km is not None]
     steps = [(after.km or 0) - (before.km or 0) for before, after in zip(known, known[1:])]
     if any(step > 0 for step in steps) and any(step < 0 for step in steps):
