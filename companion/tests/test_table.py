@@ -102,8 +102,13 @@ BAD: Sequence[Any] = [
     ([H, f",{ALONE}"], "row 2, column group: no group; fill merged cells"),
     ([H, "A,"], "row 2, column telegram: empty, or a formula"),
     ([H, "A,9.00720E+52"], "row 2, column telegram: a number, not digits: the spreadsheet has changed it"),
-    ([H, f"A,{ALONE}", f"B,{OTHER}", f"A,{OTHER}"],
-     'row 4, column group: group "A" is in row 2 already: put its rows together'),
+    ([H, f"A,{ALONE}", *[f"B,{OTHER}"] * 2, f"A,{OTHER}"],
+     'row 5, column group: group "A" is in row 2 already: put its rows together'),
+    ([H, f"A,{ALONE}", f"b,{OTHER}", f"A,{OTHER}"],
+     'row 3, column group: "b" stands between rows 2, 4 of group "A": is it mistyped?'),
+    (["group,aspect,balise,telegram", f"A,*,0,{FIRST}", f"B,x,1,{SECOND}", "", f"A,y,1,{SECOND}", f"A,z,1,{SECOND}",
+      f"B,*,0,{FIRST}", f"B,x,1,{SECOND}"],
+     'row 3, column group: "B" stands between rows 2, 5 of group "A": is it mistyped?'),
     ([H, *[f"A,{ALONE}"] * 9], 'row 10: group "A" has 9 balises, and at most 8 are possible'),
     (["group,aspect,telegram", f"A,x,{ALONE}", f"A,y,{ALONE}", f"A,y,{ALONE}"],
      'row 2: aspect "x" of group "A" has 1 balise (row 2), and aspect "y" has 2 (rows 3, 4): a row is missing, or one '
@@ -121,6 +126,17 @@ BAD: Sequence[Any] = [
     (["group,aspect,telegram", f"A,x,{ALONE}", f"A,*,{ALONE}", f"A,y,{ALONE}"],
      "row 3: its place differs between aspects: number the balises"),
     (["group,balise,telegram", f"A,1,{ALONE}", f"A,1,{ALONE}"], "row 3, column balise: row 2 has balise 1 too"),
+    (["group,name,telegram", f"A,A1,{ALONE}", f"A,A1,{ALONE}"], 'row 3, column name: row 2 has balise "A1" too'),
+    (["group,aspect,balise,telegram", f"A,*,0,{FIRST}", *[f"A,{one},1,{SECOND}" for one in "xyxz"]],
+     'row 5, column aspect: row 3 has balise 1 of aspect "x" too'),
+    (["group,aspect,name,telegram", f"A,*,A1,{FIRST}", *[f"A,{one},A2,{SECOND}" for one in "xxyz"]],
+     'row 4, column aspect: row 3 has balise "A2" of aspect "x" too'),
+    (["group,aspect,name,telegram", f"A,*,A1,{FIRST}", f"A,*,A1,{SECOND}", f"A,x,A2,{SECOND}", f"A,y,A2,{SECOND}"],
+     'row 3, column aspect: row 2 has balise "A1" of every aspect too'),
+    (["group,aspect,km,telegram", f"A,*,1,{FIRST}", *[f"A,{one},1.003,{SECOND}" for one in "xyyz"]],
+     'row 5, column aspect: row 4 has the balise at km 1.003 of aspect "y" too'),
+    (["group,aspect,km,telegram", f"A,*,1,{FIRST}", *[f"A,{one},1,{SECOND}" for one in "xyyz"]],
+     'row 4: aspect "y" of group "A" has 3 balises (rows 2, 4, 5), and aspect "x" has 2 (rows 2, 3): a row'),
     (["group,balise,telegram", f"A,1,{ALONE}", f"A,,{ALONE}"], "row 3, column balise: empty beside numbered balises"),
     (["group,balise,telegram", f"A,1.5,{ALONE}"], "row 2, column balise: 1.5 is no whole number"),
     (["group,km,telegram", f"A,13.850,{ALONE}", f"A,13.8x,{ALONE}"],
@@ -206,6 +222,25 @@ def test_aspects_that_lack_balises_have_a_line_each(table: Write) -> None:
     assert lines == ['row 3: balise "A2" of group "A" has no telegram for aspect "z" (rows 2, 6)',
                      'row 4: balise "A3" of group "A" has no telegram for aspect "x" (rows 2, 3)',
                      "row 8, column aspect: empty beside named aspects"]
+
+
+def test_rows_of_several_groups_that_stand_apart(table: Write) -> None:
+    """Where no single row is the odd one, each row with which a group goes on is named."""
+    with pytest.raises(TableErrors) as raised:
+        tables.read(str(table(H, *[f"{name},{ALONE}" for name in "ABABCC"])))
+    assert [line.split(": ", 1)[1] for line in raised.value.lines()] == [
+        'row 4, column group: group "A" is in row 2 already: put its rows together',
+        'row 5, column group: group "B" is in row 3 already: put its rows together']
+
+
+def test_each_repeated_row_is_named(table: Write) -> None:
+    with pytest.raises(TableErrors) as raised:
+        tables.read(str(table("group,aspect,name,telegram", f"A,x,A1,{ALONE}", f"A,x,A1,{ALONE}", f"A,x,A1,{ALONE}",
+                              f"B,x,B1,{ALONE}", f"B,y,B1,{ALONE}", f"B,y,B1,{ALONE}")))
+    assert [line.split(": ", 1)[1] for line in raised.value.lines()] == [
+        'row 3, column aspect: row 2 has balise "A1" of aspect "x" too',
+        'row 4, column aspect: row 2 has balise "A1" of aspect "x" too',
+        'row 7, column aspect: row 6 has balise "B1" of aspect "y" too']
 
 
 def test_notes(table: Write) -> None:

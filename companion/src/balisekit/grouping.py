@@ -2,6 +2,8 @@
 from __future__ import annotations
 
 import re
+from collections import Counter
+from itertools import groupby
 from typing import Dict, Iterable, List, Sequence, Tuple
 
 from balisekit.errors import TableError, TableErrors
@@ -10,18 +12,13 @@ from balisekit.model import Aspect, Group, Row
 EVERY = "*"
 """In the column `aspect`: the balise sends this telegram in every aspect."""
 GREATEST_COUNT = 8
+KEYS = {"balise": "balise {}", "name": 'balise "{}"', "km": "the balise at km {}"}
+"""Columns that may tell which balise a row is of, and how it is called by them."""
 
 
 def groups_of(rows: Sequence[Row], by_position: bool = False) -> Tuple[Tuple[Group, ...], Tuple[str, ...]]:
     """The groups of these rows, and notes on names that look alike."""
-    blocks: Dict[str, List[Row]] = {}
-    last, faults = "", []
-    for row in rows:
-        if row.group in blocks and row.group != last:
-            faults.append(TableError(f'group "{row.group}" is in {_rows(blocks[row.group])} already: put its rows '
-                                     "together", row=row.number, column="group"))
-        blocks.setdefault(row.group, []).append(row)
-        last = row.group
+    blocks, faults = _blocks(rows)
     groups, notes = [], _alike(blocks)
     for name, block in blocks.items():
         try:
@@ -33,6 +30,33 @@ def groups_of(rows: Sequence[Row], by_position: bool = False) -> Tuple[Tuple[Gro
     if faults:
         raise TableErrors(faults)
     return tuple(groups), tuple(notes)
+
+
+def _blocks(rows: Sequence[Row]) -> Tuple[Dict[str, List[Row]], List[TableError]]:
+    """The rows of each group that stand together, and faults of those that stand apart.
+
+    A single row between rows of another group is the one at fault, unless the row before or after it is another such.
+    """
+    runs = [list(run) for _, run in groupby(rows, key=lambda row: row.group)]
+    between = {place for place, (before, run, after) in enumerate(zip(runs, runs[1:], runs[2:]), 1)
+               if len(run) == 1 and before[0].group == after[0].group}
+    odd = {place for place in between if not between & {place - 1, place + 1}}
+    blocks: Dict[str, List[Row]] = {}
+    torn, faults = set(), []
+    for place, run in enumerate(runs):
+        name, first = run[0].group, run[0].number
+        if place in odd:
+            around = runs[place - 1][-1], runs[place + 1][0]
+            torn.add(around[0].group)
+            faults.append(TableError(f'"{name}" stands between {_rows(around)} of group "{around[0].group}": is it '
+                                     "mistyped?", first, "group"))
+            continue
+        if name in blocks and place - 1 not in odd:
+            torn.add(name)
+            faults.append(TableError(f'group "{name}" is in {_rows(blocks[name])} already: put its rows together',
+                                     first, "group"))
+        blocks.setdefault(name, []).extend(run)
+    return {name: block for name, block in blocks.items() if name not in torn}, faults
 
 
 def _alike(names: Iterable[str]) -> List[str]:
@@ -53,9 +77,13 @@ def _aspects(name: str, block: List[Row], by_position: bool) -> Tuple[Tuple[Aspe
         empty = next(row for row in block if not row.aspect)
         raise TableError("empty beside named aspects: write * for a telegram that is sent in every aspect",
                          row=empty.number, column="aspect")
+    members = [[row for row in block if row.aspect in (aspect, EVERY)] for aspect in names or [""]]
+    repeated = _repeated(members, "balise") or _repeated(members, "name")
+    if repeated:
+        raise TableErrors(repeated)
     aspects, notes = [], []
-    for aspect in names or [""]:
-        rows, gaps = _order([row for row in block if row.aspect in (aspect, EVERY)])
+    for aspect, some in zip(names or [""], members):
+        rows, gaps = _order(some)
         aspects.append(Aspect(aspect, rows))
         notes += gaps
     _look_at_counts(name, aspects)
@@ -69,6 +97,22 @@ def _aspects(name: str, block: List[Row], by_position: bool) -> Tuple[Tuple[Aspe
     return tuple(aspects), notes
 
 
+def _repeated(members: Sequence[Sequence[Row]], column: str) -> List[TableError]:
+    """A fault for each row of an aspect that is of the same balise as an earlier one by this column."""
+    faults: Dict[int, TableError] = {}
+    for rows in members:
+        firsts: Dict[object, Row] = {}
+        for row in rows:
+            key = getattr(row, column)
+            first = row if key in ("", None) else firsts.setdefault(key, row)
+            if first is not row:
+                aspect = f' of aspect "{first.aspect}"' if first.aspect else ""
+                where = " of every aspect" if first.aspect == EVERY else aspect
+                faults[row.number] = TableError(f"row {first.number} has {KEYS[column].format(key)}{where} too",
+                                                row.number, "aspect" if row.aspect else column)
+    return list(faults.values())
+
+
 def _order(rows: List[Row]) -> Tuple[Tuple[Row, ...], List[str]]:
     """The balises of an aspect by the column `balise`, else by row."""
     unnumbered = [row for row in rows if row.balise is None]
@@ -78,9 +122,6 @@ def _order(rows: List[Row]) -> Tuple[Tuple[Row, ...], List[str]]:
         return tuple(rows), []
     ordered = sorted(rows, key=lambda row: row.balise or 0)
     numbers = [row.balise or 0 for row in ordered]
-    for before, row in zip(ordered, ordered[1:]):
-        if before.balise == row.balise:
-            raise TableError(f"row {before.number} has balise {row.balise} too", row=row.number, column="balise")
     gap = numbers[-1] - numbers[0] + 1 != len(numbers)
     shown = ", ".join(map(str, numbers))
     return tuple(ordered), [f'group "{rows[0].group}": the balises are numbered {shown}'] if gap else []
@@ -93,12 +134,14 @@ def _look_at_counts(name: str, aspects: List[Aspect]) -> None:
             raise TableError(f'group "{name}" has {count} balises, and at most {GREATEST_COUNT} are possible: '
                              "are they of several aspects?", row=aspect.rows[GREATEST_COUNT].number)
     if len({len(aspect.rows) for aspect in aspects}) > 1:
-        raise TableErrors(_lacking(name, aspects) or _uneven(name, aspects))
+        members = [aspect.rows for aspect in aspects]
+        apart = any(len({row.km for row in rows}) == len(rows) > 1 for rows in members)
+        raise TableErrors(_lacking(name, aspects) or apart and _repeated(members, "km") or _uneven(name, aspects))
 
 
 def _lacking(name: str, aspects: List[Aspect]) -> List[TableError]:
     """A fault for each balise that lacks aspects, if the balises of the aspects can be told by a column."""
-    for column, words in (("balise", "balise {}"), ("name", 'balise "{}"'), ("km", "the balise at km {}")):
+    for column, words in KEYS.items():
         keys = [[getattr(row, column) for row in aspect.rows] for aspect in aspects]
         if any({"", None} & set(some) or len(set(some)) < len(some) for some in keys):
             continue
@@ -139,12 +182,14 @@ def _numbered_otherwise(name: str, aspects: List[Aspect]) -> List[str]:
 
 
 def _uneven(name: str, aspects: List[Aspect]) -> List[TableError]:
-    """A fault for each aspect that has fewer balises than another one."""
-    most = max(aspects, key=lambda aspect: len(aspect.rows))
+    """A fault for each aspect that has not as many balises as most have."""
+    sizes = Counter(len(aspect.rows) for aspect in aspects)
+    usual = max(aspects, key=lambda aspect: (sizes[len(aspect.rows)], len(aspect.rows)))
     return [TableError(f'aspect "{one.name}" of group "{name}" has {_balises(one)} ({_rows(one.rows)}), and aspect '
-                       f'"{most.name}" has {len(most.rows)} ({_rows(most.rows)}): a row is missing, or one too many; '
-                       "the column balise or name tells which", row=one.rows[0].number)
-            for one in aspects if len(one.rows) < len(most.rows)]
+                       f'"{usual.name}" has {len(usual.rows)} ({_rows(usual.rows)}): a row is missing, or one too '
+                       "many; the column balise or name tells which",
+                       row=next(row.number for row in one.rows if row.aspect == one.name))
+            for one in aspects if len(one.rows) != len(usual.rows)]
 
 
 def _look_at_places(aspects: List[Aspect]) -> None:
