@@ -14,6 +14,8 @@ EVERY = "*"
 GREATEST_COUNT = 8
 KEYS = {"balise": "balise {}", "name": 'balise "{}"', "km": "the balise at km {}"}
 """Columns that may tell which balise a row is of, and how it is called by them."""
+UNKNOWN = {"", None}
+"""What such a column has if it does not tell."""
 
 
 def groups_of(rows: Sequence[Row], by_position: bool = False) -> Tuple[Tuple[Group, ...], Tuple[str, ...]]:
@@ -104,13 +106,22 @@ def _repeated(members: Sequence[Sequence[Row]], column: str) -> List[TableError]
         firsts: Dict[object, Row] = {}
         for row in rows:
             key = getattr(row, column)
-            first = row if key in ("", None) else firsts.setdefault(key, row)
+            first = row if key in UNKNOWN else firsts.setdefault(key, row)
             if first is not row:
-                aspect = f' of aspect "{first.aspect}"' if first.aspect else ""
-                where = " of every aspect" if first.aspect == EVERY else aspect
-                faults[row.number] = TableError(f"row {first.number} has {KEYS[column].format(key)}{where} too",
-                                                row.number, "aspect" if row.aspect else column)
+                faults[row.number] = _repeated_by(column, first, row)
     return list(faults.values())
+
+
+def _repeated_by(column: str, first: Row, row: Row) -> TableError:
+    """The fault of a row: its aspect is wrong, or this column where balises are apart by the other one."""
+    aspect = f' of aspect "{first.aspect}"' if first.aspect else ""
+    said = f"row {first.number} has {KEYS[column].format(getattr(row, column))}"
+    said += (" of every aspect" if first.aspect == EVERY else aspect) + " too"
+    other = "name" if column == "balise" else "balise"
+    one, two = getattr(first, other), getattr(row, other)
+    apart = one != two and not {one, two} & UNKNOWN
+    said += f", as {KEYS[other].format(one)}" if apart else ""
+    return TableError(said, row.number, "aspect" if row.aspect and not apart else column)
 
 
 def _order(rows: List[Row]) -> Tuple[Tuple[Row, ...], List[str]]:
@@ -143,7 +154,7 @@ def _lacking(name: str, aspects: List[Aspect]) -> List[TableError]:
     """A fault for each balise that lacks aspects, if the balises of the aspects can be told by a column."""
     for column, words in KEYS.items():
         keys = [[getattr(row, column) for row in aspect.rows] for aspect in aspects]
-        if any({"", None} & set(some) or len(set(some)) < len(some) for some in keys):
+        if any(UNKNOWN & set(some) or len(set(some)) < len(some) for some in keys):
             continue
         first = {key: row for aspect, some in zip(reversed(aspects), reversed(keys))
                  for key, row in zip(some, aspect.rows)}
@@ -213,7 +224,7 @@ def _look_at_nominal(block: List[Row]) -> None:
 def _look_at_same(aspects: List[Aspect], column: str) -> None:
     """A balise has one name and one kilometre in all aspects."""
     for place in range(len(aspects[0].rows)):
-        rows = [aspect.rows[place] for aspect in aspects if getattr(aspect.rows[place], column) not in ("", None)]
+        rows = [aspect.rows[place] for aspect in aspects if getattr(aspect.rows[place], column) not in UNKNOWN]
         for row in rows:
             here, there = getattr(row, column), getattr(rows[0], column)
             if here != there:
