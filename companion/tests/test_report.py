@@ -150,6 +150,25 @@ def test_a_gap_has_its_length(tmp_path: Path) -> None:
         assert not any("missing" in title for title in _titles(tmp_path / "a.svg"))
 
 
+def test_one_aspect_of_a_group(tmp_path: Path, capsys: pytest.CaptureFixture[str]) -> None:
+    """The row of this aspect alone, with what the program has found of it; another name is no aspect."""
+    words = ["draw", str(LINE), "--group", "Signal E", "--svg", str(tmp_path / "e.svg"), "--aspect"]
+    for aspect, missing in (("red", 0), ("yellow", 0), ("green", 1)):
+        assert cli.main([*words, aspect]) == 0
+        texts = [one.text for one in ElementTree.parse(tmp_path / "e.svg").iter("{http://www.w3.org/2000/svg}text")]
+        assert [text for text in texts if text and text.startswith("aspect ")] == [f'aspect "{aspect}"']
+        assert sum("F11" in title for title in _titles(tmp_path / "e.svg")) == missing
+    before = (tmp_path / "e.svg").read_bytes()
+    table = str(_table(tmp_path / "t.csv", {"group": "A", "telegram": HEADER}))
+    assert cli.main([*words, "gren"]) == cli.main(["draw", table, *words[2:3], "A", "--aspect", "red"]) == 2
+    assert cli.main(["draw", table, "--message", "1", "--aspect", "red"]) == 2
+    assert capsys.readouterr().err.splitlines() == [
+        'balisekit: group "Signal E" has no aspect "gren": its aspects are "red", "yellow", "green"',
+        'balisekit: group "A" has no aspect "red": what it sends is for every aspect',
+        "balisekit: --aspect is for --group and --track: a message has no aspects"]
+    assert (tmp_path / "e.svg").read_bytes() == before
+
+
 def _profile(direction: int, *elements: Tuple[int, int]) -> Any:
     return {"nid_packet": 27, "q_dir": direction, "q_scale": 1, "elements": [
         {"d_static": distance, "v_static": value, "q_front": 0, "differences": []} for distance, value in elements]}

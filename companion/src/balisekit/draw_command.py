@@ -26,18 +26,20 @@ def add_words(parser: argparse.ArgumentParser) -> None:
     what.add_argument("--message", metavar="LINE", type=int, help="the message in this line of --messages")
     what.add_argument("--track", metavar="NAME", nargs="?", const="",
                       help="a whole track, in strips of 5 km; without NAME the only one, or the one without a name")
-    add_track_words(parser)
+    add_track_words(parser, "; with --group which aspect is drawn alone")
     parser.add_argument("--svg", metavar="FILE", default="-", help="where to write; standard output else")
 
 
 def run(words: argparse.Namespace) -> int:
     """Does it. The answer is the exit status."""
     files.look_at_target(words.svg)
+    if words.message is not None and words.aspect is not None:
+        raise TableError("--aspect is for --group and --track: a message has no aspects")
     program, table, messages = inputs(words)
     if words.track is not None:
         return draw_track(words, program, table)
     if words.group is not None:
-        picture = _group(program, _only(table, words.group), words.by_position)
+        picture = _group(program, _only(table, words.group, words.aspect), words)
     else:
         picture = _message(program, table, _only_message(messages, words.message))
     with files.writing(words.svg) as file:
@@ -46,15 +48,15 @@ def run(words: argparse.Namespace) -> int:
     return 0
 
 
-def _group(program: Program, alone: Table, by_position: bool) -> Picture:
+def _group(program: Program, alone: Table, words: argparse.Namespace) -> Picture:
     """The picture of the group that this table has alone."""
-    checked = checking.check(program, alone, by_position=by_position)
+    checked = checking.check(program, alone, by_position=words.by_position)
     for refused in checked.refused:
         row = refused.row
         raise TableError(f"{balise_words(alone.groups[0], row)}: {telegram_refused(row.telegram, refused.refusal)}: "
                          f"program: {refused.refusal.text}")
     forms = {number: one.form for number, one in checked.accepted.items()}
-    return picture_of(checked.kept[0], forms, [place.finding for place in checked.findings], titled=True)
+    return picture_of(checked.kept[0], forms, [place.finding for place in checked.findings], True, words.aspect)
 
 
 def _message(program: Program, table: Table, alone: Messages) -> Picture:
@@ -83,11 +85,15 @@ def _only_message(messages: Optional[Messages], line: int) -> Messages:
     return replace(messages, messages=found)
 
 
-def _only(table: Table, name: str) -> Table:
-    """The table with this group alone."""
+def _only(table: Table, name: str, aspect: Optional[str]) -> Table:
+    """The table with this group alone, which has the aspect that is asked for."""
     groups = tuple(group for group in table.groups if group.name == name)
     if not groups:
         raise TableError(f"there is no group {quoted(name)} in {table.path}")
+    known = [one.name for one in groups[0].aspects]
+    if aspect is not None and aspect not in known:
+        has = f"its aspects are {', '.join(map(quoted, known))}" if any(known) else "what it sends is for every aspect"
+        raise TableError(f"group {quoted(name)} has no aspect {quoted(aspect)}: {has}")
     wanted = {row.number for row in groups[0].rows()}
     return replace(table, groups=groups, rows=tuple(row for row in table.rows if row.number in wanted))
 

@@ -13,10 +13,16 @@ from balisekit.values import Form
 from balisekit.wording import quoted
 
 
-def picture_of(group: Group, forms: Mapping[int, Form], findings: Sequence[Finding], titled: bool = False) -> Picture:
-    """The picture of a group whose telegrams the program has read. One that stands alone has a title."""
+def picture_of(group: Group, forms: Mapping[int, Form], findings: Sequence[Finding], titled: bool = False,
+               only: Optional[str] = None) -> Picture:
+    """The picture of a group whose telegrams the program has read, in all aspects or only one.
+
+    One that stands alone has a title.
+    """
     contents: List[Content] = []
     for place, aspect in enumerate(group.aspects):
+        if only not in (None, aspect.name):
+            continue
         read = [forms[row.number] for row in aspect.rows]
         title = f"aspect {quoted(aspect.name)}" if aspect.name else "in every aspect"
         contents += _contents(title, read, [one for one in findings if (one.aspect or 0) == place])

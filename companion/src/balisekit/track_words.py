@@ -33,10 +33,10 @@ def add_tolerance(parser: argparse.ArgumentParser) -> None:
                         help="by how much the kilometres of the table may be wrong, beside Q_LOCACC; 0 else")
 
 
-def add_track_words(parser: argparse.ArgumentParser) -> None:
-    """The words that say what is drawn of a track."""
+def add_track_words(parser: argparse.ArgumentParser, group: str = "") -> None:
+    """The words that say what is drawn of a track, and of a group."""
     parser.add_argument("--aspect", metavar="NAME",
-                        help="which aspect of the groups a track shows; without it the first one of each group")
+                        help=f"which aspect of the groups a track shows; without it the first one of each group{group}")
     add_tolerance(parser)
 
 
