@@ -18,6 +18,7 @@ from balisekit.track_drawing import LANES, _km, track_pictures, tracks_of
 from balisekit.track_view import pages
 from cases_of_program import TOP
 from conftest import Run
+from telegrams import ALONE, MESSAGE
 from test_links import group, header, line_with
 
 Write = Callable[..., Path]
@@ -145,7 +146,39 @@ def test_the_example(run: Run, tmp_path: Path) -> None:
     tree = ElementTree.parse(tmp_path / "t.svg")
     titles = [one.text or "" for one in tree.iter(f"{SVG}title")]
     assert any(title.startswith("Signal A links Signal C: 3000 m by D_LINK, nominal") for title in titles)
-    assert len(list(tree.iter(f"{SVG}svg"))) == 5
+    assert len(list(tree.iter(f"{SVG}svg"))) == 6
+
+
+def test_what_was_written(run: Run, table: Write, tmp_path: Path) -> None:
+    """What is refused is marked and named; the file, its groups and what was left out are told."""
+    radio = table(f"{MESSAGE};to train 7", "0304;cut", "03;short", name="messages.txt")
+    words = ["draw", LINE, "--track", "--aspect", "yellow", "--messages", radio]
+    status, out, err = run(*words, "--svg", tmp_path / "t.svg")
+    assert status == 2 and out == [
+        f"written: {tmp_path / 't.svg'}: 9 groups of the track, aspect \"yellow\"",
+        'a mark alone, no aspect "yellow": Infill of D', "a mark alone, refused: Signal F",
+        "left out: 1 message, which --message draws"]
+    assert [line.split(": ")[1] for line in err] == [
+        'row 26  Signal F  km 19.803  aspect "yellow"  balise 1 "F2"', "message of line 2  cut",
+        "message of line 3  short"]
+    tree = ElementTree.parse(tmp_path / "t.svg")
+    texts = [one.text or "" for one in tree.iter(f"{SVG}text")]
+    assert texts[0] == "refused telegrams by row: 26; refused messages by line: 2, 3"
+    assert "\u25b8 Signal F: refused" in texts and sum("refused" in text for text in texts) == 2
+    refused, = [one for one in tree.iter(f"{SVG}path") if one.get("class") == "station refused"]
+    assert str(refused.findtext(f"{SVG}title")).endswith("; refused: row 26")
+    assert run(*words)[2][-4:] == [out[0].replace(str(tmp_path / "t.svg"), "standard output"), *out[1:]]
+
+
+def test_groups_that_are_left_out(run: Run, table: Write) -> None:
+    """By the reason, five names of each. A sound track has no line of what is refused."""
+    rows = [f"G{number},{'' if number > 2 else number},{number // 2 % 2},{'rising' if number else ''},{ALONE}"
+            for number in range(10)]
+    status, _, err = run("draw", table("group,km,track,nominal,telegram", *rows), "--track", "0")
+    assert (status, err) == (0, [
+        'written: standard output: 2 groups of track "0", the first aspect of each',
+        "a mark alone, the direction of its kilometres is not known: G0", "left out, on another track: G2",
+        "left out, no kilometre: G3, G4, G5, G6, G7 and 2 more"])
 
 
 def test_aspects(run: Run, tmp_path: Path) -> None:

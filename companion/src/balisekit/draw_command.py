@@ -37,7 +37,7 @@ def run(words: argparse.Namespace) -> int:
         raise TableError("--aspect is for --group and --track: a message has no aspects")
     program, table, messages = inputs(words)
     if words.track is not None:
-        return draw_track(words, program, table)
+        return draw_track(words, program, table, messages)
     if words.group is not None:
         picture = _group(program, _only(table, words.group, words.aspect), words)
     else:

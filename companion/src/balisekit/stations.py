@@ -32,6 +32,8 @@ class Station:
     rising: Optional[int]
     """1 if the kilometres rise in nominal direction, -1 if they fall."""
     track: str
+    unread: Tuple[int, ...] = ()
+    """The rows whose telegrams the program has not read."""
 
     @property
     def count(self) -> int:
@@ -138,11 +140,12 @@ def line(groups: Sequence[Group], forms: Mapping[int, Form], messages: Sequence[
 
 def _station(number: int, group: Group, forms: Mapping[int, Form]) -> Station:
     read = [forms[row.number] for row in group.rows() if row.number in forms]
+    unread = tuple(sorted({row.number for row in group.rows() if row.number not in forms}))
     where = kilometres(group)
     identity = (read[0]["nid_c"], read[0]["nid_bg"]) if read else None
     linked = bool(read[0]["q_link"]) if read else None
     track = next((row.track for row in group.rows() if row.track), "")
-    return Station(number, group, identity, linked, where.group, where.rising, track)
+    return Station(number, group, identity, linked, where.group, where.rising, track, unread)
 
 
 def _aspects(stations: Sequence[Station], forms: Mapping[int, Form]) -> Iterator[Source]:

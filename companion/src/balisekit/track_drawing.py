@@ -32,6 +32,13 @@ def track_pictures(line: Line, links: Links, track: str, aspect: Optional[str]) 
             yield _picture(page, track, aspect, some, part, number == 0)
 
 
+def note(words: str) -> Picture:
+    """A line above a track, of what is not drawn on it."""
+    sheet = Sheet(0, 1, Kilometres())
+    sheet.text("red", words, 40, 18)
+    return Picture(words, WIDTH, 26, tuple(sheet.shapes))
+
+
 def tracks_of(line: Line) -> List[str]:
     """The tracks that have a group with a kilometre, in the order of the table."""
     return list(dict.fromkeys(station.track for station in line.stations if station.km is not None))
@@ -90,7 +97,7 @@ def _names(sheet: Sheet, stations: Sequence[Station]) -> None:
     for station in stations:
         at = sheet.x(place_of(station))
         sign = {1: "\u25b8", -1: "\u25c2"}.get(station.rising or 0, "\u2022")
-        name = f"{sign} {clean(station.group.name)}"
+        name = f"{sign} {clean(station.group.name)}{': refused' if station.unread else ''}"
         width = len(name) * LETTER + 60
         begin = min(max(at - width // 2, 20), WIDTH * 10 - width)
         row = next((place for place, end in enumerate(rows) if end <= begin), len(rows))
@@ -98,10 +105,11 @@ def _names(sheet: Sheet, stations: Sequence[Station]) -> None:
         identity = "identity not known" if station.identity is None else (
             f"group {station.identity[1]} of country or region {station.identity[0]}")
         title = f"{clean(station.group.name)}, {_km(place_of(station))}, {identity}, balises: {station.count}"
+        title += f"; refused: row {', '.join(map(str, station.unread))}" if station.unread else ""
         y = base + 22 + 13 * row
         sheet.path("leader", "", f"M{tenths(at)} {base + 4}V{y + 2}")
-        sheet.path("station", title, f"M{tenths(at)} {base}l-4 -7h8z")
-        sheet.text("name middle", name, begin + width // 2, y + 11)
+        sheet.path("station refused" if station.unread else "station", title, f"M{tenths(at)} {base}l-4 -7h8z")
+        sheet.text("red middle" if station.unread else "name middle", name, begin + width // 2, y + 11)
     sheet.y = base + 40 + 13 * max(len(rows), 1)
 
 

@@ -13,6 +13,7 @@ from balisekit.geometry import DIRECTIONS, Way, way
 from balisekit.links import Found, Links
 from balisekit.model import Aspect, Row
 from balisekit.stations import Line, Station
+from balisekit.wording import quoted
 
 PAGE = 50_000
 """The length of a page."""
@@ -71,6 +72,16 @@ def chosen(station: Station, aspect: Optional[str]) -> Optional[Aspect]:
     return next((one for one in aspects if one.name == aspect), None)
 
 
+def undrawn(station: Station, aspect: Optional[str]) -> str:
+    """Why a group is a mark alone, and nothing where what it says can be drawn."""
+    one = chosen(station, aspect)
+    if one is None:
+        return f"no aspect {quoted(aspect or '')}"
+    if station.rising is None:
+        return "the direction of its kilometres is not known"
+    return "refused" if any(row.number in station.unread for row in one.rows) else ""
+
+
 def pages(line: Line, links: Links, track: str, aspect: Optional[str]) -> List[Page]:
     """The pages of a track on which there is anything."""
     stations = line.along.get(track, ())
@@ -100,7 +111,7 @@ def _bands(line: Line, stations: Sequence[Station], aspect: Optional[str]) -> It
     """The groups whose direction is known and that have an authority or a profile."""
     for station in stations:
         one = chosen(station, aspect)
-        if one is None or station.rising is None or any(row.number not in line.forms for row in one.rows):
+        if one is None or undrawn(station, aspect):
             continue
         forms = [line.forms[row.number] for row in one.rows]
         ways = tuple(way(forms, direction) for direction in DIRECTIONS)

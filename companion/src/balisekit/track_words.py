@@ -6,18 +6,23 @@ import re
 import sys
 from decimal import Decimal
 from itertools import accumulate
-from typing import Optional
+from typing import Dict, Iterable, Iterator, List, Optional
 
 from balisekit import checking, files
 from balisekit.canvas import WIDTH
+from balisekit.checking import Checked
 from balisekit.errors import TableError
 from balisekit.links import wrong_distances
-from balisekit.model import Table
+from balisekit.model import Messages, Table
 from balisekit.pages import pieces, style
 from balisekit.program import Program
-from balisekit.stations import line_of
-from balisekit.track_drawing import track_pictures, tracks_of
-from balisekit.wording import balise_words, clean, quoted, telegram_refused
+from balisekit.stations import Line, line_of
+from balisekit.track_drawing import note, track_pictures, tracks_of
+from balisekit.track_view import undrawn
+from balisekit.wording import balise_words, clean, message_refused, message_words, quoted, telegram_refused
+
+NAMED = 5
+"""So many groups, rows or lines are named."""
 
 
 def tolerance(text: str) -> Decimal:
@@ -46,9 +51,9 @@ def look_at_aspect(table: Table, aspect: Optional[str]) -> None:
         raise TableError(f"there is no aspect {quoted(aspect)} in {table.path}")
 
 
-def draw_track(words: argparse.Namespace, program: Program, table: Table) -> int:
-    """Draws a track. A refused telegram is named, and the rest is drawn."""
-    checked = checking.check(program, table, by_position=words.by_position)
+def draw_track(words: argparse.Namespace, program: Program, table: Table, messages: Optional[Messages]) -> int:
+    """Draws a track. What is refused is named, and the rest is drawn."""
+    checked = checking.check(program, table, messages, words.by_position)
     line = line_of(checked)
     known = tracks_of(line)
     track = known[0] if not words.track and len(known) == 1 else words.track
@@ -57,15 +62,61 @@ def draw_track(words: argparse.Namespace, program: Program, table: Table) -> int
                          f"{', '.join(map(quoted, known)) or 'no group has a kilometre'}")
     look_at_aspect(table, words.aspect)
     pictures = list(track_pictures(line, wrong_distances(line, words.tolerance), track, words.aspect))
+    pictures[:0] = [] if checked.whole else [note(_refused(checked))]
     tops = list(accumulate([0, *(one.height for one in pictures)]))
     page = pieces("track.svg", title=f"track {clean(track)}" if track else "the track", width=WIDTH, height=tops[-1],
                   pictures=list(zip(tops, pictures)), style=style("picture.css") + style("track.css"))
     with files.writing(words.svg) as file:
         for piece in page:
             file.write(piece.encode("utf-8"))
-    groups = {row.number: group for group in table.groups for row in group.rows()}
+    for said in refusals(checked):
+        print(f"balisekit: {said}", file=sys.stderr)
+    for said in _written(line, track, words, len(checked.accepted_messages)):
+        print(said, file=sys.stderr if words.svg == "-" else sys.stdout)
+    return 0 if checked.whole else 2
+
+
+def refusals(checked: Checked) -> Iterator[str]:
+    """A line for each refused telegram and message, and for what was not looked at."""
+    groups = {row.number: group for group in checked.table.groups for row in group.rows()}
     for one in checked.refused:
         said = telegram_refused(one.row.telegram, one.refusal)
-        print(f"balisekit: {balise_words(groups.get(one.row.number), one.row)}: {said}: program: {one.refusal.text}",
-              file=sys.stderr)
-    return 0 if checked.whole else 2
+        yield f"{balise_words(groups.get(one.row.number), one.row)}: {said}: program: {one.refusal.text}"
+    for bad in checked.refused_messages:
+        said = message_refused(bad.message.text, bad.refusal)
+        yield f"message of {message_words(bad.message)}: {said}: program: {bad.refusal.text}"
+    if checked.not_looked_at or checked.messages_not_looked_at:
+        yield f"{checked.not_looked_at} rows and {checked.messages_not_looked_at} messages not looked at"
+
+
+def _refused(checked: Checked) -> str:
+    """Which telegrams and messages are refused."""
+    parts = [("telegrams by row", [one.row.number for one in checked.refused]),
+             ("messages by line", [one.message.number for one in checked.refused_messages])]
+    return "; ".join(f"refused {what}: {_some(map(str, numbers))}" for what, numbers in parts if numbers)
+
+
+def _some(names: Iterable[str]) -> str:
+    """The first of these names, and how many more there are."""
+    known = list(names)
+    return ", ".join(known[:NAMED]) + (f" and {len(known) - NAMED} more" if len(known) > NAMED else "")
+
+
+def _written(line: Line, track: str, words: argparse.Namespace, messages: int) -> Iterator[str]:
+    """What the picture has, and what it has not: groups by the reason, and messages."""
+    reasons: Dict[str, List[str]] = {}
+    drawn = line.along[track]
+    for station in line.stations:
+        if station.km is None or station.track != track:
+            why = "left out, no kilometre" if station.km is None else "left out, on another track"
+        else:
+            lacks = undrawn(station, words.aspect)
+            why = f"a mark alone, {lacks}" if lacks else ""
+        reasons.setdefault(why, []).append(clean(station.group.name))
+    shown = "the first aspect of each" if words.aspect is None else f"aspect {quoted(words.aspect)}"
+    where = "standard output" if words.svg == "-" else clean(words.svg)
+    yield (f"written: {where}: {len(drawn)} group{'s' if len(drawn) > 1 else ''} of "
+           f"{f'track {quoted(track)}' if track else 'the track'}, {shown}")
+    yield from (f"{why}: {_some(names)}" for why, names in reasons.items() if why)
+    if messages:
+        yield f"left out: {messages} message{'s' if messages > 1 else ''}, which --message draws"
