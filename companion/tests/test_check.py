@@ -1,6 +1,7 @@
 """`balisekit check` from outside: what it says, its statuses, and that no yes is said of a part."""
 from __future__ import annotations
 
+import html
 import json
 import os
 import subprocess
@@ -242,6 +243,19 @@ def test_a_killed_program(run: Run, table: Write, tmp_path: Path) -> None:
 def test_columns_that_are_passed_over_are_listed(run: Run, table: Write) -> None:
     _, out, _ = run("check", table("group,telegram,Remark,a\x1bb", f"A,{ALONE},x,y"))
     assert out[1] == "columns passed over: Remark, a\\x1bb"
+
+
+def test_a_heading_that_may_be_mistyped(run: Run, table: Write, tmp_path: Path) -> None:
+    """It is passed over, and asked for. One that the table has besides was not meant."""
+    path = table("group,telegram,Aspct,nominl,ballise,KMs,trak,names,Remark,Telegrams", f"A,{ALONE},a,b,c,d,e,f,g,h")
+    said = ('columns passed over: Aspct (did you mean "aspect"?), nominl (did you mean "nominal"?), ballise (did you '
+            'mean "balise"?), KMs (did you mean "km"?), trak (did you mean "track"?), names (did you mean "name"?), '
+            "Remark, Telegrams")
+    assert run("check", path, "--json", tmp_path / "out.json")[1][1] == said
+    assert json.loads((tmp_path / "out.json").read_text())["table"]["passed_over"][:2] == ["Aspct", "nominl"]
+    pytest.importorskip("jinja2")
+    run("report", path, "--html", tmp_path / "r.html")
+    assert said in html.unescape((tmp_path / "r.html").read_text())
 
 
 def test_a_traceback_is_for_debug_alone(run: Run, table: Write, monkeypatch: pytest.MonkeyPatch) -> None:

@@ -95,7 +95,10 @@ H = "group,telegram"
 BAD: Sequence[Any] = [
     ([], "row 1: it is empty"),
     (["", H], "row 1: it is empty"),
-    ([f"A,{ALONE}"], "row 1: no column group and no column telegram: the headings are a, a1007f"),
+    ([f"A,{ALONE}"], "row 1: there is no heading, as the first row has a telegram: put a row with the names of the "
+                     "columns above it, of which group and telegram are needed"),
+    ([f"A;A1;{ALONE.upper()}", f"A;A2;{ALONE}"], "row 1: there is no heading, as the first row has a telegram"),
+    (["Signal,Text", f"A,{ALONE}"], "row 1: no column group and no column telegram: the headings are signal, text"),
     (["group,name", "A,B"], "row 1: no column telegram: the headings are group, name"),
     (["group,telegram,Group", f"A,{ALONE},B"], "row 1: the heading group stands twice, in columns 1 and 3"),
     ([H], "the table has no row but its heading"),

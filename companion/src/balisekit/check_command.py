@@ -14,7 +14,7 @@ from balisekit.checking import Accepted, Checked, LeftOut, Place, Refused, Refus
 from balisekit.commands import Command, add_input_words, inputs
 from balisekit.errors import NoAnswer
 from balisekit.model import Group, Row
-from balisekit.wording import (balise_words, clean, group_words, message_refused, message_words,
+from balisekit.wording import (balise_words, clean, group_words, message_refused, message_words, passed_over,
                                telegram_refused)
 
 
@@ -79,8 +79,7 @@ def lines(checked: Checked, explained: bool = False, by_position: bool = False,
     """The answer in words. The last line is the program's, or says that the answer is not whole."""
     table = checked.table
     yield f"{clean(table.path)}: {len(table.rows)} telegrams of {len(table.groups)} groups"
-    if table.passed_over:
-        yield f"columns passed over: {', '.join(clean(name) for name in table.passed_over)}"
+    yield from passed_over(table)
     if by_position:
         yield "balises are ordered by N_PIG, as --by-position says"
     yield from (f"note: {clean(note)}" for note in table.notes)

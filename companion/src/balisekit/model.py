@@ -66,6 +66,8 @@ class Table:
     groups: Tuple[Group, ...]
     notes: Tuple[str, ...] = ()
     """What the user should know of how the table was read."""
+    meant: Tuple[str, ...] = ()
+    """Of each heading that is passed over: the one for which it may have been mistyped, or nothing."""
 
 
 @dataclass(frozen=True)

@@ -20,7 +20,8 @@ from balisekit.places import Here, Identities
 from balisekit.show_command import places_of_rows
 from balisekit.showing import text
 from balisekit.values import Form
-from balisekit.wording import (balise_words, clean, group_words, message_refused, message_words, telegram_refused)
+from balisekit.wording import (balise_words, clean, group_words, message_refused, message_words, passed_over,
+                               telegram_refused)
 
 
 @dataclass(frozen=True)
@@ -100,7 +101,7 @@ def cover(checked: Checked) -> Cover:
     refused += [(f"message of {message_words(one.message)}: {message_refused(one.message.text, one.refusal)}",
                  one.refusal.text, f"m{one.message.number}") for one in checked.refused_messages]
     notes = [clean(note) for note in table.notes]
-    notes += [f"columns passed over: {', '.join(map(clean, table.passed_over))}"] if table.passed_over else []
+    notes += passed_over(table)
     notes += [f"{checked.not_looked_at} rows were not looked at"] if checked.not_looked_at else []
     some = checked.messages_not_looked_at
     notes += [f"{some} messages were not looked at"] if some else []

@@ -3,7 +3,8 @@ from __future__ import annotations
 
 import re
 from decimal import Decimal
-from typing import Callable, Dict, List, Optional, Tuple, TypeVar
+from difflib import get_close_matches
+from typing import Callable, Dict, List, Mapping, Optional, Sequence, Tuple, TypeVar
 
 from balisekit import csv_file, files, xlsx_file
 from balisekit.cells import COLUMNS, NEEDED, Sheet, digits, headings
@@ -14,6 +15,9 @@ from balisekit.model import Row, Table
 KM = re.compile(r"(?P<whole>-?[0-9]{1,4})(?:[.,](?P<part>[0-9]{1,6}))?")
 KM_PLUS = re.compile(r"(?P<whole>[0-9]{1,4})\+(?P<part>[0-9]{3})(?:[.,](?P<more>[0-9]{1,3}))?")
 SCIENTIFIC = re.compile(r"[0-9]+[.,][0-9]+[eE]\+?[0-9]+|[0-9][eE]\+[0-9]+")
+TELEGRAM = re.compile("[0-9A-Fa-f]{20,}")
+ALIKE = 0.75
+"""How much of a heading that is passed over has to be as in a known one to be taken for it."""
 GREATEST_NAME = 1000
 """So many characters a cell may have that is no telegram."""
 Read = TypeVar("Read")
@@ -34,8 +38,9 @@ def read(path: str, sheet: Optional[str] = None, by_position: bool = False) -> T
         for fault in error.faults if isinstance(error, TableErrors) else [error]:
             fault.path = path
         raise
-    return Table(path, file.sha256, cells.encoding, cells.separator, _passed_over(cells), rows, groups,
-                 (*cells.notes, *notes))
+    passed_over = _passed_over(cells)
+    return Table(path, file.sha256, cells.encoding, cells.separator, passed_over, rows, groups,
+                 (*cells.notes, *notes), tuple(_meant(name, places) for name in passed_over))
 
 
 def _places(sheet: Sheet) -> Dict[str, int]:
@@ -49,11 +54,25 @@ def _places(sheet: Sheet) -> Dict[str, int]:
             second = heading.index(name, first) + 1
             raise TableError(f"the heading {name} stands twice, in columns {first} and {second}", row=1)
     missing = [name for name in NEEDED if name not in heading]
+    if missing and _is_data(sheet.rows[0]):
+        raise TableError("there is no heading, as the first row has a telegram: put a row with the names of the "
+                         f"columns above it, of which {' and '.join(NEEDED)} are needed", row=1)
     if missing:
         found = ", ".join(name for name in heading if name)
         lacks = " and no column ".join(missing)
         raise TableError(f"no column {lacks}: the headings are {found[:GREATEST_NAME]}", row=1)
     return {name: heading.index(name) for name in COLUMNS if name in heading}
+
+
+def _is_data(row: Sequence[str]) -> bool:
+    """Whether a row that should be the heading has a telegram in it, whatever stands between its cells."""
+    return any(TELEGRAM.fullmatch(digits(part)) for cell in row for part in re.split("[,;\t]", cell))
+
+
+def _meant(heading: str, places: Mapping[str, int]) -> str:
+    """The column that the table has not and that this heading resembles, or nothing."""
+    lacks = [name for name in COLUMNS if name not in places]
+    return "".join(get_close_matches(heading.lower(), lacks, 1, ALIKE))
 
 
 def _passed_over(sheet: Sheet) -> Tuple[str, ...]:

@@ -6,7 +6,7 @@ from typing import Callable, Dict, List, Optional, Sequence
 
 from balisekit.grammar import Refusal
 from balisekit.layout import Field, bits_of, message_fields, telegram_fields, user_bits
-from balisekit.model import Group, Message, Row
+from balisekit.model import Group, Message, Row, Table
 
 UNSAFE = re.compile(
     "[\x00-\x1f\x7f-\x9f\u200e\u200f\u2028\u2029\u202a-\u202e\u2066-\u2069\ufeff\ufffe\uffff\ud800-\udfff]")
@@ -23,6 +23,13 @@ def clean(text: str) -> str:
 def quoted(text: str) -> str:
     """A name in quotes."""
     return f'"{clean(text)}"'
+
+
+def passed_over(table: Table) -> List[str]:
+    """A line on the columns that say nothing here, if there are any."""
+    names = [clean(name) + (f" (did you mean {quoted(meant)}?)" if meant else "")
+             for name, meant in zip(table.passed_over, table.meant)]
+    return [f"columns passed over: {', '.join(names)}"] if names else []
 
 
 def balise_words(group: Optional[Group], row: Row) -> str:
