@@ -4,6 +4,7 @@ from __future__ import annotations
 import csv
 import io
 import json
+import re
 from pathlib import Path
 from typing import Any, Callable, Dict, List
 
@@ -235,16 +236,29 @@ def test_a_controlled_pair_has_no_reason(run: Run, table: Write, tmp_path: Path,
     assert [(row["rule"], row["reason"]) for row in rows] == [("F16", ""), ("F16", "")]
 
 
-def test_formulas_are_never_written_as_such(run: Run, table: Write, tmp_path: Path) -> None:
+@pytest.mark.parametrize("begin", csv_writing.FORMULAS[:4])
+def test_formulas_are_never_written_as_such(run: Run, table: Write, tmp_path: Path, begin: str) -> None:
+    """Names that begin as a formula, of an aspect and of a message, and whoever signs; read again they are the same."""
     text = (TOP / "examples" / "check" / "packet-not-modelled.json").read_text("utf-8")
     telegram = json.loads(text)["groups"][0]["balises"][0]
-    file = tmp_path / "accepted.csv"
-    path = table("group,aspect,telegram", f"A,=1+1,{telegram}")
-    run("check", path, "--propose", file)
-    assert ",'=1+1," in file.read_text("utf-8")
-    file.write_text(file.read_text("utf-8").replace(",,2026", ",@J,2026"), "utf-8")
-    status, out, _ = run("check", path, "--accepted", file)
-    assert status == 0 and any("(@J, 2026-05-28)" in line for line in out)
+    file, radio = tmp_path / "accepted.csv", table(f"{MESSAGE};{begin}2+3", name="m.txt")
+    words = ["check", table("group,aspect,telegram", f"A,{begin}1+1,{telegram}"), "--messages", radio]
+    run(*words, "--propose", file)
+    rows = list(csv.reader(io.StringIO(file.read_text("utf-8"))))
+    assert [(row[4], row[3]) for row in rows[1:]] == [(f"'{begin}1+1", ""), *[("", f"'{begin}2+3")] * 2]
+    assert not any(cell.startswith(csv_writing.FORMULAS) for row in rows for cell in row)
+    signed = [[*[csv_writing.plain(cell) for cell in row[:9]], f"{begin}J", *row[10:]] for row in rows[1:]]
+    signed = [[*row[:8], row[8] or "looked at", *row[9:]] for row in signed]
+    file.write_text(csv_writing.text(rows[0], signed), "utf-8")
+    status, out, _ = run(*words, "--accepted", file)
+    assert status == 0 and sum(f"({begin}J, 2026-05-28)" in line for line in out) == 3
+
+
+def test_csv_is_written_in_one_place() -> None:
+    """Nothing else in the package makes a CSV file, so that each cell of one is made safe."""
+    package = TOP / "companion" / "src" / "balisekit"
+    assert [path.name for path in sorted(package.glob("*.py"))
+            if re.search(r"csv\.(writer|DictWriter)", path.read_text("utf-8"))] == ["csv_writing.py"]
 
 
 def test_cells_come_back() -> None:

@@ -18,7 +18,7 @@ LINE = TOP / "examples" / "table" / "line.csv"
 PICTURES = Path(__file__).with_name("pictures")
 
 
-def _browse(room: Path, page: Path, *words: str) -> "subprocess.CompletedProcess[str]":
+def browse(room: Path, page: Path, *words: str) -> "subprocess.CompletedProcess[str]":
     """Opens the page in a profile of its own, without a network."""
     command: List[str] = [
         str(CHROMIUM), "--headless", "--no-sandbox", "--disable-gpu", "--disable-dev-shm-usage",
@@ -37,7 +37,7 @@ def page(tmp_path_factory: pytest.TempPathFactory) -> Path:
 
 def test_the_console_is_empty(page: Path, tmp_path: Path) -> None:
     """No error, and no style or script that the page's policy refuses; the page is there as a whole."""
-    run = _browse(tmp_path, page, "--dump-dom")
+    run = browse(tmp_path, page, "--dump-dom")
     assert "CONSOLE" not in run.stderr
     assert "Report on balise telegrams" in run.stdout and run.stdout.count("<section") == 9
 
@@ -46,15 +46,15 @@ def test_a_wrong_page_is_reported(page: Path, tmp_path: Path) -> None:
     """The console is looked at: a script that the policy refuses stands there."""
     wrong = tmp_path / "wrong.html"
     wrong.write_text(page.read_text("utf-8").replace("<h1>", "<script>1</script><h1>"), "utf-8")
-    assert "CONSOLE" in _browse(tmp_path, wrong, "--dump-dom").stderr
+    assert "CONSOLE" in browse(tmp_path, wrong, "--dump-dom").stderr
 
 
 def test_a_screenshot_and_a_print(page: Path, tmp_path: Path) -> None:
     """The window is not empty, and the print has pages of A4 with the telegrams."""
     picture, printed = tmp_path / "page.png", tmp_path / "page.pdf"
-    _browse(tmp_path, page, "--window-size=1100,1400", f"--screenshot={picture}")
+    browse(tmp_path, page, "--window-size=1100,1400", f"--screenshot={picture}")
     assert picture.stat().st_size > 50_000
-    _browse(tmp_path, page, "--no-pdf-header-footer", f"--print-to-pdf={printed}")
+    browse(tmp_path, page, "--no-pdf-header-footer", f"--print-to-pdf={printed}")
     pages = len(re.findall(rb"/Type ?/Page\b", printed.read_bytes()))
     assert pages > 5
 

@@ -21,6 +21,7 @@ from balisekit import checking
 from balisekit.program import Program
 from cases_of_program import TOP
 from telegrams import ALONE, SPARE
+from test_browser import CHROMIUM, browse
 
 Write = Callable[..., Path]
 GROUPS = 1000
@@ -38,13 +39,17 @@ def _words(program: Program, *words: object) -> List[str]:
     return [sys.executable, str(TOP / "balisekit"), *map(str, words), "--program", program.path]
 
 
+def _spent() -> float:
+    """The processor's time of all processes that were waited for, in seconds."""
+    used = resource.getrusage(resource.RUSAGE_CHILDREN)
+    return used.ru_utime + used.ru_stime
+
+
 def _timed(command: List[str]) -> Tuple[int, List[str], float]:
     """The status, the lines of standard output, and the processor's time in seconds."""
-    before = resource.getrusage(resource.RUSAGE_CHILDREN)
+    before = _spent()
     done = subprocess.run(command, stdout=subprocess.PIPE, check=False)
-    after = resource.getrusage(resource.RUSAGE_CHILDREN)
-    seconds = after.ru_utime + after.ru_stime - before.ru_utime - before.ru_stime
-    return done.returncode, done.stdout.decode().splitlines(), seconds
+    return done.returncode, done.stdout.decode().splitlines(), _spent() - before
 
 
 @pytest.fixture(scope="module")
@@ -65,13 +70,31 @@ def great(tmp_path_factory: pytest.TempPathFactory, program: Program) -> Path:
     return path
 
 
-def test_a_report_of_1000_groups(great: Path, program: Program, tmp_path: Path) -> None:
+@pytest.fixture(scope="module")
+def reported(great: Path, program: Program) -> Tuple[Path, int, List[str], float]:
+    """The report on it: the page, the status, what was said, and the processor's time."""
+    page = great.with_name("report.html")
+    return (page, *_timed(_words(program, "report", great, "--html", page)))
+
+
+def test_a_report_of_1000_groups(reported: Tuple[Path, int, List[str], float]) -> None:
     """In less than 20 seconds, with a picture for each group."""
-    page = tmp_path / "report.html"
-    status, out, seconds = _timed(_words(program, "report", great, "--html", page))
+    page, status, out, seconds = reported
     assert status == 1 and out[-1].startswith("program: no: findings ")
     assert page.read_text("utf-8").count('<svg class="picture"') == GROUPS
     assert seconds < 20
+
+
+@pytest.mark.skipif(CHROMIUM is None, reason="there is no chromium (Debian: chromium)")
+def test_a_browser_opens_a_report_of_1000_groups(reported: Tuple[Path, int, List[str], float], tmp_path: Path) -> None:
+    """Without a pause: in less than 10 seconds. It lays out what is seen; all of the page takes three times as long.
+
+    The browser is one process here, as the others of it are not waited for and would not be counted.
+    """
+    picture, before = tmp_path / "page.png", _spent()
+    browse(tmp_path, reported[0], "--single-process", "--window-size=1100,1400", f"--screenshot={picture}")
+    assert picture.stat().st_size > 50_000
+    assert _spent() - before < 10
 
 
 def test_100000_rows_with_1000_bad_ones(table: Write, program: Program) -> None:
