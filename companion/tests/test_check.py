@@ -144,12 +144,25 @@ def test_refusals_in_sentences(run: Run, table: Write, telegram: str, said: str,
     assert status == 2 and out[1].startswith(f"row 2  A  balise 0: {said}") and out[2] == f"    program: {program}"
 
 
+def test_a_cell_of_100000_characters(run: Run, table: Write) -> None:
+    """As a telegram it is the program's to refuse; of a heading that is passed over the beginning is shown."""
+    path = table(f"group,telegram,{'x' * 100_000}", f"A,{'a' * 100_000},x")
+    status, out, _ = run("check", path)
+    assert status == 2 and out[1] == f"columns passed over: {'x' * 1000}"
+    assert out[2:4] == ["row 2  A  balise 0: it has 100000 digits: a short telegram has 54, a long one 208",
+                        "    program: wrong size"]
+
+
 @pytest.mark.parametrize("name, shown", [
     ("<script>alert(1)</script>", "<script>alert(1)</script>"), ("a & 'b'", "a & 'b'"), ("=1+1", "=1+1"),
     ("a\x1b[2Jb", "a\\x1b[2Jb"), ("a\u202eb", "a\\u202eb"), ("\ufeffx", "\\ufeffx")])
 def test_names_are_safe_to_show(run: Run, table: Write, name: str, shown: str) -> None:
-    _, out, _ = run("check", table("group,telegram", f"{name},{SPARE}"))
-    assert out[1].startswith(f"row 2  {shown}  balise 0: ")
+    path = table("group,name,aspect,track,km,telegram", f"{name},{name},{name},{name},1,{SPARE}")
+    words = f'row 2  {shown}  km 1.000  track {shown}  aspect "{shown}"  balise 0 "{shown}": M_DUP is 3, which is spare'
+    for command in (["check"], ["show"], ["links"], ["draw", "--group", name], ["draw", "--track"]):
+        _, out, err = run(command[0], path, *command[1:])
+        assert any(words in line for line in [*out, *err]), command
+        assert not {"\x1b", "\u202e", "\ufeff"} & set("".join([*out, *err]))
 
 
 def test_json_has_all_of_the_answer(run: Run, table: Write, tmp_path: Path) -> None:
@@ -224,9 +237,12 @@ def test_nothing_half_written(run: Run, table: Write, tmp_path: Path) -> None:
     assert sorted(path.name for path in tmp_path.iterdir()) == ["table.csv"]
 
 
-def test_no_program(run: Run, table: Write) -> None:
-    status, out, err = run("check", table(*SOUND), "--program", "/bin/false")
-    assert (status, out, err) == (3, [], ["balisekit: /bin/false is not the program that this version knows"])
+@pytest.mark.parametrize("path, said", [
+    ("/bin/false", "/bin/false is not the program that this version knows"),
+    ("/none", "there is no program /none"), ("/tmp", "there is no program /tmp"),
+    ("/etc/passwd", "there is no program /etc/passwd")])
+def test_no_program(run: Run, table: Write, path: str, said: str) -> None:
+    assert run("check", table(*SOUND), "--program", path) == (3, [], [f"balisekit: {said}"])
 
 
 def test_a_killed_program(run: Run, table: Write, tmp_path: Path) -> None:

@@ -19,7 +19,7 @@ TELEGRAM = re.compile("[0-9A-Fa-f]{20,}")
 ALIKE = 0.75
 """How much of a heading that is passed over has to be as in a known one to be taken for it."""
 GREATEST_NAME = 1000
-"""So many characters a cell may have that is no telegram."""
+"""So many characters a cell may have that is no telegram, and are shown of a heading."""
 Read = TypeVar("Read")
 
 
@@ -81,7 +81,7 @@ def _passed_over(sheet: Sheet) -> Tuple[str, ...]:
     for column, cell in enumerate(sheet.rows[0]):
         if cell.strip().lower() not in COLUMNS:
             used = any(row[column].strip() for row in sheet.rows if column < len(row))
-            names += [cell.strip() or f"column {column + 1}"] if used else []
+            names += [cell.strip()[:GREATEST_NAME] or f"column {column + 1}"] if used else []
     return tuple(names)
 
 
