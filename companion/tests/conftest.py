@@ -1,6 +1,7 @@
 """What the tests share: the program, rooms with tables, and runs of the command line."""
 from __future__ import annotations
 
+from importlib.util import find_spec
 from pathlib import Path
 from typing import Callable, List, Tuple
 
@@ -15,6 +16,10 @@ try:
     settings.load_profile("gate")
 except ImportError:
     pass
+
+PAGES = ["test_browser.py", "test_report.py", "test_track.py"]
+"""The tests of pages and pictures, which need jinja2."""
+collect_ignore = [] if find_spec("jinja2") else PAGES
 
 Answer = Tuple[int, List[str], List[str]]
 """A status, and the lines of standard output and standard error."""

@@ -159,7 +159,7 @@ def test_a_cell_of_100000_characters(run: Run, table: Write) -> None:
 def test_names_are_safe_to_show(run: Run, table: Write, name: str, shown: str) -> None:
     path = table("group,name,aspect,track,km,telegram", f"{name},{name},{name},{name},1,{SPARE}")
     words = f'row 2  {shown}  km 1.000  track {shown}  aspect "{shown}"  balise 0 "{shown}": M_DUP is 3, which is spare'
-    for command in (["check"], ["show"], ["links"], ["draw", "--group", name], ["draw", "--track"]):
+    for command in (["check"], ["show"], ["links"], ["draw", "--group", name]):
         _, out, err = run(command[0], path, *command[1:])
         assert any(words in line for line in [*out, *err]), command
         assert not {"\x1b", "\u202e", "\ufeff"} & set("".join([*out, *err]))

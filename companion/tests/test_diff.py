@@ -273,6 +273,7 @@ def test_files_that_cannot_be_read_or_written(run: Run, tmp_path: Path) -> None:
 
 def test_the_page(run: Run, table: Write, tmp_path: Path) -> None:
     """It has all that was said, needs no network, and makes no tag of a name; a browser has nothing to say of it."""
+    pytest.importorskip("jinja2")
     name = "<script>alert(1)</script>&\"'\u202e"
     text = (LINKS / "distance-differs.csv").read_text("utf-8")
     rows = [line.split(",") for line in text.splitlines()]

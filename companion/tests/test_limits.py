@@ -73,6 +73,7 @@ def great(tmp_path_factory: pytest.TempPathFactory, program: Program) -> Path:
 @pytest.fixture(scope="module")
 def reported(great: Path, program: Program) -> Tuple[Path, int, List[str], float]:
     """The report on it: the page, the status, what was said, and the processor's time."""
+    pytest.importorskip("jinja2")
     page = great.with_name("report.html")
     return (page, *_timed(_words(program, "report", great, "--html", page)))
 
@@ -143,6 +144,7 @@ def test_an_interrupt_while_the_program_runs(words: List[str], table: Write, tmp
 
 def test_an_interrupt_while_a_file_is_written(great: Path, program: Program, tmp_path: Path) -> None:
     """What was there before stays as it was, and nothing is left beside it."""
+    pytest.importorskip("jinja2")
     (tmp_path / "report.html").write_text("before")
     command = _words(program, "report", great, "--html", tmp_path / "report.html")
     assert _interrupted(command, lambda: len(os.listdir(tmp_path)) > 1) == (3, b"balisekit: interrupted\n")

@@ -211,7 +211,8 @@ def test_names_do_no_harm(run: Run, table: Write, tmp_path: Path) -> None:
     named = csv_writing.text([*rows[0], "track"], [[name if row[0] == "A" else row[0], *row[1:], name]
                                                    for row in rows[1:]])
     path = table(content=named.encode())
-    assert run("draw", path, "--track", "--svg", tmp_path / "t.svg")[0] == 0
+    status, out, _ = run("draw", path, "--track", "--svg", tmp_path / "t.svg")
+    assert status == 0 and out[0].endswith("4 groups of track \"<script>&\"'\\u202e\", the first aspect of each")
     tags = {one.tag.split("}")[1] for one in ElementTree.parse(tmp_path / "t.svg").iter()}
     assert tags <= {"svg", "title", "style", "defs", "pattern", "rect", "path", "circle", "text"}
     run("report", path, "--html", tmp_path / "r.html")
