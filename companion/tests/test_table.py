@@ -244,6 +244,14 @@ def test_rows_of_several_groups_that_stand_apart(table: Write) -> None:
         'row 5, column group: group "B" is in row 3 already: put its rows together']
 
 
+def test_a_mistyped_heading_before_the_faults_that_it_makes(table: Write) -> None:
+    with pytest.raises(TableErrors) as raised:
+        tables.read(str(table("group,aspct,name,telegram", f"A,x,A1,{ALONE}", f"A,y,A1,{ALONE}")))
+    assert [line.split(": ", 1)[1] for line in raised.value.lines()] == [
+        'row 1: the column aspct is passed over: did you mean "aspect"?',
+        'row 3, column name: row 2 has balise "A1" too']
+
+
 def test_each_repeated_row_is_named(table: Write) -> None:
     with pytest.raises(TableErrors) as raised:
         tables.read(str(table("group,aspect,name,telegram", f"A,x,A1,{ALONE}", f"A,x,A1,{ALONE}", f"A,x,A1,{ALONE}",

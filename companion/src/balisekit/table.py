@@ -26,21 +26,26 @@ Read = TypeVar("Read")
 def read(path: str, sheet: Optional[str] = None, by_position: bool = False) -> Table:
     """The table of this file. TableError or TableErrors is raised if it cannot be read."""
     file = files.read(path)
+    hints: List[TableError] = []
     try:
         if file.content.startswith(xlsx_file.BEGINS):
             cells = xlsx_file.read(file.content, sheet)
         else:
             cells = csv_file.read(file.content)
         places = _places(cells)
+        passed_over = _passed_over(cells)
+        meant = tuple(_meant(name, places) for name in passed_over)
+        hints += [TableError(f'the column {name} is passed over: did you mean "{known}"?', row=1)
+                  for name, known in zip(passed_over, meant) if known]
         rows = _rows(cells, places)
         groups, notes = groups_of(rows, by_position)
     except (TableError, TableErrors) as error:
-        for fault in error.faults if isinstance(error, TableErrors) else [error]:
+        faults = [*hints, *(error.faults if isinstance(error, TableErrors) else [error])]
+        for fault in faults:
             fault.path = path
-        raise
-    passed_over = _passed_over(cells)
+        raise TableErrors(faults) from error
     return Table(path, file.sha256, cells.encoding, cells.separator, passed_over, rows, groups,
-                 (*cells.notes, *notes), tuple(_meant(name, places) for name in passed_over))
+                 (*cells.notes, *notes), meant)
 
 
 def _places(sheet: Sheet) -> Dict[str, int]:
