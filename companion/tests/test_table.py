@@ -249,7 +249,7 @@ def test_a_mistyped_heading_before_the_faults_that_it_makes(table: Write) -> Non
         tables.read(str(table("group,aspct,name,telegram", f"A,x,A1,{ALONE}", f"A,y,A1,{ALONE}")))
     assert [line.split(": ", 1)[1] for line in raised.value.lines()] == [
         'row 1: the column aspct is passed over: did you mean "aspect"?',
-        'row 3, column name: row 2 has balise "A1" too']
+        'row 3, column name: row 2 has balise "A1" too: are they of two aspects?']
 
 
 def test_each_repeated_row_is_named(table: Write) -> None:

@@ -120,7 +120,7 @@ def _repeated_by(column: str, first: Row, row: Row) -> TableError:
     other = "name" if column == "balise" else "balise"
     one, two = getattr(first, other), getattr(row, other)
     apart = one != two and not {one, two} & UNKNOWN
-    said += f", as {KEYS[other].format(one)}" if apart else ""
+    said += f", as {KEYS[other].format(one)}" if apart else "" if row.aspect else ": are they of two aspects?"
     return TableError(said, row.number, "aspect" if row.aspect and not apart else column)
 
 
