@@ -108,7 +108,7 @@ BAD: Sequence[Any] = [
     ([H, f"A,{ALONE}", *[f"B,{OTHER}"] * 2, f"A,{OTHER}"],
      'row 5, column group: group "A" is in row 2 already: put its rows together'),
     ([H, f"A,{ALONE}", f"b,{OTHER}", f"A,{OTHER}"],
-     'row 3, column group: "b" stands between rows 2, 4 of group "A": is it mistyped?'),
+     'row 3, column group: "b" stands between rows 2, 4 of group "A": is it mistyped? The rows of a group stand together'),
     (["group,aspect,balise,telegram", f"A,*,0,{FIRST}", f"B,x,1,{SECOND}", "", f"A,y,1,{SECOND}", f"A,z,1,{SECOND}",
       f"B,*,0,{FIRST}", f"B,x,1,{SECOND}"],
      'row 3, column group: "B" stands between rows 2, 5 of group "A": is it mistyped?'),

@@ -51,7 +51,7 @@ def _blocks(rows: Sequence[Row]) -> Tuple[Dict[str, List[Row]], List[TableError]
             around = runs[place - 1][-1], runs[place + 1][0]
             torn.add(around[0].group)
             faults.append(TableError(f'"{name}" stands between {_rows(around)} of group "{around[0].group}": is it '
-                                     "mistyped?", first, "group"))
+                                     "mistyped? The rows of a group stand together", first, "group"))
             continue
         if name in blocks and place - 1 not in odd:
             torn.add(name)

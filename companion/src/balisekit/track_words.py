@@ -69,14 +69,14 @@ def draw_track(words: argparse.Namespace, program: Program, table: Table, messag
     with files.writing(words.svg) as file:
         for piece in page:
             file.write(piece.encode("utf-8"))
-    for said in refusals(checked):
+    for said in _refusals(checked):
         print(f"balisekit: {said}", file=sys.stderr)
     for said in _written(line, track, words, len(checked.accepted_messages)):
         print(said, file=sys.stderr if words.svg == "-" else sys.stdout)
     return 0 if checked.whole else 2
 
 
-def refusals(checked: Checked) -> Iterator[str]:
+def _refusals(checked: Checked) -> Iterator[str]:
     """A line for each refused telegram and message, and for what was not looked at."""
     groups = {row.number: group for group in checked.table.groups for row in group.rows()}
     for one in checked.refused:
