@@ -16,6 +16,7 @@ import pytest
 from balisekit import messages_file, table as tables, xlsx_file
 from balisekit.errors import KitError, TableError, TableErrors
 from balisekit.model import Table
+from cases_of_program import TOP
 from conftest import Run
 from telegrams import ALONE, FIRST, MESSAGE, OTHER, SECOND
 
@@ -108,7 +109,8 @@ BAD: Sequence[Any] = [
     ([H, f"A,{ALONE}", *[f"B,{OTHER}"] * 2, f"A,{OTHER}"],
      'row 5, column group: group "A" is in row 2 already: put its rows together'),
     ([H, f"A,{ALONE}", f"b,{OTHER}", f"A,{OTHER}"],
-     'row 3, column group: "b" stands between rows 2, 4 of group "A": is it mistyped? The rows of a group stand together'),
+     'row 3, column group: "b" stands between rows 2, 4 of group "A": is it mistyped? The rows of a group stand '
+     "together"),
     (["group,aspect,balise,telegram", f"A,*,0,{FIRST}", f"B,x,1,{SECOND}", "", f"A,y,1,{SECOND}", f"A,z,1,{SECOND}",
       f"B,*,0,{FIRST}", f"B,x,1,{SECOND}"],
      'row 3, column group: "B" stands between rows 2, 5 of group "A": is it mistyped?'),
@@ -242,6 +244,22 @@ def test_rows_of_several_groups_that_stand_apart(table: Write) -> None:
     assert [line.split(": ", 1)[1] for line in raised.value.lines()] == [
         'row 4, column group: group "A" is in row 2 already: put its rows together',
         'row 5, column group: group "B" is in row 3 already: put its rows together']
+
+
+def test_one_wrong_cell_of_a_line_is_one_fault(table: Write) -> None:
+    """A group's name that is mistyped between others of it, or an aspect that stands twice, in each row of a line."""
+    with open(TOP / "examples" / "table" / "line.csv", encoding="utf-8", newline="") as file:
+        rows = list(csv.reader(file))
+    tried = 0
+    for number, row in enumerate(rows[2:-1], 3):
+        before, after = rows[number - 2], rows[number]
+        for column, cell in ((0, f"{row[0]}x"), (3, before[3])):
+            if before[0] == row[0] and (after[0] == row[0] if column == 0 else before[3] != "*"):
+                changed = [*row[:column], cell, *row[column + 1:]]
+                lines = [",".join(one) for one in [*rows[:number - 1], changed, *rows[number:]]]
+                assert fault(table(*lines)).startswith(f"row {number}, column {rows[0][column]}: ")
+                tried += 1
+    assert tried == 32
 
 
 def test_a_mistyped_heading_before_the_faults_that_it_makes(table: Write) -> None:
