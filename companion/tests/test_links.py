@@ -332,3 +332,17 @@ def test_several_that_are_passed_over_are_one_line() -> None:
     said, = (each.said for each in look(one).found)
     assert said == ("X1 (km 0.100), X2 (km 0.200), X3 (km 0.300) and 2 more have Q_LINK 1 and stand between A "
                     "(km 0.000) and B (km 1.000), and are not linked: a train that uses linking passes them over")
+
+
+def test_groups_between_two_are_counted_as_they_are_named() -> None:
+    """Those that the packet names, those without Q_LINK, and those at the place of one of the two are none of them."""
+    some = [("A", "0", 1, 1), ("B", "9", 2, 1), ("E", "0", 10, 1), ("F", "9", 11, 1), ("G", "2", 12, 0),
+            ("H", "3", 3, 1), ("I", "3", 3, 1), ("J", "4", 16_383, 1), ("K", "5", 13, 1), ("L", "6", 14, 1)]
+    chain = link_tables.linking(1, link_tables.link(9000, 2, 1), link_tables.link(0, 3, 1))
+    forms = [[header(identity, *([chain] if name == "A" else []), linked=linked)] for name, _, identity, linked in some]
+    one = line_with(*[(group(name, km, nominal="rising"), form) for (name, km, _, _), form in zip(some, forms)])
+    over = [each.said for each in look(one, Decimal(9000)).found if each.rule == 9]
+    assert over == ["K (km 5.000), L (km 6.000) have Q_LINK 1 and stand between A (km 0.000) and B (km 9.000), and "
+                    "are not linked: a train that uses linking passes them over",
+                    "K (km 5.000), L (km 6.000) have Q_LINK 1 and stand between B (km 9.000) and H (km 3.000), and "
+                    "are not linked: a train that uses linking passes them over"]

@@ -222,18 +222,13 @@ def _passed_over(line: Line, chain: Chain) -> Iterator[Found]:
     """L9: a linked group between two neighbours of a chain that does not name it."""
     known = chain.identities
     for one, other in known_pairs(chain):
-        over = [station for station in line.between(one, other)
-                if station.linked and station.identity not in known and not _unknown(station)]
+        over, count = line.passed_over(one, other, known)
         if over:
-            more = f" and {len(over) - 3} more" if len(over) > 3 else ""
-            names = ", ".join(map(name, over[:3])) + more
-            words = ("has", "stands", "is", "it") if len(over) == 1 else ("have", "stand", "are", "them")
+            more = f" and {count - 3} more" if count > 3 else ""
+            names = ", ".join(map(name, over)) + more
+            words = ("has", "stands", "is", "it") if count == 1 else ("have", "stand", "are", "them")
             yield Found(9, chain.where, over[0], f"{names} {words[0]} Q_LINK 1 and {words[1]} between {name(one)} and "
                         f"{name(other)}, and {words[2]} not linked: a train that uses linking passes {words[3]} over")
-
-
-def _unknown(station: Station) -> bool:
-    return station.identity is not None and station.identity[1] == NOT_KNOWN
 
 
 def _notes(line: Line, some: Sequence[Chain]) -> Iterator[str]:

@@ -4,7 +4,8 @@ from __future__ import annotations
 from bisect import bisect_left, bisect_right
 from dataclasses import dataclass
 from decimal import Decimal
-from typing import Dict, Iterator, List, Mapping, Optional, Sequence, Tuple
+from itertools import islice
+from typing import Dict, Iterator, List, Mapping, Optional, Sequence, Set, Tuple
 
 from balisekit.checking import Checked
 from balisekit.geometry import NOMINAL, Site, kilometres
@@ -90,6 +91,38 @@ class Where:
 
 
 @dataclass(frozen=True)
+class Linked:
+    """The groups of a track that say that they are linked, and by which identity, in the order of the kilometres."""
+
+    stations: Sequence[Station]
+    kilometres: Sequence[Decimal]
+    places: Mapping[Identity, Sequence[int]]
+    """Of each identity: which of these groups have it."""
+
+    @classmethod
+    def of(cls, along: Sequence[Station]) -> Linked:
+        """Those of a track's groups."""
+        stations = [one for one in along if one.linked and one.identity is not None and one.identity[1] != NOT_KNOWN]
+        places: Dict[Identity, List[int]] = {}
+        for place, station in enumerate(stations):
+            places.setdefault(station.identity or (0, 0), []).append(place)
+        return cls(stations, [one.km or Decimal() for one in stations], places)
+
+    def between(self, low: Decimal, high: Decimal, known: Set[Identity]) -> Tuple[List[Station], int]:
+        """The first three between two kilometres that are not known here, and how many there are.
+
+        They are counted without a look at each, since thousands may stand between two groups.
+        """
+        begin, end = bisect_right(self.kilometres, low), bisect_left(self.kilometres, high)
+        if begin >= end:
+            return [], 0
+        some = [self.places[identity] for identity in known if identity in self.places]
+        count = end - begin - sum(bisect_left(places, end) - bisect_left(places, begin) for places in some)
+        others = (self.stations[place] for place in range(begin, end) if self.stations[place].identity not in known)
+        return list(islice(others, min(count, 3))), count
+
+
+@dataclass(frozen=True)
 class Line:
     """All groups of a table in its order, and what can be asked of them."""
 
@@ -101,16 +134,14 @@ class Line:
     """The first group of each identity."""
     along: Mapping[str, Sequence[Station]]
     """Of each track: its groups that have a kilometre, in the order of the kilometres."""
-    kilometres: Mapping[str, Sequence[Decimal]]
-    """Of each track: the kilometres of these groups."""
+    linked: Mapping[str, Linked]
+    """Of each track: those of them that say that they are linked."""
 
-    def between(self, one: Station, other: Station) -> Iterator[Station]:
-        """The groups of the same track whose kilometres lie between those of these two."""
+    def passed_over(self, one: Station, other: Station, known: Set[Identity]) -> Tuple[List[Station], int]:
+        """The linked groups between these two on one track whose identity is not known here: three, and how many."""
         if one.km is None or other.km is None or one.track != other.track:
-            return
-        kms = self.kilometres[one.track]
-        low, high = sorted((one.km, other.km))
-        yield from self.along[one.track][bisect_right(kms, low):bisect_left(kms, high)]
+            return [], 0
+        return self.linked[one.track].between(*sorted((one.km, other.km)), known)
 
 
 def line_of(checked: Checked) -> Line:
@@ -134,8 +165,8 @@ def line(groups: Sequence[Group], forms: Mapping[int, Form], messages: Sequence[
     for some in along.values():
         some.sort(key=lambda one: one.km or Decimal())
     sources = [*_aspects(stations, forms), *_messages(messages, by_identity)]
-    kms = {track: [station.km or Decimal() for station in some] for track, some in along.items()}
-    return Line(stations, tuple(sources), forms, by_identity, along, kms)
+    linked = {track: Linked.of(some) for track, some in along.items()}
+    return Line(stations, tuple(sources), forms, by_identity, along, linked)
 
 
 def _station(number: int, group: Group, forms: Mapping[int, Form]) -> Station:
