@@ -1,10 +1,13 @@
 """Great tables in the time that is promised, and an interrupt in the middle of the work.
 
 Times are those of the processor, of balisekit and the program together: those of the clock depend on what else runs.
+What else runs makes the processor slower too, by its use of memory. So the limit of a command is compared with the time
+that a fixed piece of work takes just before it and just behind it.
 """
 from __future__ import annotations
 
 import csv
+import json
 import os
 import resource
 import signal
@@ -25,6 +28,9 @@ from test_browser import CHROMIUM, browse
 
 Write = Callable[..., Path]
 GROUPS = 1000
+LIMIT, OF = 30.0, 10_000
+"""So many seconds for so many groups, where the piece of work takes a quarter of a second."""
+QUARTER = 0.25
 STAND = '''#!/bin/sh
 case "$*" in
 check) echo 'yes: groups 0, messages 0'; exit 0 ;;
@@ -52,22 +58,78 @@ def _timed(command: List[str]) -> Tuple[int, List[str], float]:
     return done.returncode, done.stdout.decode().splitlines(), _spent() - before
 
 
-@pytest.fixture(scope="module")
-def great(tmp_path_factory: pytest.TempPathFactory, program: Program) -> Path:
-    """A table of 1,000 groups of two balises and three aspects, each with an identity of its own."""
+def _work() -> float:
+    """The processor's time for a piece of work of the same kind, in seconds."""
+    before = time.process_time()
+    forms = [{"number": number, "packets": [{"place": place} for place in range(4)]} for number in range(30_000)]
+    said = [f"{form['number']} {form['packets']}" for form in json.loads(json.dumps(forms))]
+    assert len(said) == 30_000
+    return time.process_time() - before
+
+
+def _table(path: Path, program: Program, groups: int, other: bool = False) -> Path:
+    """A table of groups of two balises and three aspects, each with an identity of its own.
+
+    They stand on eleven kilometres, so that thousands lie between two of them. In the other one all authorities differ.
+    """
     signals: Dict[str, List[Any]] = {}
     for item in line_table.items():
         signals.setdefault(item[0], []).append(item)
     del signals["Infill of D"]
     kinds = list(signals.values())
-    items = [(f"{item[0]}.{number}", *item[1:5], {**item[5], "nid_bg": number + 1})
-             for number in range(GROUPS) for item in kinds[number % len(kinds)]]
-    path = tmp_path_factory.mktemp("great") / "great.csv"
+    items = []
+    for number in range(groups):
+        for item in kinds[number % len(kinds)]:
+            packets = [{**one, "v_main": one["v_main"] + 1} if other and "v_main" in one else one
+                       for one in item[5]["packets"]]
+            items.append((f"{item[0]}.{number}", *item[1:5], {**item[5], "nid_bg": number + 1, "packets": packets}))
     with open(path, "w", encoding="utf-8", newline="") as file:
         rows = csv.writer(file)
         rows.writerow(line_table.HEADING)
         rows.writerows([*item[:5], text.line] for item, text in zip(items, program.encode([one[5] for one in items])))
     return path
+
+
+@pytest.fixture(scope="module")
+def great(tmp_path_factory: pytest.TempPathFactory, program: Program) -> Path:
+    """A table of 1,000 groups."""
+    return _table(tmp_path_factory.mktemp("great") / "great.csv", program, GROUPS)
+
+
+@pytest.fixture(scope="module")
+def releases(tmp_path_factory: pytest.TempPathFactory, program: Program) -> Callable[[int], List[Path]]:
+    """Two releases of so many groups, which are made once."""
+    room, made = tmp_path_factory.mktemp("releases"), {}
+
+    def of(groups: int) -> List[Path]:
+        if groups not in made:
+            made[groups] = [_table(room / f"{groups}{word}.csv", program, groups, word == "new")
+                            for word in ("old", "new")]
+        return made[groups]
+    return of
+
+
+@pytest.mark.parametrize("few, many, words, wanted", [
+    (2000, 10_000, ["links", "OLD"], "links: "), (500, 2000, ["draw", "OLD", "--track", "--svg", "OUT"], ""),
+    (500, 2000, ["report", "OLD", "--html", "OUT"], "program: no: findings "),
+    (500, 2000, ["diff", "OLD", "NEW", "--html", "OUT"], "groups added 0, removed 0; ")],
+    ids=["links", "draw", "report", "diff"])
+def test_10000_groups(few: int, many: int, words: List[str], wanted: str, releases: Callable[[int], List[Path]],
+                      program: Program, tmp_path: Path) -> None:
+    """In less than 30 seconds. With fewer groups in a part of that, and the time grows with their number alone."""
+    if "--html" in words:
+        pytest.importorskip("jinja2")
+    times = {}
+    for count in (few, many):
+        old, new = releases(count)
+        names = {"OLD": old, "NEW": new, "OUT": tmp_path / "out"}
+        before = _work()
+        status, out, seconds = _timed(_words(program, *[names.get(word, word) for word in words]))
+        work = (before + _work()) / 2
+        assert status == (0 if words[0] == "draw" else 1) and (not wanted or out[-1].startswith(wanted))
+        assert seconds < LIMIT * count / OF * work / QUARTER, (count, seconds, work)
+        times[count] = seconds / work
+    assert times[many] < 2 * many / few * times[few], times
 
 
 @pytest.fixture(scope="module")

@@ -7,7 +7,7 @@ from typing import Any, Dict, Iterator, Tuple
 import pytest
 
 from balisekit.packets import READ_FROM_TRACK, packet_name
-from balisekit.values import ORDER, VARIABLES, Around, metres, value_words, variable_name
+from balisekit.values import ORDER, VARIABLES, Around, metres, named_words, value_words, variable_name
 from cases_of_program import TOP
 
 SCHEMAS = [json.loads((TOP / "schemas" / f"{name}.json").read_text()) for name in ("telegram", "message")]
@@ -115,3 +115,19 @@ def test_packet_names() -> None:
     """A packet that is read has a name in each direction, and one that is not listed is not called unassigned."""
     assert all(packet_name(number) != "not named here" for number in READ_FROM_TRACK)
     assert (packet_name(1), packet_name(1, False)) == ("not named here", "position report based on two balise groups")
+
+
+@pytest.mark.parametrize("from_track", [True, False])
+@pytest.mark.parametrize("beside", [0, 1, 2, 30, 255])
+def test_words_that_are_kept_are_those_of_the_place(beside: int, from_track: bool) -> None:
+    """Whatever numbers stand beside a value: what is kept of another place is right here too."""
+    for scale in (0, 1, 2):
+        packet = {**dict.fromkeys(VARIABLES, beside), "q_scale": scale}
+        around = Around(packet, packet, from_track)
+        for key in [*VARIABLES, "not_known"]:
+            for value in (0, 1, 2, 5, 126, 255, 16_383, 32_767):
+                if key == "n_pig" and value > 7:
+                    continue
+                wanted = variable_name(key, packet), value_words(key, value, around)
+                assert named_words(key, value, around) == wanted, (key, value)
+        assert named_words("body", "00", around)[1] == value_words("body", "00", around)

@@ -76,7 +76,7 @@ class Sheet:
 
     def path(self, look: str, title: str, path: str) -> None:
         """A line through points."""
-        self.shapes.append(Shape("path", look, title, path=path))
+        self.shapes.append(Shape("path", look, title, "", "", "", "", path))
 
     def mark(self, look: str, title: str, place: int, y: int, height: int) -> None:
         """An upright line at a place."""
@@ -84,7 +84,7 @@ class Sheet:
 
     def text(self, look: str, text: str, x: int, y: int) -> None:
         """A text at a coordinate."""
-        self.shapes.append(Shape("text", look, x=tenths(x), y=str(y), text=text))
+        self.shapes.append(Shape("text", look, "", tenths(x), str(y), "", "", "", text))
 
     def inside(self, look: str, text: str, begin: int, end: int, y: int) -> None:
         """A text in the middle between two coordinates, if it fits there."""

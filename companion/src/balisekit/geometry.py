@@ -7,7 +7,7 @@ from __future__ import annotations
 
 from dataclasses import dataclass
 from decimal import Decimal
-from functools import cached_property
+from functools import cached_property, lru_cache
 from typing import Dict, FrozenSet, Iterator, List, Mapping, NamedTuple, Optional, Sequence, Tuple
 
 from balisekit.model import Group
@@ -137,6 +137,7 @@ def kilometre(km: Decimal) -> str:
     return f"{km:.{max(3, places)}f}"
 
 
+@lru_cache(maxsize=1 << 14)
 def kilometre_of(place: int) -> str:
     """A place of whole decimetres as `kilometre` writes it, without the way by decimal numbers, which takes long."""
     whole, part = divmod(abs(place), 10_000)

@@ -11,20 +11,19 @@ from balisekit.canvas import Shape
 
 @lru_cache(maxsize=1 << 16)
 def _escaped(text: str) -> str:
-    """A value of a shape as a page may have it. Most of them come again and again."""
+    """A title or text as a page may have it. Most of them come again and again."""
     return str(escape(text))
 
 
 def _svg(one: Shape) -> str:
-    """A shape, a line each. All values are escaped."""
-    look = _escaped(one.look)
-    if one.kind == "rect":
-        return (f'<rect class="{look}" x="{_escaped(one.x)}" y="{_escaped(one.y)}" width="{_escaped(one.width)}" '
-                f'height="{_escaped(one.height)}"><title>{_escaped(one.title)}</title></rect>\n')
-    if one.kind == "path":
-        title = f"<title>{_escaped(one.title)}</title>" if one.title else ""
-        return f'<path class="{look}" d="{_escaped(one.path)}">{title}</path>\n'
-    return f'<text class="{look}" x="{_escaped(one.x)}" y="{_escaped(one.y)}">{_escaped(one.text)}</text>\n'
+    """A shape, a line each. Titles and texts are escaped; the rest is made of numbers and of words of balisekit."""
+    kind, look, title, x, y, width, height, path, text = one
+    if kind == "rect":
+        return (f'<rect class="{look}" x="{x}" y="{y}" width="{width}" height="{height}">'
+                f'<title>{_escaped(title)}</title></rect>\n')
+    if kind == "path":
+        return f'<path class="{look}" d="{path}">{f"<title>{_escaped(title)}</title>" if title else ""}</path>\n'
+    return f'<text class="{look}" x="{x}" y="{y}">{_escaped(text)}</text>\n'
 
 
 def svg(shapes: Iterable[Shape]) -> Markup:

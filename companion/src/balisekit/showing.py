@@ -6,10 +6,10 @@ from __future__ import annotations
 
 import textwrap
 from functools import lru_cache
-from typing import Any, Iterator, List, Mapping, NamedTuple, Tuple, Union
+from typing import List, Mapping, NamedTuple, Sequence, Tuple, Union
 
 from balisekit.places import Here, place_notes
-from balisekit.values import Around, Form, ORDER, value_words, variable_name
+from balisekit.values import Around, Form, ORDER, named_words
 
 WIDTH = 118
 LABEL_WIDTH = 22
@@ -51,7 +51,9 @@ def form_lines(form: Form, here: Here = Here()) -> List[Line]:
     is_message = "nid_message" in form
     around = Around(from_track=form.get("nid_message") != 136)
     notes = place_notes(form, here) if around.from_track else {}
-    return list(_lines("message" if is_message else "header", 0, form, "", around, notes))
+    lines: List[Line] = []
+    _lines(lines, "message" if is_message else "header", 0, form, "", around, notes)
+    return lines
 
 
 @lru_cache(maxsize=1024)
@@ -60,57 +62,59 @@ def _ordered(keys: Tuple[str, ...]) -> List[str]:
     return sorted(keys, key=lambda one: (ORDER.get(one, len(ORDER)), one))
 
 
-def _lines(label: str, depth: int, form: Form, path: str, around: Around, notes: Mapping[str, str]) -> Iterator[Line]:
-    """The lines of an object: its values up to its first part, that part, and so on."""
+def _lines(into: List[Line], label: str, depth: int, form: Form, path: str, around: Around,
+           notes: Mapping[str, str]) -> None:
+    """Adds the lines of an object: its values up to its first part, that part, and so on."""
     inner = Around(form if "nid_packet" in form else around.packet, form, around.from_track)
     anchor = path
     values: List[Shown] = []
     for key in _ordered(tuple(form)):
         value, below = form[key], f"{path}/{key}"
-        is_part = isinstance(value, (list, dict))
-        if values and (is_part or key == "l_endsection"):
-            yield Line(depth, label, tuple(values), notes.get(anchor, ""))
+        is_list, is_part = type(value) is list, type(value) is dict
+        if values and (is_list or is_part or key == "l_endsection"):
+            into.append(Line(depth, label, tuple(values), notes.get(anchor, "")))
             label, anchor, values = "", "", []
-        if is_part:
-            for name, place, item in _items(LABELS.get(key, key), below, value):
-                yield from _lines(name, depth + 1, item, place, inner, notes)
-            continue
-        if key == "l_endsection":
-            label, anchor, depth = "end section", below, depth + 1
-        values.append(Shown(below, variable_name(key, form), value_words(key, value, inner), value))
+        if is_list:
+            name = LABELS.get(key, key)
+            for place, item in enumerate(value):
+                object_of = item if type(item) is dict else {name: item}
+                _lines(into, f"{name} {place}", depth + 1, object_of, f"{below}/{place}", inner, notes)
+        elif is_part:
+            _lines(into, LABELS.get(key, key), depth + 1, value, below, inner, notes)
+        else:
+            if key == "l_endsection":
+                label, anchor, depth = "end section", below, depth + 1
+            values.append(Shown(below, *named_words(key, value, inner), value))
     if values:
-        yield Line(depth, label, tuple(values), notes.get(anchor, ""))
-
-
-def _items(name: str, path: str, value: Any) -> Iterator[Tuple[str, str, Form]]:
-    """The label, the place and the object of each item of a list, or of the one object."""
-    if isinstance(value, dict):
-        yield name, path, value
-        return
-    for place, item in enumerate(value):
-        yield f"{name} {place}", f"{path}/{place}", item if isinstance(item, dict) else {name: item}
+        into.append(Line(depth, label, tuple(values), notes.get(anchor, "")))
 
 
 def text_of(line: Line) -> str:
     """The line as text, broken where it is too long. A break never parts a name from its raw value."""
     label = f"{'  ' * line.depth}{line.label}"
     first = f"{label:<{LABEL_WIDTH}}" if len(label) < LABEL_WIDTH else f"{label} "
-    said = first
+    values = list(map(str, line.values))
+    whole = f"{first}{'  '.join(values)}" + (f"  = {line.note}" if line.note else "")
+    return whole if len(whole) <= WIDTH else _broken(first, values, line.note)
+
+
+def _broken(said: str, values: Sequence[str], note: str) -> str:
+    """The values behind the beginning of a line, and the note, on as many lines as they need."""
     lines: List[str] = []
     fresh = True
-    for value in map(str, line.values):
+    for value in values:
         if not fresh and len(said) + 2 + len(value) > WIDTH:
             lines.append(said)
             said, fresh = " " * LABEL_WIDTH, True
         said += value if fresh else f"  {value}"
         fresh = False
-    if line.note:
-        if len(said) + 4 + len(line.note) > WIDTH:
+    if note:
+        if len(said) + 4 + len(note) > WIDTH:
             lines.append(said)
-            *full, said = _wrapped(f"= {line.note}")
+            *full, said = _wrapped(f"= {note}")
             lines.extend(full)
         else:
-            said += f"  = {line.note}"
+            said += f"  = {note}"
     return "\n".join([*lines, said])
 
 

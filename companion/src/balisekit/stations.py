@@ -141,7 +141,7 @@ class Line:
         """The linked groups between these two on one track whose identity is not known here: three, and how many."""
         if one.km is None or other.km is None or one.track != other.track:
             return [], 0
-        return self.linked[one.track].between(*sorted((one.km, other.km)), known)
+        return self.linked[one.track].between(min(one.km, other.km), max(one.km, other.km), known)
 
 
 def line_of(checked: Checked) -> Line:

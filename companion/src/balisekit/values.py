@@ -6,6 +6,7 @@ English, and a function that says its number with unit or name. A number that sa
 from __future__ import annotations
 
 from dataclasses import dataclass
+from functools import lru_cache
 from typing import Any, Callable, Dict, Mapping, NamedTuple, Tuple, Union
 
 from balisekit.packets import MESSAGES, packet_name
@@ -54,6 +55,7 @@ class Variable:
     words: Words
 
 
+@lru_cache(maxsize=1 << 14)
 def metres(distance_dm: int) -> str:
     """A distance of whole decimetres in metres, as "1200 m" or "12.3 m"."""
     whole, tenth = divmod(abs(distance_dm), 10)
@@ -266,6 +268,22 @@ def body_words(around: Around) -> str:
     head = 23 if around.from_track else 21
     count = around.packet.get("l_packet", head) - head
     return f"{count} bits, not decoded" if count else "no bits"
+
+
+BY_PARENT = frozenset(("g_a", "q_gdir", "nc", "body"))
+"""The keys whose words need more of what is around them than the unit of distances."""
+
+
+def named_words(key: str, value: Union[int, str], around: Around) -> Tuple[str, str]:
+    """The name and the words of a value. Most values come again and again, so that they are kept."""
+    if key in BY_PARENT:
+        return variable_name(key, around.parent), value_words(key, value, around)
+    return _kept_words(key, value, around.packet.get("q_scale", 0), around.from_track)
+
+
+@lru_cache(maxsize=1 << 14)
+def _kept_words(key: str, value: Union[int, str], scale: int, from_track: bool) -> Tuple[str, str]:
+    return variable_name(key, NO_FORM), value_words(key, value, Around({"q_scale": scale}, NO_FORM, from_track))
 
 
 def value_words(key: str, value: Union[int, str], around: Around) -> str:
