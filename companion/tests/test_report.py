@@ -15,7 +15,8 @@ from typing import Any, Dict, List, Optional, Tuple
 
 import pytest
 
-from balisekit import cli
+from balisekit import cli, csv_writing
+from balisekit.accepted import COLUMNS
 from balisekit.geometry import Kilometres
 from balisekit.drawing import Content, draw
 from balisekit.pages import pieces, style
@@ -82,6 +83,59 @@ def test_the_page_has_all_that_was_said(tmp_path: Path, capsys: pytest.CaptureFi
         for number, row in enumerate(csv.DictReader(file), 2):
             assert f"r{number}" in ids and row["telegram"] in text
     assert not re.search(r"https?://(?!www\.w3\.org/2000/svg)|<script|<img|<link", page)
+
+
+def _accepted(path: Path, *rows: Dict[str, str]) -> Path:
+    """A file of accepted findings, signed."""
+    signed = {"nid_c": "352", "reason": "by <b>design</b>", "who": "J. Doe", "date": "2026-01-02"}
+    path.write_text(csv_writing.text(COLUMNS, [[{**signed, **row}.get(name, "") for name in COLUMNS] for row in rows]))
+    return path
+
+
+def _between(page: str, begin: str, end: str) -> str:
+    return page[page.index(f"<h2>{begin}</h2>"):page.index(f"<h2>{end}</h2>")]
+
+
+def test_accepted_findings_stand_apart(tmp_path: Path, capsys: pytest.CaptureFixture[str]) -> None:
+    """With reason, name and date, behind those that are open. The cover has the lines of `check`, and so its status."""
+    table = tmp_path / "line.csv"
+    with open(LINE, encoding="utf-8") as file:
+        table.write_text("".join(line for line in file if not line.startswith("Signal F")), "utf-8")
+    stop, infill = {"nid_bg": "103", "aspect": "red", "direction": "nominal"}, {"nid_bg": "201", "rule": "F9"}
+    rows = [{**stop, "rule": "F10"}, {**stop, "rule": "F12"},
+            {**infill, "aspect": "*", "balise": "0", "packet": "0", "until": "2999-01-01"}]
+    last = {"nid_bg": "105", "rule": "F11", "aspect": "*", "balise": "1", "packet": "1", "direction": "nominal"}
+    for some, counts, status in ((rows, "accepted 4, open 1", 1), ([*rows, last], "accepted 5, open 0", 0),
+                                 ([*rows, {**last, "until": "2020-01-01"}], "accepted 4, open 1; entries at fault 1",
+                                  1)):
+        words = ["--accepted", str(_accepted(tmp_path / "accepted.csv", *some))]
+        assert cli.main(["check", str(table), *words]) == status
+        said = capsys.readouterr().out.splitlines()
+        assert _report(table, tmp_path / "report.html", *words)[0] == status
+        page = (tmp_path / "report.html").read_text("utf-8")
+        told = capsys.readouterr().out.splitlines()[1:]
+        assert told == said[-len(told):] and "program: no: findings 5" in told
+        closing = "\n".join(["program: no: findings 5", f"findings 5: {counts}", *(["no open findings"][status:])])
+        assert f'<p class="verdict">{closing}</p>' in page
+        assert ("until 2020-01-01 is past" in page) == ("fault" in counts)
+        still_open = _between(page, "Open findings", "Accepted findings")
+        accepted = _between(page, "Accepted findings", "What findings mean")
+        assert ("F11 group 5 aspect 2" in still_open, "F11 group 5 aspect 2" in accepted) == (status == 1, status == 0)
+        assert ("None: all were accepted." in still_open) == (status == 0)
+        assert accepted.count("accepted: by &lt;b&gt;design&lt;/b&gt; (J. Doe, 2026-01-02)") == (3, 2)[status]
+        assert accepted.count("(J. Doe, 2026-01-02, until 2999-01-01)") == 2 and "accepted: " not in still_open
+        assert hashlib.sha256((tmp_path / "accepted.csv").read_bytes()).hexdigest() in page
+
+
+def test_a_report_with_entries_that_is_not_whole(tmp_path: Path, capsys: pytest.CaptureFixture[str]) -> None:
+    """What was left out is the last word, and none of it is a yes. A file of entries that cannot be read is refused."""
+    status, page = _report(LINE, tmp_path / "r.html", "--accepted", str(_accepted(tmp_path / "none.csv")))
+    assert status == 2 and "findings 5: accepted 0, open 5\nINCOMPLETE: " in page and "no open findings" not in page
+    assert "<p>None.</p>" in _between(page, "Accepted findings", "What findings mean")
+    (tmp_path / "bad.csv").write_text("rule\n")
+    assert cli.main(["report", str(LINE), "--html", str(tmp_path / "x.html"), "--accepted",
+                     str(tmp_path / "bad.csv")]) == 2
+    assert "row 1: no column nid_c" in capsys.readouterr().err and not (tmp_path / "x.html").exists()
 
 
 def test_a_yes_and_an_empty_refusal(tmp_path: Path) -> None:

@@ -17,12 +17,22 @@ def accepted_words(entry: Entry) -> str:
 
 
 def closing_lines(judged: Judged, last: str) -> Iterator[str]:
-    """The entries at fault, how many findings are open, and the last line of `check` without entries."""
+    """What ends the answer of `check`, whose last line without entries this is."""
+    yield from fault_lines(judged)
+    yield from verdict_lines(judged, last)
+
+
+def fault_lines(judged: Judged) -> Iterator[str]:
+    """The entries at fault, and how many findings no entry can name."""
     path = clean(judged.entries.path)
     yield from (f"{path}: row {entry.row}: {why}" for entry, why in judged.faults)
     unnamed = sum(UNNAMED in key for key, entry in zip(keys(judged.checked), judged.by_finding) if entry is None)
     if unnamed:
         yield f"note: {unnamed} open findings are of messages without a name of their own, so that no entry names them"
+
+
+def verdict_lines(judged: Judged, last: str) -> Iterator[str]:
+    """The program's verdict, how many findings are open, and whether none is. Where it is not whole that comes last."""
     if not judged.checked.whole:
         yield from (counts(judged), last)
         return

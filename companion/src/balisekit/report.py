@@ -7,6 +7,8 @@ from datetime import datetime, timezone
 from typing import Dict, Iterator, List, Mapping, Optional, Sequence, Tuple
 
 from balisekit import __version__
+from balisekit.accepted import Entry, Judged
+from balisekit.accepted_output import accepted_words, fault_lines, verdict_lines
 from balisekit.aspect_counts import aspects_found, fewer_aspects
 from balisekit.check_command import finding_words, last_line
 from balisekit.checking import AcceptedMessage, Checked, Place, RefusedMessage
@@ -44,6 +46,8 @@ class Told:
     line: str
     target: str
     rule: int
+    accepted: str = ""
+    """Why, by whom and when it was accepted. An open finding has nothing."""
 
 
 @dataclass(frozen=True)
@@ -68,8 +72,10 @@ class Cover:
     """Name, SHA-256 and what was read of each input."""
     program: Tuple[Tuple[str, str], ...]
     version: str
-    last_line: str
-    yes: bool
+    verdict: Tuple[str, ...]
+    """The last lines of the answer."""
+    at_fault: Tuple[str, ...]
+    """Entries of accepted findings that are not in order."""
     refused: Tuple[Tuple[str, str, str], ...]
     """Of each refused telegram or message: where it is, the program's words, and its link."""
     left_out: Tuple[Tuple[str, str], ...]
@@ -87,13 +93,9 @@ def date() -> str:
     return now.strftime("%Y-%m-%d %H:%M UTC")
 
 
-def cover(checked: Checked) -> Cover:
+def cover(checked: Checked, judged: Optional[Judged] = None) -> Cover:
     """What the first page says."""
-    table, messages, program = checked.table, checked.messages, checked.program
-    read = f"{len(table.rows)} telegrams of {len(table.groups)} groups; {table.encoding}"
-    inputs = [(clean(table.path), table.sha256, read)]
-    if messages:
-        inputs.append((clean(messages.path), messages.sha256, f"{len(messages.messages)} radio messages"))
+    table, program = checked.table, checked.program
     groups = {row.number: group for group in table.groups for row in group.rows()}
     refused = [(f"{balise_words(groups.get(one.row.number), one.row)}: "
                 f"{telegram_refused(one.row.telegram, one.refusal)}", one.refusal.text, f"r{one.row.number}")
@@ -108,12 +110,26 @@ def cover(checked: Checked) -> Cover:
     papers = [("file", clean(program.path)), ("SHA-256", program.sha256)]
     papers += [(key, value) for key, value in program.about.items() if key != "program"]
     papers += [] if program.about else [("version", "not a released program")]
-    return Cover(date(), tuple(inputs), tuple(papers), __version__, last_line(checked), checked.status == 0,
-                 tuple(refused), tuple((group_words(one.group), clean(one.why)) for one in checked.left_out),
+    said = verdict_lines(judged, last_line(checked)) if judged else (last_line(checked),)
+    return Cover(date(), tuple(_inputs(checked, judged)), tuple(papers), __version__, tuple(said),
+                 tuple(fault_lines(judged)) if judged else (), tuple(refused),
+                 tuple((group_words(one.group), clean(one.why)) for one in checked.left_out),
                  aspects_found(table), tuple(fewer_aspects(table)), tuple(notes))
 
 
-def told(place: Place, ids: Dict[str, str]) -> Told:
+def _inputs(checked: Checked, judged: Optional[Judged]) -> Iterator[Tuple[str, str, str]]:
+    """Each file that was read: its name, its checksum, and what was in it."""
+    table, messages = checked.table, checked.messages
+    read = f"{len(table.rows)} telegrams of {len(table.groups)} groups; {table.encoding}"
+    yield clean(table.path), table.sha256, read
+    if messages:
+        yield clean(messages.path), messages.sha256, f"{len(messages.messages)} radio messages"
+    if judged:
+        entries = judged.entries
+        yield clean(entries.path), entries.sha256, f"{len(entries.entries)} entries of accepted findings"
+
+
+def told(place: Place, entry: Optional[Entry], ids: Dict[str, str]) -> Told:
     """A finding with its link: to the balise's telegram where it names one, else to the block."""
     if place.message is not None:
         target = f"m{place.message.number}"
@@ -121,7 +137,8 @@ def told(place: Place, ids: Dict[str, str]) -> Told:
         target = f"r{place.row.number}"
     else:
         target = ids[place.group.name] if place.group else ""
-    return Told(finding_words(place), place.finding.line, target, place.finding.rule)
+    return Told(finding_words(place), place.finding.line, target, place.finding.rule,
+                accepted_words(entry) if entry else "")
 
 
 def group_ids(groups: Sequence[Group]) -> Dict[str, str]:
@@ -129,16 +146,23 @@ def group_ids(groups: Sequence[Group]) -> Dict[str, str]:
     return {group.name: f"g{place}" for place, group in enumerate(groups)}
 
 
-def blocks(checked: Checked, read: Mapping[int, Form]) -> Iterator[Block]:
+def told_all(checked: Checked, judged: Optional[Judged] = None) -> List[Told]:
+    """Each finding, beside the entry that accepts it."""
+    ids = group_ids(checked.table.groups)
+    entries = judged.by_finding if judged else (None,) * len(checked.findings)
+    return [told(place, entry, ids) for place, entry in zip(checked.findings, entries)]
+
+
+def blocks(checked: Checked, read: Mapping[int, Form], findings: Sequence[Told]) -> Iterator[Block]:
     """A block for each group, in the table's order, and for each message. `read` has the telegrams by their rows."""
     ids = group_ids(checked.table.groups)
-    by_group: Dict[str, List[Place]] = {}
-    by_message: Dict[int, List[Place]] = {}
-    for place in checked.findings:
+    by_group: Dict[str, List[Tuple[Finding, Told]]] = {}
+    by_message: Dict[int, List[Tuple[Finding, Told]]] = {}
+    for place, one in zip(checked.findings, findings):
         if place.group is not None:
-            by_group.setdefault(place.group.name, []).append(place)
+            by_group.setdefault(place.group.name, []).append((place.finding, one))
         elif place.message is not None:
-            by_message.setdefault(place.message.number, []).append(place)
+            by_message.setdefault(place.message.number, []).append((place.finding, one))
     left_out = {one.group.name: one.why for one in checked.left_out}
     kept = {group.name: group for group in checked.kept}
     refused = {one.row.number: one.refusal for one in checked.refused}
@@ -146,26 +170,25 @@ def blocks(checked: Checked, read: Mapping[int, Form]) -> Iterator[Block]:
         group = kept.get(original.name, original)
         numbers = {row.number for row in group.rows()}
         forms = {number: read[number] for number in numbers if number in read}
-        places = by_group.get(group.name, [])
-        findings: List[Finding] = [place.finding for place in places]
-        picture = picture_of(group, forms, findings) if len(forms) == len(numbers) else None
+        some = by_group.get(group.name, [])
+        picture = picture_of(group, forms, [one for one, _ in some]) if len(forms) == len(numbers) else None
         words = {number: (telegram_refused(_row(group, number).telegram, refused[number]), refused[number].text)
                  for number in numbers if number in refused}
         yield Block(ids[group.name], clean(group.name), _where(group), clean(left_out.get(group.name, "")), picture,
-                    tuple(told(place, ids) for place in places), tuple(_telegrams(group, forms, words)))
+                    tuple(one for _, one in some), tuple(_telegrams(group, forms, words)))
     groups = Identities(checked.table.groups, read)
     for message in checked.accepted_messages:
         yield _message(message, by_message.get(message.message.number, []), groups)
     yield from map(_refused_message, checked.refused_messages)
 
 
-def _message(one: AcceptedMessage, places: Sequence[Place], groups: Identities) -> Block:
+def _message(one: AcceptedMessage, some: Sequence[Tuple[Finding, Told]], groups: Identities) -> Block:
     """The block of a message that the program has read."""
     form, heading = one.form, f"message of {message_words(one.message)}"
     group, here = groups.group_of(form), groups.here(form)
     where = f"its places count from {group_words(group)}" if group else ""
-    picture = picture_of_message(heading, form, [place.finding for place in places], here.kilometres)
-    return Block(f"m{one.message.number}", heading, where, "", picture, tuple(told(place, {}) for place in places),
+    picture = picture_of_message(heading, form, [finding for finding, _ in some], here.kilometres)
+    return Block(f"m{one.message.number}", heading, where, "", picture, tuple(each for _, each in some),
                  (Telegram("", "in words", clean(one.message.text), text(form, here)),))
 
 
