@@ -18,6 +18,7 @@ from balisekit.program import Program
 from balisekit.stations import Line, line
 from cases_of_program import TOP
 from conftest import Run
+from telegrams import SPARE
 
 Write = Callable[..., Path]
 Form = Dict[str, Any]
@@ -61,7 +62,21 @@ def test_each_rule_finds_its_fault_alone(run: Run, name: str) -> None:
     status, out, _ = run("links", FOLDER / f"{name}.csv")
     rules = re.findall(r": links (L\d): ", "\n".join(out))
     assert (status, rules) == (1, [f"L{link_tables.FAULTS[name][0]}"])
-    assert out[-1] == "links: 1 found of L1 to L9 in 4 groups"
+    assert out[-1] == f"links: 1 found ({rules[0]} 1) in 4 groups"
+
+
+def test_the_last_line_counts_by_rules(run: Run, table: Write) -> None:
+    """Two faults of one rule and one of another. Beside a refused telegram all of it is about the rest."""
+    lines = (FOLDER / "distance-differs.csv").read_text("utf-8").splitlines()
+    passed_over = (FOLDER / "group-passed-over.csv").read_text("utf-8").splitlines()
+    known = (FOLDER / "identity-not-known.csv").read_text("utf-8").splitlines()
+    twice = [*lines[:6], known[6], known[6].replace("D,D1,12.500", "E,E1,12.600")]
+    status, out, _ = run("links", table(*twice))
+    assert (status, out[-1]) == (1, "links: 3 found (L2 1, L6 2) in 5 groups")
+    status, out, _ = run("links", table(*twice, f"F,F1,12.700,rising,{SPARE}"))
+    assert (status, out[-1]) == (
+        2, "INCOMPLETE: 1 of 8 telegrams refused; links: 3 found (L2 1, L6 2) in the rest")
+    assert run("links", table(lines[0], passed_over[1], *lines[2:]))[1][-1] == "links: 1 found (L9 1) in 4 groups"
 
 
 def test_the_line_without_fault_is_silent(run: Run) -> None:

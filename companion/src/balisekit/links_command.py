@@ -4,6 +4,7 @@ from __future__ import annotations
 import argparse
 import json
 import sys
+from collections import Counter
 from decimal import Decimal
 from typing import Any, Dict, Iterator, TextIO
 
@@ -79,8 +80,8 @@ def lines(checked: Checked, links: Links, explained: bool = False) -> Iterator[s
 
 
 def last_line(checked: Checked, links: Links) -> str:
-    """How many were found. It is never a yes."""
-    many = len(links.found) or "none"
+    """How many were found, and by which rules. It is never a yes."""
+    said = f"links: {_counts(links)}"
     rows, groups = len(checked.table.rows), len(checked.table.groups)
     parts = [f"{len(checked.refused)} of {rows} telegrams refused"] if checked.refused else []
     if checked.messages and checked.refused_messages:
@@ -88,8 +89,16 @@ def last_line(checked: Checked, links: Links) -> str:
     parts += [f"{checked.not_looked_at} rows not looked at"] if checked.not_looked_at else []
     parts += [f"{checked.messages_not_looked_at} messages not looked at"] if checked.messages_not_looked_at else []
     if parts:
-        return f"INCOMPLETE: {', '.join(parts)}; links: {many} found of L1 to L9 in the rest"
-    return f"links: {many} found of L1 to L9 in {groups} groups"
+        return f"INCOMPLETE: {', '.join(parts)}; {said} in the rest"
+    return f"{said} in {groups} groups"
+
+
+def _counts(links: Links) -> str:
+    """How much each rule has found."""
+    counted = Counter(found.rule for found in links.found)
+    if not counted:
+        return "none found of L1 to L9"
+    return f"{len(links.found)} found ({', '.join(f'L{rule} {counted[rule]}' for rule in sorted(counted))})"
 
 
 def as_json(checked: Checked, links: Links, status: int) -> Dict[str, Any]:
