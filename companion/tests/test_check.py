@@ -14,7 +14,10 @@ import pytest
 import line_table
 from balisekit import checking, explain
 from balisekit.errors import TableErrors
+from balisekit.grammar import Finding
+from balisekit.model import Aspect, Group, Message, Row
 from balisekit.program import Program
+from balisekit.repeats import headings
 from conftest import Run
 from telegrams import ALONE, FAULTY, FIRST, MESSAGE, OTHER, SECOND, SPARE
 
@@ -309,3 +312,35 @@ def test_start_script(table: Write, tmp_path: Path) -> None:
     with open("/dev/full", "wb") as full:
         done = subprocess.run(words, stdout=full, stderr=subprocess.PIPE, check=False)
     assert done.returncode == 3 and b"Traceback" not in done.stderr
+
+
+def test_findings_of_one_cause_have_a_heading(run: Run, table: Write, tmp_path: Path) -> None:
+    """The two balises of a group with three aspects are exchanged. No line of the program is left out or moved."""
+    rows = [f"Signal B,{name},15,{aspect},{text}" for aspect in ("red", "yellow", "green")
+            for name, text in (("B2", SECOND), ("B1", FIRST))]
+    path = table(HEADING, f"Signal A,A1,14,,{SECOND}", f"Signal A,A2,14,,{FIRST}", *rows)
+    run("check", path, "--json", tmp_path / "out.json")
+    findings = json.loads((tmp_path / "out.json").read_text("utf-8"))["findings"]
+    out = run("check", path)[1]
+    assert [line for line in out if line.startswith("F")] == [
+        "F1, 6 times, group Signal B:", "F4, 6 times, group Signal B:"]
+    place = out.index("F1, 6 times, group Signal B:")
+    assert out[place + 1].startswith("row 4  Signal B")
+    assert [line for line in out[place + 1:place + 13] if line.startswith("    program: ")] == [
+        f"    program: F1 group 1 aspect {aspect} balise {balise}: position wrong"
+        for aspect in range(3) for balise in range(2)]
+    said = [line[len("    program: "):] for line in out if line.startswith("    program: ")]
+    assert said == [one["line"] for one in findings] and len(said) > 8
+
+
+def test_headings_stand_where_the_rule_or_the_group_changes() -> None:
+    def place(rule: int, name: str = "", message: int = 0) -> checking.Place:
+        finding = Finding(f"F{rule}", rule, "said")
+        about = Group(name, (Aspect("", (Row(2, name, ""),)),)) if name else None
+        return checking.Place(finding, about, message=Message(message, "", name="\x1b7") if message else None)
+
+    some = [*[place(1, "A\u202e")] * 3, *[place(2, "A\u202e")] * 2, *[place(2, "B")] * 4, *[place(10, message=7)] * 3]
+    assert [(number, one) for number, one in enumerate(headings(some)) if one] == [
+        (0, "F1, 3 times, group A\\u202e:"), (5, "F2, 4 times, group B:"),
+        (9, "F10, 3 times, message of line 7  \\x1b7:")]
+    assert len(list(headings(some))) == len(some) and list(headings([])) == []

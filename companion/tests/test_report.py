@@ -24,7 +24,7 @@ from balisekit.premises import of_document, premises
 from balisekit.program import Program
 from balisekit.values import metres
 from cases_of_program import TOP
-from telegrams import MESSAGE
+from telegrams import FIRST, MESSAGE, SECOND
 
 LINE = TOP / "examples" / "table" / "line.csv"
 HEADER = "a1007f802000" + "f" * 40 + "c0"
@@ -136,6 +136,23 @@ def test_a_report_with_entries_that_is_not_whole(tmp_path: Path, capsys: pytest.
     assert cli.main(["report", str(LINE), "--html", str(tmp_path / "x.html"), "--accepted",
                      str(tmp_path / "bad.csv")]) == 2
     assert "row 1: no column nid_c" in capsys.readouterr().err and not (tmp_path / "x.html").exists()
+
+
+def test_findings_of_one_cause_have_a_heading(tmp_path: Path) -> None:
+    """In the list of findings: over the open ones and over the accepted ones, each with its line. Blocks have none."""
+    rows = [{"group": "A<b>", "aspect": aspect, "telegram": text} for aspect in ("red", "yellow", "green")
+            for text in (SECOND, FIRST)]
+    table = _table(tmp_path / "t.csv", *rows)
+    _, page = _report(table, tmp_path / "r.html")
+    listed = _between(page, "Findings", "Groups and messages")
+    assert re.findall('<p class="several"><bdi>(.*)</bdi></p>', page) == [
+        "F1, 6 times, group A&lt;b&gt;:", "F4, 6 times, group A&lt;b&gt;:"]
+    assert listed.count("position wrong</span>") == 6 and page.count("position wrong</span>") == 12
+    some = [{"nid_c": "1", "nid_bg": "1", "rule": "F1", "aspect": aspect, "balise": balise}
+            for aspect in ("red", "yellow") for balise in ("0", "1")]
+    _, page = _report(table, tmp_path / "r.html", "--accepted", str(_accepted(tmp_path / "a.csv", *some)))
+    assert "F1, " not in _between(page, "Open findings", "Accepted findings")
+    assert "F1, 4 times, group" in _between(page, "Accepted findings", "What findings mean")
 
 
 def test_a_yes_and_an_empty_refusal(tmp_path: Path) -> None:

@@ -14,6 +14,7 @@ from balisekit.checking import Accepted, Checked, LeftOut, Place, Refused, Refus
 from balisekit.commands import Command, add_input_words, inputs
 from balisekit.errors import NoAnswer
 from balisekit.model import Group, Row
+from balisekit.repeats import headings
 from balisekit.wording import (balise_words, clean, group_words, message_refused, message_words, passed_over,
                                telegram_refused)
 
@@ -95,7 +96,8 @@ def lines(checked: Checked, explained: bool = False, by_position: bool = False,
     if checked.messages_not_looked_at:
         yield f"and {checked.messages_not_looked_at} messages not looked at: --all goes on"
     entries = judged.by_finding if judged else (None,) * len(checked.findings)
-    for place, entry in zip(checked.findings, entries):
+    for heading, place, entry in zip(headings(checked.findings), checked.findings, entries):
+        yield from [heading] if heading else []
         yield f"{finding_words(place)}"
         yield f"    program: {place.finding.line}"
         if entry:

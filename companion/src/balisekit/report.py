@@ -19,6 +19,7 @@ from balisekit.grammar import Finding
 from balisekit.model import Group, Row
 from balisekit.pictures import picture_of, picture_of_message
 from balisekit.places import Here, Identities
+from balisekit.repeats import headings
 from balisekit.show_command import places_of_rows
 from balisekit.showing import text
 from balisekit.values import Form
@@ -48,6 +49,8 @@ class Told:
     rule: int
     accepted: str = ""
     """Why, by whom and when it was accepted. An open finding has nothing."""
+    heading: str = ""
+    """What stands above it in the list of findings, where it is the first of several of one rule about one group."""
 
 
 @dataclass(frozen=True)
@@ -129,7 +132,7 @@ def _inputs(checked: Checked, judged: Optional[Judged]) -> Iterator[Tuple[str, s
         yield clean(entries.path), entries.sha256, f"{len(entries.entries)} entries of accepted findings"
 
 
-def told(place: Place, entry: Optional[Entry], ids: Dict[str, str]) -> Told:
+def told(place: Place, entry: Optional[Entry], heading: str, ids: Dict[str, str]) -> Told:
     """A finding with its link: to the balise's telegram where it names one, else to the block."""
     if place.message is not None:
         target = f"m{place.message.number}"
@@ -138,7 +141,7 @@ def told(place: Place, entry: Optional[Entry], ids: Dict[str, str]) -> Told:
     else:
         target = ids[place.group.name] if place.group else ""
     return Told(finding_words(place), place.finding.line, target, place.finding.rule,
-                accepted_words(entry) if entry else "")
+                accepted_words(entry) if entry else "", heading)
 
 
 def group_ids(groups: Sequence[Group]) -> Dict[str, str]:
@@ -147,10 +150,15 @@ def group_ids(groups: Sequence[Group]) -> Dict[str, str]:
 
 
 def told_all(checked: Checked, judged: Optional[Judged] = None) -> List[Told]:
-    """Each finding, beside the entry that accepts it."""
+    """Each finding, beside the entry that accepts it. Open ones and accepted ones have headings of their own."""
     ids = group_ids(checked.table.groups)
     entries = judged.by_finding if judged else (None,) * len(checked.findings)
-    return [told(place, entry, ids) for place, entry in zip(checked.findings, entries)]
+    above: Dict[int, str] = {}
+    for is_open in (True, False):
+        some = [number for number, entry in enumerate(entries) if (entry is None) == is_open]
+        above.update(zip(some, headings([checked.findings[number] for number in some])))
+    return [told(place, entry, above[number], ids)
+            for number, (place, entry) in enumerate(zip(checked.findings, entries))]
 
 
 def blocks(checked: Checked, read: Mapping[int, Form], findings: Sequence[Told]) -> Iterator[Block]:
