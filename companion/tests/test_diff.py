@@ -19,7 +19,7 @@ from balisekit.form_difference import ADDED, REMOVED, align, differences
 from balisekit.program import Program, Text
 from cases_of_program import CASES, TOP
 from conftest import Run
-from telegrams import ALONE, FAULTY, MESSAGE, OTHER
+from telegrams import ALONE, FAULTY, FIRST, MESSAGE, OTHER, SECOND
 
 Write = Callable[..., Path]
 Form = Dict[str, Any]
@@ -79,6 +79,26 @@ def test_nothing_differs(run: Run) -> None:
     status, out, _ = run("diff", LINKS / "line.csv", LINKS / "line.csv")
     assert status == 0 and out[-1] == NONE and out[-2].startswith("unchanged: 6, SHA-256 ")
     assert not any("yes" in line for line in out)
+
+
+def test_the_checksum_of_what_is_unchanged(run: Run, table: Write) -> None:
+    """A known value, whatever the order of rows, the names and the case; and what has changed has no part in it."""
+    known = ("unchanged: 3, SHA-256 00a934565634729121c447381cbb6299"
+             "40aaf3a9d9d9fb3b73e15622b8ff3d7a")
+    lines = ["group,telegram", f"A,{ALONE}", f"B,{OTHER.upper()}"]
+    old, radio = table(*lines, name="old.csv"), table(f"{MESSAGE.upper()};one", name="m.txt")
+    beside = ("--old-messages", radio, "--new-messages", radio)
+    status, out, _ = run("diff", old, old, *beside)
+    assert (status, out[-2]) == (0, known)
+    other = table("telegram,km,group", f"{OTHER.upper()},7,Q", f"{ALONE},5,P", name="other.csv")
+    assert run("diff", old, other, *beside)[1][-2] == run("diff", other, old, *beside)[1][-2] == known
+    more = table(*lines, f"C,{FIRST}", f"C,{SECOND}", name="more.csv")
+    assert run("diff", old, more, *beside)[1][-2] == run("diff", more, old, *beside)[1][-2] == known
+    texts_of_it = sorted(one.lower().encode() + b"\n" for one in (ALONE, OTHER, MESSAGE))
+    by_tool = subprocess.run(["sha256sum"], input=b"".join(texts_of_it), stdout=subprocess.PIPE, check=True).stdout
+    assert known.endswith(by_tool.decode().split()[0])
+    nothing = table("group,telegram", f"C,{FIRST}", f"C,{SECOND}", name="nothing.csv")
+    assert run("diff", old, nothing)[1][-2] == f"unchanged: 0, SHA-256 {hashlib.sha256().hexdigest()}"
 
 
 def test_a_document_is_as_its_table(run: Run, tmp_path: Path) -> None:
