@@ -106,9 +106,16 @@ def release(tmp_path_factory: pytest.TempPathFactory, program: Program) -> Path:
 
 
 def steps(job: Path) -> List[str]:
-    """The commands of a job file."""
-    return [line for line in re.findall(r"^ +- (?:run: )?(.+)$", job.read_text("utf-8"), re.MULTILINE)
-            if "tools" in line]
+    """What a job file runs, a shell each: GitLab gives all lines of `script` to one, GitHub each `run` to its own."""
+    lines = job.read_text("utf-8").splitlines()
+    if job.stem == "github":
+        at = lines.index("    steps:")
+        some = [re.fullmatch(r" +- (run: (?P<run>.+)|uses: \S+|{uses: .+})", line) for line in lines[at + 1:]]
+        assert all(some), "a step of another kind"
+        return [one["run"] for one in some if one and one["run"]]
+    at = lines.index("  script:")
+    end = next(place for place, line in enumerate(lines) if place > at and not line.startswith("    - "))
+    return ["\n".join(line[len("    - "):] for line in lines[at + 1:end])]
 
 
 def run_job(job: Path, room: Path, release: Path, *tables: List[str]) -> int:
@@ -117,23 +124,28 @@ def run_job(job: Path, room: Path, release: Path, *tables: List[str]) -> int:
     for name, lines in zip(("line.csv", "accepted.csv"), tables):
         (room / name).write_text("".join(f"{line}\n" for line in lines), "utf-8")
     for step in steps(job):
-        done = subprocess.run(["bash", "-e", "-c", step], cwd=room, env={"PATH": "/usr/bin:/bin", "HOME": str(room)},
-                              stdout=subprocess.DEVNULL, stderr=subprocess.DEVNULL, check=False)
+        done = subprocess.run(["bash", "-e", "-o", "pipefail", "-c", step], cwd=room,
+                              env={"PATH": "/usr/bin:/bin", "HOME": str(room)}, stdout=subprocess.DEVNULL,
+                              stderr=subprocess.DEVNULL, check=False)
         if done.returncode:
             return done.returncode
     return 0
 
 
-@pytest.mark.parametrize("job, lines, entries, status", [
-    (JOBS[0], [*SOUND, f"C,{ALONE}"], [entry()], 0), (JOBS[0], [*SOUND, f"C,{ALONE}"], [], 1), (JOBS[1], SOUND, [], 0),
-    (JOBS[1], [*SOUND, f"C,{ALONE}"], [], 1), (JOBS[1], [*SOUND, f"C,{ALONE}"], [entry()], 0),
-    (JOBS[1], [*SOUND, f"C,{ALONE}"], [entry(until="2020-01-03")], 1), (JOBS[1], SOUND, [entry()], 1),
-    (JOBS[1], [*SOUND, f"C,{SPARE}"], [], 2)],
-    ids=["github accepted", "github new", "sound", "new", "accepted", "expired", "unused", "refused"])
-def test_jobs(job: Path, tmp_path: Path, release: Path, lines: List[str], entries: List[str], status: int) -> None:
+@pytest.mark.parametrize("job", JOBS, ids=[path.stem for path in JOBS])
+@pytest.mark.parametrize("third, entries, status, cases", [
+    ("", [], 0, {}), (ALONE, [], 1, {"group C": ["Failure"]}), (ALONE, [entry()], 0, {"group C": ["Skipped"]}),
+    (ALONE, [entry(until="2020-01-03")], 1, {"group C": ["Failure"], "accepted row 2": ["Failure"]}),
+    ("", [entry()], 1, {"accepted row 2": ["Failure"]}), (SPARE, [], 2, {"group C": ["Error"]})],
+    ids=["sound", "new", "accepted", "expired", "unused", "refused"])
+def test_jobs(job: Path, tmp_path: Path, release: Path, third: str, entries: List[str], status: int,
+              cases: Dict[str, List[str]]) -> None:
     """A new finding is red, an accepted one is not, and one whose date is past is red again."""
+    lines = [*SOUND, *([f"C,{third}"] if third else [])]
     assert run_job(job, tmp_path, release, lines, [HEADING, *entries]) == status
-    assert (tmp_path / "balises.xml").is_file()
+    kept = re.search("(?:junit|path): ([^ },]+)", job.read_text("utf-8").split("balisekit check", 1)[1])
+    cases = {"group A": [], "group B": [], **cases}
+    assert kept and results(read(tmp_path / kept[1])) == cases
 
 
 @pytest.mark.parametrize("job", JOBS, ids=[path.stem for path in JOBS])
@@ -149,4 +161,5 @@ def test_a_damaged_tarball_is_red(job: Path, tmp_path: Path, release: Path) -> N
 
 def test_job_files_are_short() -> None:
     assert [path.name for path in JOBS] == ["github.yml", "gitlab-ci.yml"]
-    assert all(len(path.read_text("utf-8").splitlines()) <= 10 and len(steps(path)) == 2 for path in JOBS)
+    assert all(len(path.read_text("utf-8").splitlines()) <= 10 for path in JOBS)
+    assert [len("\n".join(steps(path)).splitlines()) for path in JOBS] == [2, 2]
