@@ -10,9 +10,10 @@ from typing import Any, Callable, Dict, List, Sequence, Tuple
 
 import pytest
 
+import line_table
 import link_tables
 from balisekit import explain
-from balisekit.links import look
+from balisekit.links import RULES, look
 from balisekit.model import Aspect, Group, Message, Row
 from balisekit.program import Program
 from balisekit.stations import Line, line
@@ -85,6 +86,20 @@ def test_the_line_without_fault_is_silent(run: Run) -> None:
         "L1 to L9 are rules of balisekit, which is not proved: they compare what the program has decoded",
         "links: none found of L1 to L9 in 4 groups"]
     assert run("check", FOLDER / "line.csv")[1][-1] == "program: yes: groups 4, messages 0"
+
+
+def test_each_rule_has_a_table() -> None:
+    assert sorted(rule for rule, _ in link_tables.FAULTS.values()) == list(RULES) == list(range(1, 10))
+
+
+def test_the_example_of_readme_without_its_refused_telegram(run: Run, table: Write, program: Program) -> None:
+    """All of its groups are looked at, and none of the rules finds anything."""
+    items = list(line_table.items())
+    texts = program.encode([item[5] for item in items])
+    rows = [[*item[:5], text.line] for item, text in zip(items, texts)]
+    status, out, _ = run("links", table(",".join(line_table.HEADING), *map(",".join, rows)))
+    assert status == 0 and not any(": links L" in one for one in out)
+    assert out[-1] == "links: none found of L1 to L9 in 9 groups"
 
 
 def test_the_example_of_readme_has_none(run: Run) -> None:
