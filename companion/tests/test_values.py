@@ -7,7 +7,7 @@ from typing import Any, Dict, Iterator, Tuple
 import pytest
 
 from balisekit.packets import READ_FROM_TRACK, packet_name
-from balisekit.values import ORDER, VARIABLES, Around, metres, named_words, value_words, variable_name
+from balisekit.values import ORDER, VARIABLES, Around, metres, said, value_words, variable_name
 from cases_of_program import TOP
 
 SCHEMAS = [json.loads((TOP / "schemas" / f"{name}.json").read_text()) for name in ("telegram", "message")]
@@ -128,6 +128,7 @@ def test_words_that_are_kept_are_those_of_the_place(beside: int, from_track: boo
             for value in (0, 1, 2, 5, 126, 255, 16_383, 32_767):
                 if key == "n_pig" and value > 7:
                     continue
-                wanted = variable_name(key, packet), value_words(key, value, around)
-                assert named_words(key, value, around) == wanted, (key, value)
-        assert named_words("body", "00", around)[1] == value_words("body", "00", around)
+                words, raw = value_words(key, value, around), f"[{value}]" if value_words(key, value, around) else value
+                wanted = " ".join(filter(None, [variable_name(key, packet), words, str(raw)]))
+                assert said(key, value, around) == wanted
+        assert value_words("body", "00", around) in said("body", "00", around)

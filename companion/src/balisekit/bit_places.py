@@ -37,7 +37,7 @@ def _words(field: Field, known: Mapping[str, Shown]) -> str:
         return "fill, without meaning"
     if not field.parts:
         return f"{field.name} {field.value}"
-    return "  ".join(str(known[path]) for path, _ in field.parts)
+    return "  ".join(known[path].text for path, _ in field.parts)
 
 
 def _compare(fields: List[Field], wanted: Dict[str, Union[int, str]]) -> None:

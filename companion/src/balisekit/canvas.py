@@ -11,6 +11,8 @@ from balisekit.geometry import NOMINAL, REVERSE, Kilometres
 from balisekit.values import metres
 
 WIDTH, LEFT, RIGHT = 800, 84, 34
+ROOM = (WIDTH - LEFT - RIGHT) * 10
+"""How much of the width is for places, in tenths of a pixel."""
 LETTER = 62
 """The width of a letter, in tenths of a pixel."""
 
@@ -64,8 +66,7 @@ class Sheet:
 
     def x(self, place: int) -> int:
         """Where a place is, in tenths of a pixel. A place of the reverse direction is negative."""
-        room = (WIDTH - LEFT - RIGHT) * 10
-        return LEFT * 10 + (place - self.least) * room // (self.greatest - self.least)
+        return LEFT * 10 + (place - self.least) * ROOM // (self.greatest - self.least)
 
     def rect(self, look: str, title: str, places: Tuple[int, int], y: int, height: int) -> Tuple[int, int]:
         """A rectangle between two places, at least a pixel wide. The answer is where it begins and ends."""

@@ -9,8 +9,8 @@ from dataclasses import dataclass
 from typing import Any, Callable, Dict, Iterator, List, Optional, Sequence, Tuple, TypeVar
 
 from balisekit.packets import packet_name
-from balisekit.showing import LABELS, Shown
-from balisekit.values import DIRECTIONS, ORDER, Around, Form, value_words, variable_name
+from balisekit.showing import LABELS
+from balisekit.values import DIRECTIONS, ORDER, Around, Form, said, value_words, variable_name
 
 Item = TypeVar("Item")
 Pair = Tuple[Optional[int], Optional[int]]
@@ -99,9 +99,9 @@ def _object(where: str, old: Form, new: Form, before: Around, after: Around) -> 
         elif isinstance(one, dict) or isinstance(other, dict):
             yield _part(label, ADDED, other, after) if one is None else _part(label, REMOVED, one, before)
         else:
-            said = _value(key, one, old, before), _value(key, other, new, after)
-            if said[0] != said[1]:
-                yield Change(CHANGED, where, variable_name(key, new if key in new else old), *said)
+            values = _value(key, one, old, before), _value(key, other, new, after)
+            if values[0] != values[1]:
+                yield Change(CHANGED, where, variable_name(key, new if key in new else old), *values)
 
 
 def _inner(form: Form, around: Around) -> Around:
@@ -133,11 +133,11 @@ def _as_object(key: str, item: Any) -> Form:
 
 def _part(where: str, kind: str, form: Any, around: Around) -> Change:
     """All values of a part that is in one of both alone."""
-    text = "  ".join(map(str, _shown(form, around)))
+    text = "  ".join(_shown(form, around))
     return Change(kind, where, "", *((text, "") if kind == REMOVED else ("", text)))
 
 
-def _shown(form: Form, around: Around) -> Iterator[Shown]:
+def _shown(form: Form, around: Around) -> Iterator[str]:
     inner = _inner(form, around)
     for key in sorted(form, key=lambda one: (ORDER.get(one, len(ORDER)), one)):
         value = form[key]
@@ -145,7 +145,7 @@ def _shown(form: Form, around: Around) -> Iterator[Shown]:
             if isinstance(item, dict):
                 yield from _shown(item, inner)
             else:
-                yield Shown("", variable_name(key, form), value_words(key, item, inner), item)
+                yield said(key, item, inner)
 
 
 def align(old: Sequence[Form], new: Sequence[Form]) -> List[Pair]:

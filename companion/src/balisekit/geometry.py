@@ -8,7 +8,7 @@ from __future__ import annotations
 from dataclasses import dataclass
 from decimal import Decimal
 from functools import cached_property, lru_cache
-from typing import Dict, FrozenSet, Iterator, List, Mapping, NamedTuple, Optional, Sequence, Tuple
+from typing import Dict, FrozenSet, List, Mapping, NamedTuple, Optional, Sequence, Tuple
 
 from balisekit.model import Group
 from balisekit.values import Form, unit_dm
@@ -215,32 +215,34 @@ def holds(packet: Form, direction: str) -> bool:
     return packet.get("q_dir", 2) in (2, 1 if direction == NOMINAL else 0)
 
 
-def passed(forms: Sequence[Form], direction: str) -> Iterator[Tuple[Site, Form]]:
+def passed(forms: Sequence[Form], direction: str) -> List[Tuple[Site, Form]]:
     """The packets of a group for one direction in passing order, without those of silent balises."""
     order = range(len(forms)) if direction == NOMINAL else range(len(forms) - 1, -1, -1)
-    for balise in order:
-        if not is_silent(forms, balise, direction):
-            for place, packet in enumerate(forms[balise]["packets"]):
-                if holds(packet, direction):
-                    yield Site(balise, place), packet
+    return [(Site(balise, place), packet)
+            for balise in order if not is_silent(forms, balise, direction)
+            for place, packet in enumerate(forms[balise]["packets"]) if holds(packet, direction)]
 
 
 def infill(forms: Sequence[Form], direction: str) -> FrozenSet[Site]:
     """The packets that are passed behind a packet 136: their distances count from another group."""
-    if not any(packet["nid_packet"] == 136 for form in forms for packet in form["packets"]):
-        return NONE
+    return _behind_infill(passed(forms, direction))
+
+
+def _behind_infill(packets: Sequence[Tuple[Site, Form]]) -> FrozenSet[Site]:
+    """Those of the passed packets that come behind a packet 136."""
     behind, sites = False, set()
-    for site, packet in passed(forms, direction):
+    for site, packet in packets:
         if behind:
             sites.add(site)
         behind = behind or packet["nid_packet"] == 136
-    return frozenset(sites)
+    return frozenset(sites) if sites else NONE
 
 
 def way(forms: Sequence[Form], direction: str, of_infill: bool = False) -> Way:
     """What the telegrams of a group say in one direction: of the group's own places, or of the infill's."""
-    elsewhere = infill(forms, direction)
-    packets = [(site, packet) for site, packet in passed(forms, direction) if (site in elsewhere) == of_infill]
+    known = passed(forms, direction)
+    elsewhere = _behind_infill(known)
+    packets = [one for one in known if (one[0] in elsewhere) == of_infill] if elsewhere or of_infill else known
     profiles = [profile(site, packet) for site, packet in packets if packet["nid_packet"] in ELEMENT_KEYS]
     return Way(
         direction,

@@ -9,7 +9,7 @@ from functools import lru_cache
 from typing import List, Mapping, NamedTuple, Sequence, Tuple, Union
 
 from balisekit.places import Here, place_notes
-from balisekit.values import Around, Form, ORDER, named_words
+from balisekit.values import Around, Form, ORDER, said
 
 WIDTH = 118
 LABEL_WIDTH = 22
@@ -27,14 +27,9 @@ class Shown(NamedTuple):
 
     path: str
     """Where the JSON has it: `/packets/1/q_dir`."""
-    name: str
-    """The standard's name of the variable."""
-    words: str
-    """The value with its unit or name; empty where the number says all."""
     raw: Union[int, str]
-
-    def __str__(self) -> str:
-        return f"{self.name} {self.words} [{self.raw}]" if self.words else f"{self.name} {self.raw}"
+    text: str
+    """The standard's name of the variable, the value with its unit or name, and the number, if that isn't all."""
 
 
 class Line(NamedTuple):
@@ -84,7 +79,7 @@ def _lines(into: List[Line], label: str, depth: int, form: Form, path: str, arou
         else:
             if key == "l_endsection":
                 label, anchor, depth = "end section", below, depth + 1
-            values.append(Shown(below, *named_words(key, value, inner), value))
+            values.append(Shown(below, value, said(key, value, inner)))
     if values:
         into.append(Line(depth, label, tuple(values), notes.get(anchor, "")))
 
@@ -93,29 +88,29 @@ def text_of(line: Line) -> str:
     """The line as text, broken where it is too long. A break never parts a name from its raw value."""
     label = f"{'  ' * line.depth}{line.label}"
     first = f"{label:<{LABEL_WIDTH}}" if len(label) < LABEL_WIDTH else f"{label} "
-    values = list(map(str, line.values))
+    values = [value.text for value in line.values]
     whole = f"{first}{'  '.join(values)}" + (f"  = {line.note}" if line.note else "")
     return whole if len(whole) <= WIDTH else _broken(first, values, line.note)
 
 
-def _broken(said: str, values: Sequence[str], note: str) -> str:
+def _broken(last: str, values: Sequence[str], note: str) -> str:
     """The values behind the beginning of a line, and the note, on as many lines as they need."""
     lines: List[str] = []
     fresh = True
     for value in values:
-        if not fresh and len(said) + 2 + len(value) > WIDTH:
-            lines.append(said)
-            said, fresh = " " * LABEL_WIDTH, True
-        said += value if fresh else f"  {value}"
+        if not fresh and len(last) + 2 + len(value) > WIDTH:
+            lines.append(last)
+            last, fresh = " " * LABEL_WIDTH, True
+        last += value if fresh else f"  {value}"
         fresh = False
     if note:
-        if len(said) + 4 + len(note) > WIDTH:
-            lines.append(said)
-            *full, said = _wrapped(f"= {note}")
+        if len(last) + 4 + len(note) > WIDTH:
+            lines.append(last)
+            *full, last = _wrapped(f"= {note}")
             lines.extend(full)
         else:
-            said += f"  = {note}"
-    return "\n".join([*lines, said])
+            last += f"  = {note}"
+    return "\n".join([*lines, last])
 
 
 def _wrapped(note: str) -> List[str]:

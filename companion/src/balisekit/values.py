@@ -274,16 +274,21 @@ BY_PARENT = frozenset(("g_a", "q_gdir", "nc", "body"))
 """The keys whose words need more of what is around them than the unit of distances."""
 
 
-def named_words(key: str, value: Union[int, str], around: Around) -> Tuple[str, str]:
-    """The name and the words of a value. Most values come again and again, so that they are kept."""
+def said(key: str, value: Union[int, str], around: Around) -> str:
+    """A value with its name, as "Q_DIR nominal [1]". Most values come again and again, so that this is kept."""
     if key in BY_PARENT:
-        return variable_name(key, around.parent), value_words(key, value, around)
-    return _kept_words(key, value, around.packet.get("q_scale", 0), around.from_track)
+        return _said(key, value, around)
+    return _kept(key, value, around.packet.get("q_scale", 0), around.from_track)
 
 
 @lru_cache(maxsize=1 << 14)
-def _kept_words(key: str, value: Union[int, str], scale: int, from_track: bool) -> Tuple[str, str]:
-    return variable_name(key, NO_FORM), value_words(key, value, Around({"q_scale": scale}, NO_FORM, from_track))
+def _kept(key: str, value: Union[int, str], scale: int, from_track: bool) -> str:
+    return _said(key, value, Around({"q_scale": scale}, NO_FORM, from_track))
+
+
+def _said(key: str, value: Union[int, str], around: Around) -> str:
+    name, words = variable_name(key, around.parent), value_words(key, value, around)
+    return f"{name} {words} [{value}]" if words else f"{name} {value}"
 
 
 def value_words(key: str, value: Union[int, str], around: Around) -> str:
