@@ -182,8 +182,12 @@ def _wait_for(there: Callable[[], bool]) -> None:
 
 
 def _interrupted(command: List[str], there: Callable[[], bool]) -> Tuple[int, bytes]:
-    """The status and standard error of a command that is interrupted as a terminal does it, once this is there."""
-    with subprocess.Popen(command, stdout=subprocess.PIPE, stderr=subprocess.PIPE, start_new_session=True) as run:
+    """The status and standard error of a command that is interrupted as a terminal does it, once this is there.
+
+    A shell has its jobs in the background ignore interrupts, and these tests with them, so the command is told not to.
+    """
+    with subprocess.Popen(command, stdout=subprocess.PIPE, stderr=subprocess.PIPE, start_new_session=True,
+                          preexec_fn=lambda: signal.signal(signal.SIGINT, signal.SIG_DFL)) as run:
         _wait_for(there)
         os.killpg(run.pid, signal.SIGINT)
         _, said = run.communicate(timeout=120)
