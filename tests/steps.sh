@@ -1,6 +1,8 @@
-# What tests/all and the gate share: steps that are run, kept and counted. To be read by bash, from the top.
+# What tests/all, the gate and the tests in bash share: steps that are run and kept, tests, their count, and a folder that
+# goes in the end. To be read by bash.
 room=$(mktemp -d)
-trap 'for job in $(jobs -p); do pkill -P "$job"; kill "$job"; done 2>/dev/null; rm -rf "$room"' EXIT
+trap 'for job in $(jobs -p); do pkill -P "$job"; kill "$job"; done 2>/dev/null
+    chmod -R u+w "$room" 2>/dev/null; rm -rf "$room"' EXIT
 trap 'exit 1' HUP INT TERM
 TIMEFORMAT='%R %U %S'
 passed=0
@@ -40,8 +42,18 @@ count() {
     return "$((bad > 0))"
 }
 
-# total: the last line, and whether all has passed.
+# holds NAME DIFFERENCE: a test, which an empty difference passes.
+holds() {
+    if [ -z "$2" ]; then
+        passed=$((passed + 1))
+    else
+        failed=$((failed + 1))
+        printf 'failed: %s\n%s\n' "$1" "$2"
+    fi
+}
+
+# total [TITLE]: the last line, and whether all has passed.
 total() {
-    echo "$passed passed, $failed failed"
+    echo "${1:+$1: }$passed passed, $failed failed"
     [ "$failed" -eq 0 ] && [ "$passed" -gt 0 ]
 }
