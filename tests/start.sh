@@ -6,36 +6,15 @@
 # The last line is 'the start script: N passed, M failed'. The exit status is 1 if a test failed.
 set -uo pipefail
 
-from=${START_FROM:-$(cd "$(dirname "${BASH_SOURCE[0]}")/.." && pwd)}
-room=$(mktemp -d)
-trap 'chmod -R u+w "$room" 2>/dev/null; rm -rf "$room"' EXIT
+here=$(cd "$(dirname "${BASH_SOURCE[0]}")" && pwd)
+from=${START_FROM:-$here/..}
+. "$here/steps.sh"
 tree=$room/tree
 stored=$tree/dist/x86_64-linux
 # The usual commands, and no toolchain.
 bare=$room/usual
-passed=0
-failed=0
-
-# count NAME DIFFERENCE: an empty difference is a pass.
-count() {
-    if [ -z "$2" ]; then
-        passed=$((passed + 1))
-    else
-        failed=$((failed + 1))
-        printf 'failed: %s\n%s\n' "$1" "$2"
-    fi
-}
 
 # ---- the tree, and stand-ins
-
-# usual_commands: a folder of links to the commands that the scripts use.
-usual_commands() {
-    local name
-    mkdir "$bare"
-    for name in sh dirname readlink find sort xargs sha256sum grep sed awk cat cp mv rm mkdir install sleep tail wc chmod kill; do
-        ln -s "$(command -v "$name")" "$bare/$name"
-    done
-}
 
 # program FILE WORDS: a program that writes the words before each line of its input.
 program() {
@@ -92,22 +71,28 @@ answers() {
     if [ -z "$stderr" ]; then cat "$room/stderr"; else grep -qF "$stderr" "$room/stderr" || echo "it said: $(cat "$room/stderr")"; fi
 }
 
+# answers_by NAME WORDS [COMMAND..]: the program that writes these words answers, and nothing is said beside it.
+answers_by() {
+    holds "$1" "$(answers 0 "$2 a1"$'\n' '' "${@:3}")"
+}
+
 # answers_none NAME TEXT: no program is run, and why is said in one line.
 answers_none() {
-    count "$1" "$(answers 3 '' 'balisecheck: not built: '; grep -F "$2" "$room/stderr" >/dev/null || echo "no text '$2' in: $(cat "$room/stderr")"; [ "$(wc -l <"$room/stderr")" -eq 1 ] || echo 'not one line')"
+    holds "$1" "$(answers 3 '' 'balisecheck: not built: '; grep -qF "$2" "$room/stderr" || echo "no text '$2'"
+        [ "$(wc -l <"$room/stderr")" -eq 1 ] || echo 'not one line')"
 }
 
 answers_at_once() {
     begin
-    count 'the stored program of these sources answers' "$(answers 0 $'stored a1\n' '')"
-    count 'nothing is written' "$([ ! -e "$tree/out" ] || ls "$tree/out")"
-    count 'its path is written where it is asked for' "$(BALISECHECK_PATH=1 answers 0 "$(readlink -f "$stored")/balisecheck"$'\n' '')"
+    answers_by 'the stored program of these sources answers' stored
+    holds 'nothing is written' "$([ ! -e "$tree/out" ] || ls "$tree/out")"
+    holds 'its path is written where it is asked for' "$(BALISECHECK_PATH=1 answers 0 "$(readlink -f "$stored")/balisecheck"$'\n' '')"
     ln -sf "$tree/balisecheck" "$room/link"
-    count 'through a link, from another folder' "$(cd "$room/elsewhere" && answers 0 $'stored a1\n' '' "$room/link")"
+    holds 'through a link, from another folder' "$(cd "$room/elsewhere" && answers 0 $'stored a1\n' '' "$room/link")"
     is_built
-    count 'a program that was built here answers before the stored one' "$(answers 0 $'built a1\n' '')"
+    answers_by 'a program that was built here answers before the stored one' built
     rm -r "$stored"
-    count 'and where none is stored' "$(answers 0 $'built a1\n' '')"
+    answers_by 'and where none is stored' built
 }
 
 # changed NAME COMMAND..: after the command in the tree, neither the stored program nor the one that was built answers.
@@ -130,31 +115,36 @@ takes_no_other_sources() {
     begin
     touch -d '+1 day' "$tree/crates/etcs_low/src/lib.rt"
     mkdir -p "$tree/crates/etcs_low/out" && touch "$tree/crates/etcs_low/out/more" "$tree/README.md"
-    count 'a source saved unchanged, and what is no source' "$(answers 0 $'stored a1\n' '')"
+    answers_by 'a source saved unchanged, and what is no source' stored
     is_built
     echo '//' >>"$tree/crates/etcs_low/src/lib.rt"
     papers "$stored"
-    count 'what was built before a change gives way to what is stored after it' "$(answers 0 $'stored a1\n' '')"
+    answers_by 'what was built before a change gives way to what is stored after it' stored
+}
+
+# spoilt NAME TEXT COMMAND..: after the command in the tree, which has a stored program alone, none answers, and why.
+spoilt() {
+    begin
+    (cd "$tree" && "${@:3}")
+    answers_none "$1" "$2"
+}
+
+# half_built NAME COMMAND..: after the command in out/, which has a program of these sources, the stored one answers.
+half_built() {
+    begin
+    is_built
+    (cd "$tree/out" && "${@:2}")
+    answers_by "$1" stored
 }
 
 takes_no_damaged_one() {
-    begin
-    echo '# more' >>"$stored/balisecheck"
-    answers_none 'a damaged stored program' 'dist/x86_64-linux/balisecheck is damaged'
-    begin
-    rm "$stored/ABOUT"
-    answers_none 'no papers' 'dist/x86_64-linux/balisecheck is of other sources'
-    begin
-    rm -r "$stored"
-    answers_none 'no program' 'out/balisecheck is not there; dist/x86_64-linux/balisecheck is not there'
-    begin
-    is_built
-    program "$tree/out/balisecheck" newer
-    count 'a copy that was interrupted before its papers' "$(answers 0 $'stored a1\n' '')"
-    begin
-    is_built
-    head -c 9 "$tree/out/balisecheck" >"$room/part" && cp "$room/part" "$tree/out/balisecheck"
-    count 'an interrupted copy' "$(answers 0 $'stored a1\n' '')"
+    local dist=dist/x86_64-linux
+    spoilt 'a damaged stored program' "$dist/balisecheck is damaged" sh -c "echo '# more' >>$dist/balisecheck"
+    spoilt 'no papers' "$dist/balisecheck is of other sources" rm "$dist/ABOUT"
+    spoilt 'no program' "out/balisecheck is not there; $dist/balisecheck is not there" rm -r "$dist"
+    spoilt 'one without its mode' "$dist/balisecheck does not start here" chmod -x "$dist/balisecheck"
+    half_built 'a copy that was interrupted before its papers' program "$tree/out/balisecheck" newer
+    half_built 'an interrupted copy' sh -c 'head -c 9 balisecheck >part && cat part >balisecheck'
 }
 
 # does_not_start NAME SCRIPT: the stored program is whole, but ends so.
@@ -169,37 +159,29 @@ takes_none_that_does_not_start() {
     does_not_start 'a loader that refuses' 'echo "version GLIBC_2.34 not found" >&2; exit 1'
     does_not_start 'a processor that refuses' 'kill -ILL $$'
     does_not_start 'one that talks' 'echo a warning'
-    begin
-    chmod -x "$stored/balisecheck"
-    answers_none 'one without its mode' 'dist/x86_64-linux/balisecheck does not start here'
-}
-
-needs_its_tools() {
-    begin
-    mv "$bare/sha256sum" "$room/sha256sum"
-    count 'no sha256sum' "$(answers 3 '' 'balisecheck: not built: the sources cannot be summed up')"
-    mv "$room/sha256sum" "$bare/sha256sum"
 }
 
 writes_nothing() {
-    local number
+    local number other
     begin
+    mv "$bare/sha256sum" "$room/sha256sum"
+    holds 'no sha256sum' "$(answers 3 '' 'balisecheck: not built: the sources cannot be summed up')"
+    mv "$room/sha256sum" "$bare/sha256sum"
     echo 'no folder' >"$tree/out"
-    count 'out/ is a file' "$(answers 0 $'stored a1\n' '')"
+    answers_by 'out/ is a file' stored
     begin
     chmod -R a+rX "$room"
     chmod -R a-w "$tree"
-    if [ "$(id -u)" = 0 ] && command -v setpriv >/dev/null; then
-        count 'a checkout that cannot be written, as another user' "$(cd / && answers 0 $'stored a1\n' '' "$(command -v setpriv)" --reuid 65534 --regid 65534 --clear-groups "$tree/balisecheck")"
-    else
-        count 'a checkout that cannot be written' "$(answers 0 $'stored a1\n' '')"
-    fi
+    # Root may write anywhere, so another user tries it.
+    other=("$(command -v setpriv)" --reuid 65534 --regid 65534 --clear-groups)
+    [ "$(id -u)" = 0 ] && [ -n "${other[0]}" ] || other=(env)
+    answers_by 'a checkout that cannot be written' stored "${other[@]}" "$tree/balisecheck"
     begin
     for number in {1..12}; do
         (PATH=$bare "$tree/balisecheck" decode <<<a1 >"$room/many.$number" 2>&1; echo "$?" >>"$room/many.$number") &
     done
     wait
-    count 'twelve at once' "$(for number in {1..12}; do diff "$room/many.$number" <(printf '%s\n' 'stored a1' 0); done; ls "$tree/out" 2>/dev/null)"
+    holds 'twelve at once' "$(for number in {1..12}; do diff "$room/many.$number" <(printf '%s\n' 'stored a1' 0); done; ls "$tree/out" 2>/dev/null)"
 }
 
 # ---- the build, with a stand-in for the toolchain
@@ -238,16 +220,16 @@ builds_each_crate_once() {
     begin
     rm -r "$stored"
     rm -rf "$room/toolchain"
-    count 'no toolchain' "$(builds 3 'balisecheck: not built: the toolchain is not here')"
+    holds 'no toolchain' "$(builds 3 'balisecheck: not built: the toolchain is not here')"
     toolchain
-    count 'a build' "$(builds 0 'balisecheck: version 1.0 is built: out/balisecheck'; diff <(printf '%s\n' 'etcs_low lib' 'etcs_high lib' 'balisecheck run -- decode') "$room/proved")"
-    count 'its program answers' "$(answers 0 $'made a1\n' '')"
-    count 'it leaves the program, its papers and a log' "$(ls "$tree/out" | diff <(printf '%s\n' ABOUT balisecheck build.log) -)"
+    holds 'a build' "$(builds 0 'balisecheck: version 1.0 is built: out/balisecheck'; diff <(printf '%s\n' 'etcs_low lib' 'etcs_high lib' 'balisecheck run -- decode') "$room/proved")"
+    answers_by 'its program answers' made
+    holds 'it leaves the program, its papers and a log' "$(ls "$tree/out" | diff <(printf '%s\n' ABOUT balisecheck build.log) -)"
 }
 
 # keeps_the_old NAME STATUS TEXT: the build ends so, and the program that was built before still answers.
 keeps_the_old() {
-    count "$1" "$(builds "$2" "$3"; answers 0 $'built a1\n' ''; ls "$tree/out" | diff <(printf '%s\n' ABOUT balisecheck build.log) -)"
+    holds "$1" "$(builds "$2" "$3"; answers 0 $'built a1\n' ''; ls "$tree/out" | diff <(printf '%s\n' ABOUT balisecheck build.log) -)"
 }
 
 builds_in_trouble() {
@@ -256,35 +238,36 @@ builds_in_trouble() {
     begin; is_built; toolchain 'read -r build <'"$room/build"'; kill -TERM "$build"; sleep 1'
     keeps_the_old 'an interruption' 3 'balisecheck: not built: interrupted'
     begin; is_built; toolchain 'echo "//" >>crates/etcs_low/src/lib.rt; cp out/ABOUT old'
-    count 'a source saved meanwhile' "$(builds 3 'a source was saved meanwhile'; diff "$tree/old" "$tree/out/ABOUT"; grep -q 'echo "built' "$tree/out/balisecheck" || echo 'another program stands in out/')"
+    holds 'a source saved meanwhile' "$(builds 3 'a source was saved meanwhile'; diff "$tree/old" "$tree/out/ABOUT"; grep -q 'echo "built' "$tree/out/balisecheck" || echo 'another program stands in out/')"
     begin; toolchain; echo 'no folder' >"$tree/out"
-    count 'out/ is a file, for a build' "$(builds 3 'balisecheck: not built: out/ cannot be written'; answers 0 $'stored a1\n' '')"
+    holds 'out/ is a file, for a build' "$(builds 3 'balisecheck: not built: out/ cannot be written'; answers 0 $'stored a1\n' '')"
     begin; toolchain; mkdir "$tree/out"; ln -s /dev/full "$tree/out/part"
     sed -i 's|^part=.*|part=out/part|' "$tree/dist/hand-over"
-    count 'out/ is full' "$(builds 3 'balisecheck: not built: '; answers 0 $'stored a1\n' '')"
+    holds 'out/ is full' "$(builds 3 'balisecheck: not built: '; answers 0 $'stored a1\n' '')"
 }
 
 installs() {
     begin
-    count 'the program and its manual page are installed' "$(
+    holds 'the program and its manual page are installed' "$(
         PATH=$bare "$tree/install.sh" "$room/prefix" 2>&1 |
             diff <(printf 'installed: %s\n' "$room/prefix/bin/balisecheck" "$room/prefix/share/man/man1/balisecheck.1") -
         cmp "$stored/balisecheck" "$room/prefix/bin/balisecheck" 2>&1
         cmp "$tree/balisecheck.1" "$room/prefix/share/man/man1/balisecheck.1" 2>&1
     )"
     rm -r "$stored"
-    count 'where there is none, none is installed' "$(PATH=$bare "$tree/install.sh" "$room/other" >"$room/stdout" 2>&1 && echo 'status 0'; [ ! -e "$room/other" ] || ls "$room/other")"
+    holds 'where there is none, none is installed' "$(PATH=$bare "$tree/install.sh" "$room/other" >"$room/stdout" 2>&1 && echo 'status 0'; [ ! -e "$room/other" ] || ls "$room/other")"
 }
 
-usual_commands
+mkdir "$bare"
+for name in sh dirname readlink find sort xargs sha256sum grep sed awk cat cp mv rm mkdir install sleep tail wc chmod kill; do
+    ln -s "$(command -v "$name")" "$bare/$name"
+done
 answers_at_once
 takes_no_other_sources
 takes_no_damaged_one
 takes_none_that_does_not_start
-needs_its_tools
 writes_nothing
 builds_each_crate_once
 builds_in_trouble
 installs
-echo "the start script: $passed passed, $failed failed"
-[ "$failed" -eq 0 ]
+total 'the start script'
