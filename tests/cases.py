@@ -5,6 +5,7 @@ writes. Nothing here asks the program: each answer stands in the files, or follo
 fields.
 """
 import json
+import operator
 import re
 import sys
 
@@ -22,13 +23,18 @@ def spelled(*fields):
     return "".join(f"{number:0{width}b}" for width, number in fields)
 
 
-HEAD = "1" + spelled(*((width, number) for _, width, number in HEADER))
+def both(*fields):
+    """The digits of fields, each its key, its width and its number, and the form of those that have a key."""
+    return spelled(*(field[1:] for field in fields)), {key: number for key, _, number in fields if key}
+
+
+HEAD = "1" + both(*HEADER)[0]
 
 
 def text(bits):
     """The hexadecimal text of bits, with zeros up to whole bytes."""
     whole = bits + "0" * (-len(bits) % 8)
-    return f"{int(whole, 2):0{len(whole) // 4}x}"
+    return f"{int(whole, 2):0{len(whole) // 4}x}" if bits else ""
 
 
 def header_form(user_bits, **others):
@@ -37,9 +43,14 @@ def header_form(user_bits, **others):
     return {**numbers, "packets": [], "user_bits": user_bits, **others}
 
 
+def with_packets(form, forms):
+    """The line of a telegram or message with packets of these forms."""
+    return FORM.encode(form).replace('"packets":[]', f'"packets":[{",".join(forms)}]')
+
+
 def answer(size, forms):
     """The line of a telegram with packets of these forms."""
-    return FORM.encode(header_form(size)).replace('"packets":[]', f'"packets":[{",".join(forms)}]')
+    return with_packets(header_form(size), forms)
 
 
 def refusal(why, start=0):
@@ -47,19 +58,25 @@ def refusal(why, start=0):
     return "refused: line 1: " + re.sub(r"\d+", lambda place: str(int(place[0]) + start), why)
 
 
+def least(bits):
+    """The least telegram that has room for these packets, and its size."""
+    size = SHORT if len(HEAD + bits + END_MARK) <= SHORT else LONG
+    if len(HEAD + bits + END_MARK) > size:
+        raise ValueError(f"no telegram has room for {bits}")
+    return text((HEAD + bits + END_MARK).ljust(size, "1")), size
+
+
 def accepted(name, bits, forms):
     """The packets in a telegram of each size that has room for them."""
-    if len(HEAD + bits + END_MARK) > LONG:
-        raise ValueError(f"no telegram has room for {name}")
-    for size in (SHORT, LONG):
-        if len(HEAD + bits + END_MARK) <= size:
-            telegram = (HEAD + bits + END_MARK).ljust(size, "1")
-            yield f"{name}, {size} bits", text(telegram), answer(size, forms)
+    for size in range(least(bits)[1], LONG + 1, LONG - SHORT):
+        yield f"{name}, {size} bits", text((HEAD + bits + END_MARK).ljust(size, "1")), answer(size, forms)
 
 
 def filler(width):
-    """A packet 44 of so many bits, 23 at least."""
-    return spelled((8, 44), (2, 2), (13, width)) + "0" * (width - 23)
+    """A packet 44 of so many bits, 23 at least, with its form."""
+    body = "0" * (width - 23)
+    form = {"body": text(body), "l_packet": width, "nid_packet": 44, "q_dir": 2}
+    return spelled((8, 44), (2, 2), (13, width)) + body, [FORM.encode(form)]
 
 
 def cut(name, fields):
@@ -72,17 +89,15 @@ def cut(name, fields):
             field += 1
         at = start + len("".join(fields[:field]))
         why = f"short at {at} end {size}" if width >= 8 else f"no end at {at} end {at}"
-        telegram = HEAD + filler(start - len(HEAD)) + bits[:width]
+        telegram = HEAD + filler(start - len(HEAD))[0] + bits[:width]
         yield f"{name}, cut after {width} bits", text(telegram), refusal(why)
 
 
 def faults(name, ahead, fields, others):
     """The packet with other digits in one field."""
     for place, digits, why in others:
-        bits = ahead + "".join([*fields[:place], digits, *fields[place + 1:]])
-        size = SHORT if len(HEAD + bits + END_MARK) <= SHORT else LONG
-        telegram = (HEAD + bits + END_MARK).ljust(size, "1")
-        yield f"{name}: field {place + 1} is {digits}", text(telegram), refusal(why, len(HEAD + ahead))
+        telegram, _ = least(ahead + "".join([*fields[:place], digits, *fields[place + 1:]]))
+        yield f"{name}: field {place + 1} is {digits}", telegram, refusal(why, len(HEAD + ahead))
 
 
 def replaced(form, path, number):
@@ -103,11 +118,10 @@ def each_number(name, fields, form, allowed):
         ranges = [[int(end) for end in one.split("-")] for one in numbers.split()]
         known = {number for one in ranges for number in range(one[0], one[-1] + 1)}
         for number in range(2 ** width):
-            bits = front + spelled((width, number)) + "".join(fields[place + 1:])
-            size = SHORT if len(HEAD + bits + END_MARK) <= SHORT else LONG
+            telegram, size = least(front + spelled((width, number)) + "".join(fields[place + 1:]))
             why = refusal(f"spare at {len(front)} end {len(front) + width}", len(HEAD))
             wanted = answer(size, [replaced(form, path, number)]) if number in known else why
-            yield f"{name}: {path} {number}", text((HEAD + bits + END_MARK).ljust(size, "1")), wanted
+            yield f"{name}: {path} {number}", telegram, wanted
 
 
 def packets():
@@ -204,20 +218,26 @@ def authority(number, main, **keys):
     return packet(number, rest, end_speed=6, end_timeout=30, l_endsection=70, sections=lengths, **keys)
 
 
+def packet_of(number, key, items, *ahead):
+    """A packet of the fields ahead and of items, each its digits and its form; N_ITER stands behind the first one."""
+    first, *further = [bits for bits, _ in items]
+    front, form = both(*ahead)
+    rest = front + first + spelled((5, len(further))) + "".join(further)
+    return packet(number, rest, **form, **{key: [form for _, form in items]})
+
+
 def differences():
     """A speed profile of one element with 31 differences."""
-    items = [{"q_diff": item % 3, "nc": item % 16, "v_diff": item} for item in range(31)]
-    spelled_items = "".join(spelled((2, one["q_diff"]), (4, one["nc"]), (7, one["v_diff"])) for one in items)
-    rest = spelled((15, 9), (7, 20), (1, 0), (5, 31)) + spelled_items + spelled((5, 0))
-    return packet(27, rest, elements=[{"d_static": 9, "v_static": 20, "q_front": 0, "differences": items}])
+    items = [both(("q_diff", 2, item % 3), ("nc", 4, item % 16), ("v_diff", 7, item)) for item in range(31)]
+    bits, form = both(("d_static", 15, 9), ("v_static", 7, 20), ("q_front", 1, 0), ("", 5, 31))
+    element = bits + "".join(one for one, _ in items), {**form, "differences": [one for _, one in items]}
+    return packet_of(27, "elements", [element])
 
 
 def levels():
     """A level transition order with 31 further levels."""
-    items = [{"m_leveltr": (0, 2, 3, 4)[item % 4], "l_ackleveltr": item} for item in range(32)]
-    first, *further = [spelled((3, one["m_leveltr"]), (15, one["l_ackleveltr"])) for one in items]
-    rest = spelled((15, 950)) + first + spelled((5, 31)) + "".join(further)
-    return packet(41, rest, d_leveltr=950, transitions=items)
+    items = [both(("m_leveltr", 3, (0, 2, 3, 4)[item % 4]), ("l_ackleveltr", 15, item)) for item in range(32)]
+    return packet_of(41, "transitions", items, ("d_leveltr", 15, 950))
 
 
 def greatest_lists():
@@ -235,33 +255,32 @@ def last_bits():
     """A packet 44 that leaves room for the end mark and nothing else, and one that leaves a bit less."""
     for size in (SHORT, LONG):
         width = size - len(HEAD + END_MARK)
-        form = {"body": text("0" * (width - 23)), "l_packet": width, "nid_packet": 44, "q_dir": 2}
-        yield from accepted("packet 44 up to the end mark", filler(width), [FORM.encode(form)])
-        telegram = HEAD + filler(width + 1) + "1111111"
+        yield from accepted("packet 44 up to the end mark", *filler(width))
+        telegram = HEAD + filler(width + 1)[0] + "1111111"
         yield f"a bit less, {size} bits", text(telegram), refusal(f"no end at {size - 7} end {size - 7}")
 
 
-def message(bits, forms):
-    """The text and the JSON of a message 3 with these packets and what stands behind them, up to a whole byte."""
-    head = spelled((32, 100), (1, 0), (10, 1), (14, 1))
-    whole = spelled((8, 3), (10, (18 + len(head + bits) + 7) // 8)) + head + bits
-    keys = {"m_ack": 0, "nid_bg": 1, "nid_c": 1, "nid_message": 3, "packets": [], "t_train": 100}
-    return text(whole), FORM.encode(keys).replace('"packets":[]', f'"packets":[{",".join(forms)}]')
+def message(number, head, bits, forms):
+    """The text and the JSON of a message with the fields of its head, these packets and what stands behind them, up to
+    a whole byte."""
+    start, form = both(*head)
+    whole = spelled((8, number), (10, (18 + len(start + bits) + 7) // 8)) + start + bits
+    return text(whole), with_packets({"nid_message": number, "packets": [], **form}, forms)
 
 
 def message_ends():
     """Packets behind which up to seven bits are left, all of which are ones or zeros."""
     bits, form = packet(15, spelled((7, 0), (10, 1023), (5, 0), (15, 1000), (4, 0)), end_speed=0, end_timeout=1023,
                         l_endsection=1000, sections=[])
+    head = ("t_train", 32, 100), ("m_ack", 1, 0), ("nid_c", 10, 1), ("nid_bg", 14, 1)
     for body in range(8):
-        raw = {"body": "00" if body else "", "l_packet": 23 + body, "nid_packet": 44, "q_dir": 2}
-        packets, forms = bits + filler(23 + body), form + [FORM.encode(raw)]
-        wanted, line = message(packets, forms)
+        packets, forms = map(operator.add, (bits, form), filler(23 + body))
+        wanted, line = message(3, head, packets, forms)
         left = -(75 + len(packets)) % 8
-        ones, _ = message(packets + "1" * left, forms)
+        ones, _ = message(3, head, packets + "1" * left, forms)
         yield f"{left} zeros behind the packets", wanted, line, wanted
         yield f"{left} ones behind the packets", ones, line, wanted
-        more, _ = message(packets + END_MARK + "1" * left + "0" * 16, forms)
+        more, _ = message(3, head, packets + END_MARK + "1" * left + "0" * 16, forms)
         yield f"an end mark, {left} ones and 16 zeros behind the packets", more, line, wanted
 
 

@@ -13,10 +13,10 @@ from hostile_data import answers_to, come_back, turned_bits
 from hostile_documents import turned_texts
 from hostile_failing import ends_in_between, failing_devices, refuse_each, undisturbed
 from hostile_process import at_once, system_devices, test_stack
-from hostile_program import ONE, Tests, alone
+from hostile_program import ONE, alone
 from hostile_runs import (CHECK, DECODE, DECODE_RADIO, ENCODE, ENCODE_RADIO, FORM, LONG, MESSAGE, MESSAGE_FORM, SHORT,
                           TWO_ASPECTS)
-from runner import DEVICE, HERE, Answer, program as built
+from runner import DEVICE, HERE, Answer, Tests, program as built
 
 SECONDS = 2  # how long a run of a wrapper may take
 INPUTS = ((DECODE, f"{SHORT}\n{LONG}"), (DECODE, SHORT[:-1]), (ENCODE, FORM), (ENCODE, "{"), (DECODE_RADIO, MESSAGE),

@@ -2,10 +2,11 @@
 import itertools
 import random
 
-from hostile_program import (DEVICE, EACH_INTERRUPTED, EACH_NTH, FROM, INTERRUPTED, MEMORY, NOTHING, ONE, ONE_IN_N,
-                             TAKES_NONE, Device, Job, stops)
+from hostile_program import (EACH_INTERRUPTED, EACH_NTH, FROM, INTERRUPTED, NOTHING, ONE, ONE_IN_N, TAKES_NONE, Device,
+                             Job, stops)
 from hostile_runs import CHECK, COMMANDS, long_runs, runs
 from hostile_texts import KINDS, is_documented, is_of_kind
+from runner import DEVICE, MEMORY
 
 MANY = 1000  # runs a command with requests refused at random
 BUFFER = 65536  # bytes of output that the program gathers before it writes
@@ -119,24 +120,21 @@ def in_pieces(program, tests, known, given, taken):
     return found
 
 
-def failing_reads(name, job, wanted, counts):
-    """The jobs in which a read of this run fails, alone or with all later ones, and one past the last read."""
-    for call, how in itertools.product(range(1, counts.reads + 2), (ONE, FROM)):
-        failing = job._replace(reader=job.reader._replace(failing=how, call=call))
-        yield f"{name}, read {call} fails, {how}", wanted, failing, call <= counts.reads
+def turned(job, device, **how):
+    """The job with its reader or writer changed."""
+    return job._replace(**{device: getattr(job, device)._replace(**how)})
 
 
-def failing_writes(name, job, wanted, counts):
-    """The same of its writes, which may take no byte as well."""
-    for call, how in itertools.product(range(1, counts.writes + 2), (ONE, FROM, TAKES_NONE)):
-        failing = job._replace(writer=job.writer._replace(failing=how, call=call))
-        yield f"{name}, write {call} fails, {how}", wanted, failing, call <= counts.writes
-
-
-def failing_both(name, job, wanted, counts):
-    """The jobs in which both devices fail, the reader from one of its calls on."""
+def failing_calls(name, job, wanted, counts):
+    """The jobs in which a call of a device fails, alone or with all later ones, or in which a write takes no byte; up
+    to one past the last call. Then those in which both devices fail, the reader from one of its calls on."""
+    for device, calls, ways in (("reader", counts.reads, (ONE, FROM)),
+                                ("writer", counts.writes, (ONE, FROM, TAKES_NONE))):
+        for call, how in itertools.product(range(1, calls + 2), ways):
+            failing = turned(job, device, failing=how, call=call)
+            yield f"{name}, call {call} of the {device} fails, {how}", wanted, failing, call <= calls
     for call in range(1, counts.reads + 1):
-        failing = job._replace(reader=job.reader._replace(failing=FROM, call=call), writer=Device(FROM, 1))
+        failing = turned(job, "reader", failing=FROM, call=call)._replace(writer=Device(FROM, 1))
         yield f"{name}, read {call} fails, and each write", wanted, failing, True
 
 
@@ -154,8 +152,7 @@ def test_device(tests, case, answer, counts):
 def failing_devices(program, tests, known, pieces=(0,)):
     """Each call of a device fails in turn, until a run meets no failure."""
     for piece in pieces:
-        cases = [case for one in in_pieces(program, tests, known, piece, piece)
-                 for jobs in (failing_reads, failing_writes, failing_both) for case in jobs(*one)]
+        cases = [case for one in in_pieces(program, tests, known, piece, piece) for case in failing_calls(*one)]
         for case, (answer, counts) in zip(cases, program.play([job for _, _, job, _ in cases])):
             test_device(tests, case, answer, counts)
 
@@ -179,12 +176,12 @@ def more_than_one_write(tests, known):
 
 def interrupted_jobs(name, job, wanted, counts):
     """The jobs in which one of the calls of this run is interrupted, or each of them twice."""
-    calls = [("reader", call) for call in range(1, counts.reads + 1)]
-    for device, call in calls + [("writer", call) for call in range(1, counts.writes + 1)]:
-        interrupted = {device: getattr(job, device)._replace(failing=INTERRUPTED, call=call)}
-        yield f"{name}, call {call} of the {device} is interrupted", wanted, job._replace(**interrupted)
-    yield f"{name}, each write is interrupted", wanted, job._replace(writer=Device(EACH_INTERRUPTED, 0, 20))
-    yield f"{name}, each read is interrupted", wanted, job._replace(reader=Device(EACH_INTERRUPTED, 0, 20))
+    for device, calls in ("reader", counts.reads), ("writer", counts.writes):
+        for call in range(1, calls + 1):
+            job_with = turned(job, device, failing=INTERRUPTED, call=call)
+            yield f"{name}, call {call} of the {device} is interrupted", wanted, job_with
+        each = turned(job, device, failing=EACH_INTERRUPTED, call=0, piece=20)
+        yield f"{name}, each call of the {device} is interrupted", wanted, each
 
 
 def may_fail(job, wanted, counts):

@@ -2,11 +2,12 @@
 import os
 import subprocess
 
-from hostile_program import EACH_NTH, FROM, HERE, ONE, Answer, Job, Program
+from hostile_program import EACH_NTH, FROM, ONE, Job, Program
+from runner import TOP, Answer
 
 # the tests of crates/trials_lines, which `rt ci` builds
 NAMED = os.environ.get("BALISECHECK_TESTS")
-TESTS = NAMED or str(HERE.parent / "crates" / "trials_lines" / "out" / "trials_lines_tests")
+TESTS = NAMED or str(TOP / "crates" / "trials_lines" / "out" / "trials_lines_tests")
 # of these tests, those that pass whichever requests are refused
 FOLDER = "refused_memory::"
 PASSED = Answer(0, "\ntest result: ok\n", "")
@@ -34,15 +35,12 @@ def refusals(name, requests):
 
 def library(_, tests, whole=True):
     """Each test passes undisturbed, and whichever requests for memory are refused."""
-    program = Program(TESTS)
-    try:
-        known = program.play([Job((name,), b"") for name in names()])
-        tests.holds("there are tests of library calls", len(known) > 0)
-        jobs = [job for name, (_, counts) in zip(names(), known) for job in refusals(name, counts.requests)]
-        for name, (answer, _) in zip(names(), known):
-            tests.equal(f"{name}, nothing refused", answer, PASSED)
-        for job, (answer, counts) in zip(jobs, program.play(jobs)):
-            tests.figures["requests of library calls refused"] += counts.refused
-            tests.equal(f"{job.words[0]}, {job.refused} {job.request}", answer, PASSED)
-    finally:
-        program.close()
+    program, named = Program(TESTS), names()
+    known = program.play([Job((name,), b"") for name in named])
+    tests.holds("there are tests of library calls", len(known) > 0)
+    for name, (answer, _) in zip(named, known):
+        tests.equal(f"{name}, nothing refused", answer, PASSED)
+    jobs = [job for name, (_, counts) in zip(named, known) for job in refusals(name, counts.requests)]
+    for job, (answer, counts) in zip(jobs, program.play(jobs)):
+        tests.figures["requests of library calls refused"] += counts.refused
+        tests.equal(f"{job.words[0]}, {job.refused} {job.request}", answer, PASSED)

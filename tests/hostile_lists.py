@@ -1,40 +1,40 @@
 """The greatest lists, and inputs and outputs longer than a buffer of the program. Nothing of them is random."""
-from cases import FORM as CANONICAL
-from cases import HEAD, accepted, authority, differences, filler, levels, packet, spelled, text
+from cases import (FORM, HEAD, accepted, authority, both, differences, filler, levels, message, packet_of, spelled,
+                   text)
 
 MOST = 31  # what N_ITER counts at most
 TELEGRAM_BITS, MESSAGE_BITS = 830 - 50 - 8, 8 * 1023  # of the packets of a telegram, and of a message
-MESSAGE_HEAD = (("t_train", 32), ("m_ack", 1), ("nid_c", 10), ("nid_bg", 14))
-REPORT_HEAD = (("t_train", 32), ("nid_engine", 24))
+MOVEMENT = ("t_train", 32, 25), ("m_ack", 1, 1), ("nid_c", 10, 1), ("nid_bg", 14, 1)
+POSITION = ("t_train", 32, 200), ("nid_engine", 24, 1)
+REPORT = (("q_scale", 2, 1), ("nid_c", 10, 1), ("nid_bg", 14, 1), ("d_lrbg", 15, 500), ("q_dirlrbg", 2, 1),
+          ("q_dlrbg", 2, 1), ("l_doubtover", 15, 10), ("l_doubtunder", 15, 10), ("q_length", 2, 0), ("v_train", 7, 24),
+          ("q_dirtrain", 2, 1), ("m_mode", 4, 0), ("m_level", 3, 3))
 
 
 def links(count):
     """A packet 5 with so many further groups, each in a country of its own if it has an odd number."""
-    items, bits = [], ""
+    items = []
     for item in range(count + 1):
-        country = {"nid_c": item} if item % 2 else {}
-        items.append({"d_link": 100 + item, **country, "nid_bg": item, "q_linkorientation": item % 2,
-                      "q_linkreaction": item % 3, "q_locacc": item})
-        bits += spelled((15, 100 + item), (1, item % 2), *((10, number) for number in country.values()), (14, item),
-                        (1, item % 2), (2, item % 3), (6, item)) + ("" if item else spelled((5, count)))
-    return packet(5, bits, links=items)
+        country = [("nid_c", 10, item)] if item % 2 else []
+        items.append(both(("d_link", 15, 100 + item), ("", 1, item % 2), *country, ("nid_bg", 14, item),
+                          ("q_linkorientation", 1, item % 2), ("q_linkreaction", 2, item % 3), ("q_locacc", 6, item)))
+    return packet_of(5, "links", items)
 
 
 def gradients(count):
     """A packet 21 with so many further elements."""
-    items = [{"d_gradient": item, "q_gdir": item % 2, "g_a": item} for item in range(count + 1)]
-    first, *further = [spelled((15, one["d_gradient"]), (1, one["q_gdir"]), (8, one["g_a"])) for one in items]
-    return packet(21, first + spelled((5, count)) + "".join(further), elements=items)
+    items = [both(("d_gradient", 15, item), ("q_gdir", 1, item % 2), ("g_a", 8, item)) for item in range(count + 1)]
+    return packet_of(21, "elements", items)
 
 
 def speeds(count):
     """A packet 27 with so many further elements, of which the first has a difference."""
-    items = [{"d_static": item, "v_static": item, "q_front": item % 2, "differences": []} for item in range(count + 1)]
-    items[0]["differences"] = [{"q_diff": 1, "nc": 2, "v_diff": 3}]
-    first, *further = [spelled((15, one["d_static"]), (7, one["v_static"]), (1, one["q_front"])) for one in items]
-    difference = spelled((5, 1), (2, 1), (4, 2), (7, 3))
-    rest = first + difference + spelled((5, count)) + "".join(bits + spelled((5, 0)) for bits in further)
-    return packet(27, rest, elements=items)
+    difference, form = both(("q_diff", 2, 1), ("nc", 4, 2), ("v_diff", 7, 3))
+    items = []
+    for item in range(count + 1):
+        bits, fields = both(("d_static", 15, item), ("v_static", 7, item), ("q_front", 1, item % 2), ("", 5, not item))
+        items.append((bits + difference * (not item), {**fields, "differences": [form] * (not item)}))
+    return packet_of(27, "elements", items)
 
 
 def room_for(made, bits):
@@ -49,36 +49,23 @@ def telegrams():
         yield from accepted(f"{name}, {count} further items", *made(count))
 
 
-def message(number, head, bits, forms, **fields):
-    """The text and the form of a message of these packets. The fields of its head are 1 if they are not given."""
-    fields = {key: fields.get(key, 1) for key, _ in head}
-    start = spelled(*((width, fields[key]) for key, width in head))
-    size = (18 + len(start + bits) + 7) // 8
-    form = CANONICAL.encode({"nid_message": number, "packets": [], **fields})
-    form = form.replace('"packets":[]', f'"packets":[{",".join(forms)}]')
-    return text(spelled((8, number), (10, size)) + start + bits), form
-
-
 def all_lists():
     """The message 3 in which each list has 31 further items, and as many cover markers as have room."""
     packets = [links(MOST), authority(15, ""), gradients(MOST), speeds(MOST), differences(), levels()]
     bits, forms = "".join(one for one, _ in packets), [form for _, those in packets for form in those]
     covers = range((MESSAGE_BITS - 75 - len(bits)) // 14)
     bits += "".join(spelled((8, 0), (6, cover % 64)) for cover in covers)
-    forms += [CANONICAL.encode({"nid_packet": 0, "nid_vbcmk": cover % 64}) for cover in covers]
-    return message(3, MESSAGE_HEAD, bits, forms, t_train=25)
+    forms += [FORM.encode({"nid_packet": 0, "nid_vbcmk": cover % 64}) for cover in covers]
+    return message(3, MOVEMENT, bits, forms)
 
 
 def report(bits):
     """A message 136 with a position report, and packets without a body up to so many bits."""
-    numbers = {"q_scale": 1, "nid_c": 1, "nid_bg": 1, "d_lrbg": 500, "q_dirlrbg": 1, "q_dlrbg": 1, "l_doubtover": 10,
-               "l_doubtunder": 10, "q_length": 0, "v_train": 24, "q_dirtrain": 1, "m_mode": 0, "m_level": 3}
-    widths = (2, 10, 14, 15, 2, 2, 15, 15, 2, 7, 2, 4, 3)
-    first = spelled((8, 0), (13, 114), *zip(widths, numbers.values()))
+    first, form = both(("", 8, 0), ("", 13, 114), *REPORT)
     count = (bits - 74 - len(first)) // 21
-    forms = [CANONICAL.encode({"nid_packet": 0, **numbers})]
-    forms += [CANONICAL.encode({"nid_packet": 44, "l_packet": 21, "body": ""})] * count
-    return message(136, REPORT_HEAD, first + spelled((8, 44), (13, 21)) * count, forms, t_train=200)
+    forms = [FORM.encode({"nid_packet": 0, **form})]
+    forms += [FORM.encode({"nid_packet": 44, "l_packet": 21, "body": ""})] * count
+    return message(136, POSITION, first + spelled((8, 44), (13, 21)) * count, forms)
 
 
 def radio_messages():
@@ -87,23 +74,12 @@ def radio_messages():
     yield "the greatest report", *report(MESSAGE_BITS)
 
 
-def raw_packet(bits):
-    """A packet 44 of so many bits, with its form."""
-    form = {"body": text("0" * (bits - 23)), "l_packet": bits, "nid_packet": 44, "q_dir": 2}
-    return filler(bits), [CANONICAL.encode(form)]
-
-
-def raw_message():
-    """The text and the form of a message 3 with an authority and a packet 44 up to the last bit."""
-    bits, forms = authority(15, "")
-    more, others = raw_packet(MESSAGE_BITS - 75 - len(bits))
-    return message(3, MESSAGE_HEAD, bits + more, forms + others)
-
-
 def long_inputs():
     """Names, words and inputs. Inputs and outputs have more than 65,536 bytes."""
-    _, telegram, form = next(accepted("", *raw_packet(TELEGRAM_BITS)))
-    radio, radio_form = raw_message()
+    _, telegram, form = next(accepted("", *filler(TELEGRAM_BITS)))
+    bits, forms = authority(15, "")  # with a packet 44 up to the last bit of a message
+    more, others = filler(MESSAGE_BITS - 75 - len(bits))
+    radio, radio_form = message(3, MOVEMENT, bits + more, forms + others)
     group = '{"balises":[%s]}' % ",".join([f'"{text(HEAD.ljust(210, "1"))}"'] * 8)
     yield "long telegrams", ("decode",), f"{telegram}\n" * 340
     yield "long forms", ("encode",), f"{form}\n" * 340

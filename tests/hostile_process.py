@@ -4,9 +4,10 @@ import os
 import subprocess
 import sys
 
-from hostile_program import DEVICE, HERE, MEMORY, SECONDS, Answer, Job, alone, program as built, stops
+from hostile_program import SECONDS, Job, alone, stops
 from hostile_runs import (CHECK, COMMANDS, DECODE, DECODE_RADIO, ENCODE, ENCODE_RADIO, FORM, MESSAGE, SHORT, long_runs,
                           runs)
+from runner import DEVICE, MEMORY, TOP, Answer, program as built
 
 STACK = 512  # KiB of stack that README.md names
 LONG = 20000  # groups of a long document
@@ -22,7 +23,7 @@ def least(low, high, holds):
 
 def limited(kind, kilobytes, words, data):
     """The answer with this limit."""
-    return alone(words, data, limits=f"ulimit -{kind} {kilobytes} || exit 98;")
+    return alone(words, data, limits=f"ulimit -{kind} {kilobytes} || exit 98")
 
 
 def great_inputs():
@@ -55,7 +56,7 @@ def memory_limits(tests, known, step):
 
 def long_document(tests, groups=LONG):
     """A long document is checked group by group, in an address space that has no room for a JSON value of it."""
-    command = [sys.executable, HERE.parent / "bench" / "documents.py", str(groups)]
+    command = [sys.executable, TOP / "bench" / "documents.py", str(groups)]
     document = subprocess.run(command, capture_output=True, check=True).stdout
     answer = limited("v", 4 * len(document) // 1024 + 10000, CHECK, document)
     tests.equal("a long document in little memory", answer, Answer(0, f"yes: groups {groups}, messages 0\n", ""))
@@ -78,41 +79,30 @@ def stack_limit(tests, known):
         tests.holds(f"each run answers with {more} KiB of stack", suffices(more))
 
 
-def unread_pipe():
-    """The end to write to of a pipe that nobody reads."""
-    read, write = os.pipe()
-    os.close(read)
-    return write
-
-
-def test_full(tests, name, words, wanted, answer):
-    """What takes nothing: who wants to write says so, and who has nothing to write answers."""
-    tests.figures["runs with a full or closed device"] += 1
-    fine = stops(answer, wanted, DEVICE) if wanted.stdout else answer == wanted
-    tests.holds(f"{words} with standard output {name}", fine, answer)
-
-
 def system_devices(tests, known):
-    """A full device, a closed one, a folder, and a pipe that nobody reads."""
+    """A full device, a closed one, a pipe that nobody reads: who wants to write says so, and who has nothing to write
+    answers. Then a folder, and nothing to read or to say."""
     for (words, data), wanted in known:
-        for name, limits in (("full", "exec >/dev/full;"), ("closed", "exec >&-;")):
-            test_full(tests, name, words, wanted, alone(words, data, limits=limits))
-        pipe = unread_pipe()
-        answer = alone(words, data, stdout=pipe, stderr=subprocess.PIPE)
+        read, pipe = os.pipe()
+        os.close(read)
+        for name, answer in (("full", alone(words, data, "exec >/dev/full")),
+                             ("closed", alone(words, data, "exec >&-")),
+                             ("a pipe that nobody reads", alone(words, input=data, stdout=pipe))):
+            tests.figures["runs with a full or closed device"] += 1
+            fine = stops(answer, wanted, DEVICE) if wanted.stdout else answer == wanted
+            tests.holds(f"{words} with standard output {name}", fine, answer)
         os.close(pipe)
-        test_full(tests, "a pipe that nobody reads", words, wanted, answer)
-        answer = alone(words, data, limits="exec </;")
+        answer = alone(words, data, "exec </")
         fine = stops(answer, wanted, DEVICE) if words in COMMANDS else answer == wanted
         tests.holds(f"{words} of a folder", fine, answer)
-        answer = alone(words, data, limits="exec 2>&-; exec <&-;")
+        answer = alone(words, data, "exec 2>&-; exec <&-")
         fine = answer.status == (3 if words in COMMANDS else 2) and wanted.stdout.startswith(answer.stdout)
         tests.holds(f"{words} with nothing to read or to say", fine, answer)
 
 
 def going_reader(tests):
     """A reader of the pipe that goes away after the first line. The program ends too, and doesn't wait for another."""
-    lines = (SHORT + "\n").encode() * 10000
-    ran = alone(["-c", '"$0" decode | head -n 1', built()], lines, path="sh")
+    ran = alone((), f"{SHORT}\n" * 10000, limits='"$0" decode | head -n 1; exit')
     tests.equal("a reader that goes away", (ran.status, ran.stdout), (0, FORM + "\n"))
 
 

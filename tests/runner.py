@@ -42,16 +42,17 @@ def in_bytes(text):
     return text if isinstance(text, bytes) else text.encode(errors="surrogateescape")
 
 
-def run(words, data=b"", limits="", **files):
-    """The answer of the program to this input, or with these files, after these lines of a shell."""
+def run(words, data=b"", limits="", seconds=LONGEST, **files):
+    """The answer of the program to this input, or with these files, after these lines of a shell. It has no status if
+    it takes too long."""
     command = [program(), *words]
     command = ["sh", "-c", f'{limits}\nexec "$0" "$@"', *command] if limits else command
     files = files or {"input": in_bytes(data)}
     files = {"stdout": subprocess.PIPE, "stderr": subprocess.PIPE, **files}
     try:
-        ran = subprocess.run(command, check=False, timeout=LONGEST, **files)
+        ran = subprocess.run(command, check=False, timeout=seconds, **files)
     except subprocess.TimeoutExpired:
-        return Answer(None, "", f"no answer in {LONGEST} s\n")
+        return Answer(None, "", f"no answer in {seconds} s\n")
     out, err = ((it or b"").decode(errors="surrogateescape") for it in (ran.stdout, ran.stderr))
     return Answer(ran.returncode, out, err)
 
