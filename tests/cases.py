@@ -196,10 +196,11 @@ def no_digits():
 
 
 def turned_bits():
-    """Each bit up to the end mark counts, and none after it."""
+    """Each bit up to the end mark counts, and none after it; pad bits have to be zeros."""
     alone = (HEAD + END_MARK).ljust(SHORT, "1")
     yield from turned("a header", alone, range(58), turned_header)
     yield from turned("the fill", alone, range(58, SHORT), lambda _: answer(SHORT, []))
+    yield from turned("the pad bits", alone.ljust(216, "0"), range(SHORT, 216), lambda _: refusal("pad bits set"))
     alone = (HEAD + END_MARK).ljust(LONG, "1")
     yield from turned("the fill of a long telegram", alone, range(58, LONG), lambda _: answer(LONG, []))
 

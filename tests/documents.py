@@ -1,4 +1,4 @@
-#!/usr/bin/env python3
+#!/usr/bin/env -S python3 -B
 """Tests of `balisecheck check` from outside, of the documents in examples/check, and of docs/FINDINGS.md.
 
 Each document of tests/cases/documents.txt has to be answered as it says there, and so has the same in another spelling:
@@ -13,7 +13,7 @@ import json
 import re
 
 from cases import END_MARK, HEAD, LONG, spelled, text
-from runner import EXAMPLES, TOP, Tests, answered, blocks, in_full, respelled, run
+from runner import EXAMPLES, TOP, answered, blocks, in_full, play, respelled, run
 
 FOLDER, PAGE = EXAMPLES / "check", (TOP / "docs" / "FINDINGS.md").read_text()
 MENDED = "-mended"
@@ -100,20 +100,16 @@ def test_many(tests):
     tests.equal("a thousand groups", answer(json.dumps(document)), answered("\n".join(lines) + "\n"))
 
 
-def yes_of(document):
-    """The report of a line without findings, by the document's own lists."""
-    line = json.loads(document.read_text())
-    return f"yes: groups {len(line['groups'])}, messages {len(line['messages'])}\n"
-
-
 def test_answers(tests):
-    """Each document has its report beside it; each mended one is answered by yes."""
+    """Each document has its report beside it; each mended one is answered by yes, with the sizes of its lists."""
     for document in sorted(FOLDER.glob("*.json")):
+        text = document.read_text()
         if document.stem.endswith(MENDED):
-            tests.equal(document.name, answer(document.read_text()), answered(yes_of(document)))
+            line = json.loads(text)
+            report = f"yes: groups {len(line['groups'])}, messages {len(line['messages'])}\n"
         else:
             report = document.with_suffix(".txt").read_text()
-            tests.equal(document.name, answer(document.read_text()), answered(report))
+        tests.equal(document.name, answer(text), answered(report))
 
 
 def test_one_aspect(tests):
@@ -142,33 +138,23 @@ def test_sections(tests):
     tests.equal("each rule has a section", list(sections), [f"F{rule}: {title}" for rule, title, _ in found])
     for rule, title, name in found:
         section = sections.get(f"F{rule}: {title}", "")
-        tests.equal(f"the section of F{rule} names {name}{MENDED}.json", f"check/{name}{MENDED}.json)" in section, True)
-        tests.equal(f"the section of F{rule} shows {name}.json", shows(section, name), True)
+        tests.holds(f"the section of F{rule} names {name}{MENDED}.json", f"check/{name}{MENDED}.json)" in section)
+        tests.holds(f"the section of F{rule} shows {name}.json", "\n".join(shown(name)) in section)
 
 
-def shows(text, name):
-    """Whether the text has the document, and then its report."""
-    document, report = (FOLDER / f"{name}.json").read_text(), (FOLDER / f"{name}.txt").read_text()
-    return f"```json\n{document}```\n\n```text\n{report}```\n" in text
+def shown(name):
+    """The document and its report as the page has to show them."""
+    return [f"```{kind}\n{(FOLDER / name).with_suffix(end).read_text()}```\n" for kind, end in
+            (("json", ".json"), ("text", ".txt"))]
 
 
 def test_page(tests):
     """What the page shows besides: several findings in their order, and the report of a sound line."""
-    document, report = (FOLDER / "many-findings.json").read_text(), (FOLDER / "many-findings.txt").read_text()
-    tests.equal("the page shows many-findings.json", f"```json\n{document}```\n" in PAGE, True)
-    tests.equal("the page shows many-findings.txt", f"```text\n{report}```\n" in PAGE, True)
-    sound = (FOLDER / "sound-line.txt").read_text()
-    tests.equal("the page shows sound-line.txt", f"```text\n{sound}```\n" in PAGE, True)
-
-
-def main():
-    """Runs all tests."""
-    tests = Tests()
-    for test in (test_cases, test_messages, test_directions, test_many, test_answers, test_one_aspect, test_sections,
-                 test_page):
-        test(tests)
-    tests.end("the documents")
+    for name, block in zip(("many-findings.json", "many-findings.txt"), shown("many-findings")):
+        tests.holds(f"the page shows {name}", block in PAGE)
+    tests.holds("the page shows sound-line.txt", shown("sound-line")[1] in PAGE)
 
 
 if __name__ == "__main__":
-    main()
+    play("the documents", test_cases, test_messages, test_directions, test_many, test_answers, test_one_aspect,
+         test_sections, test_page)

@@ -1,4 +1,4 @@
-#!/usr/bin/env python3
+#!/usr/bin/env -S python3 -B
 """Tests of `balisecheck encode` from outside: each line of tests/cases/forms.txt is answered as it says there.
 
 So is the same line in another spelling: keys in another order, blanks and escapes. Where digits are written, `decode`

@@ -7,7 +7,6 @@ shim cannot part off a wrapper.
 import os
 import re
 import subprocess
-import sys
 
 from hostile_data import answers_to, come_back, turned_bits
 from hostile_documents import turned_texts
@@ -39,50 +38,35 @@ YES, RECORD = Answer(0, "yes: groups 1, messages 0\n", ""), Answer(0, FORM + "\n
 DOCUMENTS = [("two aspects", TWO_ASPECTS.encode())]
 
 
-def is_disturbed(_, counts):
-    """Whether a request was refused, or a call has failed."""
-    return counts.refused + counts.failed_reads + counts.failed_writes > 0
+def disturbed(answer, counts, **wrong):
+    """What a wrong program answers where a request was refused, or a call has failed."""
+    is_disturbed = counts.refused + counts.failed_reads + counts.failed_writes > 0
+    return (answer._replace(**wrong) if is_disturbed else answer), counts
 
 
-def with_no_end(job, answer, counts):
-    """One that answers by a status although a call failed, after more than a beginning of the text."""
-    return (answer._replace(status=0, stdout=answer.stdout + "x") if is_disturbed(job, counts) else answer), counts
+def is_turned_twice(job):
+    """Whether the input is a telegram with two of its digits changed."""
+    return sum(one != other for one, other in zip(job.data.decode(), SHORT)) == 2
 
 
-def with_device(job, answer, counts):
-    """One that says `device` where memory is refused."""
-    return (answer._replace(stderr=DEVICE) if is_disturbed(job, counts) else answer), counts
-
-
-def reads_on(_, answer, counts):
-    """One that reads once more."""
-    return answer, counts._replace(reads=counts.reads + 1)
-
-
-def takes_all(job, answer, counts):
-    """One that reads a telegram from what it refused with one bit turned, if another bit is turned too."""
-    turned = [one for one, other in zip(job.data.decode(), SHORT) if one != other]
-    return (RECORD if answer.status == 2 and len(turned) == 2 else answer), counts
-
-
-def says_yes(_, answer, counts):
-    """One that says yes to each document."""
-    return YES, counts
-
-
-def is_slow(job, answer, counts):
-    """One that is slow at an input."""
-    return answer, counts._replace(nanoseconds=10 ** 9 if job.data == LONG.encode() else counts.nanoseconds)
-
-
-# the parts of these tests that judge such a program, given runs of which the answers are known
+# What programs do wrong; the part of these tests that judges each, given runs of which the answers are known; and how
+# its answers and counts are changed.
 WRONG = {
-    with_no_end: failing_devices,
-    with_device: lambda program, tests, known: refuse_each(program, tests, known, ONE),
-    reads_on: ends_in_between,
-    takes_all: lambda program, tests, _: turned_bits(program, tests, DECODE, ENCODE, SHORT, 97),
-    says_yes: lambda program, tests, _: turned_texts(program, tests, DOCUMENTS, 7, 31),
-    is_slow: lambda program, tests, _: answers_to(program, tests, DECODE, [SHORT] * 9 + [LONG]),
+    "a status although a call failed, after more than a beginning of the text": (
+        failing_devices, lambda _, answer, counts: disturbed(answer, counts, status=0, stdout=answer.stdout + "x")),
+    "the word device where memory is refused": (
+        lambda *all_of_it: refuse_each(*all_of_it, ONE),
+        lambda _, answer, counts: disturbed(answer, counts, stderr=DEVICE)),
+    "one more read": (ends_in_between, lambda _, answer, counts: (answer, counts._replace(reads=counts.reads + 1))),
+    "a telegram of what was refused with one bit turned, where another one is turned too": (
+        lambda program, tests, _: turned_bits(program, tests, DECODE, ENCODE, SHORT, 97),
+        lambda job, answer, counts: (RECORD if answer.status == 2 and is_turned_twice(job) else answer, counts)),
+    "a yes to each document": (
+        lambda program, tests, _: turned_texts(program, tests, DOCUMENTS, 7, 31),
+        lambda _, answer, counts: (YES, counts)),
+    "a second for a long telegram": (
+        lambda program, tests, _: answers_to(program, tests, DECODE, [SHORT] * 9 + [LONG]),
+        lambda job, answer, counts: (answer, counts._replace(nanoseconds=10 ** 9) if len(job.data) > 60 else counts)),
 }
 
 
@@ -104,7 +88,7 @@ def reported(program, name, where, wrong):
     wrapper.write_text(WRAPPER.format(program=built(), where=where, wrong=wrong))
     wrapper.chmod(0o755)
     said = {**os.environ, "BALISECHECK": str(wrapper), "CC": "none", "HOSTILE_SECONDS": str(SECONDS)}
-    ran = subprocess.run([sys.executable, HERE / "hostile", "--few"], env=said, capture_output=True, text=True,
+    ran = subprocess.run([HERE / "hostile", "--few"], env=said, capture_output=True, text=True,
                          check=False, timeout=120)
     last = re.search(r"hostile use: \d+ passed, (\d+) failed\n\Z", ran.stdout)
     return int(last[1]) if last and ran.returncode == (last[1] != "0") else None
@@ -137,6 +121,6 @@ def control(program, tests, whole=True):
         tests.holds(f"control: {name} is wrong, and this is reported", bool(failed), failed)
     if program.shim is not None:
         known = undisturbed(program, tests, [("decode", DECODE, SHORT.encode())])
-        for change, judge in WRONG.items():
-            tests.equal(f"control: before {change.__name__}", judged(program, judge, known), 0)
-            tests.holds(f"control: {change.__name__} is reported", judged(Changed(program, change), judge, known) > 0)
+        for name, (judge, change) in WRONG.items():
+            tests.equal(f"control: before {name}", judged(program, judge, known), 0)
+            tests.holds(f"control: {name} is reported", judged(Changed(program, change), judge, known) > 0)

@@ -5,8 +5,9 @@ import re
 from hostile_lists import radio_messages, telegrams
 from hostile_program import Job
 from hostile_runs import (CHECK, DECODE, DECODE_RADIO, ENCODE, ENCODE_RADIO, FORM, LONG, MESSAGE, MESSAGE_FORM, REPORT,
-                          REPORT_FORM, SHORT, example, flipped, greatest)
+                          REPORT_FORM, SHORT, example, greatest)
 from hostile_texts import CANONICAL, is_documented
+from runner import flipped
 
 REPLACING = (b'"', b"{", b"[", b",", b"0", b"\x01", b"\xff")
 NOT_JSON = "refused: not JSON\n"
@@ -71,21 +72,6 @@ def turned_bits(program, tests, words, encode, digits, step, each=1):
     tests.figures["bits turned past the end of a fault"] += len(further)
     for line, answer in zip(further, answers_to(program, tests, words, further)):
         tests.holds(f"no record from {line}", answer.stdout.startswith("refused: "), answer)
-
-
-def worked_telegram(program, tests):
-    """A telegram without packets with each of its 216 bits turned."""
-    lines = [flipped(SHORT, place) for place in range(216)]
-    found = [answer.stdout for answer in answers_to(program, tests, DECODE, lines)]
-    line = "refused: line 1: {}\n".format
-    tests.equal("bit 0", found[0], line("down-link at 0 end 1"))
-    # the last bit of M_VERSION turns 2.1 into 2.0, which is read
-    tests.equal("bits 1 to 6", found[1:7], [line("version at 1 end 8")] * 6)
-    tests.equal("bit 8", found[8], line("loop at 8 end 9"))
-    tests.equal("bits 50 to 57", found[50:58], [line("spare at 58 end 60")] * 8)
-    tests.equal("bits 58 to 209", found[58:210], [FORM + "\n"] * 152)
-    tests.equal("194 decode", sum(not answer.startswith("refused") for answer in found), 194)
-    tests.equal("the pad bits", found[210:], [line("pad bits set")] * 6)
 
 
 def fronts(program, tests):
@@ -193,7 +179,6 @@ def test_long_lines(program, tests, cases):
 
 def data(program, tests, whole=True):
     """All of the above; where it is not the whole of it, not each of the changes."""
-    worked_telegram(program, tests)
     fronts(program, tests)
     test_long_lines(program, tests, list(long_lines()))
     turned_bits(program, tests, DECODE, ENCODE, SHORT, 1)

@@ -5,9 +5,10 @@ import re
 
 from hostile_data import NOT_JSON, REPLACING, answers_to, come_back
 from hostile_program import Job, alone
-from hostile_runs import CHECK, DECODE, DECODE_RADIO, ENCODE, ENCODE_RADIO, flipped
+from hostile_runs import CHECK, DECODE, DECODE_RADIO, ENCODE, ENCODE_RADIO
 from hostile_runs import documents as all_documents
 from hostile_texts import is_documented
+from runner import flipped
 
 TEXT = re.compile(rb'"([0-9a-fA-F]{6,})"')
 PLACE = r"group (\d+)(?: aspect (\d+))? balise (\d)|message (\d+)"

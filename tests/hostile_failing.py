@@ -139,14 +139,16 @@ def failing_calls(name, job, wanted, counts):
 
 
 def test_device(tests, case, answer, counts):
-    """A run with a device that failed says so, and reads no more; any other one answers."""
+    """A run with a device that failed says so, and reads no more; any other one answers. What a writer took before it
+    failed, at a flush at the latest, stands."""
     name, wanted, job, fails = case
     failed = counts.failed_reads + counts.failed_writes
     tests.figures["device calls that failed"] += failed
     stopped = stops(answer, wanted, DEVICE) and counts.failed_reads in (0, 1)
     last = counts.failed_reads == 0 or counts.reads == job.reader.call
     fine = failed > 0 and stopped and last if fails else failed == 0 and answer == wanted
-    tests.holds(name, fine, f"found:  {answer}", f"wanted: {wanted}", counts)
+    stands = counts.failed_writes == 0 or job.writer.call == 1 or answer.stdout != ""
+    tests.holds(name, fine and stands, f"found:  {answer}", f"wanted: {wanted}", counts)
 
 
 def failing_devices(program, tests, known, pieces=(0,)):
@@ -155,17 +157,6 @@ def failing_devices(program, tests, known, pieces=(0,)):
         cases = [case for one in in_pieces(program, tests, known, piece, piece) for case in failing_calls(*one)]
         for case, (answer, counts) in zip(cases, program.play([job for _, _, job, _ in cases])):
             test_device(tests, case, answer, counts)
-
-
-def failing_flushes(program, tests, known):
-    """A writer fails only where the program passes on what it has held back, at the end."""
-    cases = [(f"{name}, the last write fails, {how}", wanted, job._replace(writer=Device(how, counts.writes)), True)
-             for (name, job, wanted, counts), how in itertools.product(known, (ONE, FROM, TAKES_NONE)) if counts.writes]
-    for case, (answer, counts) in zip(cases, program.play([job for _, _, job, _ in cases])):
-        tests.figures["writers that failed only at the flush"] += 1
-        test_device(tests, case, answer, counts)
-        earlier = case[2].writer.call == 1 or answer.stdout != ""
-        tests.holds(f"{case[0]}: what was taken before stands", earlier, counts)
 
 
 def more_than_one_write(tests, known):
@@ -231,7 +222,6 @@ def devices(program, tests, whole=True):
     failing_devices(program, tests, [one for one in some if len(one[1].data) < (250 if whole else 50)], (1,))
     failing_devices(program, tests, long, (0, 20000))
     more_than_one_write(tests, long)
-    failing_flushes(program, tests, some + long)
     for given, taken in ((1, 1), (1, 0), (0, 1), (7, 3)):
         in_pieces(program, tests, some + long, given, taken)
     interrupted_devices(program, tests, some, 0)

@@ -1,13 +1,14 @@
 """The whole process, without a shim: limits of memory and stack, devices of the system, two runs at once."""
+import concurrent.futures
 import itertools
 import os
 import subprocess
 import sys
 
-from hostile_program import SECONDS, Job, alone, stops
+from hostile_program import Job, alone, stops
 from hostile_runs import (CHECK, COMMANDS, DECODE, DECODE_RADIO, ENCODE, ENCODE_RADIO, FORM, MESSAGE, SHORT, long_runs,
                           runs)
-from runner import DEVICE, MEMORY, TOP, Answer, program as built
+from runner import DEVICE, MEMORY, TOP, Answer
 
 STACK = 512  # KiB of stack that README.md names
 LONG = 20000  # groups of a long document
@@ -36,14 +37,6 @@ def great_inputs():
     yield ENCODE_RADIO, b'{"nid_message":3,"x":"' + b"a" * 4000000 + b'"}'
 
 
-def test_limited(tests, words, size, wanted, answer):
-    """A run with little memory says so, or answers as with more."""
-    tests.figures["runs with little memory"] += 1
-    tests.figures["runs with little memory that answered memory"] += answer.status == 3
-    fine = answer == wanted or stops(answer, wanted, MEMORY)
-    tests.holds(f"{words} with {size} KiB", fine, answer, wanted.stdout[:200])
-
-
 def memory_limits(tests, known, step):
     """Above the least limit with which the system starts the program and its stack, each limit gives the expected
     text, or memory. Below it the system ends the program, before or while its stack grows."""
@@ -51,7 +44,11 @@ def memory_limits(tests, known, step):
     tests.figures["KiB of address space with which each run answers"] = start
     great = [(run, alone(*run)) for run in great_inputs()]
     for size, ((words, data), wanted) in itertools.product(range(start + 128, start + 40000, step), great):
-        test_limited(tests, words, size, wanted, limited("v", size, words, data))
+        answer = limited("v", size, words, data)
+        tests.figures["runs with little memory"] += 1
+        tests.figures["runs with little memory that answered memory"] += answer.status == 3
+        fine = answer == wanted or stops(answer, wanted, MEMORY)
+        tests.holds(f"{words} with {size} KiB", fine, answer, wanted.stdout[:200])
 
 
 def long_document(tests, groups=LONG):
@@ -106,26 +103,15 @@ def going_reader(tests):
     tests.equal("a reader that goes away", (ran.status, ran.stdout), (0, FORM + "\n"))
 
 
-def said_by(run):
-    """What a process wrote. One that takes too long is killed."""
-    try:
-        return run.communicate(timeout=SECONDS)
-    except subprocess.TimeoutExpired:
-        run.kill()
-        return run.communicate()
-
-
 def at_once(program, tests, known):
     """Two runs at once on one input, a file: each answers as alone."""
+    file = program.room / "input"
     for (words, data), wanted in known:
-        file = program.room / "input"
         file.write_bytes(data)
-        pipe = subprocess.PIPE
-        both = [subprocess.Popen([built(), *words], stdin=file.open("rb"), stdout=pipe, stderr=pipe) for _ in range(2)]
-        for run in both:
-            out, err = said_by(run)
-            tests.figures["runs beside another on the same input"] += 1
-            tests.equal(f"{words} beside another", (run.returncode, out.decode(), err.decode()), tuple(wanted))
+        with concurrent.futures.ThreadPoolExecutor(2) as pool, file.open("rb") as one, file.open("rb") as other:
+            for answer in pool.map(lambda it: alone(words, stdin=it), (one, other)):
+                tests.figures["runs beside another on the same input"] += 1
+                tests.equal(f"{words} beside another", answer, wanted)
 
 
 def some_of(step):

@@ -166,9 +166,3 @@ def runs():
 def long_runs():
     """Runs whose input and output have more bytes than a buffer of the program: name, words and input."""
     return [(name, words, data.encode()) for name, words, data in long_inputs()]
-
-
-def flipped(digits, place):
-    """The digits with one of their bits turned."""
-    at, bit = divmod(place, 4)
-    return f"{digits[:at]}{int(digits[at], 16) ^ 8 >> bit:x}{digits[at + 1:]}"

@@ -1,4 +1,4 @@
-#!/usr/bin/env python3
+#!/usr/bin/env -S python3 -B
 """Tests of the built program from outside: what no contract can speak of. Words, standard input and output, standard
 error, exit status, devices that fail and memory that ends. What is written for telegrams, messages and whole runs is
 data: examples/, and tests/cases, of which cases.py makes lines.
@@ -15,7 +15,7 @@ import subprocess
 import threading
 
 import cases
-from runner import (DEVICE, EXAMPLES, MEMORY, TOP, Answer, Tests, answered, blocks, filled, in_full, program, respelled,
+from runner import (DEVICE, EXAMPLES, MEMORY, TOP, Answer, answered, blocks, filled, in_full, play, program, respelled,
                     run)
 
 TELEGRAM = filled("a1007f802000..f c0")
@@ -157,11 +157,6 @@ def test_blocks(tests):
         tests.equal(f"telegrams after {before} bytes", run(("decode",), given), answered(f"{FORM}\n" * 2))
 
 
-def test_much(tests):
-    """More than the buffer before standard output holds, and a pipe that takes only what it has room for."""
-    tests.lines("two thousand lines", run(("decode",), f"{TELEGRAM}\n" * 2000).stdout, f"{FORM}\n" * 2000)
-
-
 def conversation(words, line):
     """What the program answers to a line, and to it again, while its input is open, and its status in the end."""
     found = []
@@ -230,8 +225,8 @@ def test_devices(tests):
 
 
 def test_memory(tests):
-    """With little memory: no more of a stream is kept than a line and a message, and a line that never ends is
-    answered by `memory`, after the answers to the lines before it."""
+    """With little memory: no more of a stream is kept than a line and a message, of which a pipe takes only what it has
+    room for, and a line that never ends is answered by `memory`, after the answers to the lines before it."""
     few = "ulimit -v 100000"
     many = run(("decode", "--radio"), f"{MESSAGE * 2}\n" * 100000, few)
     tests.equal("many messages", (many.status, many.stdout == AUTHORITY_FORM * 200000), (0, True))
@@ -243,14 +238,6 @@ def test_memory(tests):
         tests.equal(f"memory for {words}", Answer(ran.returncode, ran.stdout, ran.stderr), wanted)
 
 
-def main():
-    """Runs all tests."""
-    tests = Tests()
-    for test in (test_cases, test_bytes, test_messages, test_examples, test_runs, test_greatest, test_streams,
-                 test_long_lines, test_blocks, test_much, test_waiting, test_manual, test_devices, test_memory):
-        test(tests)
-    tests.end("the program")
-
-
 if __name__ == "__main__":
-    main()
+    play("the program", test_cases, test_bytes, test_messages, test_examples, test_runs, test_greatest, test_streams,
+         test_long_lines, test_blocks, test_waiting, test_manual, test_devices, test_memory)

@@ -1,4 +1,4 @@
-#!/usr/bin/env python3
+#!/usr/bin/env -S python3 -B
 """Runs the commands that documents show as they stand there, on the examples and on files made here, after the
 functions of examples/find-field.sh: those with what they have to write (blocks marked `console`), and the commands of
 the table of docs/REFUSALS.md that mend files. Each document has to have commands, and each file made here has to be
@@ -8,6 +8,7 @@ have to refuse.
 BALISECHECK names the program. The last line is `the recipes: N passed, M failed`, and the exit status is 1 if a test
 failed.
 """
+import math
 import os
 import pathlib
 import re
@@ -199,27 +200,18 @@ def test_sums(tests):
     text = (TOP / "docs/FORMATS.md").read_text()
     found = re.findall(r"(examples/[^ ]*\.txt)` [^.\n]*: ([0-9 +×]*) = ([0-9]+)", text)
     for name, terms, bits in found:
-        total = sum(eval_product(term) for term in terms.split("+"))
+        total = sum(math.prod(map(int, term.split("×"))) for term in terms.split("+"))
         listed = tests.shell(f"list_packets 1 <{name} | head -n 1")[0]
         tests.equal(f"{name}: {terms} = {bits}", (total, listed.strip().split(", ")[-1]), (int(bits), f"{bits} bits"))
     tests.equal("each packet of a changing size has a sum", len(found), 7)
-
-
-def eval_product(term):
-    """The product of numbers such as `3 × 15`."""
-    product = 1
-    for factor in term.split("×"):
-        product *= int(factor)
-    return product
 
 
 def main():
     """Runs all tests."""
     with tempfile.TemporaryDirectory(prefix="recipes-") as room:
         tests = Recipes(pathlib.Path(room))
-        test_mending(tests)
         test_line_ends(tests, test_commands(tests))
-        for test in (test_functions, test_zeros, test_sums):
+        for test in (test_mending, test_functions, test_zeros, test_sums):
             test(tests)
     tests.end("the recipes")
 

@@ -12,7 +12,6 @@ import re
 import subprocess
 import sys
 
-sys.dont_write_bytecode = True  # so that no folder of it comes into being beside the tests
 HERE = pathlib.Path(__file__).resolve().parent
 TOP, CASES, EXAMPLES = HERE.parent, HERE / "cases", HERE.parent / "examples"
 MEMORY, DEVICE = "balisecheck: memory\n", "balisecheck: device\n"
@@ -96,6 +95,14 @@ class Tests:
         sys.exit(self.failed > 0)
 
 
+def play(title, *several):
+    """Runs these functions of tests, and ends the process."""
+    tests = Tests()
+    for one in several:
+        one(tests)
+    tests.end(title)
+
+
 # ---- the texts of the cases
 
 
@@ -120,6 +127,12 @@ def in_full(line):
     while repeated.search(line):
         line = repeated.sub(lambda found: found[1] * int(found[2]), line)
     return re.sub(r"\w+\.{2,3}\w \w*", lambda found: filled(found[0]), line)
+
+
+def flipped(digits, place):
+    """The digits with one of their bits turned."""
+    at, bit = divmod(place, 4)
+    return f"{digits[:at]}{int(digits[at], 16) ^ 8 >> bit:x}{digits[at + 1:]}"
 
 
 # ---- the same JSON in another spelling

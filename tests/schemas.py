@@ -1,4 +1,4 @@
-#!/usr/bin/env python3
+#!/usr/bin/env -S python3 -B
 """Tests of the folder schemas: they say what a program may send to balisecheck, as far as a JSON schema can say it.
 
 All examples have to be valid. Then forms and documents are made of the examples, each with one thing changed. What the
@@ -8,10 +8,12 @@ BALISECHECK names the program. All but the look at the files is left out where p
 line is `the schemas: N passed, M failed`, and the exit status is 1 if a test failed.
 """
 import copy
+import functools
 import json
+import operator
 import re
 
-from runner import EXAMPLES, TOP, Tests, run
+from runner import EXAMPLES, TOP, Tests, flipped, run
 
 try:
     import jsonschema
@@ -30,11 +32,6 @@ UNTOLD_FORM = re.compile(r"refused: line 1: (?:form range at (?:.*/body|/packets
 UNTOLD_TEXT = re.compile(r"refused: (?:group \d+: aspects"
                          r"|(?:group \d+(?: aspect \d+)? balise \d+|message \d+): (?:short|spare|length|no ).*)\n")
 SPARE_MARK, NO_ASPECTS = "spare at 15 end 17\n", '"aspects": []'
-
-
-def is_valid(name, value):
-    """Whether the value is valid by the schema of this name."""
-    return VALIDATORS[name].is_valid(value)
 
 
 def forms(names):
@@ -72,9 +69,7 @@ def places(value, path=()):
 
 def at(value, path):
     """What stands there."""
-    for step in path:
-        value = value[step]
-    return value
+    return functools.reduce(operator.getitem, path, value)
 
 
 def put(value, path, item):
@@ -107,10 +102,7 @@ def others(item):
 
 def turned(text, bit):
     """The hexadecimal digits with one bit turned, and `text` where there is no such bit."""
-    place = bit // 4
-    if not 0 <= place < len(text):
-        return text
-    return text[:place] + f"{int(text[place], 16) ^ 8 >> bit % 4:x}" + text[place + 1:]
+    return flipped(text, bit) if 0 <= bit < 4 * len(text) else text
 
 
 def kind(value, path):
@@ -152,7 +144,7 @@ def test_examples(tests):
         tests.holds(f"{name} is a schema", meta.is_valid(schema))
     for name, values in (("telegram", telegrams()), ("message", messages()), ("line", documents())):
         for value in values:
-            tests.holds(f"valid: {json.dumps(value)}", is_valid(name, value))
+            tests.holds(f"valid: {json.dumps(value)}", VALIDATORS[name].is_valid(value))
 
 
 def test_changed(tests, name, words, values, untold):
@@ -163,7 +155,7 @@ def test_changed(tests, name, words, values, untold):
         told = said.endswith(SPARE_MARK) or NO_ASPECTS in text
         if status == 2 and untold.fullmatch(said) and not told:
             continue
-        tests.holds(f"{' '.join(words)} of {text}", is_valid(name, value) == (status < 2), said)
+        tests.holds(f"{' '.join(words)} of {text}", VALIDATORS[name].is_valid(value) == (status < 2), said)
 
 
 def main():
