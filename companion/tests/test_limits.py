@@ -195,15 +195,17 @@ def _interrupted(command: List[str], there: Callable[[], bool]) -> Tuple[int, by
 
 
 @pytest.mark.parametrize("words", [["check", "--json", "out"], ["show"], ["report", "--html", "out"],
-                                   ["draw", "--group", "A", "--svg", "out"]])
+                                   ["draw", "--group", "A", "--svg", "out"], ["draw", "--track", "--svg", "out"],
+                                   ["links", "--json", "out"], ["diff", "table.csv", "--html", "out"],
+                                   ["check", "--propose", "out"], ["check", "--junit", "out"]])
 def test_an_interrupt_while_the_program_runs(words: List[str], table: Write, tmp_path: Path) -> None:
     """One line, status 3, and no file."""
     stand = tmp_path / "stand"
     stand.write_text(STAND)
     stand.chmod(0o755)
-    path = table("group,telegram", f"A,{ALONE}")
+    path = table("group,km,telegram", f"A,1,{ALONE}")
     command = [sys.executable, str(TOP / "balisekit"), words[0], str(path), "--program", str(stand),
-               *[str(tmp_path / word) if word == "out" else word for word in words[1:]]]
+               *[str(tmp_path / word) if word in ("out", "table.csv") else word for word in words[1:]]]
     assert _interrupted(command, (tmp_path / "stand.started").exists) == (3, b"balisekit: interrupted\n")
     assert sorted(os.listdir(tmp_path)) == ["stand", "stand.started", "table.csv"]
 
