@@ -78,6 +78,30 @@ module _ (aspects : List (List Telegram)) (controlled : IsControlled aspects) wh
       let z : a ≡ 0 = elim (cases_lt 1 (length aspects)) [ inl many ↦ absurd (few many) | inr le ↦ omega arith ] in
       one_at aspects 0 group (first_aspect aspects) (subst (λ k. At aspects k group) z at) first_here
 
+  -- a place that is fixed or switched is told
+  told-is : (b : ℕ) (t : Telegram) → At (first_aspect aspects) b t → IsFixed aspects b ⊎ IsSwitched aspects b → (all_at (is_steady t) b aspects || all_at is_counted b aspects) ≡ true
+  told-is b t at told = elim told [
+    | inl fixed ↦ or_left _ _ (all_at-is (is_steady t) b aspects (λ a group at'.
+        let u = here a group at' in
+        let e = fixed 0 a t u.0 (first_aspect aspects, first_here, at) (group, at', u.1) in
+        (u.0, u.1, and_from _ _ (eq-eqb _ _ (ap (λ (x : Telegram). x.header.counter) (sym e.0) ∙ e.1)) ((Decides-same_telegram t u.0).1 e.0))))
+    | inr switched ↦ or_right _ _ (all_at-is is_counted b aspects (λ a group at'.
+        let u = here a group at' in
+        (u.0, u.1, lt-ltb _ _ (switched a u.0 (group, at', u.1)))))
+  ]
+    where
+      here : (a : ℕ) (group : List Telegram) → At aspects a group → (u : Telegram) × At group b u
+      here a group at' =
+          let l = as_long a group at' in
+          let w = slice_get_within (first_aspect aspects) b t at in
+          some_at group b (omega arith)
+
+  pub untold-is : (b : ℕ) (t : Telegram) → At (first_aspect aspects) b t → (1 < length aspects → IsFixed aspects b ⊎ IsSwitched aspects b) → is_untold aspects b t ≡ false
+  untold-is b t at told = elim (cases_lt 1 (length aspects)) [
+    | inl many ↦ and_right (ltb 1 (length aspects)) _ (not_from_true _ (told-is b t at (told many)))
+    | inr few ↦ and_left _ _ (le-ltb _ _ few)
+  ]
+
 pub aspect_long : (aspects : List (List Telegram)) → IsControlled aspects → (a : ℕ) (group : List Telegram) → At aspects a group → 0 < length group
 aspect_long aspects controlled a group at =
     let l = as_long aspects controlled a group at in
@@ -87,8 +111,17 @@ aspect_long aspects controlled a group at =
 mark-says : (t f : Telegram) → mark_differs (Some f) t ≡ false → t.header.dup ≡ f.header.dup
 mark-says t f h = (Decides-same_mark t.header.dup f.header.dup).0 (not-false _ h)
 
-mark-is : (t f : Telegram) → t.header.dup ≡ f.header.dup → mark_differs (Some f) t ≡ false
+pub mark-is : (t f : Telegram) → t.header.dup ≡ f.header.dup → mark_differs (Some f) t ≡ false
 mark-is t f e = not_from_true _ ((Decides-same_mark t.header.dup f.header.dup).1 e)
+
+-- a counter that is taken stands in an earlier aspect
+pub taken-at : (aspects : List (List Telegram)) (a : ℕ) (t : Telegram) → is_counter_taken (take a aspects) t ≡ true → (c : ℕ) × (q : ℕ) × (u : Telegram) × (c < a) × HasAt aspects c q u × (t.header.counter < 254) × (u.header.counter ≡ t.header.counter)
+taken-at aspects a t taken =
+    let parts = and_parts (ltb t.header.counter 254) _ taken in
+    let r = list_any-at (has_counter t.header.counter) (take a aspects) parts.1 in
+    let q = list_any-at _ r.1 r.3 in
+    let before = At-take a aspects r.0 r.1 r.2 in
+    (r.0, q.0, q.1, before.0, (r.1, before.1, q.2), ltb-true _ _ parts.0, eqb-true _ _ q.3)
 
 -- ---- no finding, so sound
 
@@ -173,7 +206,7 @@ module _ (site : Site) (used : Bool) (aspects : List (List Telegram)) (controlle
 -- ---- sound, so no finding
 
 module _ (aspects : List (List Telegram)) (controlled : IsControlled aspects) (sound : IsSoundControlled aspects) where
-  alike_all : (a p : ℕ) (t f : Telegram) → HasAt aspects a p t → At (first_aspect aspects) 0 f → AreAlike t f
+  pub alike_all : (a p : ℕ) (t f : Telegram) → HasAt aspects a p t → At (first_aspect aspects) 0 f → AreAlike t f
   alike_all a p t f has at0 = elim (cases_lt 1 (length aspects)) [
     | inl many ↦ (sound.one many).alike a 0 p 0 t f has (first_aspect aspects, first_here aspects controlled, at0)
     | inr few ↦
@@ -181,7 +214,7 @@ module _ (aspects : List (List Telegram)) (controlled : IsControlled aspects) (s
         (sound.sound a has.0 has.1).formed.alike p t f has.2 (subst (λ g. At g 0 f) (sym g) at0)
   ]
 
-  mark_first : (a p : ℕ) (t f : Telegram) → HasAt aspects a p t → At (first_aspect aspects) p f → t.header.dup ≡ f.header.dup
+  pub mark_first : (a p : ℕ) (t f : Telegram) → HasAt aspects a p t → At (first_aspect aspects) p f → t.header.dup ≡ f.header.dup
   mark_first a p t f has at = elim (cases_lt 1 (length aspects)) [
     | inl many ↦ (sound.one many).marks a 0 p t f has (first_aspect aspects, first_here aspects controlled, at)
     | inr few ↦
@@ -196,15 +229,10 @@ module _ (aspects : List (List Telegram)) (controlled : IsControlled aspects) (s
 
   fresh_all : (a p : ℕ) (t : Telegram) → HasAt aspects a p t → is_counter_taken (take a aspects) t ≡ false
   fresh_all a p t has = false_from_ne_true _ (λ taken.
-      let parts = and_parts (ltb t.header.counter 254) _ taken in
-      let r = list_any-at (has_counter t.header.counter) (take a aspects) parts.1 in
-      let q = list_any-at _ r.1 r.3 in
-      let before = At-take a aspects r.0 r.1 r.2 in
-      let lt = before.0 in
+      let r = taken-at aspects a t taken in
+      let lt = r.3 in
       let w = slice_get_within aspects a has.0 has.1 in
-      let low = ltb-true _ _ parts.0 in
-      let same : q.1.header.counter ≡ t.header.counter = eqb-true _ _ q.3 in
-      (sound.one (omega arith)).distinct r.0 a q.0 p q.1 t (omega arith) (r.1, before.1, q.2) has (subst (λ c. c < 254) (sym same) low) low same)
+      (sound.one (omega arith)).distinct r.0 a r.1 p r.2 t (omega arith) r.4 has (subst (λ c. c < 254) (sym r.6) r.5) r.5 r.6)
 
   clean_all : (a : ℕ) (group : List Telegram) → At aspects a group → IsClean (first_aspect aspects) (take a aspects) group
   clean_all a group at =
@@ -213,32 +241,9 @@ module _ (aspects : List (List Telegram)) (controlled : IsControlled aspects) (s
       (λ b t at'. mark_all a b t (group, at, at'))
       (λ b t at'. fresh_all a b t (group, at, at'))
 
-  told_all : 1 < length aspects → (b : ℕ) (t : Telegram) → At (first_aspect aspects) b t → (all_at (is_steady t) b aspects || all_at is_counted b aspects) ≡ true
-  told_all many b t at = elim ((sound.one many).told b) [
-    | inl fixed ↦ or_left _ _ (all_at-is (is_steady t) b aspects (λ a group at'.
-        let u = here a group at' in
-        let e = fixed 0 a t u.0 (first_aspect aspects, first_here aspects controlled, at) (group, at', u.1) in
-        (u.0, u.1, and_from _ _ (eq-eqb _ _ (ap (λ (x : Telegram). x.header.counter) (sym e.0) ∙ e.1)) ((Decides-same_telegram t u.0).1 e.0))))
-    | inr switched ↦ or_right _ _ (all_at-is is_counted b aspects (λ a group at'.
-        let u = here a group at' in
-        (u.0, u.1, lt-ltb _ _ (switched a u.0 (group, at', u.1)))))
-  ]
-    where
-      here : (a : ℕ) (group : List Telegram) → At aspects a group → (u : Telegram) × At group b u
-      here a group at' =
-          let l = as_long aspects controlled a group at' in
-          let w = slice_get_within (first_aspect aspects) b t at in
-          some_at group b (omega arith)
-
-  untold_none : (b : ℕ) (t : Telegram) → At (first_aspect aspects) b t → is_untold aspects b t ≡ false
-  untold_none b t at = elim (cases_lt 1 (length aspects)) [
-    | inl many ↦ and_right (ltb 1 (length aspects)) _ (not_from_true _ (told_all many b t at))
-    | inr few ↦ and_left _ _ (le-ltb _ _ few)
-  ]
-
   whole_none : (site : Site) (used : Bool) → used ≡ false → (rule : Rule) → whole_facts site used aspects rule ≡ []
   whole_none site used new rules.IdentityUsed = noted-empty used (finding_of rules.IdentityUsed (whole site) None None None) new
-  whole_none site used new rules.NotToldApart = balises_empty rules.NotToldApart (whole site) (is_untold aspects) (first_aspect aspects) untold_none
+  whole_none site used new rules.NotToldApart = balises_empty rules.NotToldApart (whole site) (is_untold aspects) (first_aspect aspects) (λ b t at. untold-is aspects controlled b t at (λ many. (sound.one many).told b))
   whole_none site used new rule = refl
 
   no_facts : (site : Site) (used : Bool) → used ≡ false → group_facts site used aspects ≡ []

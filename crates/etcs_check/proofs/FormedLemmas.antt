@@ -13,8 +13,8 @@ use Rattle.etcs_packet.specs.declared.track.TrackPacket.{TrackPacket}
 use Rattle.etcs_telegram.specs.Record.{Telegram}
 use Rattle.etcs_group.specs.Places.{At}
 use Rattle.etcs_group.specs.Group.{is_modelled, named_by, partner_of, AreAlike, IsWellFormed, HasOneCounter}
-use Rattle.etcs_group.proofs.PlaceLemmas.{some_at}
-use Rattle.etcs_group.proofs.MarkLemmas.{partner-says, partner-is, next-at, previous-at}
+use Rattle.etcs_group.proofs.PlaceLemmas.{some_at, one_at}
+use Rattle.etcs_group.proofs.MarkLemmas.{partner-says, partner-is}
 use Rattle.etcs_check.specs.Duplicates.{same_identity}
 use Rattle.etcs_check.specs.Findings.{is_misplaced, is_miscounted, is_unlike, is_outside, is_other, is_unanswered, is_unfit, first_counter, counter_differs, is_unmodelled}
 use Rattle.etcs_check.proofs.NumberLemmas.{version_same, same_identity-says, same_identity-is}
@@ -131,6 +131,39 @@ alike_first first t h = go (slice_get first 0) refl
     go None e = refl
     go (Some f) e = alike-is t f (h f e)
 
+-- a mark with a partner lies inside
+pub inside-is : (group : List Telegram) (b : ℕ) (t : Telegram) → At group b t → (t.header.dup ≢ dups.Single → IsSome (partner_of group b)) → is_outside (length group) t.header.dup b ≡ false
+inside-is group b t at has = go t.header.dup refl has
+  where
+    named : (o : Option ℕ) → partner_of group b ≡ o → IsSome o → (q : ℕ) × (named_by t.header.dup b ≡ Some q) × (q < length group)
+    named None e h = absurd (both_ways false refl h)
+    named (Some q) e h =
+        let r = partner-says group b q e in
+        (q, subst (λ (x : Telegram). named_by x.header.dup b ≡ Some q) (one_at group b r.0 t r.1 at) r.2, r.3)
+
+    first : (b q : ℕ) → named_by dups.Previous b ≡ Some q → eqb b 0 ≡ false
+    first zero q e = absurd (none-some q e)
+    first (suc a) q e = let n : suc a ≢ 0 = omega arith in ne_eqb (suc a) 0 n
+
+    go : (m : Dup) → t.header.dup ≡ m → (t.header.dup ≢ dups.Single → IsSome (partner_of group b)) → is_outside (length group) m b ≡ false
+    go dups.Single e has = refl
+    go dups.Next e has =
+        let n = named (partner_of group b) refl (has (λ f. let g : dups.Next ≡ dups.Single = sym e ∙ f in cc)) in
+        let s = same_Some (b + 1) n.0 (sym (ap (λ m. named_by m b) e) ∙ n.1) in
+        let w = n.2 in
+        ne_eqb _ _ (omega arith)
+    go dups.Previous e has =
+        let n = named (partner_of group b) refl (has (λ f. let g : dups.Previous ≡ dups.Single = sym e ∙ f in cc)) in
+        first b n.0 (sym (ap (λ m. named_by m b) e) ∙ n.1)
+
+-- a partner whose partner is the balise answers
+pub answered-is : (group : List Telegram) (b : ℕ) → ((q : ℕ) → partner_of group b ≡ Some q → partner_of group q ≡ Some b) → is_unanswered group (partner_of group b) b ≡ false
+answered-is group b answers = go (partner_of group b) refl
+  where
+    go : (o : Option ℕ) → partner_of group b ≡ o → is_unanswered group o b ≡ false
+    go None e = refl
+    go (Some q) e = other-is_false (partner_of group q) b (answers q e)
+
 module _ (group : List Telegram) (formed : IsWellFormed group) where
   pub formed_placed : (b : ℕ) (t : Telegram) → At group b t → is_misplaced b t ≡ false
   formed_placed b t at = not_from_true _ (eq-eqb _ _ (formed.placed b t at))
@@ -139,19 +172,10 @@ module _ (group : List Telegram) (formed : IsWellFormed group) where
   formed_counted b t at = not_from_true _ (eq-eqb _ _ (formed.counted b t at))
 
   pub formed_inside : (b : ℕ) (t : Telegram) → At group b t → is_outside (length group) t.header.dup b ≡ false
-  formed_inside b t at = go t.header.dup refl
-    where
-      go : (m : Dup) → t.header.dup ≡ m → is_outside (length group) m b ≡ false
-      go dups.Single e = refl
-      go dups.Next e = let n = next-at group formed b t at e in let w = slice_get_within group (suc b) n.1 n.2 in ne_eqb _ _ (omega arith)
-      go dups.Previous e = let n = previous-at group formed b t at e in let s = n.1 in ne_eqb _ _ (omega arith)
+  formed_inside b t at = inside-is group b t at (formed.inside b t at)
 
   pub formed_answered : (b : ℕ) (t : Telegram) → At group b t → is_unanswered group (partner_of group b) b ≡ false
-  formed_answered b t at = go (partner_of group b) refl
-    where
-      go : (o : Option ℕ) → partner_of group b ≡ o → is_unanswered group o b ≡ false
-      go None e = refl
-      go (Some q) e = other-is_false (partner_of group q) b (formed.answered b q e)
+  formed_answered b t at = answered-is group b (formed.answered b)
 
   pub formed_modelled : (b : ℕ) (t : Telegram) (k : ℕ) (p : TrackPacket) → At group b t → At t.packets k p → is_unmodelled p ≡ false
   formed_modelled b t k p at at' = at-from_modelled t.packets (formed.modelled b t at) k p at'
@@ -172,9 +196,13 @@ first_counter-some (x ∷ ts) (suc b) t at lt = go (first_counter-some ts b t at
 pub fitting_254 : (group : List Telegram) → HasOneCounter group → (b : ℕ) (t : Telegram) → At group b t → is_unfit t ≡ false
 fitting_254 group fit b t at = ne_eqb _ _ (fit.fits b t at)
 
-pub fitting_one : (group : List Telegram) → HasOneCounter group → (b : ℕ) (t : Telegram) → At group b t → counter_differs group t ≡ false
-fitting_one group fit b t at = elim (cases_lt t.header.counter 254) [
+-- a counter that is each other one below 254
+pub equal-is : (group : List Telegram) (b : ℕ) (t : Telegram) → At group b t → ((j : ℕ) (u : Telegram) → At group j u → t.header.counter < 254 → u.header.counter < 254 → t.header.counter ≡ u.header.counter) → counter_differs group t ≡ false
+equal-is group b t at same = elim (cases_lt t.header.counter 254) [
   | inr ge ↦ and_left _ _ (le-ltb _ _ ge)
   | inl lt ↦ let r = first_counter-some group b t at lt in
-      and_right (ltb t.header.counter 254) _ (other-is_false (first_counter group) t.header.counter (r.4 ∙ ap Some (fit.equal r.0 b r.1 t r.2 at r.3 lt)))
+      and_right (ltb t.header.counter 254) _ (other-is_false (first_counter group) t.header.counter (r.4 ∙ ap Some (sym (same r.0 r.1 r.2 lt r.3))))
 ]
+
+pub fitting_one : (group : List Telegram) → HasOneCounter group → (b : ℕ) (t : Telegram) → At group b t → counter_differs group t ≡ false
+fitting_one group fit b t at = equal-is group b t at (λ j u at'. fit.equal b j t u at at')

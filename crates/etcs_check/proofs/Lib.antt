@@ -9,8 +9,11 @@ pub mod SoundLemmas
 pub mod AspectLemmas
 pub mod CounterLemmas
 pub mod LineLemmas
+pub mod HarmLemmas
+pub mod PartLemmas
 pub mod MeaningLemmas
 pub mod ListedLemmas
+pub mod NamedLemmas
 pub mod CompareLemmas
 pub mod NoteLemmas
 pub mod GreatestLemmas

@@ -1,8 +1,7 @@
 -- From a finding in the list to its fact, and to what it means.
-use Rattle.std.proofs.Common.{◌≡◌, ℕ, zero, suc, ◌+◌, Bool, true, false, cond, List, length, slice_get, take, Option, Some, None, refl, sym, ap, subst, ◌∙◌, arith}
+use Rattle.std.proofs.Common.{◌≡◌, ℕ, zero, suc, ◌+◌, Bool, true, false, List, slice_get, take, Option, Some, None, refl, sym, ap, subst, ◌∙◌, arith}
 use Rattle.std.specs.List.{filter, enumerate_from}
-use Rattle.std.proofs.lemmas.Option.{none-some, same_Some, slice_get_within}
-use Rattle.std.proofs.lemmas.Bool.{cases_lt, lt-ltb}
+use Rattle.std.proofs.lemmas.Option.{none-some, same_Some}
 use mathlib.Core.Logic.{inl, inr}
 use Rattle.etcs_packet.specs.Track.{holds}
 use Rattle.etcs_packet.specs.declared.run.Run.{Run}
@@ -14,13 +13,14 @@ use Rattle.etcs_radio.specs.declared.message.Message.TheVariants as messages
 use Rattle.etcs_telegram.specs.Record.{Telegram}
 use Rattle.etcs_group.specs.Places.{At}
 use Rattle.etcs_group.specs.Packets.{said_by}
-use Rattle.etcs_group.proofs.PlaceLemmas.{one_at}
+use Rattle.etcs_group.proofs.PlaceLemmas.{At-take}
 use Rattle.etcs_check.specs.Profiles.{gradient_reach, speed_reach}
 use Rattle.etcs_check.specs.Findings.{noted, finding_of, for_each, for_directions, balise_fact, balise_at, balise_facts, pair_differs, pair_at, pair_facts, is_unmodelled, unmodelled_at, unmodelled_by, unmodelled_facts, lacks, is_short_at, lack_facts, short_at, short_by, short_facts, facts_of, all_rules}
 use Rattle.etcs_check.specs.Line.{group_at, group_list, message_at, message_list, message_findings, is_short_in, message_lack, message_short_at, message_short, message_facts, findings}
 use Rattle.etcs_check.specs.Soundness.{first_aspect}
-use Rattle.etcs_check.specs.Aspects.{told_aspect, whole, aspect_of, is_used, is_untold, whole_facts, aspect_facts, rule_facts, group_facts}
-use Rattle.etcs_check.specs.Meaning.{AspectFact, WholeFact, GroupFact, PacketFact, MessageFact, StatesAt, States, HurtsAspect, HurtsGroup, HurtsSite, Hurts}
+use Rattle.etcs_check.specs.Aspects.{whole, aspect_of, is_used, is_untold, whole_facts, aspect_facts, rule_facts, group_facts}
+use Rattle.etcs_check.specs.Meaning.{AspectFact, WholeFact, GroupFact, PacketFact, MessageFact, StatesAt, States}
+use Rattle.etcs_check.specs.Harm.{IsNew, HurtsSite, Hurts}
 use Rattle.etcs_check.specs.Laws.{FindingsAreFacts}
 use Rattle.etcs_check.specs.declared.finding.Finding.{Finding}
 use Rattle.etcs_check.specs.declared.finding.Rule.{Rule}
@@ -29,7 +29,8 @@ use Rattle.etcs_check.specs.declared.finding.Site.{Site}
 use Rattle.etcs_check.specs.declared.finding.Site.TheVariants as sites
 use Rattle.etcs_check.specs.declared.finding.Spot.{Spot}
 use Rattle.etcs_check.proofs.MemberLemmas.{At-append_cases, flat_map-at, enumerate-at}
-use Rattle.etcs_check.proofs.SoundLemmas.{unfit-hurts, differs-hurts, pair-hurts, no_gradient-hurts, no_speed-hurts, short_gradient-hurts, short_speed-hurts}
+use Rattle.etcs_check.proofs.IdentityLemmas.{unused-is}
+use Rattle.etcs_check.proofs.HarmLemmas.{group_hurts, message_hurts}
 
 -- ---- members of the lists that findings are made of
 
@@ -197,45 +198,15 @@ findings_state groups messages i f h = elim (At-append_cases (group_list groups)
 
 -- ---- what it means
 
-hurts : (first : List Telegram) (before : List (List Telegram)) (group : List Telegram) (rule : Rule) (run : Option Run) (b k : Option ℕ) → AspectFact first before group rule run b k → HurtsAspect group rule run b
-hurts first before group rules.CounterUnfit None (Some b) None h = unfit-hurts group b h.0 h.1 h.2
-hurts first before group rules.CountersDiffer None (Some b) None h = differs-hurts group b h.0 h.1 h.2
-hurts first before group rules.DuplicatesDiffer (Some run) (Some b) None h = pair-hurts group b h.0 h.1 run h.2
-hurts first before group rules.NoGradient (Some run) None None h = no_gradient-hurts group run h
-hurts first before group rules.NoSpeed (Some run) None None h = no_speed-hurts group run h
-hurts first before group rules.GradientShort (Some run) (Some b) (Some k) h = short_gradient-hurts group run b k h.0 h.1 h.2 h.3 h.4
-hurts first before group rules.SpeedShort (Some run) (Some b) (Some k) h = short_speed-hurts group run b k h.0 h.1 h.2 h.3 h.4
-hurts first before group rule run b k h = first_of (search, cc)
-
-harmless : (used : Bool) (aspects : List (List Telegram)) (group : List Telegram) (rule : Rule) (run : Option Run) (b k : Option ℕ) → WholeFact used aspects rule run b k → HurtsAspect group rule run b
-harmless used aspects group rules.IdentityUsed run b k h = tt
-harmless used aspects group rules.NotToldApart run b k h = tt
-harmless used aspects group rule run b k h = first_of (search, cc)
-
--- one aspect is told
-one_told : (aspects : List (List Telegram)) (a b : ℕ) (g h : List Telegram) → At aspects a g → At aspects b h → told_aspect aspects a ≡ told_aspect aspects b → a ≡ b
-one_told aspects a b g h at at' e = elim (cases_lt 1 (length aspects)) [
-  | inl many ↦
-      let told : (n : ℕ) → told_aspect aspects n ≡ Some n = λ n. ap (λ q. cond q (Some n) None) (lt-ltb _ _ many) in
-      same_Some a b (sym (told a) ∙ e ∙ told b)
-  | inr few ↦ let w = slice_get_within aspects a g at in let v = slice_get_within aspects b h at' in omega arith
-]
-
-pub group_hurts : (used : Bool) (aspects : List (List Telegram)) (rule : Rule) (aspect : Option ℕ) (run : Option Run) (b k : Option ℕ) → GroupFact used aspects rule aspect run b k → HurtsGroup aspects rule aspect run b
-group_hurts used aspects rule aspect run b k fact a group at is = elim fact [
-  | inl w ↦ harmless used aspects group rule run b k w.1
-  | inr r ↦
-      let n = one_told aspects r.0 a r.1 group r.2 at (sym r.3 ∙ is) in
-      let g : r.1 ≡ group = one_at aspects a r.1 group (subst (λ k. At aspects k r.1) n r.2) at in
-      subst (λ g. HurtsAspect g rule run b) g (hurts (first_aspect aspects) (take r.0 aspects) r.1 rule run b k r.4)
-]
-
-findings_mean : (groups : List (List (List Telegram))) (messages : List Message) (f : Finding) → States groups messages f → Hurts groups f
+findings_mean : (groups : List (List (List Telegram))) (messages : List Message) (f : Finding) → States groups messages f → Hurts groups messages f
 findings_mean groups messages f h = at f.site h
   where
-    at : (s : Site) → StatesAt groups messages f s → HurtsSite groups f s
-    at (sites.Group g) h = (h.0, h.1, group_hurts (is_used (take g groups) h.0) h.0 f.rule f.aspect f.dir f.balise f.packet h.2)
-    at (sites.Message i) h = tt
+    new_here : (g : ℕ) (aspects : List (List Telegram)) → IsNew groups g aspects → is_used (take g groups) aspects ≡ false
+    new_here g aspects new = unused-is (take g groups) aspects (λ i h at. let t = At-take g groups i h at in new i h t.0 t.1)
+
+    at : (s : Site) → StatesAt groups messages f s → HurtsSite groups messages f s
+    at (sites.Group g) h = (h.0, h.1, group_hurts (IsNew groups g h.0) (is_used (take g groups) h.0) h.0 (new_here g h.0) f.rule f.aspect f.dir f.balise f.packet h.2)
+    at (sites.Message i) h = (h.0, h.1, message_hurts h.0 f.rule f.dir f.balise f.packet h.3)
 
 pub findings_are_facts : FindingsAreFacts
 findings_are_facts groups messages i f h =

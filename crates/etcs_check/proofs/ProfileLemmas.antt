@@ -14,6 +14,7 @@ use Rattle.etcs_group.specs.Places.{At}
 use Rattle.etcs_group.specs.Packets.{is_silent, said_by}
 use Rattle.etcs_group.proofs.PlaceLemmas.{at_list_any, list_any-at, list_any-none}
 use Rattle.etcs_check.specs.Profiles.{limit_of, Reaches, HasProfiles}
+use Rattle.etcs_check.specs.Harm.{HasProfile, IsLong}
 use Rattle.etcs_check.specs.Findings.{lacks, lies_past, goes_past, is_short, is_short_at}
 use Rattle.etcs_check.specs.Line.{is_short_in}
 use Rattle.etcs_check.proofs.MemberLemmas.{filter-at, at-filter, said-site, site-said}
@@ -72,18 +73,29 @@ profiles-from_list reach packets there long i a limit at is = record {
   each = λ j p r at' has. short-says reach packets p (long j p at') r has i a limit at is;
 }
 
-pub lacks-from_profiles : (reach : TrackPacket → Option Reach) (packets : List TrackPacket) → HaveProfiles reach packets → lacks reach packets ≡ false
-lacks-from_profiles reach packets h = elim (cases_Bool (list_any (λ p. is_some (limit_of p)) packets)) [
+pub lacks-from_one : (reach : TrackPacket → Option Reach) (packets : List TrackPacket) → HasProfile reach packets → lacks reach packets ≡ false
+lacks-from_one reach packets h = elim (cases_Bool (list_any (λ p. is_some (limit_of p)) packets)) [
   | inr none ↦ and_left _ _ none
   | inl some ↦
       let r = list_any-at (λ p. is_some (limit_of p)) packets some in
       let e = is_some-says (limit_of r.1) r.3 in
-      let p = (h r.0 r.1 e.0 r.2 e.1).one in
+      let p = h r.0 r.1 e.0 r.2 e.1 in
       and_right (list_any (λ p. is_some (limit_of p)) packets) _ (not_from_true _ (at_list_any (λ p. is_some (reach p)) packets p.0 p.1 p.2 p.3))
 ]
 
-pub long-from_profiles : (reach : TrackPacket → Option Reach) (packets : List TrackPacket) → HaveProfiles reach packets → (j : ℕ) (p : TrackPacket) → At packets j p → is_short reach packets p ≡ false
-long-from_profiles reach packets h j p at = short-from reach packets p (λ r has i a limit at_a is. (h i a limit at_a is).each j p r at has)
+-- there is a profile
+pub profiles-one : (reach : TrackPacket → Option Reach) (packets : List TrackPacket) → HaveProfiles reach packets → HasProfile reach packets
+profiles-one reach packets h i a limit at is = (h i a limit at is).one
+
+-- each profile is long
+pub profiles-long : (reach : TrackPacket → Option Reach) (packets : List TrackPacket) → HaveProfiles reach packets → (p : TrackPacket) → IsLong reach packets p
+profiles-long reach packets h p j r at has i a limit at_a is = (h i a limit at_a is).each j p r at has
+
+pub lacks-from_profiles : (reach : TrackPacket → Option Reach) (packets : List TrackPacket) → HaveProfiles reach packets → lacks reach packets ≡ false
+lacks-from_profiles reach packets h = lacks-from_one reach packets (profiles-one reach packets h)
+
+long-from : (reach : TrackPacket → Option Reach) (packets : List TrackPacket) (j : ℕ) (p : TrackPacket) → At packets j p → IsLong reach packets p → is_short reach packets p ≡ false
+long-from reach packets j p at long = short-from reach packets p (λ r has. long j r at has)
 
 -- ---- what a group says
 
@@ -99,16 +111,19 @@ profiles-said reach group run there long = profiles-from_list reach (said_by run
     spoken : (silent held short : Bool) → silent ≡ false → held ≡ true → (not silent && (held && short)) ≡ false → short ≡ false
     spoken silent held short e f h = rw (e, f) at h
 
-pub long-said : (reach : TrackPacket → Option Reach) (group : List Telegram) (run : Run) → HaveProfiles reach (said_by run group) → NoneShort reach group run
-long-said reach group run h b t k p at at' = elim (cases_Bool (is_silent run t.header.dup (length group) b)) [
+pub long-at : (reach : TrackPacket → Option Reach) (group : List Telegram) (run : Run) (b : ℕ) (t : Telegram) (k : ℕ) (p : TrackPacket) → At group b t → At t.packets k p → IsLong reach (said_by run group) p → is_short_at reach group run b t p ≡ false
+long-at reach group run b t k p at at' long = elim (cases_Bool (is_silent run t.header.dup (length group) b)) [
   | inl silent ↦ and_left _ _ (not_from_true _ silent)
   | inr speaks ↦ elim (cases_Bool (holds run p)) [
     | inr not_held ↦ and_right (not (is_silent run t.header.dup (length group) b)) _ (and_left _ _ not_held)
     | inl held ↦
         let s = site-said run group b t k p at at' speaks held in
-        and_right (not (is_silent run t.header.dup (length group) b)) _ (and_right (holds run p) _ (long-from_profiles reach (said_by run group) h s.0 p s.1))
+        and_right (not (is_silent run t.header.dup (length group) b)) _ (and_right (holds run p) _ (long-from reach (said_by run group) s.0 p s.1 long))
   ]
 ]
+
+pub long-said : (reach : TrackPacket → Option Reach) (group : List Telegram) (run : Run) → HaveProfiles reach (said_by run group) → NoneShort reach group run
+long-said reach group run h b t k p at at' = long-at reach group run b t k p at at' (profiles-long reach (said_by run group) h p)
 
 -- ---- what a message says
 
@@ -123,8 +138,11 @@ profiles-held reach packets run there long = profiles-from_list reach (filter (h
       | inr long ↦ long
     ])
 
-pub long-held : (reach : TrackPacket → Option Reach) (packets : List TrackPacket) (run : Run) → HaveProfiles reach (filter (holds run) packets) → NoneShortIn reach packets run
-long-held reach packets run h k p at = elim (cases_Bool (holds run p)) [
+pub long-in : (reach : TrackPacket → Option Reach) (packets : List TrackPacket) (run : Run) (k : ℕ) (p : TrackPacket) → At packets k p → IsLong reach (filter (holds run) packets) p → is_short_in reach packets run p ≡ false
+long-in reach packets run k p at long = elim (cases_Bool (holds run p)) [
   | inr not_held ↦ and_left _ _ not_held
-  | inl held ↦ let f = at-filter (holds run) packets k p at held in and_right (holds run p) _ (long-from_profiles reach (filter (holds run) packets) h f.0 p f.1)
+  | inl held ↦ let f = at-filter (holds run) packets k p at held in and_right (holds run p) _ (long-from reach (filter (holds run) packets) f.0 p f.1 long)
 ]
+
+pub long-held : (reach : TrackPacket → Option Reach) (packets : List TrackPacket) (run : Run) → HaveProfiles reach (filter (holds run) packets) → NoneShortIn reach packets run
+long-held reach packets run h k p at = long-in reach packets run k p at (profiles-long reach (filter (holds run) packets) h p)

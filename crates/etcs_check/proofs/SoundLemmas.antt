@@ -6,7 +6,6 @@ use Rattle.etcs_bits.specs.declared.variables.duplicate.Dup.{Dup}
 use Rattle.etcs_bits.specs.declared.variables.duplicate.Dup.TheVariants as dups
 use Rattle.etcs_packet.specs.declared.run.Run.{Run}
 use Rattle.etcs_packet.specs.declared.run.Run.TheVariants as runs
-use Rattle.etcs_packet.specs.declared.track.TrackPacket.{TrackPacket}
 use Rattle.etcs_telegram.specs.Record.{Telegram}
 use Rattle.etcs_group.specs.Places.{At}
 use Rattle.etcs_group.specs.Group.{named_by, AreAlike, IsWellFormed, HasOneCounter}
@@ -22,8 +21,8 @@ use Rattle.etcs_group.proofs.BlockLemmas.{readings_say_the_same}
 use Rattle.etcs_group.proofs.SaidLemmas.{said-packets}
 use Rattle.etcs_check.specs.Profiles.{gradient_reach, speed_reach, AreReached}
 use Rattle.etcs_check.specs.Soundness.{IsSoundReading, IsSoundGroup}
-use Rattle.etcs_check.specs.Findings.{is_unfit, counter_differs, mark_differs, is_counter_taken, are_pair, pair_differs, lacks, is_short_at}
-use Rattle.etcs_check.specs.Meaning.{only, passed_first, DependsOnMissed, IsNeverAccepted, IsNotReached}
+use Rattle.etcs_check.specs.Findings.{is_unfit, counter_differs, mark_differs, is_counter_taken, are_pair, pair_differs}
+use Rattle.etcs_check.specs.Harm.{only, passed_first, DependsOnMissed, IsNeverAccepted}
 use Rattle.etcs_check.specs.Duplicates.{same_held}
 use Rattle.etcs_check.specs.Laws.{SoundGroupsAreDecided}
 use Rattle.etcs_check.proofs.NumberLemmas.{Decides-same_packets}
@@ -147,10 +146,10 @@ fitting-from_accepted group run accepted = record {
 }
 
 module _ (group : List Telegram) (sound : IsSoundGroup group) where
-  full : (run : Run) → IsSoundReading group run none_missed
+  pub full : (run : Run) → IsSoundReading group run none_missed
   full run = sound.readings run none_missed (none_set group) (none_covered group)
 
-  fitting : HasOneCounter group
+  pub fitting : HasOneCounter group
   fitting = fitting-from_accepted group runs.Nominal (full runs.Nominal).accepted
 
   said_reached : (run : Run) → AreReached (said_by run group)
@@ -206,27 +205,3 @@ module _ (group : List Telegram) (b : ℕ) (t : Telegram) (at : At group b t) wh
   pair-hurts run fact formed =
       let p = pair-says run t (slice_get group (b + 1)) fact in
       (only-covered group run b t formed at p.2, λ _ same. both_ways _ (pair-from_same group run formed b t at (λ _. same)) fact)
-
-module _ (group : List Telegram) (run : Run) where
-  full_said : IsWellFormed group → AreReached (packets_of run (reading_of run none_missed group)) → AreReached (said_by run group)
-  full_said formed reached = subst AreReached (sym (said-packets group formed run)) reached
-
-  pub no_gradient-hurts : lacks gradient_reach (said_by run group) ≡ true → IsWellFormed group → IsNotReached group run
-  no_gradient-hurts fact formed reached =
-      let r = full_said formed reached in
-      both_ways _ (lacks-from_profiles gradient_reach (said_by run group) (λ i a limit at is. (r i a limit at is).0)) fact
-
-  pub no_speed-hurts : lacks speed_reach (said_by run group) ≡ true → IsWellFormed group → IsNotReached group run
-  no_speed-hurts fact formed reached =
-      let r = full_said formed reached in
-      both_ways _ (lacks-from_profiles speed_reach (said_by run group) (λ i a limit at is. (r i a limit at is).1)) fact
-
-  pub short_gradient-hurts : (b k : ℕ) (t : Telegram) (p : TrackPacket) → At group b t → At t.packets k p → is_short_at gradient_reach group run b t p ≡ true → IsWellFormed group → IsNotReached group run
-  short_gradient-hurts b k t p at at' fact formed reached =
-      let r = full_said formed reached in
-      both_ways _ (long-said gradient_reach group run (λ i a limit at is. (r i a limit at is).0) b t k p at at') fact
-
-  pub short_speed-hurts : (b k : ℕ) (t : Telegram) (p : TrackPacket) → At group b t → At t.packets k p → is_short_at speed_reach group run b t p ≡ true → IsWellFormed group → IsNotReached group run
-  short_speed-hurts b k t p at at' fact formed reached =
-      let r = full_said formed reached in
-      both_ways _ (long-said speed_reach group run (λ i a limit at is. (r i a limit at is).1) b t k p at at') fact

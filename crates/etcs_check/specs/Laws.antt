@@ -13,7 +13,8 @@ use Rattle.etcs_group.specs.Mixture.{Fits}
 use Rattle.etcs_check.specs.Duplicates.{same_packet, same_telegram}
 use Rattle.etcs_check.specs.Soundness.{IsSoundGroup, IsSoundControlled, IsSoundLine, group_identity}
 use Rattle.etcs_check.specs.Line.{group_findings, findings}
-use Rattle.etcs_check.specs.Meaning.{States, Hurts}
+use Rattle.etcs_check.specs.Meaning.{States}
+use Rattle.etcs_check.specs.Harm.{Hurts}
 use Rattle.etcs_check.specs.declared.finding.Finding.{Finding}
 use Rattle.etcs_check.specs.declared.finding.Site.{Site}
 
@@ -43,10 +44,20 @@ abbrev pub NoFindingMeansSoundLine : Type 0
 NoFindingMeansSoundLine = (groups : List (List (List Telegram))) (messages : List Message) → AreControlled groups
     → (findings groups messages ≡ []) ↔ IsSoundLine groups messages
 
--- Each finding states a fact at its place, which means what it says for the readings of its group.
+-- Each finding states a fact at its place, where its part of soundness does not hold.
 abbrev pub FindingsAreFacts : Type 0
 FindingsAreFacts = (groups : List (List (List Telegram))) (messages : List Message) (i : ℕ) (f : Finding)
-    → At (findings groups messages) i f → States groups messages f × Hurts groups f
+    → At (findings groups messages) i f → States groups messages f × Hurts groups messages f
+
+-- In a sound line nothing hurts: what does not hold where a finding hurts is a part of soundness.
+abbrev pub NothingHurtsASoundLine : Type 0
+NothingHurtsASoundLine = (groups : List (List (List Telegram))) (messages : List Message) (f : Finding)
+    → AreControlled groups → IsSoundLine groups messages → Hurts groups messages f → ⊥
+
+-- Each fact has its finding.
+abbrev pub FactsAreFindings : Type 0
+FactsAreFindings = (groups : List (List (List Telegram))) (messages : List Message) (f : Finding)
+    → States groups messages f → (i : ℕ) × At (findings groups messages) i f
 
 -- Of a sound group exactly the covered readings are accepted. Of each other set of its places the
 -- reading is refused: as Nothing if all are missed, else as Absent at the least place that is lost.

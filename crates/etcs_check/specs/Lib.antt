@@ -8,5 +8,6 @@ pub mod Identities
 pub mod Counters
 pub mod Greatest
 pub mod Meaning
+pub mod Harm
 pub mod Laws
 pub mod Quiet

@@ -1,6 +1,6 @@
 -- The findings of a line, in order: by group, then by message; within each by rule, then by aspect,
 -- running direction, balise and packet. No finding hides another.
-use Rattle.std.specs.Prelude.{ℕ, ◌&&◌, Bool, List, [], ◌++◌, take, filter, Option, Some, None, flat_map}
+use Rattle.std.specs.Prelude.{◌≢◌, ℕ, ◌&&◌, Bool, List, [], ◌++◌, take, filter, Option, Some, None, flat_map}
 use Rattle.etcs_packet.specs.Track.{holds}
 use Rattle.etcs_packet.specs.declared.run.Run.{Run}
 use Rattle.etcs_packet.specs.declared.track.TrackPacket.{TrackPacket}
@@ -8,6 +8,7 @@ use Rattle.etcs_profile.specs.declared.reach.Reach.{Reach}
 use Rattle.etcs_radio.specs.declared.message.Message.{Message}
 use Rattle.etcs_radio.specs.declared.message.Message.TheVariants as messages
 use Rattle.etcs_telegram.specs.Record.{Telegram}
+use Rattle.etcs_group.specs.Places.{At}
 use Rattle.etcs_check.specs.Profiles.{gradient_reach, speed_reach}
 use Rattle.etcs_check.specs.Findings.{finding_of, noted, for_each, for_directions, unmodelled_in, lacks, is_short, all_rules}
 use Rattle.etcs_check.specs.Aspects.{whole, is_used, group_facts}
@@ -78,3 +79,7 @@ message_list messages = for_each messages message_at
 -- the findings of a line
 abbrev pub findings : List (List (List Telegram)) → List Message → List Finding
 findings groups messages = group_list groups ++ message_list messages
+
+-- no finding of the list names the site
+abbrev pub IsUnnamed : List Finding → Site → Type 0
+IsUnnamed found site = (i : ℕ) (f : Finding) → At found i f → f.site ≢ site

@@ -1,20 +1,14 @@
--- What a finding says: the fact that it states at its place, and what that means for what trains read
--- of its group.
-use Rattle.std.specs.Prelude.{◌≡◌, ◌≢◌, ℕ, suc, ◌+◌, ◌==◌, Bool, List, filter, take, slice_get, Option, Some, None, IsTrue, ⊤, ◌⊎◌}
+-- What a finding says: the fact that it states at its place.
+use Rattle.std.specs.Prelude.{◌≡◌, ℕ, ◌+◌, Bool, List, filter, take, slice_get, Option, Some, None, IsTrue, ◌⊎◌}
 use Rattle.etcs_packet.specs.Track.{holds}
 use Rattle.etcs_packet.specs.declared.run.Run.{Run}
-use Rattle.etcs_packet.specs.declared.run.Run.TheVariants as runs
 use Rattle.etcs_packet.specs.declared.track.TrackPacket.{TrackPacket}
 use Rattle.etcs_radio.specs.declared.message.Message.{Message}
 use Rattle.etcs_radio.specs.declared.message.Message.TheVariants as messages
 use Rattle.etcs_telegram.specs.Record.{Telegram}
 use Rattle.etcs_group.specs.Places.{At}
-use Rattle.etcs_group.specs.Group.{IsWellFormed}
-use Rattle.etcs_group.specs.Missed.{IsCovered, none_missed}
-use Rattle.etcs_group.specs.Reading.{reading_of}
-use Rattle.etcs_group.specs.Assembly.{IsAccepted}
-use Rattle.etcs_group.specs.Packets.{packets_of, said_by}
-use Rattle.etcs_check.specs.Profiles.{gradient_reach, speed_reach, AreReached}
+use Rattle.etcs_group.specs.Packets.{said_by}
+use Rattle.etcs_check.specs.Profiles.{gradient_reach, speed_reach}
 use Rattle.etcs_check.specs.Soundness.{first_aspect}
 use Rattle.etcs_check.specs.Findings.{balise_fact, pair_differs, is_unmodelled, lacks, is_short_at}
 use Rattle.etcs_check.specs.Aspects.{told_aspect, is_used, is_untold}
@@ -94,57 +88,3 @@ StatesAt groups messages f (sites.Message i) =
 -- the fact of the finding's rule stands at its site, aspect, direction, balise and packet
 abbrev pub States : List (List (List Telegram)) → List Message → Finding → Type 0
 States groups messages f = StatesAt groups messages f f.site
-
--- ---- what it means for readings
-
--- the set of one place
-abbrev pub only : ℕ → ℕ → Bool
-only b p = p == b
-
--- the balise of the pair b, b + 1 that is passed first
-abbrev pub passed_first : Run → ℕ → ℕ
-passed_first runs.Nominal b = b
-passed_first runs.Reverse b = suc b
-
--- in each direction the reading with nothing missed is refused
-abbrev pub IsNeverAccepted : List Telegram → Type 0
-IsNeverAccepted group = (run : Run) → IsAccepted run (reading_of run none_missed group) → ⊥
-
--- the balise of a pair that is passed first may be missed, and its reading is then refused or gives
--- other packets than the reading with nothing missed
-abbrev pub DependsOnMissed : List Telegram → Run → ℕ → Type 0
-DependsOnMissed group run b =
-    IsCovered group (only (passed_first run b))
-    × (IsAccepted run (reading_of run (only (passed_first run b)) group)
-    → packets_of run (reading_of run (only (passed_first run b)) group)
-    ≢ packets_of run (reading_of run none_missed group))
-
--- the packets of the reading with nothing missed are not reached
-abbrev pub IsNotReached : List Telegram → Run → Type 0
-IsNotReached group run = AreReached (packets_of run (reading_of run none_missed group)) → ⊥
-
--- What a finding of a rule means for its aspect. That of a pair or of profiles is said of well-formed
--- aspects alone.
-abbrev pub HurtsAspect : List Telegram → Rule → Option Run → Option ℕ → Type 0
-HurtsAspect group rules.CounterUnfit run b = IsNeverAccepted group
-HurtsAspect group rules.CountersDiffer run b = IsNeverAccepted group
-HurtsAspect group rules.DuplicatesDiffer (Some run) (Some b) = IsWellFormed group → DependsOnMissed group run b
-HurtsAspect group rules.NoGradient (Some run) b = IsWellFormed group → IsNotReached group run
-HurtsAspect group rules.GradientShort (Some run) b = IsWellFormed group → IsNotReached group run
-HurtsAspect group rules.NoSpeed (Some run) b = IsWellFormed group → IsNotReached group run
-HurtsAspect group rules.SpeedShort (Some run) b = IsWellFormed group → IsNotReached group run
-HurtsAspect group rule run b = ⊤
-
--- what it means for a controlled group: for the aspect that is told
-abbrev pub HurtsGroup : List (List Telegram) → Rule → Option ℕ → Option Run → Option ℕ → Type 0
-HurtsGroup aspects rule aspect run b = (a : ℕ) (group : List Telegram) → At aspects a group
-    → aspect ≡ told_aspect aspects a → HurtsAspect group rule run b
-
-abbrev pub HurtsSite : List (List (List Telegram)) → Finding → Site → Type 0
-HurtsSite groups f (sites.Group g) =
-    (aspects : List (List Telegram)) × At groups g aspects × HurtsGroup aspects f.rule f.aspect f.dir f.balise
-HurtsSite groups f (sites.Message i) = ⊤
-
--- what a finding means for the readings of the group at its site
-abbrev pub Hurts : List (List (List Telegram)) → Finding → Type 0
-Hurts groups f = HurtsSite groups f f.site

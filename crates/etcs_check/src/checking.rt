@@ -4,8 +4,9 @@ ghost use Rattle.std.specs.Prelude.{◌≡◌, ◌≢◌, ◌↔◌, ◌<◌, �
 ghost use Rattle.etcs_check.specs.Aspects.{aspect_facts, group_facts, rule_facts, whole, whole_facts};
 ghost use Rattle.etcs_check.specs.Counters.{alone_facts};
 ghost use Rattle.etcs_check.specs.Findings.{all_rules, facts_in, facts_of, for_directions, for_each};
+ghost use Rattle.etcs_check.specs.Harm.{HurtsGroup, HurtsMessage};
 ghost use Rattle.etcs_check.specs.Line.{message_facts, message_facts_in, message_findings};
-ghost use Rattle.etcs_check.specs.Meaning.{GroupFact, HurtsGroup, MessageFact};
+ghost use Rattle.etcs_check.specs.Meaning.{GroupFact, MessageFact};
 ghost use Rattle.etcs_check.specs.Quiet.{IsQuiet};
 ghost use Rattle.etcs_check.specs.Soundness.{IsSoundControlled, IsSoundMessage};
 ghost use Rattle.etcs_check.specs.declared.finding.Finding.{Finding};
@@ -328,11 +329,11 @@ pub fn check_group(
     // No finding means sound, with an identity that no earlier group has.
     ensures sound { IfOk result (λ found. (found.items ≡ []) ↔ (IsSoundControlled group.now × (used ≡ false))) }
 
-    // A finding is there exactly where its fact stands, and means what it says for the readings.
+    // A finding is there exactly where its fact stands, and its own part of soundness does not hold there.
     ensures facts { IfOk result (λ found. (f : Finding) → ((i : ℕ) × At found.items i f)
         ↔ ((f.site ≡ sites.Group place) × GroupFact used group.now f.rule f.aspect f.dir f.balise f.packet)) }
     ensures hurts { IfOk result (λ found. (i : ℕ) (f : Finding) → At found.items i f
-        → HurtsGroup group.now f.rule f.aspect f.dir f.balise) }
+        → HurtsGroup (used ≡ false) group.now f.rule f.aspect f.dir f.balise f.packet) }
 {
     let mut found = Vec::new(alloc);
     note_group(&mut found, Site::Group(place), used, group.aspects())?;
@@ -351,9 +352,11 @@ pub fn check_message(alloc: Global, place: usize, message: &Message) -> Result<V
     // No finding means sound.
     ensures sound { IfOk result (λ found. (found.items ≡ []) ↔ IsSoundMessage message.now) }
 
-    // A finding is there exactly where its fact stands.
+    // A finding is there exactly where its fact stands, and its own part of soundness does not hold there.
     ensures facts { IfOk result (λ found. (f : Finding) → ((i : ℕ) × At found.items i f)
         ↔ ((f.site ≡ sites.Message place) × (f.aspect ≡ None) × MessageFact message.now f.rule f.dir f.balise f.packet)) }
+    ensures hurts { IfOk result (λ found. (i : ℕ) (f : Finding) → At found.items i f
+        → HurtsMessage message.now f.rule f.dir f.balise f.packet) }
 {
     let mut found = Vec::new(alloc);
     note_message(&mut found, Site::Message(place), message)?;

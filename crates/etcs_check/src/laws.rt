@@ -1,7 +1,7 @@
 //! Laws of findings and soundness, for users. Each law is the contract of a function that does
 //! nothing.
 
-ghost use Rattle.etcs_check.specs.Laws.{FindingsAreFacts, NoFindingMeansSoundGroup, NoFindingMeansSoundLine, PacketsAreTheirNumbers, SoundGroupsAreDecided, SoundMixturesAreDecided, TelegramsAreTheirParts};
+ghost use Rattle.etcs_check.specs.Laws.{FactsAreFindings, FindingsAreFacts, NoFindingMeansSoundGroup, NoFindingMeansSoundLine, NothingHurtsASoundLine, PacketsAreTheirNumbers, SoundGroupsAreDecided, SoundMixturesAreDecided, TelegramsAreTheirParts};
 
 /// Two packets are equal exactly if the numbers in the rows of their tables are.
 pub fn packets_are_their_numbers()
@@ -25,12 +25,23 @@ pub fn no_finding_means_sound_line()
     ensures { NoFindingMeansSoundLine }
 {}
 
-/// Each finding of a line states a fact at its site, aspect, running direction, balise and packet. A counter
-/// that does not fit means that the reading with nothing missed is refused. Duplicates that differ
-/// mean that what a train makes of the group depends on which of the two it misses. A missing or
-/// short profile means that what the group says does not reach a supervised location.
+/// Each finding of a line states a fact at its site, aspect, running direction, balise and packet. The part
+/// of soundness that its rule asks for does not hold there. A counter that does not fit means that the
+/// reading with nothing missed is refused. Duplicates that differ mean that what a train makes of the group
+/// depends on which of the two it misses. A missing or short profile means that what the group says does not
+/// reach a supervised location.
 pub fn findings_are_facts()
     ensures { FindingsAreFacts }
+{}
+
+/// In a sound line no finding could hurt: each part of soundness that a rule asks for holds at each place.
+pub fn nothing_hurts_a_sound_line()
+    ensures { NothingHurtsASoundLine }
+{}
+
+/// Each fact against a line has its finding.
+pub fn facts_are_findings()
+    ensures { FactsAreFindings }
 {}
 
 /// Of a sound group a reading is accepted exactly if what is missed is covered. Else it is refused: as

@@ -1,11 +1,12 @@
-use Rattle.std.proofs.Common.{◌≡◌, ◌≢◌, ◌++◌, [], sym, subst, ap, ◌∙◌}
+use Rattle.std.proofs.Common.{◌≡◌, ◌≢◌, ◌++◌, [], false, sym, subst, ap, ◌∙◌}
 use Rattle.etcs_group.specs.Places.{At}
 use Rattle.etcs_group.specs.Controlled.{IsControlled}
 use Rattle.etcs_check.specs.Aspects.{group_facts}
 use Rattle.etcs_check.specs.declared.finding.Site.TheVariants as sites
 use Rattle.etcs_check.proofs.NoteLemmas.{on_err}
 use Rattle.etcs_check.proofs.AspectLemmas.{no_fact_means_sound_group}
-use Rattle.etcs_check.proofs.MeaningLemmas.{group_states, group_hurts}
+use Rattle.etcs_check.proofs.HarmLemmas.{group_hurts}
+use Rattle.etcs_check.proofs.MeaningLemmas.{group_states}
 use Rattle.etcs_check.proofs.ListedLemmas.{group_listed}
 use Rattle.etcs_check.proofs.checking.check_group.Goals as goal
 
@@ -44,7 +45,7 @@ returns-clause-facts c = λ f.
           (r.0, subst (λ l. At l r.0 f) (sym eq) r.1),
     )
 
--- The fact of a finding means what it says.
+-- The fact of a finding breaks its part of soundness.
 pub returns-clause-hurts : goal.returns-clause-hurts
 returns-clause-hurts c = λ i f at.
     let eq : c.note_group.new.found.items ≡ group_facts (sites.Group c.args.place) c.args.used c.args.group.now =
@@ -52,4 +53,4 @@ returns-clause-hurts c = λ i f at.
     ∙ ap (λ l. l ++ group_facts (sites.Group c.args.place) c.args.used c.aspects.result.now) c.new-found.ensures.items
     ∙ ap (λ g. group_facts (sites.Group c.args.place) c.args.used g) c.aspects.ensures.value in
     let fact = group_states (sites.Group c.args.place) c.args.used c.args.group.now i f (subst (λ l. At l i f) eq at) in
-    group_hurts c.args.used c.args.group.now f.rule f.aspect f.dir f.balise f.packet fact.1
+    group_hurts (c.args.used ≡ false) c.args.used c.args.group.now (λ new. new) f.rule f.aspect f.dir f.balise f.packet fact.1

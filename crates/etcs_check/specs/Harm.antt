@@ -1,0 +1,193 @@
+-- What a finding means: which part of soundness does not hold at its place, and what that does to the
+-- readings of its group. Each part is named as in IsWellFormed, HasOneCounter, IsSoundReading, HasProfiles,
+-- AreOneGroup, IsSoundMessage or IsSoundLine. By the law nothing_hurts_a_sound_line it holds where these do.
+use Rattle.std.specs.Prelude.{◌≡◌, ◌≢◌, ℕ, suc, ◌+◌, ◌<◌, ◌==◌, Bool, List, length, filter, Option, Some, None, is_some, IsSome, IsTrue, ⊤, ◌⊎◌}
+use Rattle.etcs_bits.specs.declared.variables.duplicate.Dup.TheVariants as dups
+use Rattle.etcs_packet.specs.Track.{holds}
+use Rattle.etcs_packet.specs.declared.run.Run.{Run}
+use Rattle.etcs_packet.specs.declared.run.Run.TheVariants as runs
+use Rattle.etcs_packet.specs.declared.track.TrackPacket.{TrackPacket}
+use Rattle.etcs_profile.specs.declared.reach.Reach.{Reach}
+use Rattle.etcs_radio.specs.declared.message.Message.{Message}
+use Rattle.etcs_radio.specs.declared.message.Message.TheVariants as messages
+use Rattle.etcs_telegram.specs.Record.{Telegram}
+use Rattle.etcs_group.specs.Places.{At}
+use Rattle.etcs_group.specs.Group.{AreAlike, IsWellFormed, is_modelled, partner_of}
+use Rattle.etcs_group.specs.Missed.{IsCovered, none_missed}
+use Rattle.etcs_group.specs.Reading.{reading_of}
+use Rattle.etcs_group.specs.Assembly.{IsAccepted}
+use Rattle.etcs_group.specs.Packets.{packets_of}
+use Rattle.etcs_group.specs.Controlled.{HasAt, IsControlled, IsFixed, IsSwitched}
+use Rattle.etcs_check.specs.Profiles.{limit_of, gradient_reach, speed_reach, AreReached, Reaches}
+use Rattle.etcs_check.specs.Soundness.{IsSoundReading, first_aspect, group_identity}
+use Rattle.etcs_check.specs.Aspects.{told_aspect}
+use Rattle.etcs_check.specs.declared.finding.Finding.{Finding}
+use Rattle.etcs_check.specs.declared.finding.Rule.{Rule}
+use Rattle.etcs_check.specs.declared.finding.Rule.TheVariants as rules
+use Rattle.etcs_check.specs.declared.finding.Site.{Site}
+use Rattle.etcs_check.specs.declared.finding.Site.TheVariants as sites
+
+-- ---- readings
+
+-- the set of one place
+abbrev pub only : ℕ → ℕ → Bool
+only b p = p == b
+
+-- the balise of the pair b, b + 1 that is passed first
+abbrev pub passed_first : Run → ℕ → ℕ
+passed_first runs.Nominal b = b
+passed_first runs.Reverse b = suc b
+
+-- in each direction the reading with nothing missed is refused
+abbrev pub IsNeverAccepted : List Telegram → Type 0
+IsNeverAccepted group = (run : Run) → IsAccepted run (reading_of run none_missed group) → ⊥
+
+-- the packets of the reading with nothing missed
+abbrev pub full_packets : List Telegram → Run → List TrackPacket
+full_packets group run = packets_of run (reading_of run none_missed group)
+
+-- the balise of a pair that is passed first may be missed, and its reading is then refused or gives
+-- other packets than the reading with nothing missed
+abbrev pub DependsOnMissed : List Telegram → Run → ℕ → Type 0
+DependsOnMissed group run b =
+    IsCovered group (only (passed_first run b))
+    × (IsAccepted run (reading_of run (only (passed_first run b)) group)
+    → packets_of run (reading_of run (only (passed_first run b)) group) ≢ full_packets group run)
+
+-- the packets of the reading with nothing missed are not reached
+abbrev pub IsNotReached : List Telegram → Run → Type 0
+IsNotReached group run = AreReached (full_packets group run) → ⊥
+
+-- What a finding of a rule means for the readings of its aspect. That of a pair or of profiles is said of
+-- well-formed aspects alone.
+abbrev pub HurtsReadings : List Telegram → Rule → Option Run → Option ℕ → Type 0
+HurtsReadings group rules.CounterUnfit run b = IsNeverAccepted group
+HurtsReadings group rules.CountersDiffer run b = IsNeverAccepted group
+HurtsReadings group rules.DuplicatesDiffer (Some run) (Some b) = IsWellFormed group → DependsOnMissed group run b
+HurtsReadings group rules.NoGradient (Some run) b = IsWellFormed group → IsNotReached group run
+HurtsReadings group rules.GradientShort (Some run) b = IsWellFormed group → IsNotReached group run
+HurtsReadings group rules.NoSpeed (Some run) b = IsWellFormed group → IsNotReached group run
+HurtsReadings group rules.SpeedShort (Some run) b = IsWellFormed group → IsNotReached group run
+HurtsReadings group rule run b = ⊤
+
+-- ---- the part of soundness that a rule asks for at a place
+
+-- if there is an authority among the packets, there is a profile of the kind
+abbrev pub HasProfile : (TrackPacket → Option Reach) → List TrackPacket → Type 0
+HasProfile reach packets = (i : ℕ) (a : TrackPacket) (limit : ℕ) → At packets i a → limit_of a ≡ Some limit
+    → (j : ℕ) × (p : TrackPacket) × At packets j p × IsTrue (is_some (reach p))
+
+-- if p is a profile of the kind among the packets, it reaches the supervised location of each authority
+abbrev pub IsLong : (TrackPacket → Option Reach) → List TrackPacket → TrackPacket → Type 0
+IsLong reach packets p = (j : ℕ) (r : Reach) → At packets j p → reach p ≡ Some r
+    → (i : ℕ) (a : TrackPacket) (limit : ℕ) → At packets i a → limit_of a ≡ Some limit → Reaches r limit
+
+-- the same of packet k of the balise at place b, among the packets of the reading with nothing missed
+abbrev pub IsLongAt : (TrackPacket → Option Reach) → List Telegram → Run → ℕ → ℕ → Type 0
+IsLongAt reach group run b k = (t : Telegram) (p : TrackPacket) → At group b t → At t.packets k p
+    → IsLong reach (full_packets group run) p
+
+-- The part of an aspect, at a running direction, a balise and a packet; `group` is aspect a. That of a pair
+-- or of profiles is asked for together with a well-formed aspect.
+abbrev pub AspectPart : List (List Telegram) → ℕ → List Telegram → Rule → Option Run → Option ℕ → Option ℕ → Type 0
+-- placed
+AspectPart aspects a group rules.PositionWrong None (Some b) None =
+    (t : Telegram) → At group b t → t.header.position ≡ b
+-- counted
+AspectPart aspects a group rules.TotalWrong None (Some b) None =
+    (t : Telegram) → At group b t → t.header.total + 1 ≡ length group
+-- alike
+AspectPart aspects a group rules.HeaderDiffers None (Some b) None =
+    (t first : Telegram) → At group b t → At (first_aspect aspects) 0 first → AreAlike t first
+-- inside
+AspectPart aspects a group rules.MarkOutside None (Some b) None =
+    (t : Telegram) → At group b t → t.header.dup ≢ dups.Single → IsSome (partner_of group b)
+-- answered
+AspectPart aspects a group rules.MarkUnanswered None (Some b) None =
+    (p : ℕ) → partner_of group b ≡ Some p → partner_of group p ≡ Some b
+-- fits
+AspectPart aspects a group rules.CounterUnfit None (Some b) None =
+    (t : Telegram) → At group b t → t.header.counter ≢ 254
+-- equal
+AspectPart aspects a group rules.CountersDiffer None (Some b) None =
+    (j : ℕ) (t u : Telegram) → At group b t → At group j u
+    → t.header.counter < 254 → u.header.counter < 254 → t.header.counter ≡ u.header.counter
+-- the reading where the balise of the pair that is passed first is missed
+AspectPart aspects a group rules.DuplicatesDiffer (Some run) (Some b) None =
+    IsWellFormed group
+    × (IsCovered group (only (passed_first run b)) → IsSoundReading group run (only (passed_first run b)))
+-- modelled
+AspectPart aspects a group rules.NotModelled None (Some b) (Some k) =
+    (t : Telegram) (p : TrackPacket) → At group b t → At t.packets k p → IsTrue (is_modelled p)
+-- one and each, of gradients and of speeds
+AspectPart aspects a group rules.NoGradient (Some run) None None =
+    IsWellFormed group × HasProfile gradient_reach (full_packets group run)
+AspectPart aspects a group rules.GradientShort (Some run) (Some b) (Some k) =
+    IsWellFormed group × IsLongAt gradient_reach group run b k
+AspectPart aspects a group rules.NoSpeed (Some run) None None =
+    IsWellFormed group × HasProfile speed_reach (full_packets group run)
+AspectPart aspects a group rules.SpeedShort (Some run) (Some b) (Some k) =
+    IsWellFormed group × IsLongAt speed_reach group run b k
+-- marks
+AspectPart aspects a group rules.MarksDiffer None (Some b) None =
+    (t first : Telegram) → At group b t → At (first_aspect aspects) b first → t.header.dup ≡ first.header.dup
+-- distinct
+AspectPart aspects a group rules.NotToldApart None (Some b) None =
+    (c q : ℕ) (t u : Telegram) → a ≢ c → At group b t → HasAt aspects c q u
+    → t.header.counter < 254 → u.header.counter < 254 → t.header.counter ≢ u.header.counter
+AspectPart aspects a group rule run b k = ⊤
+
+-- The part of a controlled group as a whole; `new` says that no earlier group has its identity.
+abbrev pub WholePart : Type 0 → List (List Telegram) → Rule → Option Run → Option ℕ → Option ℕ → Type 0
+-- distinct, of the line
+WholePart new aspects rules.IdentityUsed None None None = new
+-- told
+WholePart new aspects rules.NotToldApart None (Some b) None =
+    IsControlled aspects × (1 < length aspects → IsFixed aspects b ⊎ IsSwitched aspects b)
+WholePart new aspects rule run b k = ⊤
+
+-- the part of the packets of a message 3, at a running direction and a packet
+abbrev pub PacketsPart : List TrackPacket → Rule → Option Run → Option ℕ → Option ℕ → Type 0
+PacketsPart packets rules.NotModelled None None (Some k) =
+    (p : TrackPacket) → At packets k p → IsTrue (is_modelled p)
+PacketsPart packets rules.NoGradient (Some run) None None = HasProfile gradient_reach (filter (holds run) packets)
+PacketsPart packets rules.GradientShort (Some run) None (Some k) =
+    (p : TrackPacket) → At packets k p → IsLong gradient_reach (filter (holds run) packets) p
+PacketsPart packets rules.NoSpeed (Some run) None None = HasProfile speed_reach (filter (holds run) packets)
+PacketsPart packets rules.SpeedShort (Some run) None (Some k) =
+    (p : TrackPacket) → At packets k p → IsLong speed_reach (filter (holds run) packets) p
+PacketsPart packets rule run b k = ⊤
+
+abbrev pub MessagePart : Message → Rule → Option Run → Option ℕ → Option ℕ → Type 0
+MessagePart (messages.Movement m) rule run b k = PacketsPart m.packets rule run b k
+MessagePart (messages.Position m) rule run b k = ⊤
+
+-- ---- what a finding means
+
+-- A finding about a controlled group: its part of the whole does not hold; or that of the aspect that is
+-- told does not, and its readings are hurt.
+abbrev pub HurtsGroup : Type 0 → List (List Telegram) → Rule → Option ℕ → Option Run → Option ℕ → Option ℕ → Type 0
+HurtsGroup new aspects rule aspect run b k =
+    ((aspect ≡ None) × (WholePart new aspects rule run b k → ⊥))
+    ⊎ ((a : ℕ) × (group : List Telegram) × At aspects a group × (aspect ≡ told_aspect aspects a)
+    × (AspectPart aspects a group rule run b k → ⊥) × HurtsReadings group rule run b)
+
+-- a finding about a message: its part does not hold
+abbrev pub HurtsMessage : Message → Rule → Option Run → Option ℕ → Option ℕ → Type 0
+HurtsMessage m rule run b k = MessagePart m rule run b k → ⊥
+
+-- no earlier group has the identity of the group at place g
+abbrev pub IsNew : List (List (List Telegram)) → ℕ → List (List Telegram) → Type 0
+IsNew groups g aspects = (i : ℕ) (h : List (List Telegram)) → i < g → At groups i h
+    → group_identity h ≢ group_identity aspects
+
+abbrev pub HurtsSite : List (List (List Telegram)) → List Message → Finding → Site → Type 0
+HurtsSite groups messages f (sites.Group g) =
+    (aspects : List (List Telegram)) × At groups g aspects
+    × HurtsGroup (IsNew groups g aspects) aspects f.rule f.aspect f.dir f.balise f.packet
+HurtsSite groups messages f (sites.Message i) =
+    (m : Message) × At messages i m × HurtsMessage m f.rule f.dir f.balise f.packet
+
+-- what a finding means at its site
+abbrev pub Hurts : List (List (List Telegram)) → List Message → Finding → Type 0
+Hurts groups messages f = HurtsSite groups messages f f.site
