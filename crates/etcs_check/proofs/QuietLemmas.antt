@@ -12,7 +12,7 @@ use Rattle.etcs_group.specs.Packets.{said_by}
 use Rattle.etcs_group.specs.Places.{At}
 use Rattle.etcs_group.proofs.PlaceLemmas.{at_list_any}
 use Rattle.etcs_check.specs.Aspects.{aspect_of, group_facts, is_untold, rule_facts, whole, whole_facts}
-use Rattle.etcs_check.specs.Findings.{all_rules}
+use Rattle.etcs_check.specs.Findings.{all_rules, balise_fact}
 use Rattle.etcs_check.specs.Greatest.{greatest, is_before, is_sought}
 use Rattle.etcs_check.specs.Profiles.{AreReached, gradient_reach, limit_of, speed_reach}
 use Rattle.etcs_check.specs.Quiet.{IsQuiet, IsQuietBalise}
@@ -30,6 +30,33 @@ use Rattle.etcs_check.proofs.ProfileLemmas.{HaveProfiles, lacks-from_profiles, l
 pub by_run : (P : Run → Type 0) → P runs.Nominal → P runs.Reverse → (run : Run) → P run
 by_run P nominal reverse runs.Nominal = nominal
 by_run P nominal reverse runs.Reverse = reverse
+
+-- ---- a balise of a group of one aspect
+
+module _ (group : List Telegram) (b : ℕ) (t : Telegram) where
+  abbrev passes : Rule → Type 0
+  passes rule = balise_fact group [] group rule b t ≡ false
+
+  -- eight rules are about a balise and the aspects up to its own
+  pub by_rule : passes rules.PositionWrong → passes rules.TotalWrong → passes rules.HeaderDiffers
+      → passes rules.MarkOutside → passes rules.MarkUnanswered → passes rules.CounterUnfit
+      → passes rules.CountersDiffer → passes rules.MarksDiffer → (rule : Rule) → passes rule
+  by_rule placed counted alike inside answered fit one_counter marks rules.PositionWrong = placed
+  by_rule placed counted alike inside answered fit one_counter marks rules.TotalWrong = counted
+  by_rule placed counted alike inside answered fit one_counter marks rules.HeaderDiffers = alike
+  by_rule placed counted alike inside answered fit one_counter marks rules.MarkOutside = inside
+  by_rule placed counted alike inside answered fit one_counter marks rules.MarkUnanswered = answered
+  by_rule placed counted alike inside answered fit one_counter marks rules.CounterUnfit = fit
+  by_rule placed counted alike inside answered fit one_counter marks rules.CountersDiffer = one_counter
+  by_rule placed counted alike inside answered fit one_counter marks rules.MarksDiffer = marks
+  by_rule placed counted alike inside answered fit one_counter marks rules.NotToldApart = and_right _ _ refl
+  by_rule placed counted alike inside answered fit one_counter marks rules.DuplicatesDiffer = refl
+  by_rule placed counted alike inside answered fit one_counter marks rules.NotModelled = refl
+  by_rule placed counted alike inside answered fit one_counter marks rules.NoGradient = refl
+  by_rule placed counted alike inside answered fit one_counter marks rules.GradientShort = refl
+  by_rule placed counted alike inside answered fit one_counter marks rules.NoSpeed = refl
+  by_rule placed counted alike inside answered fit one_counter marks rules.SpeedShort = refl
+  by_rule placed counted alike inside answered fit one_counter marks rules.IdentityUsed = refl
 
 -- ---- packets that are reached
 

@@ -10,7 +10,7 @@ ghost use Rattle.etcs_check.specs.Findings.{are_pair, balise_fact, balise_facts,
 ghost use Rattle.etcs_check.specs.Quiet.{IsQuietBalise};
 
 use crate::duplicates::same_held;
-use crate::finding::{Finding, RULES, Rule, Spot, note};
+use crate::finding::{Finding, Rule, Spot, note};
 use etcs_bits::{Dup, Memory};
 use etcs_packet::{Run, TrackPacket};
 use etcs_telegram::Telegram;
@@ -133,7 +133,8 @@ fn counter_differs(group: &[Telegram], telegram: &Telegram) -> bool
 }
 
 // Whether the rule is broken by the balise at this place of an aspect. The balise is compared with
-// `first`, aspect 0. Counters of earlier aspects are not looked at.
+// `first`, aspect 0. Counters of earlier aspects are not looked at. It is inlined because the quick look
+// at a group asks it of each balise for each rule.
 #[inline(always)]
 fn balise_fact(first: &[Telegram], group: &[Telegram], rule: Rule, place: usize) -> bool
     requires within { place < length group.now }
@@ -157,17 +158,37 @@ fn balise_fact(first: &[Telegram], group: &[Telegram], rule: Rule, place: usize)
 }
 
 // Whether no fact stands about the balise at this place of a group of one aspect, about its packets, or
-// about the pair of it and the next balise.
+// about the pair of it and the next balise. The rules are named one by one: a loop over all of them is
+// slower.
 pub(crate) fn is_quiet_balise(group: &[Telegram], place: usize, telegram: &Telegram) -> bool
     requires within { place < length group.now }
     requires few { length group.now ≤ 8 }
     requires at { slice_get group.now place ≡ Some telegram.now }
     ensures { IsTrue result → IsQuietBalise group.now place telegram.now }
 {
-    'rules: for rule in &RULES {
-        if balise_fact(group, group, *rule, place) {
-            return false;
-        }
+    if balise_fact(group, group, Rule::PositionWrong, place) {
+        return false;
+    }
+    if balise_fact(group, group, Rule::TotalWrong, place) {
+        return false;
+    }
+    if balise_fact(group, group, Rule::HeaderDiffers, place) {
+        return false;
+    }
+    if balise_fact(group, group, Rule::MarkOutside, place) {
+        return false;
+    }
+    if balise_fact(group, group, Rule::MarkUnanswered, place) {
+        return false;
+    }
+    if balise_fact(group, group, Rule::CounterUnfit, place) {
+        return false;
+    }
+    if balise_fact(group, group, Rule::CountersDiffer, place) {
+        return false;
+    }
+    if balise_fact(group, group, Rule::MarksDiffer, place) {
+        return false;
     }
     if pair_differs_at(group, Run::Nominal, place) {
         return false;

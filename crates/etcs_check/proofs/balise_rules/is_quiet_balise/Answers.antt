@@ -1,33 +1,23 @@
-use Rattle.std.proofs.Common.{◌≡◌, ◌+◌, false, [], slice_get, arith, sym, subst, ◌∙◌}
+use Rattle.std.proofs.Common.{◌≡◌, ◌+◌, false, slice_get, sym, subst, ◌∙◌}
 use Rattle.std.specs.List.{AllPass}
-use Rattle.std.proofs.lemmas.Option.{slice_get_within, slice_get-get_or}
 use Rattle.etcs_packet.specs.declared.run.Run.{Run}
 use Rattle.etcs_group.specs.Group.{is_modelled}
-use Rattle.etcs_check.specs.Findings.{all_rules, balise_fact, pair_differs}
-use Rattle.etcs_check.proofs.FindingLemmas.{rule_place}
-use Rattle.etcs_check.proofs.NoteLemmas.{each_more}
-use Rattle.etcs_check.proofs.QuietLemmas.{by_run}
+use Rattle.etcs_check.specs.Findings.{pair_differs}
+use Rattle.etcs_check.proofs.QuietLemmas.{by_rule, by_run}
 use Rattle.etcs_check.proofs.balise_rules.is_quiet_balise.Goals as goal
 
-pub rules-init : goal.rules-init
-rules-init c = λ k rule lt at. absurd (omega (arith, lt))
-
--- The balise does not break this rule either.
-pub rules-preserved : goal.rules-preserved
-rules-preserved c =
-    let group = c.args.group.now in
-    let at = slice_get-get_or all_rules c.rules.rule-index _ c.rules-test.true in
-    each_more (λ _ rule. balise_fact group [] group rule c.args.place c.args.telegram.now ≡ false)
-    all_rules c.rules.rule-index _ at c.rules.invariant
-    (sym (c.balise_fact.ensures _ c.requires.at) ∙ c.if-balise_fact.false)
-
--- All rules were asked, and both running directions.
+-- All rules that can be broken were asked, and both running directions.
 pub returns : goal.returns
 returns c = λ yes. record {
-  alone = λ rule.
-      let place = rule_place rule in
-      let within = slice_get_within all_rules place.0 rule place.1 in
-      c.rules.invariant place.0 rule (omega (arith, within, c.rules-test.false)) place.1;
+  alone = by_rule c.args.group.now c.args.place c.args.telegram.now
+      (sym (c.balise_fact.ensures _ c.requires.at) ∙ c.if-balise_fact.false)
+      (sym (c.balise_fact-2.ensures _ c.requires.at) ∙ c.if-balise_fact-2.false)
+      (sym (c.balise_fact-3.ensures _ c.requires.at) ∙ c.if-balise_fact-3.false)
+      (sym (c.balise_fact-4.ensures _ c.requires.at) ∙ c.if-balise_fact-4.false)
+      (sym (c.balise_fact-5.ensures _ c.requires.at) ∙ c.if-balise_fact-5.false)
+      (sym (c.balise_fact-6.ensures _ c.requires.at) ∙ c.if-balise_fact-6.false)
+      (sym (c.balise_fact-7.ensures _ c.requires.at) ∙ c.if-balise_fact-7.false)
+      (sym (c.balise_fact-8.ensures _ c.requires.at) ∙ c.if-balise_fact-8.false);
   modelled = subst (AllPass is_modelled) c.packets.ensures (c.are_modelled.ensures yes);
   paired =
       let next = slice_get c.args.group.now (c.args.place + 1) in
