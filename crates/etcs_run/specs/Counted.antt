@@ -1,5 +1,5 @@
--- A reader or writer whose failed calls are counted: what it shows, and what each call does to its
--- count and to its budget. A read counts as failed if the budget does not suffice for it. A write
+-- A reader or writer whose failed calls and flushes are counted: what it shows, and what each call does
+-- to its counts and to its budget. A read counts as failed if the budget does not suffice for it. A write
 -- counts as failed if it takes none of what it was handed.
 use Rattle.std.specs.Prelude.{◌≡◌, ◌<◌, ◌+◌, ◌-◌, ◌^◌, ℕ, Bool, min, Result, MatchResult}
 use Rattle.etcs_run.specs.declared.counted.Counted.{Counted}
@@ -11,6 +11,10 @@ failures_of counted = counted.failures
 -- what is left of the budget, in bytes of room that reads may offer
 abbrev pub budget_of : {T : Type 0} → Counted T → ℕ
 budget_of counted = counted.budget
+
+-- how many flushes were answered as done
+abbrev pub flushes_of : {T : Type 0} → Counted T → ℕ
+flushes_of counted = counted.flushes
 
 -- whether everything written has been flushed
 abbrev pub is_flushed : {T : Type 0} → Counted T → Bool
@@ -36,3 +40,12 @@ CountsOne old new = failures_of new ≡ failures_of old + 1
 abbrev pub CountsFailure : {X E : Type 0} → ℕ → ℕ → Result X E → Type 0
 CountsFailure old new result =
     MatchResult result (λ _. new ≡ old) (λ _. new ≡ min (old + 1) (2 ^ 64 - 1))
+
+-- a flush that is done adds one, up to the type's greatest value, and a failed one adds none
+abbrev pub CountsFlush : {X E : Type 0} → ℕ → ℕ → Result X E → Type 0
+CountsFlush old new result =
+    MatchResult result (λ _. new ≡ min (old + 1) (2 ^ 64 - 1)) (λ _. new ≡ old)
+
+-- nothing has been flushed in between
+abbrev pub FlushesNone : {T : Type 0} → Counted T → Counted T → Type 0
+FlushesNone old new = flushes_of new ≡ flushes_of old

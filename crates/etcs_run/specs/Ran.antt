@@ -6,7 +6,7 @@
 -- are the output of that input.
 use Rattle.std.specs.Prelude.{◌≡◌, ◌≤◌, ◌+◌, ◌++◌, ◌⊎◌, ℕ, Bool, true, List, [], ◌∷◌, take, length, Option, Result, Ok, Err, IfSome, OnOk}
 use Rattle.std.specs.Io.KnownBytes.{Appends, Consumes, IsAtEnd}
-use Rattle.etcs_run.specs.Counted.{CountsNone, CountsOne, inner_of, is_flushed}
+use Rattle.etcs_run.specs.Counted.{CountsFlush, CountsNone, CountsOne, flushes_of, inner_of, is_flushed}
 use Rattle.etcs_run.specs.Output.{Output, prepend}
 use Rattle.etcs_run.specs.declared.counted.Counted.{Counted}
 use Rattle.etcs_run.specs.declared.error.RunError.{RunError}
@@ -58,9 +58,10 @@ Answers remaining contents reader writer_old writer_new output result =
     IfSome (remaining (inner_of reader)) (λ input.
     Writes (contents (inner_of writer_old)) (contents (inner_of writer_new)) (output input) result)
 
--- a status is returned only once everything written is flushed
-abbrev pub EndsFlushed : {X W : Type 0} → Result X RunError → Counted W → Type 0
-EndsFlushed result writer = OnOk result (is_flushed writer ≡ true)
+-- a status is returned only once everything written is flushed, by the only flush that is done
+abbrev pub EndsFlushed : {X W : Type 0} → Result X RunError → Counted W → Counted W → Type 0
+EndsFlushed result old new =
+    OnOk result (is_flushed new ≡ true) × CountsFlush (flushes_of old) (flushes_of new) result
 
 -- a device that failed is counted once, at the reader or at the writer, and nothing else is counted
 abbrev pub CountsOneDevice : {R W X : Type 0} → Result X RunError → Counted R → Counted R

@@ -1,7 +1,7 @@
 //! How a command answers a whole input.
 
 ghost use Rattle.std.specs.Prelude.{◌≡◌, [], false};
-ghost use Rattle.etcs_run.specs.Counted.{CanCount};
+ghost use Rattle.etcs_run.specs.Counted.{CanCount, FlushesNone};
 ghost use Rattle.etcs_run.specs.LineReading.{has_ended, held_of};
 ghost use Rattle.etcs_run.specs.Output.{line_by_line};
 ghost use Rattle.etcs_run.specs.Ran.{CountsOneDevice, EndsFlushed, Runs};
@@ -31,6 +31,7 @@ fn answer_lines<C: LineCommand, R: Read, W: Write>(
     ensures ran { Runs R.remaining W.contents reader.old reader.new writer.old writer.new
         (line_by_line (C.answers command.old)) result }
     ensures counts { CountsOneDevice result reader.old reader.new writer.old writer.new }
+    ensures unflushed { FlushesNone writer.old writer.new }
 {
     // For the proof alone: the budget has a range, which bounds the number of lines.
     let _ = reader.budget();
@@ -62,7 +63,7 @@ pub fn answer_input<C: LineCommand, R: Read, W: Write>(
     requires writes { CanCount writer.old }
     ensures ran { Runs R.remaining W.contents reader.old reader.new writer.old writer.new
         (line_by_line (C.answers command)) result }
-    ensures flushed { EndsFlushed result writer.new }
+    ensures flushed { EndsFlushed result writer.old writer.new }
     ensures counts { CountsOneDevice result reader.old reader.new writer.old writer.new }
 {
     let mut command = command;

@@ -79,7 +79,7 @@ pub fn check_input<R: Read, W: Write>(
     requires writes { CanCount writer.old }
     ensures ran { Runs R.remaining W.contents reader.old reader.new writer.old writer.new
         check_output result }
-    ensures flushed { EndsFlushed result writer.new }
+    ensures flushed { EndsFlushed result writer.old writer.new }
     ensures counts { CountsOneDevice result reader.old reader.new writer.old writer.new }
 
     // The writer is called only once the end of the input was met.

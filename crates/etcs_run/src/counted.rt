@@ -1,10 +1,10 @@
-//! `Counted`: a reader or writer whose failed calls are counted.
+//! `Counted`: a reader or writer whose failed calls and flushes are counted.
 
 ghost use Rattle.std.specs.Prelude.{◌≡◌, ◌<◌, ◌≤◌, ◌+◌, ◌-◌, ◌^◌, false, length, max, IfOk, IsErr, is_ok};
 ghost use Rattle.std.specs.Io.{ReadsAtMost, WritesAtMost};
 ghost use Rattle.std.specs.Io.KnownBytes.{Keeps, ReadConsumes, WriteAppends};
-ghost use Rattle.etcs_run.specs.Counted.{CountsFailure, budget_of};
-ghost use Rattle.etcs_run.specs.Counted.{failures_of, inner_of, is_flushed};
+ghost use Rattle.etcs_run.specs.Counted.{CountsFailure, CountsFlush, budget_of};
+ghost use Rattle.etcs_run.specs.Counted.{failures_of, flushes_of, inner_of, is_flushed};
 
 use std::io::{Error, ErrorKind, Read, Result, Write};
 
@@ -14,14 +14,17 @@ use std::io::{Error, ErrorKind, Read, Result, Write};
 /// of its buffer, or by 1 if the buffer is empty. A read fails if the budget does not suffice for
 /// it. So a loop that reads as long as bytes come ends on every reader.
 ///
-/// A writer also records whether everything written through it has been flushed.
+/// A writer also counts the flushes that were done, and records whether everything written through it
+/// has been flushed.
 ///
-/// After an error no byte was given or taken, and the count has risen by 1, up to 2^64 - 1.
+/// After an error no byte was given or taken, and the count of failures has risen by 1. Each count stops
+/// at 2^64 - 1.
 #[derive(Drop)]
 pub struct Counted<T> {
     inner: T,
     failures: u64,
     budget: u64,
+    flushes: u64,
     is_flushed: bool,
 }
 
@@ -33,12 +36,14 @@ impl<T> Counted<T> {
         ensures inner { inner_of result ≡ inner }
         ensures failures { failures_of result ≡ 0 }
         ensures budget { budget_of result ≡ 2 ^ 64 - 1 }
+        ensures flushes { flushes_of result ≡ 0 }
         ensures flushed { is_flushed result ≡ false }
     {
         Counted {
             inner,
             failures: 0,
             budget: u64::MAX,
+            flushes: 0,
             is_flushed: false,
         }
     }
@@ -88,6 +93,7 @@ impl<R: Read> Read for Counted<R> {
             → IsErr result × (inner_of self.new ≡ inner_of self.old)
             × (budget_of self.new ≡ budget_of self.old) }
         ensures same_flushed { is_flushed self.new ≡ is_flushed self.old }
+        ensures same_flushes { flushes_of self.new ≡ flushes_of self.old }
     {
         let cost = (buf.len() as u64).max(1);
         if self.budget < cost {
@@ -116,6 +122,7 @@ impl<W: Write> Write for Counted<W> {
         ensures counts { CountsFailure (failures_of self.old) (failures_of self.new) result }
         ensures takes { IfOk result (λ n. 0 < length buf.now → 0 < n) }
         ensures unflushed { is_flushed self.new ≡ false }
+        ensures same_flushes { flushes_of self.new ≡ flushes_of self.old }
         ensures same_budget { budget_of self.new ≡ budget_of self.old }
     {
         self.is_flushed = false;
@@ -139,11 +146,14 @@ impl<W: Write> Write for Counted<W> {
         ensures bytes { Keeps (W.contents (inner_of self.old)) (W.contents (inner_of self.new)) }
         ensures counts { CountsFailure (failures_of self.old) (failures_of self.new) result }
         ensures flushed { is_flushed self.new ≡ is_ok result }
+        ensures flushes { CountsFlush (flushes_of self.old) (flushes_of self.new) result }
         ensures same_budget { budget_of self.new ≡ budget_of self.old }
     {
         let result = self.inner.flush();
         self.is_flushed = result.is_ok();
-        if result.is_err() {
+        if self.is_flushed {
+            self.flushes = self.flushes.saturating_add(1);
+        } else {
             self.failures = self.failures.saturating_add(1);
         }
         result

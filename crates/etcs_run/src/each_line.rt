@@ -2,7 +2,7 @@
 
 ghost use Rattle.std.specs.Prelude.{◌≡◌, [], Err, IfOk, string_bytes};
 ghost use Rattle.etcs_form.specs.Refusal.{IsLineTold, line_words};
-ghost use Rattle.etcs_run.specs.Counted.{CanCount, inner_of};
+ghost use Rattle.etcs_run.specs.Counted.{CanCount, FlushesNone, inner_of};
 ghost use Rattle.etcs_run.specs.LineMeaning.{refusal_of};
 ghost use Rattle.etcs_run.specs.LineReading.{CountsDevice};
 ghost use Rattle.etcs_run.specs.TextLines.{trimmed};
@@ -55,6 +55,7 @@ pub(crate) fn refuse_line<W: Write>(
     ensures turns { Turns (W.contents (inner_of writer.old)) (W.contents (inner_of writer.new))
         (answered number (Err (line_words why))) result }
     ensures counts { CountsDevice result writer.old writer.new }
+    ensures unflushed { FlushesNone writer.old writer.new }
 {
     match refusal(alloc, number, why) {
         Ok(text) => {
@@ -78,6 +79,7 @@ fn answer_line<M: LineMeaning, W: Write>(
     ensures turns { Turns (W.contents (inner_of writer.old)) (W.contents (inner_of writer.new))
         (answered number (M.meaning line.now)) result }
     ensures counts { CountsDevice result writer.old writer.new }
+    ensures unflushed { FlushesNone writer.old writer.new }
 {
     let mut earlier = mem::replace(room, Vec::new(alloc));
     earlier.clear();
@@ -105,6 +107,7 @@ fn take_turn<M: LineMeaning, W: Write>(
     ensures turns { Turns (W.contents (inner_of writer.old)) (W.contents (inner_of writer.new))
         (after_line M.meaning number (trimmed line.now)) result }
     ensures counts { CountsDevice result writer.old writer.new }
+    ensures unflushed { FlushesNone writer.old writer.new }
     ensures empty { trimmed line.now ≡ [] → (result ≡ Ok Turn.Next) × (writer.new ≡ writer.old) }
 {
     let line = trim(line);
@@ -158,6 +161,7 @@ impl<M: LineMeaning> LineCommand for EachLine<M> {
         ensures turns { TakesTurn (W.contents (inner_of writer.old)) (W.contents (inner_of writer.new))
             (answers M.meaning) (answers M.meaning) number line.now result }
         ensures counts { CountsDevice result writer.old writer.new }
+        ensures unflushed { FlushesNone writer.old writer.new }
         ensures empty { trimmed line.now ≡ [] → (result ≡ Ok Turn.Next) × (writer.new ≡ writer.old) }
     {
         let EachLine { meaning, room } = self;

@@ -1,7 +1,7 @@
 //! `LineCommand`: what a command does with an input, line by line.
 
 ghost use Rattle.std.specs.Prelude.{◌≡◌, ℕ, ◌+◌, ◌<◌, ◌≤◌, ◌^◌, List, [], length, OnOk};
-ghost use Rattle.etcs_run.specs.Counted.{CanCount, inner_of};
+ghost use Rattle.etcs_run.specs.Counted.{CanCount, FlushesNone, inner_of};
 ghost use Rattle.etcs_run.specs.LineReading.{CountsDevice};
 ghost use Rattle.etcs_run.specs.Output.{Output};
 ghost use Rattle.etcs_run.specs.Ran.{TakesTurn, Writes};
@@ -39,7 +39,8 @@ pub trait LineCommand: Drop {
         ensures turns { TakesTurn (W.contents (inner_of writer.old)) (W.contents (inner_of writer.new))
             (answers self.old) (answers self.new) number line.now result }
         ensures pays { OnOk result (counted self.new ≤ counted self.old + length line.now) }
-        ensures counts { CountsDevice result writer.old writer.new };
+        ensures counts { CountsDevice result writer.old writer.new }
+        ensures unflushed { FlushesNone writer.old writer.new };
 
     /// Writes the answer to the end of the input. An answer without a text leaves the writer as it was,
     /// and never fails.
@@ -52,6 +53,7 @@ pub trait LineCommand: Drop {
         ensures writes { (number : ℕ) → Writes (W.contents (inner_of writer.old))
             (W.contents (inner_of writer.new)) (answers self.old number []) result }
         ensures counts { CountsDevice result writer.old writer.new }
+        ensures unflushed { FlushesNone writer.old writer.new }
 
         // An answer without a text asks for nothing.
         ensures silent { (number : ℕ) → (answers self.old number []).0 ≡ []

@@ -2,7 +2,7 @@
 
 ghost use Rattle.std.specs.Prelude.{◌≡◌, IfErr};
 ghost use Rattle.std.specs.Io.KnownBytes.{Keeps};
-ghost use Rattle.etcs_run.specs.Counted.{CanCount, inner_of};
+ghost use Rattle.etcs_run.specs.Counted.{CanCount, FlushesNone, inner_of};
 ghost use Rattle.etcs_run.specs.LineReading.{CountsDevice};
 ghost use Rattle.etcs_run.specs.Ran.{EndsFlushed, Writes, WritesBytes};
 
@@ -21,6 +21,7 @@ pub fn put<W: Write>(writer: &mut Counted<W>, text: &[u8]) -> Result<(), RunErro
     ensures written { WritesBytes (W.contents (inner_of writer.old)) (W.contents (inner_of writer.new))
         text.now result }
     ensures counts { CountsDevice result writer.old writer.new }
+    ensures unflushed { FlushesNone writer.old writer.new }
     ensures device { IfErr result (λ e. e ≡ RunError.Device) }
 {
     let mut count = 0;
@@ -40,7 +41,7 @@ pub fn put<W: Write>(writer: &mut Counted<W>, text: &[u8]) -> Result<(), RunErro
 pub fn finish<W: Write>(writer: &mut Counted<W>) -> Result<(), RunError>
     requires { CanCount writer.old }
     ensures kept { Keeps (W.contents (inner_of writer.old)) (W.contents (inner_of writer.new)) }
-    ensures flushed { EndsFlushed result writer.new }
+    ensures flushed { EndsFlushed result writer.old writer.new }
     ensures counts { CountsDevice result writer.old writer.new }
     ensures device { IfErr result (λ e. e ≡ RunError.Device) }
 {
@@ -62,7 +63,7 @@ pub fn write_out<W: Write>(
     requires { CanCount writer.old }
     ensures writes { Writes (W.contents (inner_of writer.old)) (W.contents (inner_of writer.new))
         (text.now, status) result }
-    ensures flushed { EndsFlushed result writer.new }
+    ensures flushed { EndsFlushed result writer.old writer.new }
     ensures counts { CountsDevice result writer.old writer.new }
     ensures device { IfErr result (λ e. e ≡ RunError.Device) }
 {

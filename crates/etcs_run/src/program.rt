@@ -30,7 +30,7 @@ fn refuse_words<W: Write>(writer: &mut Counted<W>) -> Result<Status, RunError>
     requires { CanCount writer.old }
     ensures writes { Writes (W.contents (inner_of writer.old)) (W.contents (inner_of writer.new))
         (usage_line, Status.Refused) result }
-    ensures flushed { EndsFlushed result writer.new }
+    ensures flushed { EndsFlushed result writer.old writer.new }
     ensures counts { CountsDevice result writer.old writer.new }
     ensures device { IfErr result (λ e. e ≡ RunError.Device) }
 {
@@ -50,7 +50,7 @@ fn answer_each<M: LineMeaning, R: Read, W: Write>(
     requires writes { CanCount writer.old }
     ensures ran { Runs R.remaining W.contents reader.old reader.new writer.old writer.new
         (each_line M.meaning) result }
-    ensures flushed { EndsFlushed result writer.new }
+    ensures flushed { EndsFlushed result writer.old writer.new }
     ensures counts { CountsOneDevice result reader.old reader.new writer.old writer.new }
 {
     answer_input(alloc, EachLine::new(alloc, meaning), reader, writer)
@@ -68,7 +68,7 @@ fn obey<R: Read, W: Write>(
     ensures ran { Runs R.remaining W.contents reader.old reader.new writer.old writer.new
         (of_command command) result }
     ensures unread { command ≡ None → reader.new ≡ reader.old }
-    ensures flushed { EndsFlushed result writer.new }
+    ensures flushed { EndsFlushed result writer.old writer.new }
     ensures counts { CountsOneDevice result reader.old reader.new writer.old writer.new }
 {
     match command {
@@ -90,8 +90,8 @@ fn obey<R: Read, W: Write>(
 ///
 /// On a known input, the text written and the status are the output of that input. They depend only
 /// on what was read, so they are the output of every input that begins with it. The end of the
-/// input, once met, counts as read. With a status, the last call of the writer was a flush that
-/// succeeded.
+/// input, once met, counts as read. With a status, the writer was flushed once, and that was its last
+/// call. Else no flush was done.
 ///
 /// `Memory`: a request for memory was refused, and no count has risen. `Device`: a read, a write or a
 /// flush failed, the count of that reader or writer has risen by 1, and the other has not. In both
@@ -115,7 +115,7 @@ pub fn run<'a, R: Read, W: Write>(
     ensures ran { Runs R.remaining W.contents reader.old reader.new writer.old writer.new
         (output_of (map (λ w. w.now) words.entry.now)) result }
     ensures unread { command_of (map (λ w. w.now) words.entry.now) ≡ None → reader.new ≡ reader.old }
-    ensures flushed { EndsFlushed result writer.new }
+    ensures flushed { EndsFlushed result writer.old writer.new }
 
     // Only a device that failed is counted, and `Device` is never answered for anything else.
     ensures counts { CountsOneDevice result reader.old reader.new writer.old writer.new }

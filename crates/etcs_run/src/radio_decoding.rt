@@ -4,7 +4,7 @@ ghost use Rattle.std.specs.Prelude.{◌≡◌, ◌+◌, ◌<◌, ◌≤◌, ◌^
 ghost use Rattle.etcs_bits.specs.layout.Results.{Means};
 ghost use Rattle.etcs_radio.specs.Meaning.{message_of};
 ghost use Rattle.etcs_radio.specs.Splitter.{state_of};
-ghost use Rattle.etcs_run.specs.Counted.{CanCount, inner_of};
+ghost use Rattle.etcs_run.specs.Counted.{CanCount, FlushesNone, inner_of};
 ghost use Rattle.etcs_run.specs.LineReading.{CountsDevice};
 ghost use Rattle.etcs_run.specs.RadioHeld.{Feeds, bytes_behind, kept_by, number_of};
 ghost use Rattle.etcs_run.specs.RadioStream.{fed, line_for, refused_message, told};
@@ -38,6 +38,7 @@ fn refuse<W: Write>(
     ensures writes { Writes (W.contents (inner_of writer.old)) (W.contents (inner_of writer.new))
         (refused_message number why) result }
     ensures counts { CountsDevice result writer.old writer.new }
+    ensures unflushed { FlushesNone writer.old writer.new }
 {
     match refusal_text(alloc, &Refusal::Message(number, why)) {
         Ok(text) => {
@@ -73,6 +74,7 @@ fn write_message<W: Write>(
     ensures turns { Turns (W.contents (inner_of writer.old)) (W.contents (inner_of writer.new))
         (told number (line_for (message_of bytes.now))) result }
     ensures counts { CountsDevice result writer.old writer.new }
+    ensures unflushed { FlushesNone writer.old writer.new }
 {
     let mut earlier = mem::replace(room, Vec::new(alloc));
     earlier.clear();
@@ -131,6 +133,7 @@ impl RadioDecoding {
         ensures cleared { result ≡ Ok Turn.Next → kept_by self.new ≡ [] }
         ensures pays { OnOk result (bytes_behind self.new ≤ bytes_behind self.old) }
         ensures counts { CountsDevice result writer.old writer.new }
+        ensures unflushed { FlushesNone writer.old writer.new }
     {
         let bytes = self.splitter.message();
         match write_message(alloc, self.number, bytes, &mut self.room, writer)? {
@@ -157,6 +160,7 @@ impl RadioDecoding {
             (kept_by self.new) result }
         ensures pays { OnOk result (bytes_behind self.new ≤ bytes_behind self.old + length bytes.now) }
         ensures counts { CountsDevice result writer.old writer.new }
+        ensures unflushed { FlushesNone writer.old writer.new }
     {
         let mut at = 0;
         'messages: loop {

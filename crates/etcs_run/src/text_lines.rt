@@ -39,7 +39,8 @@ impl TextLines {
     /// The lines of an input of which nothing is read yet. The only error is that memory runs out; then
     /// nothing is returned.
     pub fn new(alloc: Global) -> Result<TextLines, AllocError>
-        ensures { IfOk result (λ l. (held_of l ≡ []) × (has_ended l ≡ false)) }
+        ensures fresh { IfOk result (λ l. (held_of l ≡ []) × (has_ended l ≡ false)) }
+        ensures line { IfOk result (λ l. line_of l ≡ []) }
     {
         Ok(TextLines {
             block: vec![in alloc; 0; ROOM]?,

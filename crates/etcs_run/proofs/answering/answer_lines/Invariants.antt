@@ -1,5 +1,5 @@
 use Rattle.std.proofs.Common.{◌≡◌, ◌+◌, ◌<◌, ◌^◌, length}
-use Rattle.etcs_run.specs.Counted.{budget_of, failures_of, inner_of}
+use Rattle.etcs_run.specs.Counted.{budget_of, failures_of, flushes_of, inner_of}
 use Rattle.etcs_run.specs.LineReading.{IsEndMet, has_ended, held_of}
 use Rattle.etcs_run.specs.Output.{line_by_line}
 use Rattle.etcs_run.proofs.RunLemmas.{Running, left_of}
@@ -13,6 +13,7 @@ invariant-lines g l = record {
       (line_by_line (g.C.LineCommand.answers l.fn.command)) (left_of (g.C.LineCommand.answers l.command) l.number (held_of l.lines));
   reads : failures_of l.reader ≡ failures_of l.fn.reader;
   writes : failures_of l.writer ≡ failures_of l.fn.writer;
+  unflushed : flushes_of l.writer ≡ flushes_of l.fn.writer;
   met : IsEndMet g.R.Read.remaining (has_ended l.lines) l.reader;
   room : l.number + (length (held_of l.lines) + budget_of l.reader) < 2 ^ 64;
   paid : g.C.LineCommand.counted l.command + (length (held_of l.lines) + budget_of l.reader) < 2 ^ 64;

@@ -7,4 +7,5 @@ writing-preserved g c = record {
   within = search rules;
   appended = Appends-more _ _ _ _ _ _ c.writing.invariant.appended c.in-Ok.ensures.bytes;
   counts = search rules;
+  unflushed = search rules;
 }

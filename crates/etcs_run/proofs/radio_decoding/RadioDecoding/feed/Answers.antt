@@ -98,5 +98,6 @@ messages-preserved g c =
       feeding = rw (next, cleared) (Feeding-told c.messages.invariant.feeding later after (left_ready call n ready) turn);
       within = omega (arith, c.messages.invariant.within, takes_few call);
       writes = search rules;
+      unflushed = search rules;
       paid = omega (arith, c.messages.invariant.paid, c.messages.invariant.within, takes_few call, takes_so_many call, takes_three call ready, next, ap length cleared);
     }

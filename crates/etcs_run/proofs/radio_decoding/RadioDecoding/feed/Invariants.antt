@@ -1,5 +1,5 @@
 use Rattle.std.proofs.Common.{◌≡◌, ◌+◌, ◌-◌, ◌≤◌, length, drop}
-use Rattle.etcs_run.specs.Counted.{failures_of, inner_of}
+use Rattle.etcs_run.specs.Counted.{failures_of, flushes_of, inner_of}
 use Rattle.etcs_run.specs.RadioHeld.{bytes_behind, kept_by, number_of}
 use Rattle.etcs_run.specs.RadioStream.{fed}
 use Rattle.etcs_run.proofs.RadioLemmas.{Feeding}
@@ -12,6 +12,7 @@ invariant-messages g l = record {
       (fed (number_of l.self) (kept_by l.self) (drop l.at l.bytes));
   within : l.at ≤ length l.bytes;
   writes : failures_of l.writer ≡ failures_of l.fn.writer;
+  unflushed : flushes_of l.writer ≡ flushes_of l.fn.writer;
   paid : bytes_behind l.self + (length l.bytes - l.at) ≤ bytes_behind l.fn.self + length l.bytes;
 }
 
