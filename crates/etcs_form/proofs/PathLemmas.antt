@@ -1,4 +1,4 @@
--- The words of a path that is one step longer.
+-- The words of a path, step by step.
 use Rattle.std.proofs.Common.{◌≡◌, ◌∙◌, ℕ, List, [], ◌∷◌, ◌++◌, ◌+◌, ◌<◌, length, map, take, get_or, ap, sym, append_assoc}
 use Rattle.std.proofs.lemmas.List.{append-nil, take_more}
 use Rattle.etcs_form.specs.Fault.{step_of}
@@ -11,7 +11,6 @@ steps_push (s ∷ path) step =
     ap (λ words. step_words (step_of s) ++ words) (steps_push path step) ∙ sym (append_assoc (step_words (step_of s)) (steps_words (map step_of path)) (step_words (step_of step)))
 
 -- one step more
-pub steps_more : (path : List Step) (i : ℕ) (d : Step) (old new : List ℕ) → i < length path → old ≡ steps_words (map step_of (take i path))
-    → new ≡ old ++ step_words (step_of (get_or path i d)) → new ≡ steps_words (map step_of (take (i + 1) path))
-steps_more path i d old new lt words added =
-    added ∙ ap (λ front. front ++ step_words (step_of (get_or path i d))) words ∙ sym (rw (take_more path i d lt) (steps_push (take i path) (get_or path i d)))
+pub steps_more : (path : List Step) (i : ℕ) (d : Step) → i < length path
+    → steps_words (map step_of (take i path)) ++ step_words (step_of (get_or path i d)) ≡ steps_words (map step_of (take (i + 1) path))
+steps_more path i d lt = sym (rw (take_more path i d lt) (steps_push (take i path) (get_or path i d)))

@@ -1,10 +1,12 @@
 //! Why a JSON value is the form of no record, and where in the value.
 
-ghost use Rattle.std.specs.Prelude.{◌≡◌, ◌∷◌, IfOk};
+ghost use Rattle.std.specs.Prelude.{◌≡◌, ◌∷◌, Some, IfOk, map};
 ghost use Rattle.etcs_form.specs.Fault.{IsDeeper, IsFault, Kind, Missing, OfMemory, Range, Unknown, at_once, here, key, step_of};
 
 use etcs_bits::Memory;
 use std::alloc::Global;
+use std::fmt;
+use thiserror::Error;
 
 /// One step of the way from a JSON value to a value inside it.
 #[derive(Clone, Copy, Debug, PartialEq, Eq)]
@@ -17,21 +19,59 @@ pub enum Step {
 
 /// Why a JSON value is not the form of a record: its first fault. Each fault has the way to it, from
 /// the whole value inwards. The way of `Missing` ends with the key that is missing.
-#[derive(Debug, Drop)]
+#[derive(Debug, Drop, Error)]
 pub enum FormError {
     /// Memory ran out. A fault may then go unseen.
+    #[error("out of memory")]
     Memory,
     /// The object lacks a key.
+    #[error("form missing key at {path}", path = Path(.0.as_slice()))]
     Missing(Vec<Step>),
     /// The object has a key that its form does not have.
+    #[error("form unknown key at {path}", path = Path(.0.as_slice()))]
     Unknown(Vec<Step>),
     /// The value is of another kind than the one that is wanted, such as a text for a number. A
     /// number with a sign, a point or an exponent, and a number above 2^64 - 1, is of another kind
     /// than a variable.
+    #[error("form kind at {path}", path = Path(.0.as_slice()))]
     Kind(Vec<Step>),
     /// The value is of the right kind, but it is not allowed. It may be a number that its variable
     /// does not have, or a list with too many items.
+    #[error("form range at {path}", path = Path(.0.as_slice()))]
     Range(Vec<Step>),
+}
+
+impl fmt::Display for Step {
+    ghost use Rattle.etcs_form.specs.Refusal.{step_words};
+
+    ghost output = { λ step. Some (step_words (step_of step)) };
+
+    fn fmt<W: fmt::Write>(&self, f: &mut fmt::Formatter<W>) -> fmt::Result {
+        match self {
+            Step::Key(name) => write!(f, "/{name}"),
+            Step::Place(place) => write!(f, "/{place}"),
+        }
+    }
+}
+
+/// The way to a value, printed as `/packets/0`. A slash alone is the whole value.
+#[derive(Clone, Copy)]
+pub(crate) struct Path<'a>(pub(crate) &'a [Step]);
+
+impl fmt::Display for Path<'_> {
+    ghost use Rattle.etcs_form.specs.Refusal.{path_words};
+
+    ghost output = { λ path. Some (path_words (map step_of path.0.now)) };
+
+    fn fmt<W: fmt::Write>(&self, f: &mut fmt::Formatter<W>) -> fmt::Result {
+        if self.0.is_empty() {
+            return write!(f, "/");
+        }
+        'steps: for step in self.0 {
+            write!(f, "{step}")?;
+        }
+        Ok(())
+    }
 }
 
 impl From<Memory> for FormError {

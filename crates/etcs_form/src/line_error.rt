@@ -10,29 +10,38 @@ use etcs_bits::Memory;
 use etcs_radio::RadioTextError;
 use etcs_telegram::TextError;
 use std::alloc::Global;
+use thiserror::Error;
 
 /// Why bytes are not the document of a railway line: their first fault, depth first. Groups,
 /// aspects, balises and messages count from 0.
-#[derive(Debug, Drop)]
+#[derive(Debug, Drop, Error)]
 pub enum LineError {
     /// Memory ran out. A fault may then go unseen. It stands inside no other error.
+    #[error("out of memory")]
     Memory,
     /// The bytes are not UTF-8, are no JSON, hold more than one value, or nest more than 127 levels.
+    #[error("not JSON")]
     NotJson,
     /// The value does not have the form of a line.
+    #[error("{0}")]
     Form(FormError),
     /// The group with this number has no balise, or more than eight (SUBSET-026, 3.4.1).
+    #[error("group {0}: count")]
     Count(usize),
     /// In the group with the first number, the balise with the second has a text that is no
     /// telegram.
+    #[error("group {0} balise {1}: {2}")]
     Telegram(usize, usize, TextError),
     /// The text of the message with this number is no radio message.
+    #[error("message {0}: {1}")]
     Message(usize, RadioTextError),
     /// The group with this number has an empty list of aspects, or an aspect whose count of balises
     /// differs from that of aspect 0.
+    #[error("group {0}: aspects")]
     Aspects(usize),
     /// In the group with the first number, in the aspect with the second, the balise with the third
     /// has a text that is no telegram.
+    #[error("group {0} aspect {1} balise {2}: {3}")]
     AspectTelegram(usize, usize, usize, TextError),
 }
 

@@ -1,10 +1,9 @@
 //! `Refusal`: why an input is refused, and the line that tells it.
 
-ghost use Rattle.std.specs.Prelude.{◌≡◌, ◌++◌, map, string_bytes, IfOk, OnOk};
-ghost use Rattle.etcs_form.specs.Fault.{step_of};
-ghost use Rattle.etcs_form.specs.Refusal.{IsDocumentTold, IsFormTold, IsLineTold, IsRadioTextTold, IsTextTold, IsTold, document_words, form_fault, form_words, line_words, path_words, radio_words, refusal_words, step_words, steps_words, stream_words, text_words};
+ghost use Rattle.std.specs.Prelude.{◌≡◌, string_bytes, IfOk};
+ghost use Rattle.etcs_form.specs.Refusal.{IsDocumentTold, IsFormTold, IsLineTold, IsRadioTextTold, IsTextTold, IsTold, document_words, form_fault, form_words, line_words, radio_words, refusal_words, stream_words, text_words};
 
-use crate::error::{FormError, Step};
+use crate::error::{FormError, Path, Step};
 use crate::line_error::LineError;
 use etcs_bits::{Fault, Memory};
 use etcs_radio::RadioTextError;
@@ -74,44 +73,11 @@ fn radio_reason(alloc: Global, why: &RadioTextError) -> Result<String, AllocErro
     }
 }
 
-// Appends one step of a path.
-fn push_step(alloc: Global, text: &mut String, step: &Step) -> Result<(), AllocError>
-    ensures { OnOk result (string_bytes text.new
-        ≡ string_bytes text.old ++ step_words (step_of step.now)) }
-{
-    let words = match step {
-        Step::Key(name) => format!(in alloc; "/{name}")?,
-        Step::Place(place) => format!(in alloc; "/{place}")?,
-    };
-    text.push_str(words.as_str())
-}
-
-// The steps of a path, one after the other.
-fn steps_text(alloc: Global, path: &[Step]) -> Result<String, AllocError>
-    ensures { IfOk result (λ s. string_bytes s ≡ steps_words (map step_of path.now)) }
-{
-    let mut text = String::new(alloc);
-    'steps: for step in path {
-        push_step(alloc, &mut text, step)?;
-    }
-    Ok(text)
-}
-
-// The path to a value.
-fn path_text(alloc: Global, path: &[Step]) -> Result<String, AllocError>
-    ensures { IfOk result (λ s. string_bytes s ≡ path_words (map step_of path.now)) }
-{
-    if path.is_empty() {
-        return format!(in alloc; "/");
-    }
-    steps_text(alloc, path)
-}
-
 // What is wrong with a form, and where.
 fn form_text(alloc: Global, reason: &str, path: &[Step]) -> Result<String, AllocError>
     ensures { IfOk result (λ s. string_bytes s ≡ form_fault reason.now path.now) }
 {
-    let path = path_text(alloc, path)?;
+    let path = Path(path);
     format!(in alloc; "form {reason} at {path}")
 }
 

@@ -25,6 +25,8 @@ mod refused_memory;
 #[cfg(test)]
 mod shared;
 #[cfg(test)]
+mod texts;
+#[cfg(test)]
 mod token_messages;
 #[cfg(test)]
 mod tokens;
