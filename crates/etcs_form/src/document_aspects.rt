@@ -65,7 +65,8 @@ fn read_telegram(
     }
 }
 
-// Reads balises, one after the other.
+// Reads balises, one after the other. All of them are kept, so their lists of packets give back the room
+// that they do not need.
 fn read_telegrams(
     alloc: Global,
     group: usize,
@@ -76,7 +77,8 @@ fn read_telegrams(
 {
     let mut telegrams = Vec::new(alloc);
     'balises: for (place, value) in values.iter().enumerate() {
-        let telegram = read_telegram(alloc, group, aspect, place, value)?;
+        let mut telegram = read_telegram(alloc, group, aspect, place, value)?;
+        telegram.packets.shrink_to_fit();
         if telegrams.push(telegram).is_err() {
             return Err(LineError::Memory);
         }
