@@ -9,6 +9,10 @@ use Rattle.etcs_form.proofs.ResultLemmas.{same_ok}
 use Rattle.etcs_form.specs.Document.{◌then◌, each_from, json_of, json_or, with_first}
 use Rattle.etcs_form.specs.DocumentFault.{DocumentFault, no_json}
 
+abbrev OnlyFalse : Bool → Type 0
+OnlyFalse true = ⊥
+OnlyFalse false = Unit {0}
+
 -- ---- bytes that are JSON
 
 pub is_json : (bytes : List ℕ) (d : Data) → IsUtf8 bytes → read_text bytes ≡ Some d → json_of bytes ≡ Ok d
@@ -22,6 +26,9 @@ no_value true value none = rw (none refl) refl
 pub is_no_json : (bytes : List ℕ) → (IsUtf8 bytes → read_text bytes ≡ None) → json_of bytes ≡ Err no_json
 unfolding json_of
 is_no_json bytes none = no_value (is_utf8 bytes) (read_text bytes) (λ utf8. none (IsUtf8-from_is_utf8 bytes utf8))
+
+pub not_readable : (bytes : List ℕ) → is_utf8 bytes ≡ false → IsUtf8 bytes → ⊥
+not_readable bytes unreadable utf8 = subst OnlyFalse (sym unreadable ∙ is_utf8-from_IsUtf8 bytes utf8) tt
 
 -- ---- values that are read one after the other
 
@@ -42,9 +49,5 @@ read_count read i [] xs is = ap length (same_ok xs [] (Ok []) is refl)
 read_count read i (d ∷ ds) xs is = as_many (read i d) (each_from read (i + 1) ds) (length ds) (read_count read (i + 1) ds) xs is
 
 -- a test that fails decides against what it tests
-abbrev OnlyFalse : Bool → Type 0
-OnlyFalse true = ⊥
-OnlyFalse false = Unit {0}
-
 pub is_not : {P : Type 0} (b : Bool) → IsTrue b ↔ P → b ≡ false → P → ⊥
 is_not b tests is p = subst OnlyFalse (sym is ∙ tests.1 p) tt

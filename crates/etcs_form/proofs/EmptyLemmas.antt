@@ -1,13 +1,14 @@
--- No bytes are no document.
-use Rattle.std.proofs.Common.{◌≡◌, ℕ, List, [], None, Some, Ok, Err, refl, ap, sym, ◌∙◌}
+-- No bytes are no document, and bytes that are not UTF-8 are none.
+use Rattle.std.proofs.Common.{◌≡◌, ℕ, false, List, [], None, Some, Ok, Err, refl, ap, sym, ◌∙◌}
+use Rattle.std.specs.Str.{is_utf8}
 use Rattle.std.proofs.lemmas.Option.{none-some}
 use Rattle.json.specs.Json.{value}
 use Rattle.json.specs.Lex.{lex, punctuate}
 use Rattle.serde_json.specs.Data.{Data}
 use Rattle.serde_json.specs.Read.{read as read_text}
-use Rattle.etcs_form.proofs.DocumentLemmas.{is_no_json}
+use Rattle.etcs_form.proofs.DocumentLemmas.{is_no_json, not_readable}
 use Rattle.etcs_form.proofs.ResultLemmas.{not_ok}
-use Rattle.etcs_form.specs.Document.{◌then◌, line_of, line_of_text}
+use Rattle.etcs_form.specs.Document.{◌then◌, json_of, line_of, line_of_text}
 use Rattle.etcs_form.specs.DocumentFault.{no_json}
 use Rattle.etcs_form.specs.Verdict.{Counted, counted_of_text}
 
@@ -21,9 +22,15 @@ nothing_read bytes none = ap read_text none ∙ read_none
 pub no_value_read : (bytes : List ℕ) (d : Data) → bytes ≡ [] → read_text bytes ≡ Some d → ⊥
 no_value_read bytes d none is = none-some d (sym (nothing_read bytes none) ∙ is)
 
-pub no_line : (bytes : List ℕ) → bytes ≡ [] → line_of_text bytes ≡ Err no_json
+no_line : (bytes : List ℕ) → json_of bytes ≡ Err no_json → line_of_text bytes ≡ Err no_json
 unfolding line_of_text
-no_line bytes none = ap (λ r. r then line_of) (is_no_json bytes (λ _. nothing_read bytes none))
+no_line bytes bad = ap (λ r. r then line_of) bad
+
+not_counted : (bytes : List ℕ) (c : Counted) → json_of bytes ≡ Err no_json → counted_of_text bytes ≡ Ok c → ⊥
+not_counted bytes c bad is = not_ok no_json c (counted_of_text bytes) (rw (no_line bytes bad) refl) is
 
 pub none_counted : (bytes : List ℕ) (c : Counted) → bytes ≡ [] → counted_of_text bytes ≡ Ok c → ⊥
-none_counted bytes c none is = not_ok no_json c (counted_of_text bytes) (rw (no_line bytes none) refl) is
+none_counted bytes c none is = not_counted bytes c (is_no_json bytes (λ _. nothing_read bytes none)) is
+
+pub unreadable_counted : (bytes : List ℕ) (c : Counted) → is_utf8 bytes ≡ false → counted_of_text bytes ≡ Ok c → ⊥
+unreadable_counted bytes c unreadable is = not_counted bytes c (is_no_json bytes (λ utf8. absurd (not_readable bytes unreadable utf8))) is

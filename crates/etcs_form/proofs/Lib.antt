@@ -27,6 +27,7 @@ pub mod ValueLemmas
 pub mod BaliseLemmas
 pub mod VerdictLemmas
 pub mod SoundLemmas
+pub mod YesLemmas
 pub mod ReportLemmas
 pub mod RangeLemmas
 pub mod TrackRanges

@@ -77,7 +77,7 @@ groups_controlled d groups is i aspects here =
     let one = each_at group_at 0 list.0 groups list.2 i aspects here in
     group_controlled (0 + i) one.0 aspects one.2
 
-line_controlled : (bytes : List ℕ) (groups : List (List (List Telegram))) (ms : List Message) → line_of_text bytes ≡ Ok (groups, ms) → AreControlled groups
+pub line_controlled : (bytes : List ℕ) (groups : List (List (List Telegram))) (ms : List Message) → line_of_text bytes ≡ Ok (groups, ms) → AreControlled groups
 line_controlled bytes groups ms is =
     let whole = line_read bytes (groups, ms) is in
     groups_controlled whole.0 groups (parts_read whole.0 groups ms whole.2).0

@@ -13,7 +13,7 @@ use Rattle.etcs_radio.specs.declared.message.Message.TheVariants as messages
 use Rattle.etcs_form.specs.AnyMessage.{message}
 use Rattle.etcs_form.specs.Shape.{object}
 use Rattle.etcs_form.specs.Telegrams.{telegram}
-use Rattle.etcs_form.specs.Verdict.{IsSoundText, counted_of_text}
+use Rattle.etcs_form.specs.Verdict.{IsSoundText, TextSaysYes, counted_of_text}
 
 -- ---- telegrams
 
@@ -60,3 +60,7 @@ MessagesHaveFormsOfTheirOwn = (m n : Message) → IsMessageInRange m → IsMessa
 -- Bytes are read as a line without a finding exactly where they are the document of a sound line.
 abbrev pub NoFindingMeansSoundText : Type 0
 NoFindingMeansSoundText = (bytes : List ℕ) → IsOkAnd (counted_of_text bytes) (λ checked. checked.1 ≡ []) ↔ IsSoundText bytes
+
+-- Bytes that are read as a line without a finding are a line of which all is true that a yes says.
+abbrev pub NoFindingSaysYes : Type 0
+NoFindingSaysYes = (bytes : List ℕ) → IsOkAnd (counted_of_text bytes) (λ checked. checked.1 ≡ []) → TextSaysYes bytes

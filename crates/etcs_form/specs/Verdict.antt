@@ -131,3 +131,7 @@ pub record SaysYes (bytes : List ℕ) (groups : List (List (List Telegram))) (me
       → AreReached (packets_of run (reading_of run missed group))
   pub mixtures : AreMixturesDecided groups
   pub messages_reached : (i : ℕ) (m : Message) → At messages i m → IsReachedMessage m
+
+-- The bytes are a line of which all of this is true.
+abbrev pub TextSaysYes : List ℕ → Type 0
+TextSaysYes bytes = IsOkAnd (line_of_text bytes) (λ line. SaysYes bytes line.0 line.1)

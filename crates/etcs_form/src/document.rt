@@ -1,6 +1,7 @@
 //! The document of a railway line, read.
 
-ghost use Rattle.std.specs.Prelude.{◌≡◌, []};
+ghost use Rattle.std.specs.Prelude.{◌≡◌, [], false};
+ghost use Rattle.std.specs.Str.{is_utf8};
 ghost use Rattle.serde_json.specs.View.{view};
 ghost use Rattle.etcs_form.specs.Document.{json_of, line_of, line_of_text};
 ghost use Rattle.etcs_form.specs.DocumentFault.{Gives};
@@ -18,8 +19,12 @@ use std::alloc::Global;
 fn read_json(alloc: Global, bytes: &[u8]) -> Result<Value, LineError>
     ensures gives { Gives (λ v. view v) result (json_of bytes.now) }
     ensures empty { bytes.now ≡ [] → result ≡ Err LineError.NotJson }
+    ensures unreadable { is_utf8 bytes.now ≡ false → result ≡ Err LineError.NotJson }
 {
-    match Value::from_slice(alloc, bytes) {
+    let Ok(text) = str::from_utf8(bytes) else {
+        return Err(LineError::NotJson);
+    };
+    match Value::from_str(alloc, text) {
         Ok(value) => Ok(value),
         Err(error) if error.is_memory() => Err(LineError::Memory),
         Err(_) => Err(LineError::NotJson),
@@ -46,14 +51,15 @@ fn read_document(alloc: Global, value: &Value) -> Result<Line, LineError>
 /// whole before the next, which is its form, the count of its balises and each of these, or its list
 /// of aspects, each whole before the next; and only then the messages. An aspect's count is compared
 /// with that of aspect 0 before its balises are looked at. The one error besides is that memory ran
-/// out, which is never the answer where there are no bytes: a fault may then go unseen. After an error
-/// nothing is returned of what was read.
+/// out, which is never the answer where there are no bytes, or where they are not UTF-8: a fault may then
+/// go unseen. After an error nothing is returned of what was read.
 #[tactic(auto, unfolding(crate::specs::Document::line_of_text))]
 pub fn read_line(alloc: Global, bytes: &[u8]) -> Result<Line, LineError>
     ensures exact { Gives (λ l. (l.groups.items, l.messages.items)) result (line_of_text bytes.now) }
 
-    // No memory is asked for.
+    // No memory is asked for where there is nothing, nor where it is not UTF-8.
     ensures empty { bytes.now ≡ [] → result ≡ Err LineError.NotJson }
+    ensures unreadable { is_utf8 bytes.now ≡ false → result ≡ Err LineError.NotJson }
 {
     let document = read_json(alloc, bytes)?;
     read_document(alloc, &document)

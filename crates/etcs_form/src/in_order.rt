@@ -1,12 +1,13 @@
 //! The document of a railway line, checked group by group as it is read.
 
-ghost use Rattle.std.specs.Prelude.{◌≡◌, ◌+◌, ◌++◌, [], List, Ok, Some, length, IfSome, IsTrue};
+ghost use Rattle.std.specs.Prelude.{◌≡◌, ◌+◌, ◌++◌, [], false, List, Ok, Some, length, IfOk, IfSome, IsTrue};
+ghost use Rattle.std.specs.Str.{is_utf8};
 ghost use Rattle.json.specs.Json.{after_end_array};
 ghost use Rattle.json.specs.Token.{Token as JsonToken};
 ghost use Rattle.etcs_check.specs.Line.{message_at};
 ghost use Rattle.etcs_form.specs.DocumentFault.{Gives};
 ghost use Rattle.etcs_form.specs.DocumentTokens.{AreGroups, AreMessages, HasLine, IsChecked, IsFirst, IsGroupList, IsMessage, IsMessageList, IsNextGroup};
-ghost use Rattle.etcs_form.specs.Verdict.{counted_of_text};
+ghost use Rattle.etcs_form.specs.Verdict.{TextSaysYes, counted_of_text};
 
 use crate::identities::{identity_number, mark};
 use crate::judging::check_text;
@@ -231,8 +232,12 @@ pub fn check_in_order(alloc: Global, bytes: &[u8]) -> Result<Checked, LineError>
     ensures exact { Gives (λ c. ((c.groups, c.messages), c.findings.items)) result
         (counted_of_text bytes.now) }
 
-    // No bytes are no JSON, whatever memory there is.
+    // Where nothing is found, the bytes are a line of which all is true that a yes says.
+    ensures says { IfOk result (λ c. c.findings.items ≡ [] → TextSaysYes bytes.now) }
+
+    // No bytes are no JSON, nor are bytes that are not UTF-8, whatever memory there is.
     ensures empty { bytes.now ≡ [] → result ≡ Err LineError.NotJson }
+    ensures unreadable { is_utf8 bytes.now ≡ false → result ≡ Err LineError.NotJson }
 {
     if let Some(checked) = quick_check(alloc, bytes) {
         return Ok(checked);

@@ -1,7 +1,7 @@
 //! Laws of forms and of documents, for users. They hold for any reader and any writer. Each law is the
 //! contract of a function that does nothing.
 
-ghost use Rattle.etcs_form.specs.Laws.{MessagesAreReadAgain, MessagesHaveFormsOfTheirOwn, NoFindingMeansSoundText, TelegramsAreReadAgain, TelegramsHaveFormsOfTheirOwn};
+ghost use Rattle.etcs_form.specs.Laws.{MessagesAreReadAgain, MessagesHaveFormsOfTheirOwn, NoFindingMeansSoundText, NoFindingSaysYes, TelegramsAreReadAgain, TelegramsHaveFormsOfTheirOwn};
 
 use etcs_check::laws::no_finding_means_sound_line;
 
@@ -36,3 +36,12 @@ pub fn no_finding_means_sound_text()
 {
     no_finding_means_sound_line();
 }
+
+/// Of bytes that are read as a line without a finding, all is true that a yes says: every telegram and
+/// message of the line has exactly one record, and for each aspect of every group, running direction and
+/// set of missed balises whose declared duplicates are read, the assembled message is accepted and equals
+/// that with nothing missed, every other set being refused; there, as in each radio message, every movement
+/// authority has gradient and speed profiles, all reaching at least its supervised location.
+pub fn no_finding_says_yes()
+    ensures { NoFindingSaysYes }
+{}

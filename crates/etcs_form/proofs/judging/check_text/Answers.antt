@@ -1,6 +1,12 @@
-use Rattle.etcs_form.proofs.VerdictLemmas.{says_yes}
+use Rattle.etcs_form.proofs.YesLemmas.{aspects_decided, mixtures_decided, sound_says_yes}
 use Rattle.etcs_form.proofs.judging.check_text.Goals as goal
 
 -- without a finding the line is sound
 pub returns-clause-says : goal.returns-clause-says
-returns-clause-says c = λ none. says_yes _ _ _ c.in_ok-line.ensures.exact (c.in_ok-findings.ensures.sound.0 none) (c.in_ok-findings.ensures.decided none) (c.in_ok-findings.ensures.mixtures none)
+returns-clause-says c = λ none. sound_says_yes _ _ _ c.in_ok-line.ensures.exact (c.in_ok-findings.ensures.sound.0 none)
+
+pub returns-clause-decided : goal.returns-clause-decided
+returns-clause-decided c = aspects_decided _ _ _ c.in_ok-line.ensures.exact
+
+pub returns-clause-mixtures : goal.returns-clause-mixtures
+returns-clause-mixtures c = mixtures_decided _ _ _ c.in_ok-line.ensures.exact
