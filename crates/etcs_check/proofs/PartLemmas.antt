@@ -1,12 +1,11 @@
 -- In a sound line each part of soundness holds at each place.
-use Rattle.std.proofs.Common.{◌≡◌, ◌≢◌, ℕ, ◌<◌, Bool, List, length, Option, Some, None, refl, sym, ap, arith, IsSomeAnd, IsFalse}
+use Rattle.std.proofs.Common.{◌≡◌, ℕ, ◌<◌, Bool, List, length, Option, Some, None, refl, arith, IsSomeAnd, IsFalse}
 use Rattle.std.proofs.lemmas.Option.{slice_get_within}
 use Rattle.std.proofs.lemmas.Bool.{not-false}
 use Rattle.std.specs.List.{filter}
 use mathlib.Core.Logic.{inl, inr}
 use Rattle.etcs_packet.specs.Track.{holds}
 use Rattle.etcs_packet.specs.declared.run.Run.{Run}
-use Rattle.etcs_packet.specs.declared.track.TrackPacket.{TrackPacket}
 use Rattle.etcs_radio.specs.declared.message.Message.{Message}
 use Rattle.etcs_radio.specs.declared.message.Message.TheVariants as messages
 use Rattle.etcs_telegram.specs.Record.{Telegram}
@@ -14,10 +13,9 @@ use Rattle.etcs_group.specs.Places.{At}
 use Rattle.etcs_group.specs.Group.{partner_of}
 use Rattle.etcs_group.specs.Missed.{IsSetOf, IsCovered}
 use Rattle.etcs_group.specs.Controlled.{IsControlled}
-use Rattle.etcs_group.proofs.PlaceLemmas.{one_at}
 use Rattle.etcs_group.proofs.MarkLemmas.{partner-says}
 use Rattle.etcs_check.specs.Profiles.{gradient_reach, speed_reach}
-use Rattle.etcs_check.specs.Soundness.{IsSoundGroup, IsSoundControlled, IsSoundMessage, IsSoundLine}
+use Rattle.etcs_check.specs.Soundness.{IsSoundControlled, IsSoundMessage}
 use Rattle.etcs_check.specs.Harm.{only, passed_first, full_packets, AspectPart, WholePart, PacketsPart, MessagePart, IsNew, HurtsGroup, HurtsSite}
 use Rattle.etcs_check.specs.Laws.{NothingHurtsASoundLine}
 use Rattle.etcs_check.specs.declared.finding.Rule.{Rule}
