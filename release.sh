@@ -41,7 +41,7 @@ is_right() {
 
 # are_judged: fails where tests/edits --all has not judged every edit of these sources.
 are_judged() {
-    [ -e out/edits ] && [ "$(head -n 2 out/edits)" = "$(tests/edits --sums)" ] ||
+    [ -e out/edits ] && [ "$(cut -d ' ' -f 1,2 out/edits)" = "$(tests/edits --sums)" ] ||
         fail 'not every edit of these sources was judged: tests/edits --all'
 }
 
