@@ -125,8 +125,10 @@ def test_a_remark_on_aspects_changes_no_yes(run: Run, table: Write) -> None:
 @pytest.mark.parametrize("telegram, said, program", [
     ("0" * 86, "it is coded (341 bits in 86 digits): export user bits", "wrong size"),
     ("0" * 256, "it is coded (1023 bits in 256 digits): export user bits", "wrong size"),
-    ("0" * 50, "it has 50 digits: a short telegram has 54, a long one 208", "wrong size"),
-    (ALONE[:-1], "it has 53 digits, an odd number: a digit is missing, or one too many", "not hexadecimal"),
+    ("0" * 50, "it has 50 digits, 4 short of 54: a short telegram has 54, a long one 208", "wrong size"),
+    (ALONE[:-1], "it has 53 digits, 1 short of 54: a short telegram has 54, a long one 208", "not hexadecimal"),
+    ("0" * 201, "it has 201 digits, 7 short of 208: a short telegram has 54, a long one 208", "not hexadecimal"),
+    ("0" * 210, "it has 210 digits, 2 more than 208: a short telegram has 54, a long one 208", "wrong size"),
     ("O" + ALONE[1:], 'character 1 is "O", no hexadecimal digit', "not hexadecimal"),
     ("\u0430" + ALONE[1:], 'character 1 is "\u0430" (U+0430), no hexadecimal digit', "not hexadecimal"),
     (ALONE[:-1] + "1", "the last 6 bits are not all 0: the text has to end with zeros", "pad bits set"),
@@ -152,8 +154,8 @@ def test_a_cell_of_100000_characters(run: Run, table: Write) -> None:
     path = table(f"group,telegram,{'x' * 100_000}", f"A,{'a' * 100_000},x")
     status, out, _ = run("check", path)
     assert status == 2 and out[1] == f"columns passed over: {'x' * 1000}"
-    assert out[2:4] == ["row 2  A  balise 0: it has 100000 digits: a short telegram has 54, a long one 208",
-                        "    program: wrong size"]
+    assert out[2:4] == ["row 2  A  balise 0: it has 100000 digits, 99792 more than 208: a short telegram has 54, "
+                        "a long one 208", "    program: wrong size"]
 
 
 @pytest.mark.parametrize("name, shown", [

@@ -13,6 +13,8 @@ UNSAFE = re.compile(
 ORDINALS = ("first", "second", "third", "fourth", "fifth", "sixth", "seventh", "eighth", "ninth", "tenth")
 CODED = {86: 341, 256: 1023}
 """The digits of a telegram with its channel coding, and its bits."""
+LENGTHS = (54, 208)
+"""The digits of a short telegram and of a long one."""
 
 
 def clean(text: str) -> str:
@@ -66,18 +68,19 @@ def telegram_refused(digits: str, refusal: Refusal) -> str:
     if refusal.text == "wrong size":
         if len(digits) in CODED:
             return f"it is coded ({CODED[len(digits)]} bits in {len(digits)} digits): export user bits"
-        return f"it has {len(digits)} digits: a short telegram has 54, a long one 208"
+        return _wrong_length(len(digits))
     if refusal.text == "pad bits set":
         return f"the last {6 if len(digits) == 54 else 2} bits are not all 0: the text has to end with zeros"
     if refusal.text == "not hexadecimal":
-        return _no_digits(digits)
+        return _no_digit(digits) or _wrong_length(len(digits))
     return _at_field(telegram_fields(user_bits(digits)), refusal, 10)
 
 
 def message_refused(digits: str, refusal: Refusal) -> str:
     """A refused radio message in a sentence."""
     if refusal.text == "not hexadecimal":
-        return _no_digits(digits) + ("; a message 3 begins with 03" if digits[:2] == "30" and len(digits) % 2 else "")
+        odd = f"it has {len(digits)} digits, an odd number: a digit is missing, or one too many"
+        return _no_digit(digits) or odd + ("; a message 3 begins with 03" if digits[:2] == "30" else "")
     fields = message_fields(bits_of(digits))
     if refusal.why == "length" and refusal.at == 8:
         return f"L_MESSAGE is {_field(fields, 8).value}, but the message has {len(digits) // 2} bytes"
@@ -85,12 +88,20 @@ def message_refused(digits: str, refusal: Refusal) -> str:
     return _at_field(fields, refusal, 8 if from_train else 10)
 
 
-def _no_digits(digits: str) -> str:
+def _wrong_length(length: int) -> str:
+    """The length of a telegram's text, beside the nearer one of the two that it may have."""
+    nearest = min(LENGTHS, key=lambda one: abs(length - one))
+    far = f"{nearest - length} short of" if length < nearest else f"{length - nearest} more than"
+    return f"it has {length} digits, {far} {nearest}: a short telegram has {LENGTHS[0]}, a long one {LENGTHS[1]}"
+
+
+def _no_digit(digits: str) -> str:
+    """The first character that is no digit, or nothing."""
     for place, character in enumerate(digits, 1):
         if character not in "0123456789abcdefABCDEF":
             code = "" if character.isascii() else f" (U+{ord(character):04X})"
             return f"character {place} is {quoted(character)}{code}, no hexadecimal digit"
-    return f"it has {len(digits)} digits, an odd number: a digit is missing, or one too many"
+    return ""
 
 
 def _field(fields: Sequence[Field], at: int) -> Field:
