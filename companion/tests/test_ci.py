@@ -71,6 +71,15 @@ def test_a_yes(run: Run, table: Write, tmp_path: Path) -> None:
     assert results(read(tmp_path / "out.xml")) == {"group A": [], "group B": []}
 
 
+def test_the_output_tells_a_lost_aspect(run: Run, table: Write, tmp_path: Path) -> None:
+    path = table("group,aspect,telegram", *[f"A,{one},{ALONE}" for one in "xyz"],
+                 *[f"B,{one},{OTHER}" for one in "xy"])
+    assert run("check", path, "--junit", tmp_path / "out.xml")[0] == 0
+    said = ElementTree.parse(tmp_path / "out.xml").findtext(".//system-out") or ""
+    assert said.splitlines()[:3] == ['look: B has 2 aspects, 1 other has 3: "z" too',
+                                     "aspects found: 3 in 1 group (A), 2 in 1 (B)", "program: yes: groups 2, messages 0"]
+
+
 def test_names_are_text(run: Run, table: Write, tmp_path: Path) -> None:
     name = "<script>&\"'\x1b\u202e\ufffe=1+1"
     path = table(content=csv_writing.text(["group", "telegram"], [[name, ALONE], ["B", ALONE]]).encode())

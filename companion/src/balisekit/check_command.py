@@ -13,7 +13,7 @@ from balisekit.aspect_counts import aspects_found, fewer_aspects, groups_by_aspe
 from balisekit.checking import Accepted, Checked, LeftOut, Place, Refused, RefusedMessage
 from balisekit.commands import Command, add_input_words, inputs
 from balisekit.errors import NoAnswer
-from balisekit.model import Group, Row
+from balisekit.model import Group, Row, Table
 from balisekit.repeats import headings
 from balisekit.wording import (balise_words, clean, group_words, message_refused, message_words, passed_over,
                                telegram_refused)
@@ -60,8 +60,9 @@ def _write(words: argparse.Namespace, checked: Checked, judged: Optional[Judged]
         _file(words.propose, accepted_output.proposal(checked, judged, accepted.today()))
     if words.junit:
         said = dict(enumerate(map(finding_words, checked.findings)))
+        last = list(lines(checked, judged=judged))[-1]
         with files.writing(words.junit) as file:
-            file.write(junit.document(checked, judged, said, list(lines(checked, judged=judged))[-1]))
+            file.write(junit.document(checked, judged, said, [*remarks(checked.table), last]))
     if words.document:
         with files.writing(words.document) as file:
             for piece in checking.document(checked.kept, checked.accepted_messages):
@@ -104,9 +105,14 @@ def lines(checked: Checked, explained: bool = False, by_position: bool = False,
             yield f"    {accepted_output.accepted_words(entry)}"
     if explained:
         yield from _explained(checked)
+    yield from remarks(table)
+    yield from accepted_output.closing_lines(judged, last_line(checked)) if judged else (last_line(checked),)
+
+
+def remarks(table: Table) -> Iterator[str]:
+    """What is said of the table before the last line, and changes neither that nor the status."""
     yield from fewer_aspects(table)
     yield aspects_found(table)
-    yield from accepted_output.closing_lines(judged, last_line(checked)) if judged else (last_line(checked),)
 
 
 def _refused(refused: Refused, groups: Dict[int, Group]) -> Iterator[str]:

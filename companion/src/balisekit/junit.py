@@ -2,7 +2,7 @@
 from __future__ import annotations
 
 import xml.etree.ElementTree as ElementTree
-from typing import Dict, Iterator, List, Optional, Tuple
+from typing import Dict, Iterator, List, Optional, Sequence, Tuple
 
 from balisekit.accepted import Entry, Judged
 from balisekit.accepted_output import accepted_words
@@ -15,8 +15,8 @@ Case = Tuple[str, str, str, str, str]
 Told = List[Tuple[str, Place, Optional[Entry]]]
 
 
-def document(checked: Checked, judged: Optional[Judged], words: Dict[int, str], last: str) -> bytes:
-    """The file. `words` says each finding by names, by its number; `last` is the last line of the answer."""
+def document(checked: Checked, judged: Optional[Judged], words: Dict[int, str], out: Sequence[str]) -> bytes:
+    """The file. `words` says each finding by names, by its number; `out` has the lines of the suite's output."""
     cases = list(_cases(checked, judged, words))
     counted = {kind: sum(case[2] == kind for case in cases) for kind in ("failure", "error", "skipped")}
     numbers = {"tests": str(len(cases)), "failures": str(counted["failure"]), "errors": str(counted["error"]),
@@ -27,7 +27,7 @@ def document(checked: Checked, judged: Optional[Judged], words: Dict[int, str], 
         case = ElementTree.SubElement(suite, "testcase", {"classname": group, "name": name, "time": "0"})
         if kind != "passed":
             ElementTree.SubElement(case, kind, {"message": why, "type": kind}).text = text
-    ElementTree.SubElement(suite, "system-out").text = f"{clean(last)}\n{NOT_PROVED}"
+    ElementTree.SubElement(suite, "system-out").text = "\n".join([*map(clean, out), NOT_PROVED])
     written: bytes = ElementTree.tostring(top, "utf-8", xml_declaration=True)
     return written + b"\n"
 
