@@ -6,6 +6,7 @@ import json
 import os
 import subprocess
 import sys
+from importlib.util import find_spec
 from pathlib import Path
 from typing import Callable, List
 
@@ -120,6 +121,25 @@ def test_a_remark_on_aspects_changes_no_yes(run: Run, table: Write) -> None:
                                         *[f"B,{one},{OTHER}" for one in "xy"]))
     assert status == 0 and out[-3:] == ['look: B has 2 aspects, 1 other has 3: "z" too', "aspects found: "
                                         "3 in 1 group (A), 2 in 1 (B)", "program: yes: groups 2, messages 0"]
+
+
+@pytest.mark.parametrize("rows, said", [
+    (["A1,13.850", "A2,13.950"], []), (["A1,", "A2,13.950"], []),
+    (["A1,13.850", "A2,13.9501"], ['row 2 "A1" (km 13.850) and row 3 "A2" (km 13.950) stand 100.1 m apart by km']),
+    (["A1,18.850", "A2,13.850"], ['row 2 "A1" (km 18.850) and row 3 "A2" (km 13.850) stand 5000 m apart by km']),
+    ([",-1", ",1"], ["row 2 (km -1.000) and row 3 (km 1.000) stand 2000 m apart by km"])])
+def test_balises_far_apart(run: Run, table: Write, tmp_path: Path, rows: List[str], said: List[str]) -> None:
+    """A remark, on the cover of a report as well: verdict and status are as without it."""
+    lines = [f"A,{row},{one},{text}" for one in "xy" for row, text in zip(rows, (FIRST, SECOND))]
+    path = table(HEADING, *lines)
+    status, out, _ = run("check", path, "--json", tmp_path / "out.json")
+    looks = [f"look: A: {one}" for one in said]
+    assert status == 0 and out[1:] == [*looks, "aspects found: 2 in 1 group", "program: yes: groups 1, messages 0"]
+    assert json.loads((tmp_path / "out.json").read_text())["counts"]["look"] == looks
+    if find_spec("jinja2"):
+        assert run("report", path, "--html", tmp_path / "out.html")[0] == 0
+        page = html.unescape((tmp_path / "out.html").read_text("utf-8"))
+        assert [line for line in page.splitlines() if "look: " in line] == [f"<p><bdi>{one}</bdi></p>" for one in looks]
 
 
 @pytest.mark.parametrize("telegram, said, program", [

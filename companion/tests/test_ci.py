@@ -76,8 +76,9 @@ def test_the_output_tells_a_lost_aspect(run: Run, table: Write, tmp_path: Path) 
                  *[f"B,{one},{OTHER}" for one in "xy"])
     assert run("check", path, "--junit", tmp_path / "out.xml")[0] == 0
     said = ElementTree.parse(tmp_path / "out.xml").findtext(".//system-out") or ""
-    assert said.splitlines()[:3] == ['look: B has 2 aspects, 1 other has 3: "z" too',
-                                     "aspects found: 3 in 1 group (A), 2 in 1 (B)", "program: yes: groups 2, messages 0"]
+    assert said.splitlines()[:3] == [
+        'look: B has 2 aspects, 1 other has 3: "z" too', "aspects found: 3 in 1 group (A), 2 in 1 (B)",
+        "program: yes: groups 2, messages 0"]
 
 
 def test_names_are_text(run: Run, table: Write, tmp_path: Path) -> None:

@@ -9,11 +9,12 @@ from typing import Any, Dict, Iterator, Optional, TextIO
 
 from balisekit import accepted, accepted_output, checking, explain, files, junit
 from balisekit.accepted import Judged
-from balisekit.aspect_counts import aspects_found, fewer_aspects, groups_by_aspects
+from balisekit.aspect_counts import aspects_found, groups_by_aspects
 from balisekit.checking import Accepted, Checked, LeftOut, Place, Refused, RefusedMessage
 from balisekit.commands import Command, add_input_words, inputs
 from balisekit.errors import NoAnswer
 from balisekit.model import Group, Row, Table
+from balisekit.remarks import remarks
 from balisekit.repeats import headings
 from balisekit.wording import (balise_words, clean, group_words, message_refused, message_words, passed_over,
                                telegram_refused)
@@ -62,7 +63,7 @@ def _write(words: argparse.Namespace, checked: Checked, judged: Optional[Judged]
         said = dict(enumerate(map(finding_words, checked.findings)))
         last = list(lines(checked, judged=judged))[-1]
         with files.writing(words.junit) as file:
-            file.write(junit.document(checked, judged, said, [*remarks(checked.table), last]))
+            file.write(junit.document(checked, judged, said, [*before_last(checked.table), last]))
     if words.document:
         with files.writing(words.document) as file:
             for piece in checking.document(checked.kept, checked.accepted_messages):
@@ -105,13 +106,13 @@ def lines(checked: Checked, explained: bool = False, by_position: bool = False,
             yield f"    {accepted_output.accepted_words(entry)}"
     if explained:
         yield from _explained(checked)
-    yield from remarks(table)
+    yield from before_last(table)
     yield from accepted_output.closing_lines(judged, last_line(checked)) if judged else (last_line(checked),)
 
 
-def remarks(table: Table) -> Iterator[str]:
+def before_last(table: Table) -> Iterator[str]:
     """What is said of the table before the last line, and changes neither that nor the status."""
-    yield from fewer_aspects(table)
+    yield from remarks(table)
     yield aspects_found(table)
 
 
@@ -177,7 +178,7 @@ def as_json(checked: Checked, judged: Optional[Judged] = None) -> Dict[str, Any]
         "counts": {"telegrams": len(checked.table.rows), "groups": len(checked.table.groups),
                    "aspects": [{"aspects": count, "groups": len(groups)}
                                for count, groups in groups_by_aspects(checked.table)],
-                   "look": list(fewer_aspects(checked.table)),
+                   "look": list(remarks(checked.table)),
                    "not_looked_at": checked.not_looked_at,
                    "messages_not_looked_at": checked.messages_not_looked_at},
         "telegrams": [_telegram_json(one) for one in checked.accepted.values()],

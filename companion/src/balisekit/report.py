@@ -9,7 +9,7 @@ from typing import Dict, Iterator, List, Mapping, Optional, Sequence, Tuple
 from balisekit import __version__
 from balisekit.accepted import Entry, Judged
 from balisekit.accepted_output import accepted_words, fault_lines, verdict_lines
-from balisekit.aspect_counts import aspects_found, fewer_aspects
+from balisekit.aspect_counts import aspects_found
 from balisekit.check_command import finding_words, last_line
 from balisekit.checking import AcceptedMessage, Checked, Place, RefusedMessage
 from balisekit.canvas import Picture
@@ -19,6 +19,7 @@ from balisekit.grammar import Finding
 from balisekit.model import Group, Row
 from balisekit.pictures import picture_of, picture_of_message
 from balisekit.places import Here, Identities
+from balisekit.remarks import remarks
 from balisekit.repeats import headings
 from balisekit.show_command import places_of_rows
 from balisekit.showing import text
@@ -85,7 +86,7 @@ class Cover:
     aspects: str
     """How many aspects the groups have."""
     look: Tuple[str, ...]
-    """Which groups have fewer than others."""
+    """Which groups have fewer than others, and in which ones balises stand far apart."""
     notes: Tuple[str, ...]
 
 
@@ -117,7 +118,7 @@ def cover(checked: Checked, judged: Optional[Judged] = None) -> Cover:
     return Cover(date(), tuple(_inputs(checked, judged)), tuple(papers), __version__, tuple(said),
                  tuple(fault_lines(judged)) if judged else (), tuple(refused),
                  tuple((group_words(one.group), clean(one.why)) for one in checked.left_out),
-                 aspects_found(table), tuple(fewer_aspects(table)), tuple(notes))
+                 aspects_found(table), tuple(remarks(table)), tuple(notes))
 
 
 def _inputs(checked: Checked, judged: Optional[Judged]) -> Iterator[Tuple[str, str, str]]:
