@@ -12,7 +12,7 @@ from typing import Any, Callable, Dict, List
 
 import pytest
 
-from balisekit import csv_writing
+from balisekit import __version__, csv_writing
 from balisekit.accepted import COLUMNS
 from balisekit.program import Program
 from cases_of_program import TOP
@@ -23,7 +23,7 @@ Write = Callable[..., Path]
 HEADING = ",".join(COLUMNS)
 SOUND = ["group,telegram", f"A,{ALONE}", f"B,{OTHER}"]
 JOBS = sorted((TOP / "examples" / "ci").glob("*.yml"))
-NAME = "balisecheck-0-x86_64-linux"
+NAME = f"balisecheck-{__version__}-x86_64-linux"
 
 
 def entry(**fields: str) -> str:
@@ -128,15 +128,22 @@ def steps(job: Path) -> List[str]:
     return ["\n".join(line[len("    - "):] for line in lines[at + 1:end])]
 
 
+def version(job: Path) -> str:
+    """The release that a job file names."""
+    found = re.findall(r'^(?:env|  variables): {VERSION: "([0-9.]+)"}$', job.read_text("utf-8"), re.MULTILINE)
+    assert len(found) == 1
+    return str(found[0])
+
+
 def run_job(job: Path, room: Path, release: Path, *tables: List[str]) -> int:
     """Runs the commands of a job in a folder that has the tarball and the two tables. The answer is 0 where all do."""
     shutil.copytree(release, room / "tools")
     for name, lines in zip(("line.csv", "accepted.csv"), tables):
         (room / name).write_text("".join(f"{line}\n" for line in lines), "utf-8")
+    environment = {"PATH": "/usr/bin:/bin", "HOME": str(room), "VERSION": version(job)}
     for step in steps(job):
-        done = subprocess.run(["bash", "-e", "-o", "pipefail", "-c", step], cwd=room,
-                              env={"PATH": "/usr/bin:/bin", "HOME": str(room)}, stdout=subprocess.DEVNULL,
-                              stderr=subprocess.DEVNULL, check=False)
+        done = subprocess.run(["bash", "-e", "-o", "pipefail", "-c", step], cwd=room, env=environment,
+                              stdout=subprocess.DEVNULL, stderr=subprocess.DEVNULL, check=False)
         if done.returncode:
             return done.returncode
     return 0
@@ -169,7 +176,24 @@ def test_a_damaged_tarball_is_red(job: Path, tmp_path: Path, release: Path) -> N
     assert not (tmp_path / "room" / "balises.xml").exists()
 
 
+@pytest.mark.parametrize("job", JOBS, ids=[path.stem for path in JOBS])
+def test_another_release_beside_it_changes_nothing(job: Path, tmp_path: Path, release: Path) -> None:
+    """Neither its tarball, which is damaged here, nor what was unpacked of it."""
+    both = tmp_path / "both"
+    shutil.copytree(release, both)
+    for name in ("balisecheck-0.0-x86_64-linux", "balisecheck-9.9-x86_64-linux"):
+        (both / f"{name}.tar.gz").write_bytes(b"x")
+        (both / f"{name}.tar.gz.sha256").write_text(f"{'0' * 64}  {name}.tar.gz\n")
+        (both / name).mkdir()
+    assert run_job(job, tmp_path / "room", both, SOUND, [HEADING]) == 0
+
+
+def test_job_files_name_this_release() -> None:
+    assert [version(path) for path in JOBS] == [__version__] * 2
+    assert __version__ == (TOP / "VERSION").read_text("utf-8").strip()
+
+
 def test_job_files_are_short() -> None:
     assert [path.name for path in JOBS] == ["github.yml", "gitlab-ci.yml"]
-    assert all(len(path.read_text("utf-8").splitlines()) <= 10 for path in JOBS)
+    assert all(len(path.read_text("utf-8").splitlines()) <= 11 for path in JOBS)
     assert [len("\n".join(steps(path)).splitlines()) for path in JOBS] == [2, 2]
