@@ -314,7 +314,7 @@ def test_an_authority_has_all_its_places() -> None:
                           f"end of the authority: {km(1700)}", f"danger point: {km(1760)}",
                           f"overlap: 120 m, to {km(1820)}", f"supervised location: {km(1820)}"}
     texts = [one.text for one in picture.shapes if "V_MAIN" in one.text]
-    said = "V_MAIN 120 km/h; V_LOA 20 km/h; end 1700 m; DP 1760 m; OL 1820 m; SvL 1820 m"
+    said = "V_MAIN 120 km/h; V_LOA 20 km/h; end 1700 m; DP 1760 m; overlap to 1820 m; SvL 1820 m"
     assert texts == [f"nominal: {said}", f"reverse: {said}"]
 
 

@@ -239,7 +239,7 @@ def _authority(sheet: Sheet, authority: Authority, direction: str) -> str:
         sheet.path("danger", title, f"M{x} {top - 1}l5 8l-5 8l-5 -8z")
         labels.append(f"DP {metres(authority.danger_point)}")
     if authority.overlap is not None:
-        labels.append(f"OL {metres(authority.overlap)}")
+        labels.append(f"overlap to {metres(authority.overlap)}")
     sheet.mark("supervised", f"supervised location: {sheet.place(authority.supervised, direction)}, {direction}",
                sign * authority.supervised, top - 10, 28)
     labels.append(f"SvL {metres(authority.supervised)}")
