@@ -173,11 +173,10 @@ def test_what_is_proposed_has_to_be_signed(run: Run, table: Write, tmp_path: Pat
     path, file = twice(table), tmp_path / "accepted.csv"
     assert run("check", path, "--propose", file)[0] == 1
     rows = list(csv.DictReader(io.StringIO(file.read_text("utf-8"))))
-    assert rows == [{**{name: "" for name in COLUMNS}, "rule": "F14", "nid_c": "1", "nid_bg": "1",
-                     "date": "2026-05-28"}]
+    assert rows == [{**{name: "" for name in COLUMNS}, "rule": "F14", "nid_c": "1", "nid_bg": "1"}]
     status, out, _ = run("check", path, "--accepted", file)
     assert status == 1 and out[-1] == "findings 1: accepted 0, open 1; entries at fault 1"
-    file.write_text(file.read_text("utf-8").replace(",,,2026", ",checked,J. Doe,2026"), "utf-8")
+    file.write_text(file.read_text("utf-8").replace(",,,,\n", ",checked,J. Doe,2026-05-28,\n"), "utf-8")
     assert run("check", path, "--accepted", file, "--propose", tmp_path / "more.csv")[0] == 0
     assert (tmp_path / "more.csv").read_text("utf-8") == HEADING + "\n"
 
@@ -190,7 +189,7 @@ def test_proposed_entries_are_about_their_findings(run: Run, tmp_path: Path) -> 
     assert [(row[0], row[8].split(":")[0]) for row in rows[1:]] == [
         ("F10", "Stop aspect of level 1 without profiles"), ("F12", "Stop aspect of level 1 without profiles"),
         ("F9", "Infill, packet 136"), ("F9", "Infill, packet 136"), ("F11", "")]
-    signed = [[*row[:9], "J. Doe", *row[10:]] for row in rows[1:]]
+    signed = [[*row[:9], "J. Doe", "2026-05-28", *row[11:]] for row in rows[1:]]
     file.write_text(csv_writing.text(rows[0], signed), "utf-8")
     out = run("check", LINE, "--accepted", file)[1]
     assert out[-2] == "findings 5: accepted 4, open 1; entries at fault 1"
@@ -247,8 +246,8 @@ def test_formulas_are_never_written_as_such(run: Run, table: Write, tmp_path: Pa
     rows = list(csv.reader(io.StringIO(file.read_text("utf-8"))))
     assert [(row[4], row[3]) for row in rows[1:]] == [(f"'{begin}1+1", ""), *[("", f"'{begin}2+3")] * 2]
     assert not any(cell.startswith(csv_writing.FORMULAS) for row in rows for cell in row)
-    signed = [[*[csv_writing.plain(cell) for cell in row[:9]], f"{begin}J", *row[10:]] for row in rows[1:]]
-    signed = [[*row[:8], row[8] or "looked at", *row[9:]] for row in signed]
+    signed = [[csv_writing.plain(cell) for cell in row] for row in rows[1:]]
+    signed = [[*row[:8], row[8] or "looked at", f"{begin}J", "2026-05-28", *row[11:]] for row in signed]
     file.write_text(csv_writing.text(rows[0], signed), "utf-8")
     status, out, _ = run(*words, "--accepted", file)
     assert status == 0 and sum(f"({begin}J, 2026-05-28)" in line for line in out) == 3

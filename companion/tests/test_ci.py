@@ -190,7 +190,8 @@ def test_another_release_beside_it_changes_nothing(job: Path, tmp_path: Path, re
 
 def test_job_files_name_this_release() -> None:
     assert [version(path) for path in JOBS] == [__version__] * 2
-    assert __version__ == (TOP / "VERSION").read_text("utf-8").strip()
+    kept = TOP / "VERSION"
+    assert not kept.exists() or kept.read_text("utf-8") == f"{__version__}\n", "a release's tarball has no such file"
 
 
 def test_job_files_are_short() -> None:

@@ -1,7 +1,6 @@
 """What is said of accepted findings: in words, as JSON, and as entries for those that are open."""
 from __future__ import annotations
 
-from datetime import date
 from typing import Any, Dict, Iterator, List, Optional
 
 from balisekit import correct_data, csv_writing
@@ -63,8 +62,8 @@ def entry_json(entry: Entry) -> Dict[str, Any]:
             "until": str(entry.until or "")}
 
 
-def proposal(checked: Checked, judged: Optional[Judged], day: date) -> str:
-    """A file of entries for the open findings. Nobody has signed them: `who` is empty."""
+def proposal(checked: Checked, judged: Optional[Judged]) -> str:
+    """A file of entries for the open findings. Nobody has signed them: `who` and `date` are empty."""
     accepting = judged.by_finding if judged else (None,) * len(checked.findings)
     said = correct_data.reasons()
     del said["pair controlled"]
@@ -72,5 +71,5 @@ def proposal(checked: Checked, judged: Optional[Judged], day: date) -> str:
     fits = correct_data.rows_of(checked.findings, checked)
     for key, row, entry in zip(keys(checked), fits, accepting):
         if entry is None and UNNAMED not in key:
-            rows.setdefault(key, [*key, said.get(row, ""), "", str(day), ""])
+            rows.setdefault(key, [*key, said.get(row, ""), "", "", ""])
     return csv_writing.text(COLUMNS, rows.values())

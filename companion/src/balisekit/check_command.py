@@ -58,7 +58,7 @@ def run(words: argparse.Namespace) -> int:
 def _write(words: argparse.Namespace, checked: Checked, judged: Optional[Judged]) -> None:
     """The files that are asked for."""
     if words.propose:
-        _file(words.propose, accepted_output.proposal(checked, judged, accepted.today()))
+        _file(words.propose, accepted_output.proposal(checked, judged))
     if words.junit:
         said = dict(enumerate(map(finding_words, checked.findings)))
         last = list(lines(checked, judged=judged))[-1]
