@@ -52,6 +52,12 @@ def test_aspects_and_balises(table: Write) -> None:
     assert shape(read) == [("A", [("red", [3, 2]), ("green", [4, 5])])]
 
 
+def test_the_name_of_the_group_tells_no_balise(table: Write) -> None:
+    """A column with the signal's name in each row is accepted where it is the group's."""
+    read = tables.read(str(table("group,aspect,name,telegram", f"A,*,A,{FIRST}", f"A,x,A,{SECOND}", f"A,y,A,{SECOND}")))
+    assert shape(read) == [("A", [("x", [2, 3]), ("y", [2, 4])])]
+
+
 def test_a_telegram_of_every_aspect(table: Write) -> None:
     read = tables.read(str(table("group,aspect,telegram", f"A,*,{FIRST}", f"A,red,{SECOND}", f"A,green,{SECOND}")))
     assert shape(read) == [("A", [("red", [2, 3]), ("green", [2, 4])])]

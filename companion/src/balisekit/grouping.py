@@ -80,7 +80,8 @@ def _aspects(name: str, block: List[Row], by_position: bool) -> Tuple[Tuple[Aspe
         raise TableError("empty beside named aspects: write * for a telegram that is sent in every aspect",
                          row=empty.number, column="aspect")
     members = [[row for row in block if row.aspect in (aspect, EVERY)] for aspect in names or [""]]
-    repeated = _repeated(members, "balise") or _repeated(members, "name")
+    named = any(row.name != name for row in block)  # (else the column has the group's name, and tells no balise)
+    repeated = _repeated(members, "balise") or (_repeated(members, "name") if named else [])
     if repeated:
         raise TableErrors(repeated)
     aspects, notes = [], []
