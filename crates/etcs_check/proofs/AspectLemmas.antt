@@ -59,7 +59,7 @@ module _ (aspects : List (List Telegram)) (controlled : IsControlled aspects) wh
   first_here : At aspects 0 (first_aspect aspects)
   first_here = first_at aspects controlled.some
 
-  first_long : 0 < length (first_aspect aspects)
+  pub first_long : 0 < length (first_aspect aspects)
   first_long = subst (λ n. 0 < n) (count_is aspects) controlled.balises
 
   as_long : (a : ℕ) (group : List Telegram) → At aspects a group → length group ≡ length (first_aspect aspects)
@@ -102,13 +102,39 @@ module _ (aspects : List (List Telegram)) (controlled : IsControlled aspects) wh
     | inr few ↦ and_left _ _ (le-ltb _ _ few)
   ]
 
+  steady_at : (p : ℕ) (f : Telegram) → all_at (is_steady f) p aspects ≡ true → (a : ℕ) (t : Telegram) → HasAt aspects a p t → (f ≡ t) × (t.header.counter ≡ 255)
+  steady_at p f h a t has =
+      let s = and_parts _ _ (all_at-says (is_steady f) p aspects h a t has) in
+      ((Decides-same_telegram f t).0 s.1, eqb-true _ _ s.0)
+
+  -- a place that is not untold is fixed or switched
+  pub told_place : 1 < length aspects → (p : ℕ) → ((f : Telegram) → At (first_aspect aspects) p f → is_untold aspects p f ≡ false) → IsFixed aspects p ⊎ IsSwitched aspects p
+  told_place many p told_at = elim (cases_lt p (length (first_aspect aspects))) [
+    | inl lt ↦
+        let f = some_at (first_aspect aspects) p lt in
+        elim (and_cases (ltb 1 (length aspects)) _ (told_at f.0 f.1)) [
+          | inl one ↦ absurd (both_ways _ one (lt-ltb _ _ many))
+          | inr told ↦ elim (or_cases (all_at (is_steady f.0) p aspects) (all_at is_counted p aspects) (not-false _ told)) [
+            | inl steady ↦ inl (λ a b t u ht hu.
+                let x = steady_at p f.0 steady a t ht in
+                let y = steady_at p f.0 steady b u hu in
+                (sym x.0 ∙ y.0, x.1))
+            | inr counted ↦ inr (λ a t has. ltb-true _ _ (all_at-says is_counted p aspects counted a t has))
+          ]
+        ]
+    | inr ge ↦ inr (λ a t has.
+        let w = slice_get_within has.0 p t has.2 in
+        let l = as_long a has.0 has.1 in
+        absurd (omega arith))
+  ]
+
 pub aspect_long : (aspects : List (List Telegram)) → IsControlled aspects → (a : ℕ) (group : List Telegram) → At aspects a group → 0 < length group
 aspect_long aspects controlled a group at =
     let l = as_long aspects controlled a group at in
     let f = first_long aspects controlled in
     omega arith
 
-mark-says : (t f : Telegram) → mark_differs (Some f) t ≡ false → t.header.dup ≡ f.header.dup
+pub mark-says : (t f : Telegram) → mark_differs (Some f) t ≡ false → t.header.dup ≡ f.header.dup
 mark-says t f h = (Decides-same_mark t.header.dup f.header.dup).0 (not-false _ h)
 
 pub mark-is : (t f : Telegram) → t.header.dup ≡ f.header.dup → mark_differs (Some f) t ≡ false
@@ -122,6 +148,14 @@ taken-at aspects a t taken =
     let q = list_any-at _ r.1 r.3 in
     let before = At-take a aspects r.0 r.1 r.2 in
     (r.0, q.0, q.1, before.0, (r.1, before.1, q.2), ltb-true _ _ parts.0, eqb-true _ _ q.3)
+
+-- a counter that is not taken is that of no telegram of an earlier aspect
+pub fresh-says : (aspects : List (List Telegram)) (a : ℕ) (u : Telegram) → is_counter_taken (take a aspects) u ≡ false → (k q : ℕ) (t : Telegram) → k < a → HasAt aspects k q t → u.header.counter < 254 → t.header.counter ≢ u.header.counter
+fresh-says aspects a u fresh k q t lt ht low same = elim (and_cases (ltb u.header.counter 254) _ fresh) [
+  | inl high ↦ both_ways _ high (lt-ltb _ _ low)
+  | inr fresh ↦ both_ways _ fresh (at_list_any (has_counter u.header.counter) (take a aspects) k ht.0 (at_take a aspects k ht.0 lt ht.1)
+      (at_list_any _ ht.0 q t ht.2 (eq-eqb _ _ same)))
+]
 
 -- ---- no finding, so sound
 
@@ -151,38 +185,9 @@ module _ (site : Site) (used : Bool) (aspects : List (List Telegram)) (controlle
       let f = first_has aspects controlled a p t ht in
       mark_at a p t f.0 ht f.1 ∙ sym (mark_at b p u f.0 hu f.1)
 
-  steady_at : (p : ℕ) (f : Telegram) → all_at (is_steady f) p aspects ≡ true → (a : ℕ) (t : Telegram) → HasAt aspects a p t → (f ≡ t) × (t.header.counter ≡ 255)
-  steady_at p f h a t has =
-      let s = and_parts _ _ (all_at-says (is_steady f) p aspects h a t has) in
-      ((Decides-same_telegram f t).0 s.1, eqb-true _ _ s.0)
-
-  told_place : 1 < length aspects → (p : ℕ) → IsFixed aspects p ⊎ IsSwitched aspects p
-  told_place many p = elim (cases_lt p (length (first_aspect aspects))) [
-    | inl lt ↦
-        let f = some_at (first_aspect aspects) p lt in
-        elim (and_cases (ltb 1 (length aspects)) _ (told_at p f.0 f.1)) [
-          | inl one ↦ absurd (both_ways _ one (lt-ltb _ _ many))
-          | inr told ↦ elim (or_cases (all_at (is_steady f.0) p aspects) (all_at is_counted p aspects) (not-false _ told)) [
-            | inl steady ↦ inl (λ a b t u ht hu.
-                let x = steady_at p f.0 steady a t ht in
-                let y = steady_at p f.0 steady b u hu in
-                (sym x.0 ∙ y.0, x.1))
-            | inr counted ↦ inr (λ a t has. ltb-true _ _ (all_at-says is_counted p aspects counted a t has))
-          ]
-        ]
-    | inr ge ↦ inr (λ a t has.
-        let w = slice_get_within has.0 p t has.2 in
-        let l = as_long aspects controlled a has.0 has.1 in
-        absurd (omega arith))
-  ]
-
   -- a counter of an earlier aspect is another one
   earlier_differs : (k a q p : ℕ) (t u : Telegram) → k < a → HasAt aspects k q t → HasAt aspects a p u → u.header.counter < 254 → t.header.counter ≢ u.header.counter
-  earlier_differs k a q p t u lt ht hu low same = elim (and_cases (ltb u.header.counter 254) _ ((clean_at a hu.0 hu.1).fresh p u hu.2)) [
-    | inl high ↦ both_ways _ high (lt-ltb _ _ low)
-    | inr fresh ↦ both_ways _ fresh (at_list_any (has_counter u.header.counter) (take a aspects) k ht.0 (at_take a aspects k ht.0 lt ht.1)
-        (at_list_any _ ht.0 q t ht.2 (eq-eqb _ _ same)))
-  ]
+  earlier_differs k a q p t u lt ht hu low = fresh-says aspects a u ((clean_at a hu.0 hu.1).fresh p u hu.2) k q t lt ht low
 
   one_group : 1 < length aspects → AreOneGroup aspects
   one_group many = record {
@@ -190,7 +195,7 @@ module _ (site : Site) (used : Bool) (aspects : List (List Telegram)) (controlle
         let f = some_at (first_aspect aspects) 0 (first_long aspects controlled) in
         alike_both t u f.0 (alike_at a p t f.0 ht f.1) (alike_at b q u f.0 hu f.1);
     marks = one_mark;
-    told = told_place many;
+    told = λ p. told_place aspects controlled many p (told_at p);
     distinct = λ a b p q t u ne ht hu low low'. elim (cases_lt a b) [
       | inl lt ↦ earlier_differs a b p q t u lt ht hu low'
       | inr ge ↦ λ same. earlier_differs b a q p u t (omega arith) hu ht low (sym same)

@@ -1,11 +1,11 @@
 -- The facts about positions, marks and counters against a well-formed group whose counters fit.
-use Rattle.std.proofs.Common.{◌≡◌, ◌≢◌, ℕ, zero, suc, ◌+◌, ◌<◌, Bool, true, false, cond, eqb, ltb, List, [], ◌∷◌, length, get_or, slice_get, Option, Some, None, refl, sym, ap, subst, ◌∙◌, arith, IsSome, IsTrue}
+use Rattle.std.proofs.Common.{◌≡◌, ◌≢◌, ℕ, zero, suc, ◌+◌, ◌<◌, ◌≤◌, Bool, true, false, cond, eqb, ltb, List, [], ◌∷◌, length, get_or, slice_get, Option, Some, None, refl, sym, ap, subst, ◌∙◌, arith, IsSome, IsTrue}
 use Rattle.std.specs.Bool.{beq}
 use Rattle.std.specs.Cmp.{booleans_Decides}
 use Rattle.std.specs.List.{AllPass}
 use Rattle.std.proofs.lemmas.Option.{none-some, same_Some, slice_get_within, slice_get-get_or}
 use Rattle.std.proofs.lemmas.Bool.{eqb-true, eq-eqb, eqb-false, ne_eqb, ltb-true, lt-ltb, le-ltb, both_ways, cases_lt, and_parts, and_from, and_cases, and_left, and_right, not-false, not_from_true}
-use mathlib.Core.Logic.{inl, inr}
+use mathlib.Core.Logic.{◌⊎◌, inl, inr}
 use Rattle.etcs_bits.specs.declared.variables.duplicate.Dup.{Dup}
 use Rattle.etcs_bits.specs.declared.variables.duplicate.Dup.TheVariants as dups
 use Rattle.etcs_bits.specs.variables.Variables.{version_number}
@@ -18,6 +18,7 @@ use Rattle.etcs_group.proofs.MarkLemmas.{partner-says, partner-is}
 use Rattle.etcs_check.specs.Duplicates.{same_identity}
 use Rattle.etcs_check.specs.Findings.{is_misplaced, is_miscounted, is_unlike, is_outside, is_other, is_unanswered, is_unfit, first_counter, counter_differs, is_unmodelled}
 use Rattle.etcs_check.proofs.NumberLemmas.{version_same, same_identity-says, same_identity-is}
+use Rattle.etcs_check.specs.Harm.{IsFirstCounted}
 use Rattle.etcs_check.proofs.CleanLemmas.{IsClean}
 
 -- ---- tests of all packets of a list
@@ -32,7 +33,7 @@ at-from_modelled packets h k p at =
 
 -- ---- equal headers
 
-alike-says : (t first : Telegram) → is_unlike (Some first) t ≡ false → AreAlike t first
+pub alike-says : (t first : Telegram) → is_unlike (Some first) t ≡ false → AreAlike t first
 alike-says t first h =
     let p = and_parts (eqb (version_number t.header.version) (version_number first.header.version)) _ (not-false _ h) in
     let q = and_parts (same_identity t.header.identity first.header.identity) (beq t.header.linked first.header.linked) p.1 in
@@ -56,6 +57,38 @@ is_other-false (Some q) b h = ap Some (eqb-true q b (not-false _ h))
 other-is_false : (o : Option ℕ) (b : ℕ) → o ≡ Some b → is_other o b ≡ false
 other-is_false o b e = rw e (not_from_true _ (eq-eqb b b refl))
 
+-- a mark that lies inside has a partner
+pub inside-says : (group : List Telegram) (b : ℕ) (t : Telegram) → At group b t → is_outside (length group) t.header.dup b ≡ false → t.header.dup ≢ dups.Single → IsSome (partner_of group b)
+inside-says group b t at inside marked = go t.header.dup refl b at inside
+  where
+    some : (b q : ℕ) → partner_of group b ≡ Some q → IsSome (partner_of group b)
+    some b q e = rw e refl
+
+    go : (m : Dup) → t.header.dup ≡ m → (b : ℕ) → At group b t → is_outside (length group) m b ≡ false → IsSome (partner_of group b)
+    go dups.Single e b at h = absurd (marked e)
+    go dups.Next e b at h =
+        let w = slice_get_within group b t at in
+        let n = eqb-false _ _ h in
+        some b (b + 1) (partner-is group b (b + 1) t at (ap (λ m. named_by m b) e) (omega arith))
+    go dups.Previous e zero at h = absurd (both_ways true h refl)
+    go dups.Previous e (suc a) at h =
+        let w = slice_get_within group (suc a) t at in
+        some (suc a) a (partner-is group (suc a) a t at (ap (λ m. named_by m (suc a)) e) (omega arith))
+
+-- a mark that is answered names a balise that names this one
+pub answered-says : (group : List Telegram) (b : ℕ) → ((t : Telegram) → At group b t → is_unanswered group (partner_of group b) b ≡ false) → (q : ℕ) → partner_of group b ≡ Some q → partner_of group q ≡ Some b
+answered-says group b answered q e =
+    let r = partner-says group b q e in
+    let h : is_unanswered group (Some q) b ≡ false = ap (λ o. is_unanswered group o b) (sym e) ∙ answered r.0 r.1 in
+    is_other-false (partner_of group q) b h
+
+-- a counter below 254 that does not differ is the first one
+pub counter-says : (group : List Telegram) (t : Telegram) → counter_differs group t ≡ false → t.header.counter < 254 → first_counter group ≡ Some t.header.counter
+counter-says group t one lt = elim (and_cases (ltb t.header.counter 254) (is_other (first_counter group) t.header.counter) one) [
+  | inl no' ↦ absurd (both_ways _ no' (lt-ltb _ _ lt))
+  | inr same ↦ is_other-false (first_counter group) t.header.counter same
+]
+
 -- ---- no fact, so well formed
 
 -- two telegrams like a third are alike
@@ -76,49 +109,20 @@ module _ (first : List Telegram) (before : List (List Telegram)) (group : List T
       let f = some_at first 0 long in
       alike_both t u f.0 (clean_first b t f.0 at f.1) (clean_first 0 u f.0 at0 f.1)
 
-  clean_inside : (b : ℕ) (t : Telegram) → At group b t → t.header.dup ≢ dups.Single → IsSome (partner_of group b)
-  clean_inside b t at marked = go t.header.dup refl b at (clean.inside b t at)
-    where
-      some : (b q : ℕ) → partner_of group b ≡ Some q → IsSome (partner_of group b)
-      some b q e = rw e refl
-
-      go : (m : Dup) → t.header.dup ≡ m → (b : ℕ) → At group b t → is_outside (length group) m b ≡ false → IsSome (partner_of group b)
-      go dups.Single e b at h = absurd (marked e)
-      go dups.Next e b at h =
-          let w = slice_get_within group b t at in
-          let n = eqb-false _ _ h in
-          some b (b + 1) (partner-is group b (b + 1) t at (ap (λ m. named_by m b) e) (omega arith))
-      go dups.Previous e zero at h = absurd (both_ways true h refl)
-      go dups.Previous e (suc a) at h =
-          let w = slice_get_within group (suc a) t at in
-          some (suc a) a (partner-is group (suc a) a t at (ap (λ m. named_by m (suc a)) e) (omega arith))
-
-  clean_answered : (b q : ℕ) → partner_of group b ≡ Some q → partner_of group q ≡ Some b
-  clean_answered b q e =
-      let r = partner-says group b q e in
-      let h : is_unanswered group (Some q) b ≡ false = ap (λ o. is_unanswered group o b) (sym e) ∙ clean.answered b r.0 r.1 in
-      is_other-false (partner_of group q) b h
-
   pub formed-from_clean : IsWellFormed group
   formed-from_clean = record {
     placed = λ b t at. eqb-true _ _ (not-false _ (clean.placed b t at));
     counted = λ b t at. eqb-true _ _ (not-false _ (clean.counted b t at));
     alike = clean_alike;
-    inside = clean_inside;
-    answered = clean_answered;
+    inside = λ b t at. inside-says group b t at (clean.inside b t at);
+    answered = λ b. answered-says group b (clean.answered b);
     modelled = λ b t at. modelled-from_at t.packets (λ k p at'. clean.modelled b t k p at at');
   }
-
-  clean_counter : (b : ℕ) (t : Telegram) → At group b t → t.header.counter < 254 → first_counter group ≡ Some t.header.counter
-  clean_counter b t at lt = elim (and_cases (ltb t.header.counter 254) (is_other (first_counter group) t.header.counter) (clean.one_counter b t at)) [
-    | inl no' ↦ absurd (both_ways _ no' (lt-ltb _ _ lt))
-    | inr same ↦ is_other-false (first_counter group) t.header.counter same
-  ]
 
   pub fitting-from_clean : HasOneCounter group
   fitting-from_clean = record {
     fits = λ b t at. eqb-false _ _ (clean.fit b t at);
-    equal = λ b c t u at au m n. same_Some t.header.counter u.header.counter (sym (clean_counter b t at m) ∙ clean_counter c u au n);
+    equal = λ b c t u at au m n. same_Some t.header.counter u.header.counter (sym (counter-says group t (clean.one_counter b t at) m) ∙ counter-says group u (clean.one_counter c u au) n);
   }
 
 -- ---- and back
@@ -180,29 +184,44 @@ module _ (group : List Telegram) (formed : IsWellFormed group) where
   pub formed_modelled : (b : ℕ) (t : Telegram) (k : ℕ) (p : TrackPacket) → At group b t → At t.packets k p → is_unmodelled p ≡ false
   formed_modelled b t k p at at' = at-from_modelled t.packets (formed.modelled b t at) k p at'
 
-first_counter-some : (ts : List Telegram) (b : ℕ) (t : Telegram) → At ts b t → t.header.counter < 254 → (k : ℕ) × (u : Telegram) × At ts k u × (u.header.counter < 254) × (first_counter ts ≡ Some u.header.counter)
-first_counter-some [] b t at lt = absurd (none-some t at)
-first_counter-some (x ∷ ts) zero t at lt =
-    let m = lt-ltb _ _ lt in
-    let e = same_Some x t at in
-    let m' : ltb x.header.counter 254 ≡ true = ap (λ (z : Telegram). ltb z.header.counter 254) e ∙ m in
-    (0, x, refl, ltb-true _ _ m', rw m' refl)
-first_counter-some (x ∷ ts) (suc b) t at lt = go (first_counter-some ts b t at lt) (ltb x.header.counter 254) refl
+-- the counter of the first telegram with one below 254
+pub first_counter-is : (ts : List Telegram) (j : ℕ) (u : Telegram) → IsFirstCounted ts j u → first_counter ts ≡ Some u.header.counter
+first_counter-is [] j u first = absurd (none-some u first.0)
+first_counter-is (x ∷ ts) zero u first =
+    let e = same_Some x u first.0 in
+    let m : ltb x.header.counter 254 ≡ true = ap (λ (z : Telegram). ltb z.header.counter 254) e ∙ lt-ltb _ _ first.1 in
+    ap (λ b. cond b (Some x.header.counter) (first_counter ts)) m ∙ ap (λ (z : Telegram). Some z.header.counter) e
+first_counter-is (x ∷ ts) (suc j) u first =
+    let high = first.2 0 x (omega arith) refl in
+    ap (λ b. cond b (Some x.header.counter) (first_counter ts)) (le-ltb _ _ high)
+    ∙ first_counter-is ts j u (first.0, first.1, λ i v lt at. first.2 (suc i) v (omega arith) at)
+
+-- where there is one, there is a first one
+first_counted : (ts : List Telegram) (b : ℕ) (t : Telegram) → At ts b t → t.header.counter < 254 → (k : ℕ) × (u : Telegram) × IsFirstCounted ts k u
+first_counted [] b t at lt = absurd (none-some t at)
+first_counted (x ∷ ts) zero t at lt =
+    (0, t, (at, lt, λ i v less _. absurd (omega arith)))
+first_counted (x ∷ ts) (suc b) t at lt = go (cases_lt x.header.counter 254) (first_counted ts b t at lt)
   where
-    go : (k : ℕ) × (u : Telegram) × At ts k u × (u.header.counter < 254) × (first_counter ts ≡ Some u.header.counter) → (m : Bool) → ltb x.header.counter 254 ≡ m → (k : ℕ) × (u : Telegram) × At (x ∷ ts) k u × (u.header.counter < 254) × (cond m (Some x.header.counter) (first_counter ts) ≡ Some u.header.counter)
-    go r true e = (0, x, refl, ltb-true _ _ e, refl)
-    go r false e = (suc r.0, r.1, r.2, r.3, r.4)
+    go : (x.header.counter < 254) ⊎ (254 ≤ x.header.counter) → (k : ℕ) × (u : Telegram) × IsFirstCounted ts k u → (k : ℕ) × (u : Telegram) × IsFirstCounted (x ∷ ts) k u
+    go (inl low) r = (0, x, (refl, low, λ i v less _. absurd (omega arith)))
+    go (inr high) r = (suc r.0, r.1, (r.2.0, r.2.1, before))
+      where
+        before : (i : ℕ) (v : Telegram) → i < suc r.0 → At (x ∷ ts) i v → 254 ≤ v.header.counter
+        before zero v less at' = subst (λ (z : Telegram). 254 ≤ z.header.counter) (same_Some x v at') high
+        before (suc i) v less at' = r.2.2 i v (omega arith) at'
 
 pub fitting_254 : (group : List Telegram) → HasOneCounter group → (b : ℕ) (t : Telegram) → At group b t → is_unfit t ≡ false
 fitting_254 group fit b t at = ne_eqb _ _ (fit.fits b t at)
 
--- a counter that is each other one below 254
-pub equal-is : (group : List Telegram) (b : ℕ) (t : Telegram) → At group b t → ((j : ℕ) (u : Telegram) → At group j u → t.header.counter < 254 → u.header.counter < 254 → t.header.counter ≡ u.header.counter) → counter_differs group t ≡ false
+-- a counter that is the first one below 254
+pub equal-is : (group : List Telegram) (b : ℕ) (t : Telegram) → At group b t → ((j : ℕ) (u : Telegram) → t.header.counter < 254 → IsFirstCounted group j u → t.header.counter ≡ u.header.counter) → counter_differs group t ≡ false
 equal-is group b t at same = elim (cases_lt t.header.counter 254) [
   | inr ge ↦ and_left _ _ (le-ltb _ _ ge)
-  | inl lt ↦ let r = first_counter-some group b t at lt in
-      and_right (ltb t.header.counter 254) _ (other-is_false (first_counter group) t.header.counter (r.4 ∙ ap Some (sym (same r.0 r.1 r.2 lt r.3))))
+  | inl lt ↦
+      let r = first_counted group b t at lt in
+      and_right (ltb t.header.counter 254) _ (other-is_false (first_counter group) t.header.counter (first_counter-is group r.0 r.1 r.2 ∙ ap Some (sym (same r.0 r.1 lt r.2))))
 ]
 
 pub fitting_one : (group : List Telegram) → HasOneCounter group → (b : ℕ) (t : Telegram) → At group b t → counter_differs group t ≡ false
-fitting_one group fit b t at = equal-is group b t at (λ j u at'. fit.equal b j t u at at')
+fitting_one group fit b t at = equal-is group b t at (λ j u low first. fit.equal b j t u at first.0 low first.1)

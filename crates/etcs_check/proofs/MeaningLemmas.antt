@@ -21,7 +21,7 @@ use Rattle.etcs_check.specs.Soundness.{first_aspect}
 use Rattle.etcs_check.specs.Aspects.{whole, aspect_of, is_used, is_untold, whole_facts, aspect_facts, rule_facts, group_facts}
 use Rattle.etcs_check.specs.Meaning.{AspectFact, WholeFact, GroupFact, PacketFact, MessageFact, StatesAt, States}
 use Rattle.etcs_check.specs.Harm.{IsNew, HurtsSite, Hurts}
-use Rattle.etcs_check.specs.Laws.{FindingsAreFacts}
+use Rattle.etcs_check.specs.Laws.{AreControlled, FindingsAreFacts}
 use Rattle.etcs_check.specs.declared.finding.Finding.{Finding}
 use Rattle.etcs_check.specs.declared.finding.Rule.{Rule}
 use Rattle.etcs_check.specs.declared.finding.Rule.TheVariants as rules
@@ -198,17 +198,17 @@ findings_state groups messages i f h = elim (At-append_cases (group_list groups)
 
 -- ---- what it means
 
-findings_mean : (groups : List (List (List Telegram))) (messages : List Message) (f : Finding) → States groups messages f → Hurts groups messages f
-findings_mean groups messages f h = at f.site h
+findings_mean : (groups : List (List (List Telegram))) (messages : List Message) (f : Finding) → AreControlled groups → States groups messages f → Hurts groups messages f
+findings_mean groups messages f controlled h = at f.site h
   where
     new_here : (g : ℕ) (aspects : List (List Telegram)) → IsNew groups g aspects → is_used (take g groups) aspects ≡ false
     new_here g aspects new = unused-is (take g groups) aspects (λ i h at. let t = At-take g groups i h at in new i h t.0 t.1)
 
     at : (s : Site) → StatesAt groups messages f s → HurtsSite groups messages f s
-    at (sites.Group g) h = (h.0, h.1, group_hurts (IsNew groups g h.0) (is_used (take g groups) h.0) h.0 (new_here g h.0) f.rule f.aspect f.dir f.balise f.packet h.2)
-    at (sites.Message i) h = (h.0, h.1, message_hurts h.0 f.rule f.dir f.balise f.packet h.3)
+    at (sites.Group g) h = (h.0, h.1, group_hurts (IsNew groups g h.0) (is_used (take g groups) h.0) h.0 (controlled g h.0 h.1) (new_here g h.0) f.rule f.aspect f.dir f.balise f.packet h.2)
+    at (sites.Message i) h = (h.0, h.1, h.2, message_hurts h.0 f.rule f.dir f.balise f.packet h.3)
 
 pub findings_are_facts : FindingsAreFacts
 findings_are_facts groups messages i f h =
     let states = findings_state groups messages i f h in
-    (states, findings_mean groups messages f states)
+    (states, λ controlled. findings_mean groups messages f controlled states)

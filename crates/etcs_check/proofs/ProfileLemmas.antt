@@ -62,14 +62,18 @@ short-from reach packets p h = go (reach p) refl
 abbrev pub HaveProfiles : (TrackPacket → Option Reach) → List TrackPacket → Type 0
 HaveProfiles reach packets = (i : ℕ) (a : TrackPacket) (limit : ℕ) → At packets i a → limit_of a ≡ Some limit → HasProfiles reach packets limit
 
+-- where none lacks, there is one
+pub one-from_lacks : (reach : TrackPacket → Option Reach) (packets : List TrackPacket) → lacks reach packets ≡ false → HasProfile reach packets
+one-from_lacks reach packets there i a limit at is =
+    let some = at_list_any (λ p. is_some (limit_of p)) packets i a at (some_is (limit_of a) limit is) in
+    list_any-at (λ p. is_some (reach p)) packets (elim (and_cases (list_any (λ p. is_some (limit_of p)) packets) (not (list_any (λ p. is_some (reach p)) packets)) there) [
+      | inl none ↦ absurd (both_ways _ none some)
+      | inr none ↦ not-false _ none
+    ])
+
 pub profiles-from_list : (reach : TrackPacket → Option Reach) (packets : List TrackPacket) → lacks reach packets ≡ false → ((j : ℕ) (p : TrackPacket) → At packets j p → is_short reach packets p ≡ false) → HaveProfiles reach packets
 profiles-from_list reach packets there long i a limit at is = record {
-  one =
-      let some = at_list_any (λ p. is_some (limit_of p)) packets i a at (some_is (limit_of a) limit is) in
-      list_any-at (λ p. is_some (reach p)) packets (elim (and_cases (list_any (λ p. is_some (limit_of p)) packets) (not (list_any (λ p. is_some (reach p)) packets)) there) [
-        | inl none ↦ absurd (both_ways _ none some)
-        | inr none ↦ not-false _ none
-      ]);
+  one = one-from_lacks reach packets there i a limit at is;
   each = λ j p r at' has. short-says reach packets p (long j p at') r has i a limit at is;
 }
 
@@ -88,14 +92,11 @@ pub profiles-one : (reach : TrackPacket → Option Reach) (packets : List TrackP
 profiles-one reach packets h i a limit at is = (h i a limit at is).one
 
 -- each profile is long
-pub profiles-long : (reach : TrackPacket → Option Reach) (packets : List TrackPacket) → HaveProfiles reach packets → (p : TrackPacket) → IsLong reach packets p
-profiles-long reach packets h p j r at has i a limit at_a is = (h i a limit at_a is).each j p r at has
+pub profiles-long : (reach : TrackPacket → Option Reach) (packets : List TrackPacket) → HaveProfiles reach packets → (j : ℕ) (p : TrackPacket) → At packets j p → IsLong reach packets p
+profiles-long reach packets h j p at r has i a limit at_a is = (h i a limit at_a is).each j p r at has
 
 pub lacks-from_profiles : (reach : TrackPacket → Option Reach) (packets : List TrackPacket) → HaveProfiles reach packets → lacks reach packets ≡ false
 lacks-from_profiles reach packets h = lacks-from_one reach packets (profiles-one reach packets h)
-
-long-from : (reach : TrackPacket → Option Reach) (packets : List TrackPacket) (j : ℕ) (p : TrackPacket) → At packets j p → IsLong reach packets p → is_short reach packets p ≡ false
-long-from reach packets j p at long = short-from reach packets p (λ r has. long j r at has)
 
 -- ---- what a group says
 
@@ -103,46 +104,63 @@ long-from reach packets j p at long = short-from reach packets p (λ r has. long
 abbrev pub NoneShort : (TrackPacket → Option Reach) → List Telegram → Run → Type 0
 NoneShort reach group run = (b : ℕ) (t : Telegram) (k : ℕ) (p : TrackPacket) → At group b t → At t.packets k p → is_short_at reach group run b t p ≡ false
 
+-- a packet that is said and is not short
+not_short : {silent held short : Bool} → silent ≡ false → held ≡ true → (not silent && (held && short)) ≡ false → short ≡ false
+not_short e f h = rw (e, f) at h
+
 pub profiles-said : (reach : TrackPacket → Option Reach) (group : List Telegram) (run : Run) → lacks reach (said_by run group) ≡ false → NoneShort reach group run → HaveProfiles reach (said_by run group)
 profiles-said reach group run there long = profiles-from_list reach (said_by run group) there (λ j p at.
     let s = said-site run group j p at in
-    spoken (is_silent run s.1.header.dup (length group) s.0) (holds run p) (is_short reach (said_by run group) p) s.5 s.6 (long s.0 s.1 s.2 p s.3 s.4))
-  where
-    spoken : (silent held short : Bool) → silent ≡ false → held ≡ true → (not silent && (held && short)) ≡ false → short ≡ false
-    spoken silent held short e f h = rw (e, f) at h
+    not_short s.5 s.6 (long s.0 s.1 s.2 p s.3 s.4))
 
-pub long-at : (reach : TrackPacket → Option Reach) (group : List Telegram) (run : Run) (b : ℕ) (t : Telegram) (k : ℕ) (p : TrackPacket) → At group b t → At t.packets k p → IsLong reach (said_by run group) p → is_short_at reach group run b t p ≡ false
-long-at reach group run b t k p at at' long = elim (cases_Bool (is_silent run t.header.dup (length group) b)) [
+pub at-long : (reach : TrackPacket → Option Reach) (group : List Telegram) (run : Run) (b : ℕ) (t : Telegram) (p : TrackPacket) → is_short_at reach group run b t p ≡ false
+    → is_silent run t.header.dup (length group) b ≡ false → holds run p ≡ true → IsLong reach (said_by run group) p
+at-long reach group run b t p long speaks held r has i a limit at is =
+    short-says reach (said_by run group) p (not_short speaks held long) r has i a limit at is
+
+pub long-at : (reach : TrackPacket → Option Reach) (group : List Telegram) (run : Run) (b : ℕ) (t : Telegram) (p : TrackPacket)
+    → (is_silent run t.header.dup (length group) b ≡ false → holds run p ≡ true → IsLong reach (said_by run group) p) → is_short_at reach group run b t p ≡ false
+long-at reach group run b t p long = elim (cases_Bool (is_silent run t.header.dup (length group) b)) [
   | inl silent ↦ and_left _ _ (not_from_true _ silent)
   | inr speaks ↦ elim (cases_Bool (holds run p)) [
     | inr not_held ↦ and_right (not (is_silent run t.header.dup (length group) b)) _ (and_left _ _ not_held)
-    | inl held ↦
-        let s = site-said run group b t k p at at' speaks held in
-        and_right (not (is_silent run t.header.dup (length group) b)) _ (and_right (holds run p) _ (long-from reach (said_by run group) s.0 p s.1 long))
+    | inl held ↦ and_right (not (is_silent run t.header.dup (length group) b)) _ (and_right (holds run p) _ (short-from reach (said_by run group) p (long speaks held)))
   ]
 ]
 
 pub long-said : (reach : TrackPacket → Option Reach) (group : List Telegram) (run : Run) → HaveProfiles reach (said_by run group) → NoneShort reach group run
-long-said reach group run h b t k p at at' = long-at reach group run b t k p at at' (profiles-long reach (said_by run group) h p)
+long-said reach group run h b t k p at at' = long-at reach group run b t p (λ speaks held.
+    let s = site-said run group b t k p at at' speaks held in
+    profiles-long reach (said_by run group) h s.0 p s.1)
 
 -- ---- what a message says
 
 abbrev pub NoneShortIn : (TrackPacket → Option Reach) → List TrackPacket → Run → Type 0
 NoneShortIn reach packets run = (k : ℕ) (p : TrackPacket) → At packets k p → is_short_in reach packets run p ≡ false
 
+-- a packet that holds and is not short
+held_long : (run : Run) (packets : List TrackPacket) (reach : TrackPacket → Option Reach) (p : TrackPacket) → holds run p ≡ true → is_short_in reach packets run p ≡ false → is_short reach (filter (holds run) packets) p ≡ false
+held_long run packets reach p held long = elim (and_cases (holds run p) (is_short reach (filter (holds run) packets) p) long) [
+  | inl not_held ↦ absurd (both_ways _ not_held held)
+  | inr long ↦ long
+]
+
 pub profiles-held : (reach : TrackPacket → Option Reach) (packets : List TrackPacket) (run : Run) → lacks reach (filter (holds run) packets) ≡ false → NoneShortIn reach packets run → HaveProfiles reach (filter (holds run) packets)
 profiles-held reach packets run there long = profiles-from_list reach (filter (holds run) packets) there (λ j p at.
     let f = filter-at (holds run) packets j p at in
-    elim (and_cases (holds run p) (is_short reach (filter (holds run) packets) p) (long f.0 p f.1)) [
-      | inl not_held ↦ absurd (both_ways _ not_held f.2)
-      | inr long ↦ long
-    ])
+    held_long run packets reach p f.2 (long f.0 p f.1))
 
-pub long-in : (reach : TrackPacket → Option Reach) (packets : List TrackPacket) (run : Run) (k : ℕ) (p : TrackPacket) → At packets k p → IsLong reach (filter (holds run) packets) p → is_short_in reach packets run p ≡ false
-long-in reach packets run k p at long = elim (cases_Bool (holds run p)) [
+pub in-long : (reach : TrackPacket → Option Reach) (packets : List TrackPacket) (run : Run) (p : TrackPacket) → is_short_in reach packets run p ≡ false → holds run p ≡ true → IsLong reach (filter (holds run) packets) p
+in-long reach packets run p long held r has i a limit at is =
+    short-says reach (filter (holds run) packets) p (held_long run packets reach p held long) r has i a limit at is
+
+pub long-in : (reach : TrackPacket → Option Reach) (packets : List TrackPacket) (run : Run) (p : TrackPacket) → (holds run p ≡ true → IsLong reach (filter (holds run) packets) p) → is_short_in reach packets run p ≡ false
+long-in reach packets run p long = elim (cases_Bool (holds run p)) [
   | inr not_held ↦ and_left _ _ not_held
-  | inl held ↦ let f = at-filter (holds run) packets k p at held in and_right (holds run p) _ (long-from reach (filter (holds run) packets) f.0 p f.1 long)
+  | inl held ↦ and_right (holds run p) _ (short-from reach (filter (holds run) packets) p (long held))
 ]
 
 pub long-held : (reach : TrackPacket → Option Reach) (packets : List TrackPacket) (run : Run) → HaveProfiles reach (filter (holds run) packets) → NoneShortIn reach packets run
-long-held reach packets run h k p at = long-in reach packets run k p at (profiles-long reach (filter (holds run) packets) h p)
+long-held reach packets run h k p at = long-in reach packets run p (λ held.
+    let f = at-filter (holds run) packets k p at held in
+    profiles-long reach (filter (holds run) packets) h f.0 p f.1)

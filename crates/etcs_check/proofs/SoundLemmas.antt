@@ -41,7 +41,7 @@ are_pair-says dups.Single n h = absurd (both_ways _ refl h)
 are_pair-says dups.Previous n h = absurd (both_ways _ refl h)
 
 -- the second of a pair stands behind the first, and their packets differ
-pair-says : (run : Run) (t : Telegram) (o : Option Telegram) → pair_differs run t o ≡ true → (u : Telegram) × (o ≡ Some u) × (t.header.dup ≡ dups.Next) × (u.header.dup ≡ dups.Previous) × (held_by run t ≢ held_by run u)
+pub pair-says : (run : Run) (t : Telegram) (o : Option Telegram) → pair_differs run t o ≡ true → (u : Telegram) × (o ≡ Some u) × (t.header.dup ≡ dups.Next) × (u.header.dup ≡ dups.Previous) × (held_by run t ≢ held_by run u)
 pair-says run t None h = absurd (both_ways _ refl h)
 pair-says run t (Some u) h =
     let p = and_parts (are_pair t.header.dup u.header.dup) (not (same_held run t u)) h in
@@ -52,7 +52,7 @@ pair-says run t (Some u) h =
     not_same g = not-true _ g
 
 -- a pair that does not differ has equal packets
-pair-equal : (run : Run) (t u : Telegram) → pair_differs run t (Some u) ≡ false → t.header.dup ≡ dups.Next → u.header.dup ≡ dups.Previous → held_by run t ≡ held_by run u
+pub pair-equal : (run : Run) (t u : Telegram) → pair_differs run t (Some u) ≡ false → t.header.dup ≡ dups.Next → u.header.dup ≡ dups.Previous → held_by run t ≡ held_by run u
 pair-equal run t u h e f =
     let same : not (same_held run t u) ≡ false = rw (e, f) at h in
     (Decides-same_packets (held_by run t) (held_by run u)).0 (not-false _ same)

@@ -1,7 +1,8 @@
 -- What a finding means: which part of soundness does not hold at its place, and what that does to the
--- readings of its group. Each part is named as in IsWellFormed, HasOneCounter, IsSoundReading, HasProfiles,
--- AreOneGroup, IsSoundMessage or IsSoundLine. By the law nothing_hurts_a_sound_line it holds where these do.
-use Rattle.std.specs.Prelude.{◌≡◌, ◌≢◌, ℕ, suc, ◌+◌, ◌<◌, ◌==◌, Bool, List, length, filter, Option, Some, None, is_some, IsSome, IsTrue, ⊤, ◌⊎◌}
+-- readings of its group. Each part is named as in IsWellFormed, HasOneCounter, HasEqualPairs, HasProfiles,
+-- AreOneGroup, IsSoundMessage or IsSoundLine. It holds in each sound line (nothing_hurts_a_sound_line), and
+-- wherever its rule has no finding (parts_hold_unless_found).
+use Rattle.std.specs.Prelude.{◌≡◌, ◌≢◌, ℕ, suc, ◌+◌, ◌<◌, ◌≤◌, ◌==◌, Bool, List, length, filter, Option, Some, None, is_some, IsSome, IsTrue, IsFalse, ⊤, ◌⊎◌}
 use Rattle.etcs_bits.specs.declared.variables.duplicate.Dup.TheVariants as dups
 use Rattle.etcs_packet.specs.Track.{holds}
 use Rattle.etcs_packet.specs.declared.run.Run.{Run}
@@ -16,11 +17,10 @@ use Rattle.etcs_group.specs.Group.{AreAlike, IsWellFormed, is_modelled, partner_
 use Rattle.etcs_group.specs.Missed.{IsCovered, none_missed}
 use Rattle.etcs_group.specs.Reading.{reading_of}
 use Rattle.etcs_group.specs.Assembly.{IsAccepted}
-use Rattle.etcs_group.specs.Packets.{packets_of}
-use Rattle.etcs_group.specs.Controlled.{HasAt, IsControlled, IsFixed, IsSwitched}
+use Rattle.etcs_group.specs.Packets.{held_by, is_silent, packets_of, said_by}
+use Rattle.etcs_group.specs.Controlled.{HasAt, IsFixed, IsSwitched}
 use Rattle.etcs_check.specs.Profiles.{limit_of, gradient_reach, speed_reach, AreReached, Reaches}
-use Rattle.etcs_check.specs.Soundness.{IsSoundReading, first_aspect, group_identity}
-use Rattle.etcs_check.specs.Aspects.{told_aspect}
+use Rattle.etcs_check.specs.Soundness.{first_aspect, group_identity}
 use Rattle.etcs_check.specs.declared.finding.Finding.{Finding}
 use Rattle.etcs_check.specs.declared.finding.Rule.{Rule}
 use Rattle.etcs_check.specs.declared.finding.Rule.TheVariants as rules
@@ -77,18 +77,24 @@ abbrev pub HasProfile : (TrackPacket → Option Reach) → List TrackPacket → 
 HasProfile reach packets = (i : ℕ) (a : TrackPacket) (limit : ℕ) → At packets i a → limit_of a ≡ Some limit
     → (j : ℕ) × (p : TrackPacket) × At packets j p × IsTrue (is_some (reach p))
 
--- if p is a profile of the kind among the packets, it reaches the supervised location of each authority
+-- if p is a profile of the kind, it reaches the supervised location of each authority among the packets
 abbrev pub IsLong : (TrackPacket → Option Reach) → List TrackPacket → TrackPacket → Type 0
-IsLong reach packets p = (j : ℕ) (r : Reach) → At packets j p → reach p ≡ Some r
+IsLong reach packets p = (r : Reach) → reach p ≡ Some r
     → (i : ℕ) (a : TrackPacket) (limit : ℕ) → At packets i a → limit_of a ≡ Some limit → Reaches r limit
 
--- the same of packet k of the balise at place b, among the packets of the reading with nothing missed
+-- the same of packet k of the balise at place b, among what is said, if the balise is not silent and the
+-- packet holds
 abbrev pub IsLongAt : (TrackPacket → Option Reach) → List Telegram → Run → ℕ → ℕ → Type 0
 IsLongAt reach group run b k = (t : Telegram) (p : TrackPacket) → At group b t → At t.packets k p
-    → IsLong reach (full_packets group run) p
+    → IsFalse (is_silent run t.header.dup (length group) b) → IsTrue (holds run p)
+    → IsLong reach (said_by run group) p
 
--- The part of an aspect, at a running direction, a balise and a packet; `group` is aspect a. That of a pair
--- or of profiles is asked for together with a well-formed aspect.
+-- u, at place j, is the first with a counter below 254
+abbrev pub IsFirstCounted : List Telegram → ℕ → Telegram → Type 0
+IsFirstCounted group j u = At group j u × (u.header.counter < 254)
+    × ((i : ℕ) (v : Telegram) → i < j → At group i v → 254 ≤ v.header.counter)
+
+-- the part of an aspect, at a running direction, a balise and a packet; `group` is aspect a
 abbrev pub AspectPart : List (List Telegram) → ℕ → List Telegram → Rule → Option Run → Option ℕ → Option ℕ → Type 0
 -- placed
 AspectPart aspects a group rules.PositionWrong None (Some b) None =
@@ -110,31 +116,27 @@ AspectPart aspects a group rules.CounterUnfit None (Some b) None =
     (t : Telegram) → At group b t → t.header.counter ≢ 254
 -- equal
 AspectPart aspects a group rules.CountersDiffer None (Some b) None =
-    (j : ℕ) (t u : Telegram) → At group b t → At group j u
-    → t.header.counter < 254 → u.header.counter < 254 → t.header.counter ≡ u.header.counter
--- the reading where the balise of the pair that is passed first is missed
+    (j : ℕ) (t u : Telegram) → At group b t → t.header.counter < 254 → IsFirstCounted group j u
+    → t.header.counter ≡ u.header.counter
+-- equal pairs
 AspectPart aspects a group rules.DuplicatesDiffer (Some run) (Some b) None =
-    IsWellFormed group
-    × (IsCovered group (only (passed_first run b)) → IsSoundReading group run (only (passed_first run b)))
+    (t u : Telegram) → At group b t → At group (b + 1) u
+    → t.header.dup ≡ dups.Next → u.header.dup ≡ dups.Previous → held_by run t ≡ held_by run u
 -- modelled
 AspectPart aspects a group rules.NotModelled None (Some b) (Some k) =
     (t : Telegram) (p : TrackPacket) → At group b t → At t.packets k p → IsTrue (is_modelled p)
--- one and each, of gradients and of speeds
-AspectPart aspects a group rules.NoGradient (Some run) None None =
-    IsWellFormed group × HasProfile gradient_reach (full_packets group run)
-AspectPart aspects a group rules.GradientShort (Some run) (Some b) (Some k) =
-    IsWellFormed group × IsLongAt gradient_reach group run b k
-AspectPart aspects a group rules.NoSpeed (Some run) None None =
-    IsWellFormed group × HasProfile speed_reach (full_packets group run)
-AspectPart aspects a group rules.SpeedShort (Some run) (Some b) (Some k) =
-    IsWellFormed group × IsLongAt speed_reach group run b k
+-- one and each, of gradients and of speeds, in what is said with nothing missed
+AspectPart aspects a group rules.NoGradient (Some run) None None = HasProfile gradient_reach (said_by run group)
+AspectPart aspects a group rules.GradientShort (Some run) (Some b) (Some k) = IsLongAt gradient_reach group run b k
+AspectPart aspects a group rules.NoSpeed (Some run) None None = HasProfile speed_reach (said_by run group)
+AspectPart aspects a group rules.SpeedShort (Some run) (Some b) (Some k) = IsLongAt speed_reach group run b k
 -- marks
 AspectPart aspects a group rules.MarksDiffer None (Some b) None =
     (t first : Telegram) → At group b t → At (first_aspect aspects) b first → t.header.dup ≡ first.header.dup
--- distinct
+-- distinct, of this aspect and those before it
 AspectPart aspects a group rules.NotToldApart None (Some b) None =
-    (c q : ℕ) (t u : Telegram) → a ≢ c → At group b t → HasAt aspects c q u
-    → t.header.counter < 254 → u.header.counter < 254 → t.header.counter ≢ u.header.counter
+    (c q : ℕ) (t u : Telegram) → c < a → At group b t → HasAt aspects c q u
+    → t.header.counter < 254 → t.header.counter ≢ u.header.counter
 AspectPart aspects a group rule run b k = ⊤
 
 -- The part of a controlled group as a whole; `new` says that no earlier group has its identity.
@@ -143,7 +145,7 @@ abbrev pub WholePart : Type 0 → List (List Telegram) → Rule → Option Run �
 WholePart new aspects rules.IdentityUsed None None None = new
 -- told
 WholePart new aspects rules.NotToldApart None (Some b) None =
-    IsControlled aspects × (1 < length aspects → IsFixed aspects b ⊎ IsSwitched aspects b)
+    1 < length aspects → IsFixed aspects b ⊎ IsSwitched aspects b
 WholePart new aspects rule run b k = ⊤
 
 -- the part of the packets of a message 3, at a running direction and a packet
@@ -152,10 +154,10 @@ PacketsPart packets rules.NotModelled None None (Some k) =
     (p : TrackPacket) → At packets k p → IsTrue (is_modelled p)
 PacketsPart packets rules.NoGradient (Some run) None None = HasProfile gradient_reach (filter (holds run) packets)
 PacketsPart packets rules.GradientShort (Some run) None (Some k) =
-    (p : TrackPacket) → At packets k p → IsLong gradient_reach (filter (holds run) packets) p
+    (p : TrackPacket) → At packets k p → IsTrue (holds run p) → IsLong gradient_reach (filter (holds run) packets) p
 PacketsPart packets rules.NoSpeed (Some run) None None = HasProfile speed_reach (filter (holds run) packets)
 PacketsPart packets rules.SpeedShort (Some run) None (Some k) =
-    (p : TrackPacket) → At packets k p → IsLong speed_reach (filter (holds run) packets) p
+    (p : TrackPacket) → At packets k p → IsTrue (holds run p) → IsLong speed_reach (filter (holds run) packets) p
 PacketsPart packets rule run b k = ⊤
 
 abbrev pub MessagePart : Message → Rule → Option Run → Option ℕ → Option ℕ → Type 0
@@ -164,12 +166,16 @@ MessagePart (messages.Position m) rule run b k = ⊤
 
 -- ---- what a finding means
 
+-- aspect a is told by its place where the group has two or more, and else not
+abbrev pub IsTold : List (List Telegram) → ℕ → Option ℕ → Type 0
+IsTold aspects a told = (1 < length aspects → told ≡ Some a) × (length aspects ≤ 1 → told ≡ None)
+
 -- A finding about a controlled group: its part of the whole does not hold; or that of the aspect that is
 -- told does not, and its readings are hurt.
 abbrev pub HurtsGroup : Type 0 → List (List Telegram) → Rule → Option ℕ → Option Run → Option ℕ → Option ℕ → Type 0
 HurtsGroup new aspects rule aspect run b k =
     ((aspect ≡ None) × (WholePart new aspects rule run b k → ⊥))
-    ⊎ ((a : ℕ) × (group : List Telegram) × At aspects a group × (aspect ≡ told_aspect aspects a)
+    ⊎ ((a : ℕ) × (group : List Telegram) × At aspects a group × IsTold aspects a aspect
     × (AspectPart aspects a group rule run b k → ⊥) × HurtsReadings group rule run b)
 
 -- a finding about a message: its part does not hold
@@ -186,8 +192,22 @@ HurtsSite groups messages f (sites.Group g) =
     (aspects : List (List Telegram)) × At groups g aspects
     × HurtsGroup (IsNew groups g aspects) aspects f.rule f.aspect f.dir f.balise f.packet
 HurtsSite groups messages f (sites.Message i) =
-    (m : Message) × At messages i m × HurtsMessage m f.rule f.dir f.balise f.packet
+    (m : Message) × At messages i m × (f.aspect ≡ None) × HurtsMessage m f.rule f.dir f.balise f.packet
 
 -- what a finding means at its site
 abbrev pub Hurts : List (List (List Telegram)) → List Message → Finding → Type 0
 Hurts groups messages f = HurtsSite groups messages f f.site
+
+-- ---- what no finding means
+
+abbrev pub HasPartsAt : List (List (List Telegram)) → List Message → Finding → Site → Type 0
+HasPartsAt groups messages f (sites.Group g) = (aspects : List (List Telegram)) → At groups g aspects
+    → (f.aspect ≡ None → WholePart (IsNew groups g aspects) aspects f.rule f.dir f.balise f.packet)
+    × ((a : ℕ) (group : List Telegram) → At aspects a group → IsTold aspects a f.aspect
+    → AspectPart aspects a group f.rule f.dir f.balise f.packet)
+HasPartsAt groups messages f (sites.Message i) = (m : Message) → At messages i m → f.aspect ≡ None
+    → MessagePart m f.rule f.dir f.balise f.packet
+
+-- the parts that the rule of f asks for hold at its site, aspect, running direction, balise and packet
+abbrev pub HasParts : List (List (List Telegram)) → List Message → Finding → Type 0
+HasParts groups messages f = HasPartsAt groups messages f f.site

@@ -11,12 +11,13 @@ use Rattle.etcs_group.specs.Laws.{IsDecided, IsMixtureDecided}
 use Rattle.etcs_group.specs.Controlled.{IsControlled}
 use Rattle.etcs_group.specs.Mixture.{Fits}
 use Rattle.etcs_check.specs.Duplicates.{same_packet, same_telegram}
-use Rattle.etcs_check.specs.Soundness.{IsSoundGroup, IsSoundControlled, IsSoundLine, group_identity}
-use Rattle.etcs_check.specs.Line.{group_findings, findings}
+use Rattle.etcs_check.specs.Soundness.{IsSoundGroup, IsSoundControlled, IsSoundMessage, IsSoundLine, group_identity}
+use Rattle.etcs_check.specs.Line.{group_findings, findings, IsUnnamed}
 use Rattle.etcs_check.specs.Meaning.{States}
-use Rattle.etcs_check.specs.Harm.{Hurts}
+use Rattle.etcs_check.specs.Harm.{HasParts, Hurts}
 use Rattle.etcs_check.specs.declared.finding.Finding.{Finding}
 use Rattle.etcs_check.specs.declared.finding.Site.{Site}
+use Rattle.etcs_check.specs.declared.finding.Site.TheVariants as sites
 
 -- Two packets are equal exactly where the numbers in their rows are.
 abbrev pub PacketsAreTheirNumbers : Type 0
@@ -44,15 +45,34 @@ abbrev pub NoFindingMeansSoundLine : Type 0
 NoFindingMeansSoundLine = (groups : List (List (List Telegram))) (messages : List Message) → AreControlled groups
     → (findings groups messages ≡ []) ↔ IsSoundLine groups messages
 
+-- each group and each message that no finding of the list names is sound
+abbrev pub AreSoundUnlessNamed : List (List (List Telegram)) → List Message → List Finding → Type 0
+AreSoundUnlessNamed groups messages found =
+    ((g : ℕ) (aspects : List (List Telegram)) → At groups g aspects → IsUnnamed found (sites.Group g)
+    → IsSoundControlled aspects)
+    × ((i : ℕ) (m : Message) → At messages i m → IsUnnamed found (sites.Message i) → IsSoundMessage m)
+
+-- What no finding of a line names is sound.
+abbrev pub UnnamedMeansSound : Type 0
+UnnamedMeansSound = (groups : List (List (List Telegram))) (messages : List Message) → AreControlled groups
+    → AreSoundUnlessNamed groups messages (findings groups messages)
+
 -- Each finding states a fact at its place, where its part of soundness does not hold.
 abbrev pub FindingsAreFacts : Type 0
 FindingsAreFacts = (groups : List (List (List Telegram))) (messages : List Message) (i : ℕ) (f : Finding)
-    → At (findings groups messages) i f → States groups messages f × Hurts groups messages f
+    → At (findings groups messages) i f
+    → States groups messages f × (AreControlled groups → Hurts groups messages f)
 
--- In a sound line nothing hurts: what does not hold where a finding hurts is a part of soundness.
+-- Where a rule has no finding, its part of soundness holds.
+abbrev pub PartsHoldUnlessFound : Type 0
+PartsHoldUnlessFound = (groups : List (List (List Telegram))) (messages : List Message) (f : Finding)
+    → AreControlled groups → ((i : ℕ) → At (findings groups messages) i f → ⊥) → HasParts groups messages f
+
+-- In a sound line each part of soundness holds at each place, so nothing hurts.
 abbrev pub NothingHurtsASoundLine : Type 0
 NothingHurtsASoundLine = (groups : List (List (List Telegram))) (messages : List Message) (f : Finding)
-    → AreControlled groups → IsSoundLine groups messages → Hurts groups messages f → ⊥
+    → AreControlled groups → IsSoundLine groups messages
+    → HasParts groups messages f × (Hurts groups messages f → ⊥)
 
 -- Each fact has its finding.
 abbrev pub FactsAreFindings : Type 0

@@ -132,17 +132,21 @@ fn counter_differs(group: &[Telegram], telegram: &Telegram) -> bool
     }
 }
 
-// Whether the rule is broken by the balise at this place of an aspect. The balise is compared with
-// `first`, aspect 0. Counters of earlier aspects are not looked at. It is inlined because the quick look
-// at a group asks it of each balise for each rule.
+// Whether the rule is broken by this telegram, which is that of the balise at this place of an aspect. The
+// balise is compared with `first`, aspect 0. Counters of earlier aspects are not looked at. It is inlined
+// because the quick look at a group asks it of each balise for each rule.
 #[inline(always)]
-fn balise_fact(first: &[Telegram], group: &[Telegram], rule: Rule, place: usize) -> bool
+fn balise_fact(
+    first: &[Telegram],
+    group: &[Telegram],
+    rule: Rule,
+    place: usize,
+    telegram: &Telegram,
+) -> bool
     requires within { place < length group.now }
     requires few { length group.now ≤ 8 }
-    ensures { (t : Telegram) → slice_get group.now place ≡ Some t
-        → result ≡ balise_fact first.now [] group.now rule place t }
+    ensures { result ≡ balise_fact first.now [] group.now rule place telegram.now }
 {
-    let telegram = &group[place];
     let header = &telegram.header;
     match rule {
         Rule::PositionWrong => header.position.number() as usize != place,
@@ -159,35 +163,35 @@ fn balise_fact(first: &[Telegram], group: &[Telegram], rule: Rule, place: usize)
 
 // Whether no fact stands about the balise at this place of a group of one aspect, about its packets, or
 // about the pair of it and the next balise. The rules are named one by one: a loop over all of them is
-// slower.
+// slower. F16 is not among them: a group of one aspect has nothing to be told apart from.
 pub(crate) fn is_quiet_balise(group: &[Telegram], place: usize, telegram: &Telegram) -> bool
     requires within { place < length group.now }
     requires few { length group.now ≤ 8 }
     requires at { slice_get group.now place ≡ Some telegram.now }
     ensures { IsTrue result → IsQuietBalise group.now place telegram.now }
 {
-    if balise_fact(group, group, Rule::PositionWrong, place) {
+    if balise_fact(group, group, Rule::PositionWrong, place, telegram) {
         return false;
     }
-    if balise_fact(group, group, Rule::TotalWrong, place) {
+    if balise_fact(group, group, Rule::TotalWrong, place, telegram) {
         return false;
     }
-    if balise_fact(group, group, Rule::HeaderDiffers, place) {
+    if balise_fact(group, group, Rule::HeaderDiffers, place, telegram) {
         return false;
     }
-    if balise_fact(group, group, Rule::MarkOutside, place) {
+    if balise_fact(group, group, Rule::MarkOutside, place, telegram) {
         return false;
     }
-    if balise_fact(group, group, Rule::MarkUnanswered, place) {
+    if balise_fact(group, group, Rule::MarkUnanswered, place, telegram) {
         return false;
     }
-    if balise_fact(group, group, Rule::CounterUnfit, place) {
+    if balise_fact(group, group, Rule::CounterUnfit, place, telegram) {
         return false;
     }
-    if balise_fact(group, group, Rule::CountersDiffer, place) {
+    if balise_fact(group, group, Rule::CountersDiffer, place, telegram) {
         return false;
     }
-    if balise_fact(group, group, Rule::MarksDiffer, place) {
+    if balise_fact(group, group, Rule::MarksDiffer, place, telegram) {
         return false;
     }
     if pair_differs_at(group, Run::Nominal, place) {
@@ -220,7 +224,7 @@ pub(crate) fn note_balises(
     ensures memory { OnErr result (balise_facts rule spot (balise_fact first.now [] group.now rule) group.now ≢ []) }
 {
     'places: for place in 0..group.len() {
-        let fact = balise_fact(first, group, rule, place);
+        let fact = balise_fact(first, group, rule, place, &group[place]);
         note(found, fact, rule, spot, None, Some(place), None)?;
     }
     Ok(())

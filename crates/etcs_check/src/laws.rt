@@ -1,7 +1,7 @@
 //! Laws of findings and soundness, for users. Each law is the contract of a function that does
 //! nothing.
 
-ghost use Rattle.etcs_check.specs.Laws.{FactsAreFindings, FindingsAreFacts, NoFindingMeansSoundGroup, NoFindingMeansSoundLine, NothingHurtsASoundLine, PacketsAreTheirNumbers, SoundGroupsAreDecided, SoundMixturesAreDecided, TelegramsAreTheirParts};
+ghost use Rattle.etcs_check.specs.Laws.{FactsAreFindings, FindingsAreFacts, NoFindingMeansSoundGroup, NoFindingMeansSoundLine, NothingHurtsASoundLine, PacketsAreTheirNumbers, PartsHoldUnlessFound, SoundGroupsAreDecided, SoundMixturesAreDecided, TelegramsAreTheirParts, UnnamedMeansSound};
 
 /// Two packets are equal exactly if the numbers in the rows of their tables are.
 pub fn packets_are_their_numbers()
@@ -25,16 +25,27 @@ pub fn no_finding_means_sound_line()
     ensures { NoFindingMeansSoundLine }
 {}
 
+/// A group or a message that no finding of its line names is sound, whatever is found elsewhere.
+pub fn unnamed_means_sound()
+    ensures { UnnamedMeansSound }
+{}
+
 /// Each finding of a line states a fact at its site, aspect, running direction, balise and packet. The part
 /// of soundness that its rule asks for does not hold there. A counter that does not fit means that the
-/// reading with nothing missed is refused. Duplicates that differ mean that what a train makes of the group
-/// depends on which of the two it misses. A missing or short profile means that what the group says does not
-/// reach a supervised location.
+/// reading with nothing missed is refused. In a well-formed aspect, duplicates that differ mean that what a
+/// train makes of the group depends on which of the two it misses, and a missing or short profile means that
+/// what the group says does not reach a supervised location.
 pub fn findings_are_facts()
     ensures { FindingsAreFacts }
 {}
 
-/// In a sound line no finding could hurt: each part of soundness that a rule asks for holds at each place.
+/// Where a rule has no finding, the part of soundness that it asks for holds: at each site, aspect, running
+/// direction, balise and packet.
+pub fn parts_hold_unless_found()
+    ensures { PartsHoldUnlessFound }
+{}
+
+/// In a sound line each part of soundness that a rule asks for holds at each place, so no finding could hurt.
 pub fn nothing_hurts_a_sound_line()
     ensures { NothingHurtsASoundLine }
 {}

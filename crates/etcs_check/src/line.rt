@@ -2,7 +2,6 @@
 
 ghost use Rattle.std.specs.Prelude.{◌≡◌, ◌≢◌, ◌↔◌, ◌<◌, ◌++◌, ◌||◌, ◌==◌, [], ℕ, Bool, true, false, List, length, replicate, Option, IfOk, OnOk, OnErr};
 ghost use Rattle.etcs_packet.specs.declared.run.Run.{Run};
-ghost use Rattle.etcs_radio.specs.declared.message.Message.{Message};
 ghost use Rattle.etcs_telegram.specs.Record.{Telegram};
 ghost use Rattle.etcs_group.specs.Places.{At};
 ghost use Rattle.etcs_group.specs.Missed.{IsSetOf};
@@ -11,12 +10,11 @@ ghost use Rattle.etcs_group.specs.Laws.{IsDecided, IsMixtureDecided};
 ghost use Rattle.etcs_group.specs.Mixture.{Fits};
 ghost use Rattle.etcs_check.specs.Harm.{Hurts};
 ghost use Rattle.etcs_check.specs.Identities.{IsNumbered, identity_number, is_marked};
-ghost use Rattle.etcs_check.specs.Laws.{AreControlled};
-ghost use Rattle.etcs_check.specs.Line.{IsUnnamed, findings, group_list, message_list};
+ghost use Rattle.etcs_check.specs.Laws.{AreControlled, AreSoundUnlessNamed};
+ghost use Rattle.etcs_check.specs.Line.{findings, group_list, message_list};
 ghost use Rattle.etcs_check.specs.Meaning.{States};
-ghost use Rattle.etcs_check.specs.Soundness.{IsSoundControlled, IsSoundGroup, IsSoundLine, IsSoundMessage};
+ghost use Rattle.etcs_check.specs.Soundness.{IsSoundControlled, IsSoundGroup, IsSoundLine};
 ghost use Rattle.etcs_check.specs.declared.finding.Finding.{Finding};
-ghost use Rattle.etcs_check.specs.declared.finding.Site.TheVariants as sites;
 
 use crate::checking::{note_group, note_message};
 use crate::finding::{Finding, Site};
@@ -110,8 +108,8 @@ fn note_messages(found: &mut Vec<Finding>, messages: &[Message]) -> Result<(), M
 /// - The aspects of a group are contents of one group, and their counters tell them apart. So a train
 ///   that passes while the group is switched refuses what it reads, unless one aspect has all of it.
 ///
-/// Memory is asked for only if there is a finding. Where an identity repeats, which is one, a table of all
-/// identities takes 2 MiB, once. The only error is that memory runs out; then no finding is returned.
+/// Memory is asked for only if there is a finding. An identity that repeats is one, and takes a table of all
+/// identities besides: 2 MiB, once. The only error is that memory runs out; then no finding is returned.
 pub fn check(alloc: Global, line: &Line) -> Result<Vec<Finding>, Memory>
     ensures ok { IfOk result (λ found. found.items ≡ findings line.now.groups.items line.now.messages.items) }
     ensures memory { OnErr result (findings line.now.groups.items line.now.messages.items ≢ []) }
@@ -121,10 +119,8 @@ pub fn check(alloc: Global, line: &Line) -> Result<Vec<Finding>, Memory>
         ↔ IsSoundLine line.now.groups.items line.now.messages.items) }
 
     // A group or a message that no finding names is sound, whatever is found elsewhere.
-    ensures sound_group { IfOk result (λ found. (g : ℕ) (aspects : List (List Telegram))
-        → At line.now.groups.items g aspects → IsUnnamed found.items (sites.Group g) → IsSoundControlled aspects) }
-    ensures sound_message { IfOk result (λ found. (i : ℕ) (message : Message)
-        → At line.now.messages.items i message → IsUnnamed found.items (sites.Message i) → IsSoundMessage message) }
+    ensures unnamed { IfOk result
+        (λ found. AreSoundUnlessNamed line.now.groups.items line.now.messages.items found.items) }
 
     // Each finding states a fact, and at its place its own part of soundness does not hold.
     ensures facts { IfOk result (λ found. (i : ℕ) (f : Finding) → At found.items i f
@@ -135,7 +131,8 @@ pub fn check(alloc: Global, line: &Line) -> Result<Vec<Finding>, Memory>
     ensures all { IfOk result (λ found. (f : Finding)
         → States line.now.groups.items line.now.messages.items f → (i : ℕ) × At found.items i f) }
 
-    // Each reading of a sound aspect is accepted or refused by what was missed alone.
+    // Each reading of a sound aspect is accepted or refused by what was missed alone. Like the next clause,
+    // this is a law of the line, whatever is found.
     ensures decided { OnOk result ((g a : ℕ) (aspects : List (List Telegram)) (group : List Telegram) (run : Run)
         (missed : ℕ → Bool) → At line.now.groups.items g aspects → At aspects a group → IsSoundGroup group
         → IsSetOf group missed → IsDecided run group missed (reading_of run missed group)) }

@@ -95,4 +95,5 @@ says_yes bytes groups ms is sound decided mixtures =
       reached = λ g a aspects group run missed here within set covered. (((sound.sound g aspects here).sound a group within).readings run missed set covered).reached;
       mixtures = mixtures;
       messages_reached = λ i m here. reached m (sound.messages_sound i m here);
+      sound = sound;
     }

@@ -50,14 +50,14 @@ fn read_document(alloc: Global, value: &Value) -> Result<Line, LineError>
 /// The error is the first fault, depth first: `NotJson`; then the document's own form; then each group
 /// whole before the next, which is its form, the count of its balises and each of these, or its list
 /// of aspects, each whole before the next; and only then the messages. An aspect's count is compared
-/// with that of aspect 0 before its balises are looked at. The one error besides is that memory ran
-/// out, which is never the answer where there are no bytes, or where they are not UTF-8: a fault may then
-/// go unseen. After an error nothing is returned of what was read.
+/// with that of aspect 0 before its balises are looked at. The one error besides is that memory ran out.
+/// A fault may then go unseen, but not that there are no bytes, or that they are not UTF-8. After an error
+/// nothing is returned of what was read.
 #[tactic(auto, unfolding(crate::specs::Document::line_of_text))]
 pub fn read_line(alloc: Global, bytes: &[u8]) -> Result<Line, LineError>
     ensures exact { Gives (λ l. (l.groups.items, l.messages.items)) result (line_of_text bytes.now) }
 
-    // No memory is asked for where there is nothing, nor where it is not UTF-8.
+    // No bytes are no JSON, nor are bytes that are not UTF-8, whatever memory there is.
     ensures empty { bytes.now ≡ [] → result ≡ Err LineError.NotJson }
     ensures unreadable { is_utf8 bytes.now ≡ false → result ≡ Err LineError.NotJson }
 {

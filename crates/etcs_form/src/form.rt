@@ -1,6 +1,7 @@
 //! What has a JSON form.
 
 ghost use Rattle.std.specs.Prelude.{◌≡◌, Ok, IfOk, OnErr, OnOk};
+ghost use Rattle.serde_json.specs.Data.{Data};
 ghost use Rattle.serde_json.specs.View.{view};
 ghost use Rattle.etcs_form.specs.Fault.{Gives, IfMemory};
 ghost use Rattle.etcs_form.specs.Sending.{SendsValue};
@@ -26,6 +27,10 @@ pub trait Form: Drop {
     /// a fault of the value itself has no step.)
     ghost builds: { Type 0 } = { Unit {0} };
 
+    /// Whether reading this value may ask for memory. It never does where the value is refused as a whole:
+    /// it is no object, or, of a record, it has a key that the form does not have.
+    ghost asks: { Data → Type 0 } = { λ _. builds };
+
     /// The form as a JSON value, which is read as this value again if the value is in range. The
     /// only error is that memory runs out; then no form is returned.
     fn to_form(&self, alloc: Global) -> Result<Value, Memory>
@@ -41,8 +46,8 @@ pub trait Form: Drop {
     fn of_form(alloc: Global, value: &Value) -> Result<Self, FormError>
         ensures gives { Gives (λ x. x) result (shape.of (view value.now)) }
 
-        // Nor does reading one.
-        ensures memory { IfMemory result builds };
+        // Where no memory is asked for, the answer is never that it ran out.
+        ensures memory { IfMemory result (asks (view value.now)) };
 }
 
 /// A value whose form can be sent piece by piece, so that no value is built for it.

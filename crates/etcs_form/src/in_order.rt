@@ -7,7 +7,7 @@ ghost use Rattle.json.specs.Token.{Token as JsonToken};
 ghost use Rattle.etcs_check.specs.Line.{message_at};
 ghost use Rattle.etcs_form.specs.DocumentFault.{Gives};
 ghost use Rattle.etcs_form.specs.DocumentTokens.{AreGroups, AreMessages, HasLine, IsChecked, IsFirst, IsGroupList, IsMessage, IsMessageList, IsNextGroup};
-ghost use Rattle.etcs_form.specs.Verdict.{TextSaysYes, counted_of_text};
+ghost use Rattle.etcs_form.specs.Verdict.{IsSoundTextUnlessNamed, TextSaysYes, counted_of_text};
 
 use crate::identities::{identity_number, mark};
 use crate::judging::check_text;
@@ -234,6 +234,9 @@ pub fn check_in_order(alloc: Global, bytes: &[u8]) -> Result<Checked, LineError>
 
     // Where nothing is found, the bytes are a line of which all is true that a yes says.
     ensures says { IfOk result (λ c. c.findings.items ≡ [] → TextSaysYes bytes.now) }
+
+    // A group or a message that no finding names is sound, whatever is found elsewhere.
+    ensures unnamed { IfOk result (λ c. IsSoundTextUnlessNamed bytes.now c.findings.items) }
 
     // No bytes are no JSON, nor are bytes that are not UTF-8, whatever memory there is.
     ensures empty { bytes.now ≡ [] → result ≡ Err LineError.NotJson }

@@ -9,6 +9,7 @@ ghost use Rattle.etcs_group.specs.Missed.{IsSetOf};
 ghost use Rattle.etcs_group.specs.Mixture.{Fits};
 ghost use Rattle.etcs_group.specs.Places.{At};
 ghost use Rattle.etcs_group.specs.Reading.{reading_of};
+ghost use Rattle.etcs_check.specs.Laws.{AreSoundUnlessNamed};
 ghost use Rattle.etcs_check.specs.Soundness.{IsSoundControlled, IsSoundGroup};
 ghost use Rattle.etcs_form.specs.DocumentFault.{Gives};
 ghost use Rattle.etcs_form.specs.Verdict.{IsSoundText, IsYes, SaysYes, verdict_of_text};
@@ -41,6 +42,10 @@ pub fn check_text(alloc: Global, bytes: &[u8]) -> Result<Verdict, LineError>
     ensures says { IfOk result (λ v. v.findings.items ≡ []
         → SaysYes bytes.now v.line.groups.items v.line.messages.items) }
 
+    // A group or a message that no finding names is sound, whatever is found elsewhere.
+    ensures unnamed { IfOk result
+        (λ v. AreSoundUnlessNamed v.line.groups.items v.line.messages.items v.findings.items) }
+
     // Each reading of a sound aspect is accepted or refused by what was missed alone, whatever else is found.
     ensures decided { IfOk result (λ v. (g a : ℕ) (aspects : List (List Telegram)) (group : List Telegram)
         (run : Run) (missed : ℕ → Bool) → At v.line.groups.items g aspects → At aspects a group
@@ -52,7 +57,7 @@ pub fn check_text(alloc: Global, bytes: &[u8]) -> Result<Verdict, LineError>
         (shown : ℕ → Option ℕ) → At v.line.groups.items g aspects → IsSoundControlled aspects
         → Fits aspects shown → IsMixtureDecided run aspects shown) }
 
-    // No memory is asked for where there is nothing, nor where it is not UTF-8.
+    // No bytes are no JSON, nor are bytes that are not UTF-8, whatever memory there is.
     ensures empty { bytes.now ≡ [] → result ≡ Err LineError.NotJson }
     ensures unreadable { is_utf8 bytes.now ≡ false → result ≡ Err LineError.NotJson }
 {

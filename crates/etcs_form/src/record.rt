@@ -1,12 +1,12 @@
 //! Records whose forms are objects.
 
-ghost use Rattle.std.specs.Prelude.{◌≡◌, true, OnOk};
+ghost use Rattle.std.specs.Prelude.{◌≡◌, true, IsOk, OnOk};
 ghost use Rattle.std.specs.List.{list_any};
 ghost use Rattle.std.specs.Str.{bytes_eq};
 ghost use Rattle.etcs_bits.specs.layout.Rows.{AreAllowed};
 ghost use Rattle.serde_json.specs.View.{members_view, view};
 ghost use Rattle.etcs_form.specs.Entries.{are_known, is_among, members_onto};
-ghost use Rattle.etcs_form.specs.Fault.{Gives};
+ghost use Rattle.etcs_form.specs.Fault.{Gives, IfMemory};
 ghost use Rattle.etcs_form.specs.Reading.{object_with};
 ghost use Rattle.etcs_form.specs.Shape.{Object, object as shape_of};
 ghost use Rattle.etcs_form.specs.Sending.{SendsMembers, sorted};
@@ -80,7 +80,8 @@ fn all_known<T: Members>(members: &Map<String, Value>) -> bool
 
 // Refuses a value that is no object, and an object with a key that the record's form does not have.
 fn check_keys<T: Members>(alloc: Global, value: &Value) -> Result<(), FormError>
-    ensures { Gives (λ u. u) result (object_with T.object.part.keys (view value.now)) }
+    ensures keys { Gives (λ u. u) result (object_with T.object.part.keys (view value.now)) }
+    ensures memory { IfMemory result ⊥ }
 {
     match value.as_object() {
         None => Err(FormError::kind(alloc)),
@@ -98,6 +99,8 @@ impl<T: Members> Form for T {
     ghost shape = { shape_of T.object };
 
     ghost in_range = { T.bounded };
+
+    ghost asks = { λ d. IsOk (object_with T.object.part.keys d) };
 
     fn to_form(&self, alloc: Global) -> Result<Value, Memory> {
         // For the proof alone: what is written is read again.

@@ -46,8 +46,8 @@ pub trait LineCommand: Drop {
     /// and never fails.
     ///
     /// `Memory`: a request for memory was refused. `Device`: a write failed, and the writer's count of
-    /// failures has risen by 1. In both cases what was written is a beginning of the answer. With or
-    /// without an error, it need not be flushed.
+    /// failures has risen by 1. In both cases what was written is a beginning of the answer. Nothing is
+    /// flushed.
     fn end<W: Write>(&mut self, alloc: Global, writer: &mut Counted<W>) -> Result<Status, RunError>
         requires { CanCount writer.old }
         ensures writes { (number : ℕ) → Writes (W.contents (inner_of writer.old))

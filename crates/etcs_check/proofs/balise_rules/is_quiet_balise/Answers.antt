@@ -10,14 +10,14 @@ use Rattle.etcs_check.proofs.balise_rules.is_quiet_balise.Goals as goal
 pub returns : goal.returns
 returns c = λ yes. record {
   alone = by_rule c.args.group.now c.args.place c.args.telegram.now
-      (sym (c.balise_fact.ensures _ c.requires.at) ∙ c.if-balise_fact.false)
-      (sym (c.balise_fact-2.ensures _ c.requires.at) ∙ c.if-balise_fact-2.false)
-      (sym (c.balise_fact-3.ensures _ c.requires.at) ∙ c.if-balise_fact-3.false)
-      (sym (c.balise_fact-4.ensures _ c.requires.at) ∙ c.if-balise_fact-4.false)
-      (sym (c.balise_fact-5.ensures _ c.requires.at) ∙ c.if-balise_fact-5.false)
-      (sym (c.balise_fact-6.ensures _ c.requires.at) ∙ c.if-balise_fact-6.false)
-      (sym (c.balise_fact-7.ensures _ c.requires.at) ∙ c.if-balise_fact-7.false)
-      (sym (c.balise_fact-8.ensures _ c.requires.at) ∙ c.if-balise_fact-8.false);
+      (sym c.balise_fact.ensures ∙ c.if-balise_fact.false)
+      (sym c.balise_fact-2.ensures ∙ c.if-balise_fact-2.false)
+      (sym c.balise_fact-3.ensures ∙ c.if-balise_fact-3.false)
+      (sym c.balise_fact-4.ensures ∙ c.if-balise_fact-4.false)
+      (sym c.balise_fact-5.ensures ∙ c.if-balise_fact-5.false)
+      (sym c.balise_fact-6.ensures ∙ c.if-balise_fact-6.false)
+      (sym c.balise_fact-7.ensures ∙ c.if-balise_fact-7.false)
+      (sym c.balise_fact-8.ensures ∙ c.if-balise_fact-8.false);
   modelled = subst (AllPass is_modelled) c.packets.ensures (c.are_modelled.ensures yes);
   paired =
       let next = slice_get c.args.group.now (c.args.place + 1) in

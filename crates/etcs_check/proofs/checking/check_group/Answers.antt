@@ -53,4 +53,4 @@ returns-clause-hurts c = λ i f at.
     ∙ ap (λ l. l ++ group_facts (sites.Group c.args.place) c.args.used c.aspects.result.now) c.new-found.ensures.items
     ∙ ap (λ g. group_facts (sites.Group c.args.place) c.args.used g) c.aspects.ensures.value in
     let fact = group_states (sites.Group c.args.place) c.args.used c.args.group.now i f (subst (λ l. At l i f) eq at) in
-    group_hurts (c.args.used ≡ false) c.args.used c.args.group.now (λ new. new) f.rule f.aspect f.dir f.balise f.packet fact.1
+    group_hurts (c.args.used ≡ false) c.args.used c.args.group.now (subst IsControlled c.aspects.ensures.value c.aspects.ensures.controlled) (λ new. new) f.rule f.aspect f.dir f.balise f.packet fact.1

@@ -1,5 +1,8 @@
+use Rattle.std.proofs.Common.{Ok, ap}
+use Rattle.etcs_form.specs.Document.{◌then◌}
+use Rattle.etcs_form.specs.Verdict.{counted}
 use Rattle.etcs_form.proofs.EmptyLemmas.{none_counted, unreadable_counted}
-use Rattle.etcs_form.proofs.YesLemmas.{counted_none, no_finding_says_yes, text_says_yes}
+use Rattle.etcs_form.proofs.YesLemmas.{counted_none, counted_unnamed, no_finding_says_yes, text_says_yes}
 use Rattle.etcs_form.proofs.in_order.check_in_order.Goals as goal
 
 -- what was found group by group is what the bytes mean
@@ -9,6 +12,13 @@ returns-in-Some-clause-says c = λ none. no_finding_says_yes c.args.bytes.now (c
 -- the line that was kept is that of the bytes
 pub returns-clause-says : goal.returns-clause-says
 returns-clause-says c = λ none. text_says_yes _ _ _ (c.in_ok-verdict.ensures.says none)
+
+-- each finding of the bytes names its group or its message
+pub returns-in-Some-clause-unnamed : goal.returns-in-Some-clause-unnamed
+returns-in-Some-clause-unnamed c = counted_unnamed c.args.bytes.now _ c.in-Some.ensures
+
+pub returns-clause-unnamed : goal.returns-clause-unnamed
+returns-clause-unnamed c = counted_unnamed c.args.bytes.now _ (ap (λ r. r then λ v. Ok (counted v)) c.in_ok-verdict.ensures.exact)
 
 -- no bytes are no line
 pub returns-in-Some-clause-empty : goal.returns-in-Some-clause-empty
