@@ -158,9 +158,13 @@ pub(crate) fn read_without_main(alloc: Global, value: &Value) -> Result<Authorit
 
 #[tactic(auto, unfolding(crate::specs::Authority::authority))]
 impl Form for Authority {
+    ghost use Rattle.std.specs.Prelude.{IsOk};
+    ghost use Rattle.etcs_form.specs.Chosen.{any_object};
     ghost use Rattle.etcs_form.specs.Authority.{authority};
 
     ghost shape = { authority };
+
+    ghost asks = { λ d. IsOk (any_object d) };
 
     fn to_form(&self, alloc: Global) -> Result<Value, Memory> {
         // For the proof alone: what is written is read again.

@@ -23,13 +23,13 @@ pub trait Form: Drop {
     /// if the value's type keeps its numbers and lists in range.
     ghost in_range: { Self → Type 0 } = { λ _. Unit {0} };
 
-    /// Whether making or reading the form may ask for memory: not if the form is a number. (The way to
-    /// a fault of the value itself has no step.)
+    /// Whether making the form may ask for memory: not if the form is a number.
     ghost builds: { Type 0 } = { Unit {0} };
 
-    /// Whether reading this value may ask for memory. It never does where the value is refused as a whole:
-    /// it is no object, or, of a record, it has a key that the form does not have.
-    ghost asks: { Data → Type 0 } = { λ _. builds };
+    /// Whether reading this value may ask for memory: not if the form is a number, nor where an object is
+    /// wanted and the value is none, or has a key that the form of a record does not have. (The way to a
+    /// fault of the value itself has no step.)
+    ghost asks: { Data → Type 0 } = { λ _. Unit {0} };
 
     /// The form as a JSON value, which is read as this value again if the value is in range. The
     /// only error is that memory runs out; then no form is returned.

@@ -65,6 +65,8 @@ impl Form for Train3 {
 
     ghost builds = { ⊥ };
 
+    ghost asks = { λ _. ⊥ };
+
     fn to_form(&self, _alloc: Global) -> Result<Value, Memory> {
         Ok(Value::from(u64::from(self.number())))
     }

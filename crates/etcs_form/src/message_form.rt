@@ -1,10 +1,10 @@
 //! The form of a radio message, whose number decides it.
 
-ghost use Rattle.std.specs.Prelude.{codes};
+ghost use Rattle.std.specs.Prelude.{codes, IsOk};
 ghost use Rattle.serde_json.specs.View.{view};
 ghost use Rattle.etcs_form.specs.AnyMessage.{is_message};
-ghost use Rattle.etcs_form.specs.Chosen.{first_at};
-ghost use Rattle.etcs_form.specs.Fault.{Gives};
+ghost use Rattle.etcs_form.specs.Chosen.{any_object, first_at};
+ghost use Rattle.etcs_form.specs.Fault.{Gives, IfMemory};
 ghost use Rattle.etcs_form.specs.Reading.{at_key, number_of};
 
 use crate::error::{FormError, Step};
@@ -51,8 +51,9 @@ fn read_number(alloc: Global, value: &Value) -> Result<u64, FormError>
 
 // Reads the number before the other keys are looked at.
 fn read_first_number(alloc: Global, value: &Value) -> Result<u64, FormError>
-    ensures { Gives (λ n. n) result
+    ensures first { Gives (λ n. n) result
         (first_at (number_of is_message) (codes "nid_message") (view value.now)) }
+    ensures memory { IfMemory result (IsOk (any_object (view value.now))) }
 {
     check_object(alloc, value)?;
     read_number(alloc, value)
@@ -62,6 +63,8 @@ impl Form for Message {
     ghost use Rattle.etcs_form.specs.AnyMessage.{message};
 
     ghost shape = { message };
+
+    ghost asks = { λ d. IsOk (any_object d) };
 
     fn to_form(&self, alloc: Global) -> Result<Value, Memory> {
         // Each kind is in range. That is for the proof alone: what is written is read again.

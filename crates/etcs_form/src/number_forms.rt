@@ -16,6 +16,8 @@ impl<const W: u32> Form for Plain<W> {
 
     ghost builds = { ⊥ };
 
+    ghost asks = { λ _. ⊥ };
+
     fn to_form(&self, _alloc: Global) -> Result<Value, Memory> {
         Ok(Value::from(u64::from(self.number())))
     }
@@ -48,6 +50,8 @@ impl<const W: u32, const LAST: u32, const FROM: u32> Form for Ranged<W, LAST, FR
     ghost shape = { ranges W LAST FROM };
 
     ghost builds = { ⊥ };
+
+    ghost asks = { λ _. ⊥ };
 
     fn to_form(&self, _alloc: Global) -> Result<Value, Memory> {
         Ok(Value::from(u64::from(self.number())))
@@ -82,6 +86,8 @@ impl Form for bool {
 
     ghost builds = { ⊥ };
 
+    ghost asks = { λ _. ⊥ };
+
     fn to_form(&self, _alloc: Global) -> Result<Value, Memory> {
         Ok(Value::from(if *self { 1u64 } else { 0u64 }))
     }
@@ -110,6 +116,8 @@ impl Form for Dir {
     ghost shape = { direction };
 
     ghost builds = { ⊥ };
+
+    ghost asks = { λ _. ⊥ };
 
     fn to_form(&self, _alloc: Global) -> Result<Value, Memory> {
         Ok(Value::from(u64::from(self.number())))
@@ -144,6 +152,8 @@ impl Form for Scale {
 
     ghost builds = { ⊥ };
 
+    ghost asks = { λ _. ⊥ };
+
     fn to_form(&self, _alloc: Global) -> Result<Value, Memory> {
         Ok(Value::from(u64::from(self.number())))
     }
@@ -177,6 +187,8 @@ impl Form for Dup {
 
     ghost builds = { ⊥ };
 
+    ghost asks = { λ _. ⊥ };
+
     fn to_form(&self, _alloc: Global) -> Result<Value, Memory> {
         Ok(Value::from(u64::from(self.number())))
     }
@@ -209,6 +221,8 @@ impl Form for Version {
     ghost shape = { version };
 
     ghost builds = { ⊥ };
+
+    ghost asks = { λ _. ⊥ };
 
     fn to_form(&self, _alloc: Global) -> Result<Value, Memory> {
         Ok(Value::from(u64::from(self.number())))

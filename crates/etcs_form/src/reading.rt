@@ -1,9 +1,9 @@
 //! How the parts of a form are read.
 
-ghost use Rattle.std.specs.Prelude.{◌==◌, map};
+ghost use Rattle.std.specs.Prelude.{◌==◌, map, IsOk};
 ghost use Rattle.serde_json.specs.View.{view};
 ghost use Rattle.etcs_form.specs.Chosen.{any_object, first_at};
-ghost use Rattle.etcs_form.specs.Fault.{Gives};
+ghost use Rattle.etcs_form.specs.Fault.{Gives, IfMemory};
 ghost use Rattle.etcs_form.specs.Reading.{at_key, at_key_if, items_at, list_of, no_key, number_of};
 ghost use Rattle.etcs_form.specs.Shape.{fixed, list_from_one};
 
@@ -34,7 +34,8 @@ pub(crate) fn read_key<T: Form>(
 /// Refuses a value that is no object.
 #[tactic(auto, using(crate::proofs::Objects::fails_as), unfolding(crate::specs::Chosen::any_object))]
 pub(crate) fn check_object(alloc: Global, value: &Value) -> Result<(), FormError>
-    ensures { Gives (λ u. u) result (any_object (view value.now)) }
+    ensures object { Gives (λ u. u) result (any_object (view value.now)) }
+    ensures memory { IfMemory result ⊥ }
 {
     match value.as_object() {
         None => Err(FormError::kind(alloc)),
@@ -43,13 +44,14 @@ pub(crate) fn check_object(alloc: Global, value: &Value) -> Result<(), FormError
 }
 
 /// Reads the member at a key that has to be there, whatever other keys the object has. It decides
-/// what the others are.
+/// what the others are. A value that is no object is refused without memory.
 pub(crate) fn read_first<T: Form>(
     alloc: Global,
     value: &Value,
     name: &'static str,
 ) -> Result<T, FormError>
-    ensures { Gives (λ x. x) result (first_at T.shape.of name.now (view value.now)) }
+    ensures first { Gives (λ x. x) result (first_at T.shape.of name.now (view value.now)) }
+    ensures memory { IfMemory result (IsOk (any_object (view value.now))) }
 {
     check_object(alloc, value)?;
     read_key(alloc, value, name)

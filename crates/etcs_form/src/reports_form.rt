@@ -124,9 +124,13 @@ pub(crate) fn read_two(alloc: Global, value: &Value) -> Result<Report, FormError
 }
 
 impl Form for Report {
+    ghost use Rattle.std.specs.Prelude.{IsOk};
+    ghost use Rattle.etcs_form.specs.Chosen.{any_object};
     ghost use Rattle.etcs_form.specs.Reports.{report};
 
     ghost shape = { report };
+
+    ghost asks = { λ d. IsOk (any_object d) };
 
     fn to_form(&self, alloc: Global) -> Result<Value, Memory> {
         // For the proof alone: what is written is read again.

@@ -40,6 +40,8 @@ impl Form for Size {
 
     ghost builds = { ⊥ };
 
+    ghost asks = { λ _. ⊥ };
+
     fn to_form(&self, _alloc: Global) -> Result<Value, Memory> {
         Ok(Value::from(user_bit_count(*self)))
     }

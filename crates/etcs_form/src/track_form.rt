@@ -13,9 +13,13 @@ use std::alloc::Global;
 
 #[tactic(auto, unfolding(crate::specs::Authority::authority))]
 impl Form for TrackPacket {
+    ghost use Rattle.std.specs.Prelude.{IsOk};
+    ghost use Rattle.etcs_form.specs.Chosen.{any_object};
     ghost use Rattle.etcs_form.specs.TrackPackets.{track_packet};
 
     ghost shape = { track_packet };
+
+    ghost asks = { λ d. IsOk (any_object d) };
 
     fn to_form(&self, alloc: Global) -> Result<Value, Memory> {
         // For the proof alone: what is written is read again.

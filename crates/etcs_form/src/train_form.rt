@@ -12,9 +12,13 @@ use serde_json::Value;
 use std::alloc::Global;
 
 impl Form for TrainPacket {
+    ghost use Rattle.std.specs.Prelude.{IsOk};
+    ghost use Rattle.etcs_form.specs.Chosen.{any_object};
     ghost use Rattle.etcs_form.specs.TrainPackets.{train_packet};
 
     ghost shape = { train_packet };
+
+    ghost asks = { λ d. IsOk (any_object d) };
 
     fn to_form(&self, alloc: Global) -> Result<Value, Memory> {
         // For the proof alone: what is written is read again.
