@@ -54,18 +54,7 @@ fn headed(alloc: Global) -> Answer {
     stands(&read, &cur, 79)
 }
 
-// Bits of their own. Where there are too few, no memory is asked for.
-fn taken(alloc: Global) -> Answer {
-    let mut cur = at_packet();
-    let has_fault = matches!(cur.take_bits(alloc, 87), Err(DecodeError::Fault(_)));
-    if !has_fault || cur.at() != 0 {
-        return Ok(false);
-    }
-    let read = cur.take_bits(alloc, LENGTH);
-    stands(&read, &cur, LENGTH)
-}
-
-pub fn answers(alloc: Global) -> [Answer; 7] {
+pub fn answers(alloc: Global) -> [Answer; 6] {
     [
         view(alloc),
         packets(alloc),
@@ -73,7 +62,6 @@ pub fn answers(alloc: Global) -> [Answer; 7] {
         item(alloc),
         items(alloc),
         headed(alloc),
-        taken(alloc),
     ]
 }
 
