@@ -3,7 +3,7 @@
 use super::{Answer, LENGTH, at_packet, expect_answers};
 use crate::halt::Halt;
 use etcs_bits::{BitSlice, Cursor, DecodeError, Layout};
-use etcs_packet::{Stop, TrackPacket, next_item, next_view, next_whole, read_items, read_packets};
+use etcs_packet::{Stop, TrackPacket, next_view, next_whole, read_items, read_packets};
 use std::alloc::Global;
 
 /// A bit, and the packet after it: 79 bits.
@@ -36,12 +36,6 @@ fn record(alloc: Global) -> Answer {
     stands(&read, &cur, LENGTH)
 }
 
-fn item(alloc: Global) -> Answer {
-    let mut cur = at_packet();
-    let read = next_item::<TrackPacket>(alloc, &mut cur, Stop::Telegram);
-    stands(&read, &cur, LENGTH)
-}
-
 fn items(alloc: Global) -> Answer {
     let mut cur = at_packet();
     let read = read_items::<TrackPacket>(alloc, &mut cur, Stop::Telegram);
@@ -54,12 +48,11 @@ fn headed(alloc: Global) -> Answer {
     stands(&read, &cur, 79)
 }
 
-pub fn answers(alloc: Global) -> [Answer; 6] {
+pub fn answers(alloc: Global) -> [Answer; 5] {
     [
         view(alloc),
         packets(alloc),
         record(alloc),
-        item(alloc),
         items(alloc),
         headed(alloc),
     ]
