@@ -5,7 +5,7 @@ pub(crate) mod cursor;
 pub(crate) mod memory;
 pub(crate) mod slice;
 
-ghost use Rattle.std.specs.Prelude.{◌≡◌, ◌+◌, ◌-◌, ◌*◌, ◌<◌, ◌≤◌, ◌^◌, ◌++◌, false, List, Bool, [], length, take, replicate, slice_get, Some, IfOk, OnOk, OnErr};
+ghost use Rattle.std.specs.Prelude.{◌≡◌, ◌+◌, ◌-◌, ◌*◌, ◌%◌, ◌<◌, ◌≤◌, ◌^◌, ◌++◌, false, List, Bool, [], length, take, replicate, slice_get, Some, IsOk, IfOk, OnOk, OnErr};
 ghost use Rattle.etcs_bits.specs.bits.Number.{num, bits_of_bytes};
 ghost use Rattle.etcs_bits.specs.layout.Results.{Puts};
 
@@ -48,9 +48,11 @@ impl Bits {
         }
     }
 
-    // An empty list with room for `len` bits. Fails only if memory runs out.
+    // An empty list with room for `len` bits. Fails only if memory runs out. Room for none takes no
+    // memory.
     pub(crate) fn with_room(alloc: Global, len: usize) -> Result<Bits, Memory>
-        ensures { IfOk result (λ b. b ≡ []) }
+        ensures empty { IfOk result (λ b. b ≡ []) }
+        ensures memory { OnErr result (0 < len) }
     {
         let bytes = Vec::with_capacity(alloc, len.div_ceil(8))?;
         Ok(Bits { bytes, len: 0 })
@@ -90,6 +92,10 @@ impl Bits {
         requires fits { n < 2 ^ width }
         ensures ok { OnOk result (self.new ≡ self.old ++ num width n) }
         ensures err { OnErr result (self.new ≡ self.old) }
+
+        // Where the last byte has room for the bits, no memory is asked for.
+        ensures room { (0 < length self.old % 8) × (length self.old % 8 + width ≤ 8)
+            × (length self.old + width < 2 ^ 64) → IsOk result }
     {
         let Some(len) = self.len.checked_add(width as usize) else {
             return Err(Memory);
@@ -104,6 +110,9 @@ impl Bits {
     pub fn push_bits(&mut self, bits: &Bits) -> Result<(), Memory>
         ensures ok { OnOk result (self.new ≡ self.old ++ bits.now) }
         ensures err { OnErr result (self.new ≡ self.old) }
+
+        // To append no bits takes no memory.
+        ensures memory { OnErr result (0 < length bits.now) }
     {
         let len = self.len();
         let done = self.push_slice(bits.slice());
@@ -115,7 +124,8 @@ impl Bits {
 
     // Appends borrowed bits, 32 at a time. If memory runs out, a part of them may be appended.
     pub(crate) fn push_slice(&mut self, bits: BitSlice<'_>) -> Result<(), Memory>
-        ensures { Puts bits.entry result self.old self.new }
+        ensures puts { Puts bits.entry result self.old self.new }
+        ensures memory { OnErr result (0 < length bits.entry) }
     {
         let len = bits.len();
         let mut at = 0;
@@ -137,8 +147,11 @@ impl Bits {
         requires { len ≤ 8 * length bytes.now }
         ensures bits { IfOk result (λ b. b ≡ take len (bits_of_bytes bytes.now)) }
         ensures len { IfOk result (λ b. length b ≡ len) }
+
+        // No bits take no memory.
+        ensures memory { OnErr result (0 < len) }
     {
-        let mut kept = Vec::from_slice(alloc, &bytes[..len.div_ceil(8)])?;
+        let mut kept = bytes::copy_of(alloc, &bytes[..len.div_ceil(8)])?;
         bytes::cut(&mut kept, len);
         Ok(Bits { bytes: kept, len })
     }
@@ -149,8 +162,11 @@ impl Bits {
         ensures bits { IfOk result (λ v. bits_of_bytes v.items
             ≡ self.now ++ replicate (8 * length v.items - length self.now) false) }
         ensures few { IfOk result (λ v. 8 * length v.items < length self.now + 8) }
+
+        // No bits take no memory.
+        ensures memory { OnErr result (0 < length self.now) }
     {
-        let copy = Vec::from_slice(alloc, self.bytes.as_slice())?;
+        let copy = bytes::copy_of(alloc, self.bytes.as_slice())?;
         Ok(copy)
     }
 

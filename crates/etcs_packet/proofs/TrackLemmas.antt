@@ -1,7 +1,11 @@
 -- A packet's rows by itself and as one of a list have the same bits.
-use Rattle.std.proofs.Common.{◌≡◌, ℕ, Bool, true, false, List, ◌++◌, Option, Some, None, length, refl}
+use Rattle.std.proofs.Common.{◌≡◌, ◌∙◌, ℕ, ◌+◌, Bool, true, false, List, ◌++◌, Option, Some, None, Ok, ap, length, refl}
 use Rattle.std.specs.Prelude.{◌==◌, ◌||◌, not, if◌then◌else◌}
-use Rattle.etcs_bits.specs.layout.Rows.{Row, alone, AreAllowed, join, width}
+use Rattle.etcs_bits.specs.layout.Rows.{Row, Variable, Place, alone, AreAllowed, join, width}
+use Rattle.etcs_bits.specs.layout.Reading.{forward, field_at}
+use Rattle.etcs_bits.proofs.NumberLemmas.{length-num}
+use Rattle.etcs_bits.proofs.ReadingLemmas.{field_ok}
+use Rattle.etcs_bits.proofs.StandLemmas.{same_position}
 use Rattle.etcs_profile.specs.Authority.{Permission, permission, numbered_by, authority}
 use Rattle.etcs_packet.specs.declared.track.TrackPacket.{TrackPacket}
 use Rattle.etcs_packet.specs.declared.track.TrackPacket.TheVariants as packets
@@ -87,3 +91,9 @@ next_by z o w v u t s rest false false false false false false false m h = refl
 pub other_next : (n : ℕ) → is_other n ≡ true → track_numbered.next n ≡ raw_rest.fields
 other_next n other =
     next_by _ _ _ _ _ _ _ raw_rest.fields (n == 0) (n == 5) (n == 12) (n == 15) (n == 21) (n == 27) (n == 41) (n == 255) other
+
+-- a field is passed by its width
+pub field_forward : (x : Variable) (p q : Place) (n : ℕ) → field_at x p ≡ Ok (n, q) → q ≡ forward p x.width
+field_forward x p q n read =
+    let took = (field_ok x p (n, q) read).took in
+    same_position q (forward p x.width) took.stands.same (took.stands.past ∙ ap (λ (k : ℕ). p.at + k) (length-num x.width n))

@@ -1,5 +1,5 @@
 -- A head and its list: what stands is read, a fault is read, and there is only one of them.
-use Rattle.std.proofs.Common.{◌≡◌, ◌≤◌, Bool, List, length, take, Result, Ok, Err, refl, sym, ap, subst, ◌∙◌, arith, inl, inr}
+use Rattle.std.proofs.Common.{◌≡◌, ◌≤◌, Bool, false, List, length, take, Result, Ok, Err, refl, sym, ap, subst, ◌∙◌, arith, inl, inr}
 use Rattle.etcs_bits.specs.declared.layout.fault.Fault.{Fault}
 use Rattle.etcs_bits.specs.declared.layout.fault.DecodeError.{DecodeError}
 use Rattle.etcs_bits.specs.declared.layout.fault.DecodeError.TheVariants as errors
@@ -15,9 +15,9 @@ use Rattle.etcs_bits.proofs.StandLemmas.{place_in, stands_moved}
 use Rattle.etcs_bits.proofs.ReadingLemmas.{read_is_spelled, spelled_is_read, read_is_fault}
 use Rattle.etcs_bits.proofs.FaultLemmas.{fault_is_given, fault_stays, none_stands, same_fault}
 use Rattle.etcs_packet.specs.declared.stop.Stop.{Stop}
-use Rattle.etcs_packet.specs.Lists.{IsHeaded, IsListFault}
+use Rattle.etcs_packet.specs.Lists.{IsHeaded, IsListFault, ends}
 use Rattle.etcs_packet.specs.Reading.{items_at, whole_at, whole_of}
-use Rattle.etcs_packet.specs.Whole.{start, BeginsWith, IsWhole, IsWholeFault, NoneWhole}
+use Rattle.etcs_packet.specs.Whole.{start, BeginsWith, IsFollowed, IsWhole, IsWholeFault, NoneWhole}
 use Rattle.etcs_packet.proofs.EndLemmas.{fault_past, next_within}
 use Rattle.etcs_packet.proofs.FollowLemmas.{follow_forward, follow_within, list_fault_stays}
 use Rattle.etcs_packet.proofs.ItemLemmas.{list_fault_is_read, read_is_list_fault}
@@ -266,3 +266,8 @@ pub head_stands : {H : Type 0} (header : Fields) (head : H → List Row) (h : H)
     → IsSpelled (head h) p q → IsFault header p f → ⊥
 head_stands header head h p q f within are_rows spelled fault =
     none_stands header p f p.bits (head h) q within refl refl fault (are_rows h) spelled
+
+-- a head that stands, where the list after it does not end
+pub followed : {H : Type 0} (head : H → List Row) (h : H) (stop : Stop) (p q : Place)
+    → IsSpelled (head h) p q → ends stop q ≡ false → IsFollowed stop head p
+followed head h stop p q spelled goes = record { h = h; middle = q; first = spelled; goes_on = goes }

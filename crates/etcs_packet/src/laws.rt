@@ -11,6 +11,8 @@ ghost use Rattle.etcs_bits.specs.layout.Rows.{Place, AreAllowed, join, IsSpelled
 ghost use Rattle.etcs_packet.specs.Laws.{HasNoMark};
 ghost use Rattle.etcs_packet.specs.Lists.{IsHeaded, IsListFault, NoneStand, Stand, ends};
 ghost use Rattle.etcs_packet.specs.Reading.{items_at, whole_at, whole_of};
+ghost use Rattle.etcs_packet.specs.Track.{own_rows, track_packet};
+ghost use Rattle.etcs_packet.specs.declared.track.TrackPacket.{TrackPacket};
 ghost use Rattle.etcs_packet.specs.Whole.{AreSpelled, BeginsWith, IsWhole, IsWholeFault, NoneWhole, start};
 
 use crate::stop::Stop;
@@ -157,4 +159,9 @@ pub fn what_is_written_is_read_back<H: Layout, T: Layout>()
         → (stop : Stop) (h : H) (xs : List T) (bits : List Bool)
         → AreSpelled stop H.format.rows T.format.rows h xs bits
         → whole_of stop H.format.fields H.format.of T.format.fields T.format.of bits ≡ Ok (h, xs) }
+{}
+
+/// A packet from track to train has the same bits as one of a list and by its own layout.
+pub fn a_packet_of_a_list_is_spelled_as_by_itself()
+    ensures { (p : TrackPacket) → join (track_packet.rows p) ≡ join (own_rows p) }
 {}

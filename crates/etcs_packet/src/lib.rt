@@ -8,9 +8,9 @@
 //! body: a [`PacketView`].
 //!
 //! Below them are calls that take any record whose table of fields begins with NID_PACKET.
-//! [`next_item`] reads one packet, [`read_items`] reads all packets of a list, and [`write_items`]
-//! writes packets. [`next_whole`] and [`read_whole`] also read the head before the packets. A
-//! [`Stop`] says where a list ends. All these calls rest on the contract of [`etcs_bits::Layout`].
+//! [`read_items`] reads all packets of a list, and [`write_items`] writes packets. [`next_whole`]
+//! also reads the head before the packets. A [`Stop`] says where a list ends. All these calls rest on
+//! the contract of [`etcs_bits::Layout`].
 //!
 //! Read `track.rt` and `packets.rt` first, with `specs/Track.antt`. Then read `view.rt` with
 //! `specs/View.antt`, `list.rt` with `specs/Lists.antt`, and `whole.rt` with `specs/Whole.antt`. The
@@ -30,11 +30,11 @@ mod whole;
 
 pub use cover::CoverMarker;
 pub use etcs_profile::{LevelOrder, Link, Linking, Reaction, Transition};
-pub use list::{is_end, next_item, read_items, write_items};
+pub use list::{read_items, write_items};
 pub use packets::{next_view, read_packets, write_packets};
 pub use raw::RawPacket;
 pub use run::Run;
 pub use stop::Stop;
 pub use track::TrackPacket;
 pub use view::PacketView;
-pub use whole::{next_whole, read_whole};
+pub use whole::next_whole;

@@ -17,7 +17,7 @@ const FEW: usize = 7;
 
 /// Whether the list ends at the cursor. Takes no memory.
 #[inline]
-pub fn is_end(cur: &Cursor<'_>, stop: Stop) -> bool
+pub(crate) fn is_end(cur: &Cursor<'_>, stop: Stop) -> bool
     ensures value { result ≡ ends stop cur.now }
     ensures inside { cur.now.at ≤ length cur.now.bits }
 {
@@ -30,14 +30,14 @@ pub fn is_end(cur: &Cursor<'_>, stop: Stop) -> bool
     }
 }
 
-/// Reads the packet at the cursor. The cursor then stands after the packet. The result is `None`
-/// where the list ends.
-///
-/// A reported fault is the first one of the packet that is due. No input of the same length with
-/// the same first `end` bits has a packet or the end of the list at this place. Fewer than eight
-/// bits in a telegram are a NoEnd fault. If memory runs out, a fault may go unseen. After an error
-/// the cursor stands where it stood.
-pub fn next_item<T: Layout>(
+// Reads the packet at the cursor. The cursor then stands after the packet. The result is `None`
+// where the list ends.
+//
+// A reported fault is the first one of the packet that is due. No input of the same length with
+// the same first `end` bits has a packet or the end of the list at this place. Fewer than eight
+// bits in a telegram are a NoEnd fault. If memory runs out, a fault may go unseen. After an error
+// the cursor stands where it stood.
+fn next_item<T: Layout>(
     alloc: Global,
     cur: &mut Cursor<'_>,
     stop: Stop,
@@ -53,8 +53,8 @@ pub fn next_item<T: Layout>(
     ensures no_end { stop ≡ Stop.Telegram → length cur.old.bits < cur.old.at + 8
         → result ≡ Err (DecodeError.Fault (lack true cur.old)) }
 
-    // At the end of the list the answer is never `Memory`.
-    ensures memory { IfMemory result (ends stop cur.old ≡ false) }
+    // Neither the end of the list nor a record that does not grow takes memory.
+    ensures memory { IfMemory result ((ends stop cur.old ≡ false) × T.grows) }
 {
     if is_end(cur, stop) {
         return Ok(None);
@@ -121,6 +121,9 @@ pub fn write_items<T: Layout>(items: &[T], out: &mut Bits) -> Result<(), Memory>
     requires { AreAllowed (flat_map T.format.rows items.now) }
     ensures ok { OnOk result (out.new ≡ out.old ++ join (flat_map T.format.rows items.now)) }
     ensures err { OnErr result (out.new ≡ out.old) }
+
+    // To write no packets takes no memory.
+    ensures memory { OnErr result (0 < length items.now) }
 {
     let len = out.len();
     'items: for item in items {

@@ -1,10 +1,12 @@
 //! The packets of a telegram or of a message.
 
-ghost use Rattle.std.specs.Prelude.{◌≡◌, ◌+◌, ◌<◌, ◌++◌, length, true, false, Err, IfOk, OnOk, OnErr};
+ghost use Rattle.std.specs.Prelude.{◌≡◌, ◌+◌, ◌<◌, ◌++◌, length, true, false, Err, IfOk, IsOk, OnOk, OnErr};
 ghost use Rattle.std.specs.List.{flat_map};
 ghost use Rattle.etcs_bits.specs.layout.Rows.{AreAllowed, join};
 ghost use Rattle.etcs_bits.specs.layout.Fault.{IsFault, lack};
+ghost use Rattle.etcs_bits.specs.layout.Reading.{forward, rows_at};
 ghost use Rattle.etcs_bits.specs.layout.Results.{Gives, IfFault, IfMemory};
+ghost use Rattle.etcs_bits.specs.variables.VariableFormats.{q_dir};
 ghost use Rattle.etcs_packet.specs.Lists.{IsListFault, NoStep, NoneStand, Stand, ends};
 ghost use Rattle.etcs_packet.specs.Reading.{items_at};
 ghost use Rattle.etcs_packet.specs.Track.{track_packet};
@@ -41,6 +43,9 @@ pub fn next_view<'a>(
 
     // Memory is asked for only where a known packet that holds a list is due.
     ensures memory { IfMemory result (grows_at cur.old ≡ true) }
+
+    // And only where Q_DIR, which follows NID_PACKET, has no fault.
+    ensures direction { IfMemory result (IsOk (rows_at q_dir.fields (forward cur.old 8))) }
 {
     if is_end(cur, stop) {
         return Ok(None);
@@ -88,6 +93,9 @@ pub fn write_packets(packets: &[TrackPacket], out: &mut Bits) -> Result<(), Memo
     ensures ok { OnOk result (out.new ≡ out.old ++ join (flat_map track_packet.rows packets.now)) }
     ensures err { OnErr result (out.new ≡ out.old) }
     ensures allowed { AreAllowed (flat_map track_packet.rows packets.now) }
+
+    // To write no packets takes no memory.
+    ensures memory { OnErr result (0 < length packets.now) }
 {
     // For the proof alone: the types keep the packets allowed.
     let _allowed = are_allowed(packets);

@@ -1,7 +1,7 @@
 //! The packets from track to train.
 
-ghost use Rattle.std.specs.Prelude.{◌≡◌, ◌==◌, ◌<◌, true, min, not, IfOk};
-ghost use Rattle.etcs_bits.specs.layout.Reading.{field_at};
+ghost use Rattle.std.specs.Prelude.{◌≡◌, ◌==◌, ◌<◌, true, min, not, IfOk, IsOk};
+ghost use Rattle.etcs_bits.specs.layout.Reading.{field_at, rows_at};
 ghost use Rattle.etcs_bits.specs.layout.Results.{Gives, IfMemory, Puts};
 ghost use Rattle.etcs_bits.specs.layout.Rows.{AreAllowed, join, width};
 ghost use Rattle.etcs_packet.specs.RunningDirection.{is_for_run};
@@ -166,6 +166,7 @@ impl TrackPacket {
 
 impl TrackPacket {
     ghost use Rattle.etcs_bits.specs.layout.Choice.{chosen_at, numbered_rows};
+    ghost use Rattle.etcs_bits.specs.variables.VariableFormats.{q_dir};
     ghost use Rattle.etcs_packet.specs.Track.{parts_of, track_numbered};
     ghost use Rattle.etcs_packet.specs.View.{view_of};
     ghost use Rattle.etcs_packet.specs.declared.view.PacketView.TheVariants as views;
@@ -185,6 +186,9 @@ impl TrackPacket {
 
         // Packet 0 has no list, and reading it takes no memory.
         ensures memory { IfMemory result (not (number == 0) ≡ true) }
+
+        // Nor does a fault of Q_DIR, which all others have next.
+        ensures direction { IfMemory result (IsOk (rows_at q_dir.fields cur.old)) }
     {
         Ok(match number {
             0 => TrackPacket::Cover(CoverMarker {

@@ -1,6 +1,6 @@
 //! Packets as views: those that are kept as bits with their bodies borrowed.
 
-ghost use Rattle.std.specs.Prelude.{◌≡◌, true, IfOk};
+ghost use Rattle.std.specs.Prelude.{◌≡◌, true, IfOk, IsOk};
 ghost use Rattle.etcs_bits.specs.layout.Results.{IfMemory};
 
 use crate::raw::{RawPacket, is_raw};
@@ -25,7 +25,8 @@ pub enum PacketView<'a> {
 }
 
 impl<'a> PacketView<'a> {
-    ghost use Rattle.etcs_bits.specs.layout.Reading.{rows_at};
+    ghost use Rattle.etcs_bits.specs.layout.Reading.{forward, rows_at};
+    ghost use Rattle.etcs_bits.specs.variables.VariableFormats.{q_dir};
     ghost use Rattle.etcs_packet.specs.Track.{track_packet};
     ghost use Rattle.etcs_packet.specs.View.{IsView, Shows, grows_at, view_of};
 
@@ -34,6 +35,7 @@ impl<'a> PacketView<'a> {
     pub(crate) fn scan(alloc: Global, cur: &mut Cursor<'a>) -> Result<PacketView<'a>, DecodeError>
         ensures gives { Shows result (rows_at track_packet.fields cur.old) cur.new }
         ensures memory { IfMemory result (grows_at cur.old ≡ true) }
+        ensures direction { IfMemory result (IsOk (rows_at q_dir.fields (forward cur.old 8))) }
     {
         let number = scan_number(cur)?;
         if is_raw(number) {

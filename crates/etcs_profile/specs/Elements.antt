@@ -19,6 +19,9 @@ elements element =
     (q_scale then element then several element)
     (λ p. profile p.0 p.1.0 p.1.1) (λ e. (e.scale, (e.first, e.further))) (λ _. refl) (λ _. refl)
 
+-- ---- how far it reaches
+-- Pinned by the law a_profile_reaches_its_first_mark.
+
 -- how far the profile reaches
 abbrev pub elements_reach : {X : Type 0} → (X → ℕ) → (X → Bool) → Profile X → Reach
 elements_reach distance marked e =

@@ -1,5 +1,6 @@
 pub mod Packet
 pub mod Reach
+pub mod Laws
 pub mod Profile
 pub mod Elements
 pub mod Gradient

@@ -11,6 +11,9 @@ scale_factor scales.TenCentimetres = 1
 scale_factor scales.Metre = 10
 scale_factor scales.TenMetres = 100
 
+-- ---- the reach of a profile
+-- Pinned by the law a_profile_reaches_its_first_mark.
+
 -- a distance, and the way after it
 abbrev pub further_on : ℕ → Option ℕ → Option ℕ
 further_on n (Some m) = Some (n + m)

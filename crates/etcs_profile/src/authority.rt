@@ -1,6 +1,10 @@
 //! The movement authorities, packets 12 and 15.
 
-ghost use Rattle.std.specs.Prelude.{◌≡◌, ◌↔◌, ◌<◌, ◌≤◌, ◌*◌, length, sum_by, IsSome, IfSome};
+ghost use Rattle.std.specs.Prelude.{◌≡◌, ◌↔◌, ◌<◌, ◌≤◌, ◌*◌, length, sum_by, IsOk, IsSome, IfSome};
+ghost use Rattle.etcs_bits.specs.layout.Format.{◌then◌};
+ghost use Rattle.etcs_bits.specs.layout.Reading.{rows_at};
+ghost use Rattle.etcs_bits.specs.layout.Results.{Gives, IfMemory};
+ghost use Rattle.etcs_bits.specs.variables.VariableFormats.{q_dir};
 
 use crate::danger_point::DangerPoint;
 use crate::end_timer::EndTimer;
@@ -40,6 +44,19 @@ impl Model for Authority {
     ghost Value = { Permission };
 
     ghost view = { λ a. permission_in a.packet };
+}
+
+// Reads Q_DIR, and what follows it. After an error the cursor may stand anywhere.
+#[inline]
+fn scan_directed<B: Layout>(alloc: Global, cur: &mut Cursor<'_>) -> Result<(Dir, B), DecodeError>
+    ensures gives { Gives (q_dir then B.format).rows result (rows_at (q_dir then B.format).fields cur.old) cur.new }
+
+    // At a fault of Q_DIR no memory is asked for.
+    ensures direction { IfMemory result (IsOk (rows_at q_dir.fields cur.old)) }
+{
+    let dir = Dir::scan(alloc, cur)?;
+    let body = B::scan(alloc, cur)?;
+    Ok((dir, body))
 }
 
 // The length of all sections together.
@@ -249,20 +266,22 @@ impl Authority {
 impl Authority {
     ghost use Rattle.std.specs.Prelude.{IsTrue};
     ghost use Rattle.etcs_bits.specs.layout.Choice.{chosen_at, numbered_rows};
-    ghost use Rattle.etcs_bits.specs.layout.Results.{Gives};
     ghost use Rattle.etcs_profile.specs.Authority.{numbered, numbered_of};
 
     /// Reads what follows NID_PACKET, whose number is 12 or 15. After an error the cursor may stand
     /// anywhere.
     pub fn scan_rest(alloc: Global, number: u64, cur: &mut Cursor<'_>) -> Result<Self, DecodeError>
         requires { IsTrue (numbered.allows number) }
-        ensures { Gives (λ a. numbered_rows numbered (numbered_of a)) result
+        ensures gives { Gives (λ a. numbered_rows numbered (numbered_of a)) result
             (chosen_at numbered number cur.old) cur.new }
+
+        // Q_DIR is read first. At its fault no memory is asked for.
+        ensures direction { IfMemory result (IsOk (rows_at q_dir.fields cur.old)) }
     {
         let packet = if number == 12 {
-            ByLevel::Level1(Layout::scan(alloc, cur)?)
+            ByLevel::Level1(scan_directed(alloc, cur)?)
         } else {
-            ByLevel::Level2(Layout::scan(alloc, cur)?)
+            ByLevel::Level2(scan_directed(alloc, cur)?)
         };
         Ok(Authority { packet })
     }

@@ -7,8 +7,9 @@
 //! are each a [`Packet`] of [`Elements`]. [`Packet::reach`] gives how far along the track the last
 //! two reach. [`Transition`] is packet 41, a [`Packet`] of [`LevelOrders`]. Read `packet.rt`,
 //! `elements.rt` and `gradient.rt` first, with the files of the same names in `specs/`, then
-//! `authority.rt`. The crate builds on [`etcs_bits::Layout`]. It leaves out all other packets. It
-//! does not check whether an authority and the profiles fit together.
+//! `authority.rt`. [`laws`] states how far a profile reaches. The crate builds on
+//! [`etcs_bits::Layout`]. It leaves out all other packets. It does not check whether an authority and
+//! the profiles fit together.
 #![tactic(auto)]
 
 mod authority;
@@ -19,6 +20,7 @@ mod end_timer;
 mod error;
 mod factor;
 mod gradient;
+pub mod laws;
 mod linking;
 mod number;
 mod overlap;

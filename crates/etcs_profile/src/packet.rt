@@ -24,10 +24,11 @@ impl<const N: u32, T: Layout> Model for Packet<N, T> {
 }
 
 impl<const N: u32, T: Layout> Packet<N, T> {
-    ghost use Rattle.std.specs.Prelude.{◌↔◌, ◌≤◌, ◌+◌, IsSome, IfSome};
+    ghost use Rattle.std.specs.Prelude.{◌↔◌, ◌≤◌, ◌+◌, IsOk, IsSome, IfSome};
     ghost use Rattle.etcs_bits.specs.layout.Rows.{width};
     ghost use Rattle.etcs_bits.specs.layout.Reading.{rows_at};
     ghost use Rattle.etcs_bits.specs.layout.Results.{Gives, IfMemory};
+    ghost use Rattle.etcs_bits.specs.variables.VariableFormats.{q_dir};
     ghost use Rattle.etcs_profile.specs.Packet.{rest};
 
     /// Makes the packet with this record, for this direction. None if the record is not allowed or
@@ -62,11 +63,13 @@ impl<const N: u32, T: Layout> Packet<N, T> {
     pub fn scan_rest(alloc: Global, cur: &mut Cursor<'_>) -> Result<Self, DecodeError>
         ensures gives { Gives (rest T.format).rows result (rows_at (rest T.format).fields cur.old) cur.new }
         ensures memory { IfMemory result T.grows }
+
+        // Q_DIR is read first. At its fault no memory is asked for.
+        ensures direction { IfMemory result (IsOk (rows_at q_dir.fields cur.old)) }
     {
-        Ok(Packet {
-            dir: Layout::scan(alloc, cur)?,
-            body: Layout::scan(alloc, cur)?,
-        })
+        let dir = Dir::scan(alloc, cur)?;
+        let body = Layout::scan(alloc, cur)?;
+        Ok(Packet { dir, body })
     }
 }
 

@@ -1,10 +1,10 @@
 -- What comes out of a splitter that is fed a whole stream: its messages.
-use Rattle.std.proofs.Common.{◌≡◌, ◌≢◌, ℕ, zero, suc, ◌+◌, ◌<◌, ◌≤◌, max, List, [], ◌∷◌, ◌++◌, length, get_or, take, refl, sym, ap, ◌∙◌, subst, arith, append_assoc, length-append, ⊎_elim, inl, inr}
+use Rattle.std.proofs.Common.{◌≡◌, ◌≢◌, ℕ, zero, suc, ◌<◌, ◌≤◌, List, [], ◌∷◌, ◌++◌, length, get_or, take, refl, sym, ap, ◌∙◌, subst, arith, append_assoc, length-append, ⊎_elim, inl, inr}
 use Rattle.std.specs.Prelude.{All}
 use Rattle.std.specs.List.{concat}
 use Rattle.std.proofs.lemmas.Bool.{cases_lt}
 use Rattle.std.proofs.lemmas.List.{append-nil, take_at}
-use Rattle.etcs_radio.specs.declared.splitter.State.TheVariants.{More, Ready, Failed}
+use Rattle.etcs_radio.specs.declared.splitter.State.TheVariants.{More, Failed}
 use Rattle.etcs_radio.specs.Stream.{message_length, AreWhole, AreRest, AreMessages}
 use Rattle.etcs_radio.specs.Splitter.{state_of, MayBeHeld}
 use Rattle.etcs_radio.specs.Cutting.{Cut, IsCut, cut_from, none_with, after_message}

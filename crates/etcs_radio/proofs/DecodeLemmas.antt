@@ -1,7 +1,7 @@
 -- From what the code reads to what bytes mean.
-use Rattle.std.proofs.Common.{◌≡◌, ℕ, ◌+◌, ◌*◌, ◌<◌, ◌≤◌, ◌^◌, min, ltb, true, false, Bool, List, length, take, drop, Result, Ok, Err, refl, sym, ap, subst, ◌∙◌, ◌==◌, arith}
+use Rattle.std.proofs.Common.{◌≡◌, ℕ, ◌+◌, ◌*◌, ◌≤◌, min, ltb, true, false, Bool, List, length, take, drop, Result, Ok, Err, refl, sym, ap, subst, ◌∙◌, ◌==◌, arith}
 use Rattle.std.specs.Prelude.{IfOk}
-use Rattle.std.proofs.lemmas.List.{take_all, length-take, take-take}
+use Rattle.std.proofs.lemmas.List.{take_all, length-take, length-take-le, take-take}
 use Rattle.std.proofs.lemmas.Bool.{le-ltb, ltb-true, ltb-false, ne_eqb}
 use Rattle.etcs_bits.specs.declared.layout.fault.Fault.{Fault}
 use Rattle.etcs_bits.specs.declared.layout.fault.DecodeError.{DecodeError}
@@ -9,18 +9,22 @@ use Rattle.etcs_bits.specs.declared.layout.fault.DecodeError.TheVariants as erro
 use Rattle.etcs_bits.specs.declared.layout.fault.FaultKind.TheVariants.{Length, MessageKind}
 use Rattle.etcs_bits.specs.bits.Number.{num_of_bits, bits_of_bytes}
 use Rattle.etcs_bits.specs.layout.Rows.{Row, Place}
-use Rattle.etcs_bits.specs.layout.Fields.{Fields, field, one, ◌▹◌}
-use Rattle.etcs_bits.specs.layout.Reading.{◌>>=◌, forward, taken, field_at, rows_at}
-use Rattle.etcs_bits.specs.layout.Results.{Fails, Means, OfMemory, IfFault}
+use Rattle.etcs_bits.specs.layout.Fields.{Fields, one, ◌▹◌}
+use Rattle.etcs_bits.specs.layout.Reading.{◌>>=◌, forward, taken, rows_at}
+use Rattle.etcs_bits.specs.layout.Results.{Fails, Means, OfMemory, IfFault, IfMemory}
 use Rattle.etcs_bits.specs.layout.Fault.{IsFault}
 use Rattle.etcs_bits.specs.variables.Variables.{only}
-use Rattle.etcs_bits.proofs.NumberLemmas.{length-bits_of_bytes, num_of_bits-lt}
+use Rattle.etcs_bits.proofs.NumberLemmas.{length-bits_of_bytes}
 use Rattle.etcs_bits.proofs.BindLemmas.{err_is}
 use Rattle.etcs_bits.proofs.FaultLemmas.{fault_is_given}
-use Rattle.etcs_bits.proofs.ReadingLemmas.{taken_ok}
-use Rattle.etcs_packet.specs.Whole.{start}
+use Rattle.etcs_bits.proofs.LayoutLemmas.{is_spelled}
+use Rattle.etcs_bits.proofs.ReadingLemmas.{read_is_fault, spelled_is_read, taken_ok}
+use Rattle.etcs_bits.proofs.ViewLemmas.{in_few_bytes}
+use Rattle.etcs_packet.specs.declared.stop.Stop.TheVariants as stops
+use Rattle.etcs_packet.specs.Lists.{ends}
+use Rattle.etcs_packet.specs.Whole.{IsFollowed, start}
 use Rattle.etcs_radio.specs.declared.message.Message.{Message}
-use Rattle.etcs_radio.specs.Head.{Head, head, numbered, nid_message, after_length, movement_head, position_head}
+use Rattle.etcs_radio.specs.Head.{Head, head, numbered, nid_message, movement_head, position_head}
 use Rattle.etcs_radio.specs.Meaning.{packets_of, message_of}
 use Rattle.etcs_radio.specs.Message.{beginning, IsMessage, IsMessageFault, IsNoMessage}
 use Rattle.etcs_radio.proofs.MessageLemmas.{then_packets, meant, means_message, meant_fault}
@@ -164,3 +168,78 @@ pub none_of : (r : Result Message DecodeError) (bytes : List ℕ) → Means (λ 
 none_of (Ok m) bytes means = tt
 none_of (Err errors.Memory) bytes means = tt
 none_of (Err (errors.Fault f)) bytes means = fault_none bytes f (meant_fault bytes f means)
+
+-- behind a head that was read the packets alone take memory
+pub if_followed : (r : Result Message DecodeError) (bytes : List ℕ) (p q : Place) (h : Head) → AreSeen bytes p
+    → rows_at (head (length bytes)).fields p ≡ Ok ((head (length bytes)).rows h, q)
+    → IfMemory r (ends stops.Message q ≡ false)
+    → IfMemory r (IsFollowed stops.Message (head (length bytes)).rows (beginning bytes))
+if_followed (Ok m) bytes p q h s read goes = tt
+if_followed (Err (errors.Fault f)) bytes p q h s read goes = tt
+if_followed (Err errors.Memory) bytes p q h s read goes =
+    let here = sym (seen_head bytes p s) ∙ read in
+    let first = is_spelled (head (length bytes)).fields ((head (length bytes)).rows h) (beginning bytes) q (omega arith) here in
+    record { h = h; middle = q; first = first; goes_on = goes }
+
+-- ---- the first bytes of a message
+
+-- what more bytes than L_MESSAGE can count have for a head
+long_first : (bytes : List ℕ) → 1024 ≤ length bytes
+    → rows_at (head (length bytes)).fields (beginning bytes) ≡ Err (long_fault (nid_message.allows (num_of_bits (take 8 (bits_of_bytes bytes)))))
+long_first bytes many =
+    long_head (length bytes) (bits_of_bytes bytes) many (omega (arith, length-bits_of_bytes bytes, many))
+
+long_means : (bytes : List ℕ) → 1024 ≤ length bytes
+    → message_of bytes ≡ Err (long_fault (nid_message.allows (num_of_bits (take 8 (bits_of_bytes bytes)))))
+long_means bytes many =
+    meant bytes ∙ ap (λ (r : Result (List Row × Place) Fault). r >>= then_packets (length bytes)) (long_first bytes many)
+
+-- The first 1,024 bytes of some bytes: all of them, or as many as no message has.
+pub data FrontOf (all front : List ℕ) : Type 0 where
+  is_all : front ≡ all → FrontOf all front
+  is_long : 1024 ≤ length all → 1024 ≤ length front
+      → take 8 (bits_of_bytes front) ≡ take 8 (bits_of_bytes all) → FrontOf all front
+
+pub front_of : (all : List ℕ) (n : ℕ) → n ≡ min (length all) 1024 → FrontOf all (take n all)
+front_of all n least = by_size (ltb 1024 (length all)) refl
+  where
+    by_size : (b : Bool) → ltb 1024 (length all) ≡ b → FrontOf all (take n all)
+    by_size true more =
+        let many : 1024 ≤ length all = omega (arith, ltb-true 1024 (length all) more) in
+        let n_is : n ≡ 1024 = omega (arith, least, many) in
+        let len : length (take n all) ≡ n = length-take-le n all (omega (arith, many, n_is)) in
+        is_long many (omega (arith, len, n_is)) (in_few_bytes all 8 n (omega (arith, n_is)))
+    by_size false not_more =
+        is_all (take_all n all (omega (arith, least, ltb-false 1024 (length all) not_more)))
+
+-- they mean the same
+pub front_means : (all front : List ℕ) → FrontOf all front → message_of front ≡ message_of all
+front_means all front (is_all is) = ap message_of is
+front_means all front (is_long many more same) =
+    long_means front more
+    ∙ ap (λ (xs : List Bool). Err (long_fault (nid_message.allows (num_of_bits xs)))) same
+    ∙ sym (long_means all many)
+
+-- and have the same faults of a head
+pub front_fault : (all front : List ℕ) (f : Fault) → FrontOf all front
+    → IsFault (head (length all)).fields (beginning all) f → IsFault (head (length front)).fields (beginning front) f
+front_fault all front f (is_all is) fault =
+    subst (λ (xs : List ℕ). IsFault (head (length xs)).fields (beginning xs) f) (sym is) fault
+front_fault all front f (is_long many more same) fault =
+    let given = fault_is_given (head (length all)).fields (beginning all) f (omega arith) fault in
+    let reads : rows_at (head (length front)).fields (beginning front) ≡ Err f = long_first front more
+    ∙ ap (λ (xs : List Bool). Err (long_fault (nid_message.allows (num_of_bits xs)))) same
+    ∙ sym (long_first all many) ∙ given in
+    read_is_fault (head (length front)).fields (beginning front) f (omega arith) reads
+
+-- and packets due behind the same heads
+pub front_followed : (all front : List ℕ) → FrontOf all front
+    → IsFollowed stops.Message (head (length front)).rows (beginning front)
+    → IsFollowed stops.Message (head (length all)).rows (beginning all)
+front_followed all front (is_all is) due =
+    subst (λ (xs : List ℕ). IsFollowed stops.Message (head (length xs)).rows (beginning xs)) is due
+front_followed all front (is_long many more same) due =
+    let reads = spelled_is_read (head (length front)).fields ((head (length front)).rows due.h) (beginning front) due.middle (omega arith) ((head (length front)).laid.are_rows due.h) due.first in
+    let fails = long_first front more in
+    let both = sym reads ∙ fails in
+    absurd cc

@@ -1,11 +1,11 @@
 -- Which bytes a message has, and how long they are.
-use Rattle.std.proofs.Common.{◌≡◌, ℕ, suc, ◌+◌, ◌-◌, ◌*◌, ◌<◌, ◌≤◌, true, false, Bool, List, [], ◌∷◌, ◌++◌, length, take, drop, replicate, Result, Ok, Err, refl, sym, ap, ap₂, subst, ◌∙◌, ◌⊎◌, inl, inr, arith, append_assoc, length-append}
+use Rattle.std.proofs.Common.{◌≡◌, ℕ, suc, ◌+◌, ◌-◌, ◌*◌, ◌<◌, ◌≤◌, true, false, Bool, List, [], ◌∷◌, ◌++◌, length, take, drop, replicate, Result, Err, refl, sym, ap, ap₂, ◌∙◌, ◌⊎◌, inl, inr, arith, append_assoc, length-append}
 use Rattle.std.specs.Prelude.{IsErrOf, ◌↔◌}
 use Rattle.std.specs.List.{flat_map}
 use Rattle.std.proofs.lemmas.List.{take_at, drop_at, length-replicate}
 use Rattle.hex.specs.Hex.{IsBytes}
 use Rattle.etcs_bits.specs.bits.Number.{num, num_of_bits, bits_of_bytes}
-use Rattle.etcs_bits.specs.layout.Rows.{Row, Place, alone, AreAllowed, join, width, IsSpelled}
+use Rattle.etcs_bits.specs.layout.Rows.{Place, alone, AreAllowed, join, width, IsSpelled}
 use Rattle.etcs_bits.specs.layout.RowLemmas.{allowed_first, allowed_second}
 use Rattle.etcs_bits.specs.layout.Format.{Format}
 use Rattle.etcs_bits.proofs.NumberLemmas.{length-num, num_of_bits-small, bits_of_bytes-cons, length-bits_of_bytes}
@@ -15,7 +15,7 @@ use Rattle.etcs_packet.specs.declared.stop.Stop.TheVariants as stops
 use Rattle.etcs_packet.specs.Laws.{HasNoMark}
 use Rattle.etcs_packet.specs.Lists.{IsHeaded, Stand, ends}
 use Rattle.etcs_packet.specs.Track.{track_packet}
-use Rattle.etcs_packet.specs.Whole.{AreSpelled, IsWhole, start}
+use Rattle.etcs_packet.specs.Whole.{IsWhole, start}
 use Rattle.etcs_packet.proofs.WrittenLemmas.{few_end, mark_ends, ends_only, whole_spelled, whole_written}
 use Rattle.etcs_radio.specs.declared.error.EncodeError.{EncodeError}
 use Rattle.etcs_radio.specs.declared.error.EncodeError.TheVariants as errors
@@ -23,7 +23,7 @@ use Rattle.etcs_radio.specs.declared.message.Message.{Message}
 use Rattle.etcs_radio.specs.declared.message.Message.TheVariants as messages
 use Rattle.etcs_radio.specs.Head.{Head, MovementHead, PositionHead, head}
 use Rattle.etcs_radio.specs.Laws.{AreSpelledOut}
-use Rattle.etcs_radio.specs.Message.{head_of, PacketsStand, is_complete, beginning, IsMessage, packet_rows, message_rows, used_bits, IsTooBig, IsEncoding}
+use Rattle.etcs_radio.specs.Message.{beginning, IsMessage, message_rows, used_bits, IsTooBig, IsEncoding}
 use Rattle.etcs_radio.specs.TrainPacket.{train_packet}
 use Rattle.etcs_radio.proofs.MessageLemmas.{headed_track, headed_train, no_track_mark, no_train_mark, message_meant}
 

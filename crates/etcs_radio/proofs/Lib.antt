@@ -9,6 +9,7 @@ pub mod DecodeLemmas
 pub mod EncodeLemmas
 pub mod WriteLemmas
 pub mod TextLemmas
+pub mod DigitLemmas
 pub mod StreamLemmas
 pub mod StateLemmas
 pub mod SplitterLemmas

@@ -1,11 +1,11 @@
 -- NID_LRBG: how it is written and read.
-use Rattle.std.proofs.Common.{◌≡◌, ℕ, ◌+◌, ◌*◌, ◌/◌, ◌%◌, ◌≤◌, List, [], ◌∷◌, Bool, ◌++◌, length, take, Result, Ok, Err, OnOk, OnErr, refl, sym, ap, ap₂, ◌∙◌, arith}
+use Rattle.std.proofs.Common.{◌≡◌, ℕ, ◌+◌, ◌*◌, ◌/◌, ◌%◌, ◌≤◌, List, [], ◌∷◌, Bool, ◌++◌, length, Result, Ok, Err, OnOk, OnErr, refl, sym, ap, ap₂, ◌∙◌, arith}
 use Rattle.std.proofs.lemmas.List.{append-nil, take_all}
 use Rattle.etcs_bits.specs.declared.variables.identity.Identity.{Identity}
 use Rattle.etcs_bits.specs.bits.Number.{num}
-use Rattle.etcs_bits.specs.layout.Rows.{Row, row, Place, join, Stands}
+use Rattle.etcs_bits.specs.layout.Rows.{row, Place, join}
 use Rattle.etcs_bits.specs.layout.Results.{Puts}
-use Rattle.etcs_bits.specs.layout.Reading.{taken, field_at, rows_at}
+use Rattle.etcs_bits.specs.layout.Reading.{taken, rows_at}
 use Rattle.etcs_bits.specs.variables.Variables.{plain, free}
 use Rattle.etcs_bits.proofs.ReadingLemmas.{taken_ok, taken_again}
 use Rattle.etcs_bits.proofs.StandLemmas.{stands_nothing}

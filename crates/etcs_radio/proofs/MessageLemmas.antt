@@ -1,11 +1,9 @@
 -- Which bytes are a message, and what bytes mean.
-use Rattle.std.proofs.Common.{◌≡◌, ℕ, ◌+◌, ◌≤◌, true, false, Bool, List, length, take, Result, Ok, Err, refl, sym, ap, subst, ◌∙◌, ◌⊎◌, inl, inr, arith}
+use Rattle.std.proofs.Common.{◌≡◌, ℕ, ◌≤◌, true, Bool, List, length, Result, Ok, Err, refl, sym, ap, subst, ◌∙◌, ◌⊎◌, inl, inr, arith}
 use Rattle.etcs_bits.specs.declared.layout.fault.Fault.{Fault}
 use Rattle.etcs_bits.specs.declared.layout.fault.FaultKind.{FaultKind}
 use Rattle.etcs_bits.specs.declared.layout.fault.FaultKind.TheVariants.{NoAuthority, NoReport}
-use Rattle.etcs_bits.specs.bits.Number.{bits_of_bytes}
-use Rattle.etcs_bits.specs.layout.Rows.{Row, Place, join, IsSpelled}
-use Rattle.etcs_bits.specs.layout.Fields.{Fields}
+use Rattle.etcs_bits.specs.layout.Rows.{Row, Place, IsSpelled}
 use Rattle.etcs_bits.specs.layout.Format.{Format}
 use Rattle.etcs_bits.specs.layout.Reading.{◌>>=◌, rows_at}
 use Rattle.etcs_bits.proofs.BindLemmas.{bind_ok, bind_err, ok_is, pass_ok, pass_err}

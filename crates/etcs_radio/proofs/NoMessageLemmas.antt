@@ -1,5 +1,5 @@
 -- Where bytes have a fault, no bytes of the same number with the same front are a message.
-use Rattle.std.proofs.Common.{◌≡◌, ℕ, ◌+◌, ◌*◌, ◌≤◌, Bool, List, length, take, Result, Ok, Err, refl, sym, ap, subst, ◌∙◌, ◌⊎◌, inl, inr, arith}
+use Rattle.std.proofs.Common.{◌≡◌, ℕ, ◌≤◌, Bool, List, length, take, Result, Err, sym, ap, subst, ◌∙◌, inl, inr, arith}
 use Rattle.std.proofs.lemmas.List.{take_all}
 use Rattle.etcs_bits.specs.declared.layout.fault.Fault.{Fault}
 use Rattle.etcs_bits.specs.declared.layout.fault.FaultKind.{FaultKind}
@@ -20,7 +20,7 @@ use Rattle.etcs_packet.proofs.FollowLemmas.{follow_forward, follow_within, list_
 use Rattle.etcs_radio.specs.declared.message.Message.{Message}
 use Rattle.etcs_radio.specs.Head.{Head, head}
 use Rattle.etcs_radio.specs.Meaning.{message_of}
-use Rattle.etcs_radio.specs.Message.{beginning, IsMessage, IsIncomplete, IsPacketsFault, IsMessageFault, IsLaterFault, IsNoMessage}
+use Rattle.etcs_radio.specs.Message.{beginning, IsIncomplete, IsPacketsFault, IsMessageFault, IsNoMessage}
 use Rattle.etcs_radio.specs.TrainPacket.{train_packet}
 use Rattle.etcs_radio.proofs.MessageLemmas.{headed_track, headed_train, then_packets, meant, message_meant, fault_meant, head_within}
 

@@ -1,7 +1,6 @@
 -- From the packets that the code reads to what bytes mean.
-use Rattle.std.proofs.Common.{◌≡◌, ℕ, true, false, Bool, List, length, Result, Ok, Err, refl, sym, ap, ◌∙◌}
+use Rattle.std.proofs.Common.{◌≡◌, true, false, Bool, List, length, Result, Ok, Err, refl, sym, ap, ◌∙◌}
 use Rattle.std.specs.Prelude.{◌↔◌, IsOk}
-use Rattle.etcs_bits.specs.declared.layout.fault.Fault.{Fault}
 use Rattle.etcs_bits.specs.declared.layout.fault.FaultKind.{FaultKind}
 use Rattle.etcs_bits.specs.declared.layout.fault.DecodeError.{DecodeError}
 use Rattle.etcs_bits.specs.declared.layout.fault.DecodeError.TheVariants as errors

@@ -1,5 +1,5 @@
 -- Position reports: how long they are, and how they are written.
-use Rattle.std.proofs.Common.{◌≡◌, ℕ, ◌+◌, ◌≤◌, List, Bool, ◌++◌, Option, Some, None, Result, refl, sym, ap, subst, ◌∙◌, ◌⊎◌, inl, inr, arith}
+use Rattle.std.proofs.Common.{◌≡◌, ℕ, ◌+◌, ◌≤◌, List, Bool, ◌++◌, Option, Some, None, Result, sym, ap, subst, ◌∙◌, ◌⊎◌, inl, inr, arith}
 use Rattle.etcs_bits.specs.declared.variables.identity.Identity.{Identity}
 use Rattle.etcs_bits.specs.declared.variables.level.Level.{Level}
 use Rattle.etcs_bits.specs.declared.variables.level.Level.TheVariants as levels

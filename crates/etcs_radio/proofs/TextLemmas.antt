@@ -1,15 +1,18 @@
 -- Texts and what they mean.
-use Rattle.std.proofs.Common.{◌≡◌, ◌≢◌, ℕ, List, Result, Ok, Err, refl, sym, ap, subst, ◌∙◌}
+use Rattle.std.proofs.Common.{◌≡◌, ◌≢◌, ℕ, List, length, Result, Ok, Err, refl, sym, ap, subst, ◌∙◌}
 use Rattle.hex.specs.Hex.{decode_of, encode_lower}
 use Rattle.hex.specs.declared.error.FromHexError.{FromHexError}
-use Rattle.hex.proofs.HexLemmas.{decode_of-digits, decode_of-ok, decode_of-encode_lower}
+use Rattle.hex.proofs.HexLemmas.{decode_of-digits, decode_of-ok, decode_of-same, decode_of-encode_lower}
 use Rattle.etcs_bits.specs.declared.layout.fault.Fault.{Fault}
+use Rattle.etcs_bits.specs.declared.layout.fault.DecodeError.TheVariants as decode_errors
+use Rattle.etcs_bits.specs.layout.Fault.{IsFault}
+use Rattle.etcs_radio.specs.Head.{head}
 use Rattle.etcs_radio.specs.declared.error.RadioTextError.{RadioTextError}
 use Rattle.etcs_radio.specs.declared.error.RadioTextError.TheVariants as errors
 use Rattle.etcs_radio.specs.declared.message.Message.{Message}
 use Rattle.etcs_radio.specs.Meaning.{message_of}
-use Rattle.etcs_radio.specs.Message.{IsMessage, IsMessageFault, IsNoMessage, IsEncoding}
-use Rattle.etcs_radio.specs.Text.{IsHexadecimal, IsMessageText, IsCanonicalText, HasFault, IsReason}
+use Rattle.etcs_radio.specs.Message.{beginning, IsEncoding}
+use Rattle.etcs_radio.specs.Text.{IsHexadecimal, IsMessageText, IsCanonicalText, HasFault, HasHeadFault, IsReason}
 use Rattle.etcs_radio.specs.TextMeaning.{of_bytes, of_decoded, message_of_text}
 use Rattle.etcs_radio.proofs.MessageLemmas.{message_meant, means_message, fault_meant, meant_fault}
 use Rattle.etcs_radio.proofs.NoMessageLemmas.{fault_none}
@@ -122,3 +125,25 @@ one_text_message m k text x y =
 pub one_canonical_text : (m : Message) (a b : List ℕ) → IsCanonicalText m a → IsCanonicalText m b → a ≡ b
 one_canonical_text m a b x y =
     x.written ∙ ap encode_lower (one_encoding m x.bytes y.bytes x.encoding y.encoding) ∙ sym y.written
+
+-- ---- the fault of a head
+
+-- a text with such a fault is hexadecimal
+pub head_digits : (text : List ℕ) (f : Fault) → HasHeadFault text f → IsHexadecimal text
+head_digits text f x =
+    let digits = decode_of-ok text x.bytes x.decoded in
+    record { even = digits.0; digits = digits.1 }
+
+-- it is that of the bytes of the text
+pub fault_of_head : (text bytes : List ℕ) (f : Fault) → decode_of text ≡ Ok bytes → HasHeadFault text f
+    → IsFault (head (length bytes)).fields (beginning bytes) f
+fault_of_head text bytes f decoded x =
+    subst (λ (xs : List ℕ). IsFault (head (length xs)).fields (beginning xs) f) (decode_of-same text x.bytes bytes x.decoded decoded) x.fault
+
+-- the fault that is reported is that of the head
+pub reported : (found f : Fault) → decode_errors.Fault found ≡ decode_errors.Fault f → errors.Fault found ≡ errors.Fault f
+reported found f is = cc
+
+-- lack of memory is not
+pub no_memory : {C : Type 0} (f : Fault) → decode_errors.Memory ≡ decode_errors.Fault f → C
+no_memory f is = absurd cc

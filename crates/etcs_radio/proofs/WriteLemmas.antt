@@ -4,7 +4,6 @@ use Rattle.std.specs.List.{flat_map}
 use Rattle.std.proofs.lemmas.Bool.{eq-eqb}
 use Rattle.std.proofs.lemmas.List.{length-replicate}
 use Rattle.hex.specs.Hex.{IsBytes}
-use Rattle.etcs_bits.specs.declared.variables.identity.Identity.{Identity}
 use Rattle.etcs_bits.specs.bits.Number.{num, bits_of_bytes}
 use Rattle.etcs_bits.specs.layout.Rows.{alone, AreAllowed, join}
 use Rattle.etcs_bits.proofs.NumberLemmas.{length-bits_of_bytes}

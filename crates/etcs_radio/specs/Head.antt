@@ -1,6 +1,6 @@
 -- The heads of radio messages: of message 3, a movement authority, and of message 136, a position
 -- report of a train (SUBSET-026, 8.4.4, 8.6 and 8.7).
-use Rattle.std.specs.Prelude.{◌≡◌, ℕ, ◌⊎◌, false, Bool, refl}
+use Rattle.std.specs.Prelude.{ℕ, ◌⊎◌, false, Bool, refl}
 use Rattle.etcs_bits.specs.declared.layout.fault.FaultKind.TheVariants.{Length, MessageKind}
 use Rattle.etcs_bits.specs.declared.variables.identity.Identity.{Identity}
 use Rattle.etcs_bits.specs.layout.Rows.{Variable}

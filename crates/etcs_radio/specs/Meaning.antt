@@ -6,7 +6,7 @@ use Rattle.std.proofs.Common.{inl, inr}
 use Rattle.etcs_bits.specs.declared.layout.fault.Fault.{Fault}
 use Rattle.etcs_bits.specs.declared.layout.fault.FaultKind.{FaultKind}
 use Rattle.etcs_bits.specs.declared.layout.fault.FaultKind.TheVariants.{NoAuthority, NoReport}
-use Rattle.etcs_bits.specs.layout.Rows.{Row, Place}
+use Rattle.etcs_bits.specs.layout.Rows.{Place}
 use Rattle.etcs_bits.specs.layout.Format.{Format}
 use Rattle.etcs_bits.specs.layout.Reading.{◌>>=◌, rows_at}
 use Rattle.etcs_packet.specs.declared.stop.Stop.TheVariants as stops

@@ -10,7 +10,6 @@ use Rattle.etcs_bits.specs.declared.layout.fault.FaultKind.{FaultKind}
 use Rattle.etcs_bits.specs.declared.layout.fault.FaultKind.TheVariants.{NoAuthority, NoReport}
 use Rattle.etcs_bits.specs.bits.Number.{bits_of_bytes}
 use Rattle.etcs_bits.specs.layout.Rows.{Row, Place, AreAllowed, join, width, IsSpelled}
-use Rattle.etcs_bits.specs.layout.Fields.{Fields}
 use Rattle.etcs_bits.specs.layout.Fault.{IsFault}
 use Rattle.etcs_packet.specs.declared.stop.Stop.TheVariants as stops
 use Rattle.etcs_packet.specs.Lists.{Stand, IsListFault}

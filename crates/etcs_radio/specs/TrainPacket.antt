@@ -8,7 +8,7 @@ use Rattle.etcs_bits.specs.layout.Format.{Format, either, chosen, named}
 use Rattle.etcs_radio.specs.declared.raw_train.RawTrainPacket.{RawTrainPacket}
 use Rattle.etcs_radio.specs.declared.train_packet.TrainPacket.{TrainPacket}
 use Rattle.etcs_radio.specs.declared.train_packet.TrainPacket.TheVariants as packets
-use Rattle.etcs_radio.specs.Report.{WithOne, WithTwo, with_one, with_two, report_of, numbered_of as report_parts, back as report_back, again as report_again, report}
+use Rattle.etcs_radio.specs.Report.{WithOne, WithTwo, with_one, with_two, report_of, numbered_of as report_parts, again as report_again, report}
 use Rattle.etcs_radio.specs.RawTrain.{others, raw_train_packet}
 use Rattle.etcs_radio.specs.TrainNumbers.{is_report_number, nid_train}
 

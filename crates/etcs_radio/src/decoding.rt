@@ -1,10 +1,12 @@
 //! From bytes to a message.
 
-ghost use Rattle.std.specs.Prelude.{◌≡◌, ◌≤◌, length, Err, IfOk};
+ghost use Rattle.std.specs.Prelude.{◌≡◌, ◌≤◌, false, length, Err, IfOk};
 ghost use Rattle.std.proofs.Common.{inl, inr};
 ghost use Rattle.etcs_bits.specs.declared.layout.fault.Fault.{Fault};
 ghost use Rattle.etcs_bits.specs.layout.Fault.{IsFault};
-ghost use Rattle.etcs_bits.specs.layout.Results.{IfFault, Means};
+ghost use Rattle.etcs_bits.specs.layout.Results.{IfFault, IfMemory, Means};
+ghost use Rattle.etcs_packet.specs.Lists.{ends};
+ghost use Rattle.etcs_packet.specs.Whole.{IsFollowed};
 ghost use Rattle.etcs_radio.specs.declared.message.Message.TheVariants as messages;
 ghost use Rattle.etcs_radio.specs.Head.{head};
 ghost use Rattle.etcs_radio.specs.HeadView.{head_in};
@@ -41,7 +43,8 @@ fn movement(
     cur: &mut Cursor<'_>,
 ) -> Result<MovementMessage, DecodeError>
     requires { length cur.old.bits ≤ 8192 }
-    ensures { Means (λ m. messages.Movement m) result (packets_of (inl fields) cur.old) }
+    ensures means { Means (λ m. messages.Movement m) result (packets_of (inl fields) cur.old) }
+    ensures memory { IfMemory result (ends Stop.Message cur.old ≡ false) }
 {
     let packets = read_packets(alloc, cur, Stop::Message)?;
     let (time, (ack, lrbg)) = fields;
@@ -58,7 +61,8 @@ fn position(
     cur: &mut Cursor<'_>,
 ) -> Result<PositionMessage, DecodeError>
     requires { length cur.old.bits ≤ 8192 }
-    ensures { Means (λ m. messages.Position m) result (packets_of (inr fields) cur.old) }
+    ensures means { Means (λ m. messages.Position m) result (packets_of (inr fields) cur.old) }
+    ensures memory { IfMemory result (ends Stop.Message cur.old ≡ false) }
 {
     let packets = read_items(alloc, cur, Stop::Message)?;
     let (time, engine) = fields;
@@ -71,7 +75,8 @@ fn position(
 // Reads the packets that follow the head and makes the message.
 fn message(alloc: Global, fields: Fields, cur: &mut Cursor<'_>) -> Result<Message, DecodeError>
     requires { length cur.old.bits ≤ 8192 }
-    ensures { Means (λ m. m) result (packets_of (head_in fields) cur.old) }
+    ensures means { Means (λ m. m) result (packets_of (head_in fields) cur.old) }
+    ensures memory { IfMemory result (ends Stop.Message cur.old ≡ false) }
 {
     match fields {
         Fields::OfMovement(fields) => Ok(Message::Movement(movement(alloc, fields, cur)?)),
@@ -97,6 +102,11 @@ pub fn decode(alloc: Global, bytes: &[u8]) -> Result<Message, DecodeError>
     // The head's fault is always reported: reading the head needs no memory.
     ensures head { (f : Fault) → IsFault (head (length bytes.now)).fields (beginning bytes.now) f
         → result ≡ Err (DecodeError.Fault f) }
+
+    // Memory is asked for only where a packet is due behind the head. So `NoAuthority` and `NoReport`
+    // are always reported of a head alone.
+    ensures memory { IfMemory result
+        (IsFollowed Stop.Message (head (length bytes.now)).rows (beginning bytes.now)) }
 {
     // L_MESSAGE counts 1,023 bytes at most. Of more bytes it is the head that has a fault.
     let few = bytes.len().min(1024);

@@ -6,8 +6,10 @@ ghost use Rattle.std.specs.Prelude.{◌≡◌, ◌≢◌, ◌↔◌, ◌+◌, �
 ghost use Rattle.std.specs.List.{concat};
 ghost use Rattle.etcs_bits.specs.Laws.{AreLaidOut};
 ghost use Rattle.etcs_bits.specs.declared.layout.fault.Fault.{Fault};
+ghost use Rattle.etcs_bits.specs.layout.Rows.{join};
 ghost use Rattle.etcs_bits.specs.layout.Values.{HasValues};
 ghost use Rattle.etcs_radio.specs.declared.message.Message.{Message};
+ghost use Rattle.etcs_radio.specs.declared.train_packet.TrainPacket.{TrainPacket as AnyTrainPacket};
 ghost use Rattle.etcs_radio.specs.Laws.{AreSpelledOut};
 ghost use Rattle.etcs_radio.specs.Lrbg.{nid_lrbg};
 ghost use Rattle.etcs_radio.specs.Integrity.{q_length};
@@ -18,7 +20,7 @@ ghost use Rattle.etcs_radio.specs.Text.{IsMessageText, IsCanonicalText, IsReason
 ghost use Rattle.etcs_radio.specs.TextMeaning.{message_of_text};
 ghost use Rattle.etcs_radio.specs.Train3.{train3, train3_variable, train3_number, train3_of};
 ghost use Rattle.etcs_radio.specs.RawTrain.{raw_train_packet};
-ghost use Rattle.etcs_radio.specs.TrainPacket.{train_packet};
+ghost use Rattle.etcs_radio.specs.TrainPacket.{own_rows, train_packet};
 ghost use Rattle.etcs_radio.specs.Splitter.{IsTaken, state_of};
 ghost use Rattle.etcs_radio.specs.Cutting.{IsCut, after_message, cut_from, cut_pieces, none_with, one_then};
 ghost use Rattle.etcs_radio.specs.Stream.{AreBroken, AreMessages, AreRest, AreWhole, message_length};
@@ -70,6 +72,11 @@ pub fn train_packets_are_laid_out()
     records_are_laid_out::<RawTrainPacket>();
     records_are_laid_out::<TrainPacket>();
 }
+
+/// A packet from train to track has the same bits as one of a list and by its own layout.
+pub fn a_train_packet_of_a_list_is_spelled_as_by_itself()
+    ensures { (p : AnyTrainPacket) → join (train_packet.rows p) ≡ join (own_rows p) }
+{}
 
 // ---- messages
 

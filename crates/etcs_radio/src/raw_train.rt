@@ -1,9 +1,11 @@
 //! Packets from train to track whose layout is not known here.
 
 ghost use Rattle.std.specs.Prelude.{◌≡◌, ◌≤◌, ◌<◌, ◌+◌, length, true, IfOk, IfErr, IsOk, ◌↔◌};
+ghost use Rattle.etcs_bits.specs.bits.Number.{num_of_bits};
 ghost use Rattle.etcs_bits.specs.layout.Reading.{field_at};
 ghost use Rattle.etcs_bits.specs.layout.Results.{Gives, IfMemory, Puts};
 ghost use Rattle.etcs_bits.specs.layout.Rows.{join};
+ghost use Rattle.etcs_bits.specs.variables.Variables.{free};
 ghost use Rattle.etcs_packet.specs.Free.{free_rows};
 ghost use Rattle.etcs_radio.specs.TrainNumbers.{is_kept, is_other, l_raw};
 
@@ -35,6 +37,18 @@ fn scan_length(cur: &mut Cursor<'_>) -> Result<u64, DecodeError>
         return Err(refused(at, cur, FaultKind::Length));
     }
     Ok(length)
+}
+
+// Copies the next bits.
+fn scan_body(alloc: Global, cur: &mut Cursor<'_>, width: usize) -> Result<Bits, DecodeError>
+    ensures gives { Gives num_of_bits result (field_at (free width) cur.old) cur.new }
+    ensures len { IfOk result (λ body. length body ≡ width) }
+
+    // Memory is asked for only where there are bits, and as many as that.
+    ensures memory { IfMemory result ((0 < width) × (cur.old.at + width ≤ length cur.old.bits)) }
+{
+    let body = cur.take_slice(width)?.to_bits(alloc)?;
+    Ok(body)
 }
 
 // Appends bits as they are.
@@ -101,7 +115,7 @@ impl RawTrainPacket {
         ensures { Gives (numbered_rows others) result (chosen_at others number cur.old) cur.new }
     {
         let length = scan_length(cur)?;
-        let body = cur.take_bits(alloc, (length - 21) as usize)?;
+        let body = scan_body(alloc, cur, (length - 21) as usize)?;
         Ok(RawTrainPacket {
             number: number as u8,
             body,

@@ -1,9 +1,10 @@
 //! Messages as hexadecimal text.
 
-ghost use Rattle.std.specs.Prelude.{◌≡◌, ◌↔◌, Ok, IfOk, IfErr, IsErrOf, IsTrue, OnOk, string_bytes};
+ghost use Rattle.std.specs.Prelude.{◌≡◌, ◌↔◌, ◌/◌, ℕ, List, length, min, take, Ok, Err, IfOk, IfErr, IsErrOf, IsTrue, OnOk, string_bytes};
 ghost use Rattle.hex.specs.Hex.{decode_of, encode_lower, is_hex_digit, IsBytes};
+ghost use Rattle.etcs_bits.specs.declared.layout.fault.Fault.{Fault};
 ghost use Rattle.etcs_radio.specs.Message.{IsTooBig};
-ghost use Rattle.etcs_radio.specs.Text.{IsCanonicalText, IsHexadecimal, IsMessageText, IsReason, IsTextMeaning};
+ghost use Rattle.etcs_radio.specs.Text.{HasHeadFault, HasPackets, IsCanonicalText, IsHexadecimal, IsMessageText, IsReason, IsTextMeaning};
 ghost use Rattle.etcs_radio.specs.TextMeaning.{message_of_text};
 
 use crate::decoding::decode;
@@ -27,11 +28,19 @@ fn is_hexadecimal(text: &[u8]) -> bool
     text.len() % 2 == 0 && text.iter().all(|&byte| is_digit(byte))
 }
 
+// Writes the first bytes that the digits of a text spell: 1,024, or all if there are fewer.
+fn read_front(text: &[u8], front: &mut [u8])
+    requires { length front.old ≡ min (length text.now / 2) 1024 }
+    ensures { (bytes : List ℕ) → decode_of text.now ≡ Ok bytes
+        → front.new ≡ take (min (length text.now / 2) 1024) bytes }
+{
+    etcs_digits::decode(&text[..2 * front.len()], front);
+}
+
 /// Reads a message from its text, which is an even number of hexadecimal digits of either case.
 ///
-/// `NotHex` and the first fault of the bytes are checked in this order. If memory runs out, a fault
-/// may go unseen: the bytes take memory, and the check before them takes none. After an error nothing
-/// is returned of what was read.
+/// `NotHex` and the first fault of the bytes are checked in this order. Only packets take memory. If it
+/// runs out, a fault after the head may go unseen. After an error nothing is returned of what was read.
 pub fn from_hex(alloc: Global, text: &[u8]) -> Result<Message, RadioTextError>
     ensures ok { IfOk result (λ m. IsMessageText m text.now) }
     ensures reason { IfErr result (λ e. IsReason e text.now) }
@@ -39,16 +48,23 @@ pub fn from_hex(alloc: Global, text: &[u8]) -> Result<Message, RadioTextError>
     // The same as a function of the text.
     ensures exact { IsTextMeaning result (message_of_text text.now) }
 
-    // This is always reported: it needs no memory.
+    // These are always reported: they need no memory.
     ensures not_hex { IsErrOf result RadioTextError.NotHex ↔ (IsHexadecimal text.now → ⊥) }
+    ensures head { (f : Fault) → HasHeadFault text.now f
+        → result ≡ Err (RadioTextError.Fault f) }
+
+    // Memory is asked for only where a packet is due behind the head.
+    ensures packets { IsErrOf result RadioTextError.Memory → HasPackets text.now }
 {
     if !is_hexadecimal(text) {
         return Err(RadioTextError::NotHex);
     }
-    let Ok(bytes) = etcs_digits::decode_to_vec(alloc, text) else {
-        return Err(RadioTextError::Memory);
-    };
-    match decode(alloc, bytes.as_slice()) {
+    // L_MESSAGE counts 1,023 bytes at most. Of more bytes the first ones show the fault.
+    let count = (text.len() / 2).min(1024);
+    let mut room = [0; 1024];
+    let bytes = &mut room[..count];
+    read_front(text, bytes);
+    match decode(alloc, bytes) {
         Ok(message) => Ok(message),
         Err(DecodeError::Memory) => Err(RadioTextError::Memory),
         Err(DecodeError::Fault(fault)) => Err(RadioTextError::Fault(fault)),

@@ -55,7 +55,7 @@ impl TrainPacket {
     }
 
     /// Whether the packet is a position report: packet 0 or 1.
-    pub fn is_report(&self) -> bool
+    pub(crate) fn is_report(&self) -> bool
         ensures { result ≡ is_report_packet self.now }
     {
         match self {

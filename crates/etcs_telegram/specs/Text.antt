@@ -7,7 +7,8 @@ use Rattle.hex.specs.Hex.{decode_of, encode_lower, is_hex_digit, IsBytes}
 use Rattle.etcs_bits.specs.declared.layout.fault.Fault.{Fault}
 use Rattle.etcs_bits.specs.bits.Number.{bits_of_bytes}
 use Rattle.etcs_bits.specs.layout.Fault.{IsFault}
-use Rattle.etcs_packet.specs.Whole.{start}
+use Rattle.etcs_packet.specs.declared.stop.Stop.TheVariants as stops
+use Rattle.etcs_packet.specs.Whole.{IsFollowed, start}
 use Rattle.etcs_telegram.specs.declared.size.Size.{Size}
 use Rattle.etcs_telegram.specs.declared.error.TextError.{TextError}
 use Rattle.etcs_telegram.specs.declared.error.TextError.TheVariants as errors
@@ -73,6 +74,12 @@ pub record HaveHeaderFault (bytes : List ℕ) (f : Fault) : Type 0 where
   pub padded : ArePadded size bytes
   pub first : IsFault header.fields (start (user_bits_in size bytes)) f
 
+-- the bytes are those of a telegram as far as its header, and a packet is due behind the header
+pub record HavePackets (bytes : List ℕ) : Type 0 where
+  pub size : Size
+  pub padded : ArePadded size bytes
+  pub followed : IsFollowed stops.Telegram header.rows (start (user_bits_in size bytes))
+
 -- the reason to refuse these bytes holds, and no reason checked earlier does
 abbrev pub IsReasonIn : TextError → List ℕ → Type 0
 IsReasonIn errors.Memory bytes = Unit {0}
@@ -92,6 +99,12 @@ pub record HasHeaderFault (text : List ℕ) (f : Fault) : Type 0 where
   pub bytes : List ℕ
   pub decoded : decode_of text ≡ Ok bytes
   pub fault : HaveHeaderFault bytes f
+
+-- the text is a telegram's as far as its header, and a packet is due behind the header
+pub record HasPackets (text : List ℕ) : Type 0 where
+  pub bytes : List ℕ
+  pub decoded : decode_of text ≡ Ok bytes
+  pub packets : HavePackets bytes
 
 -- The reason to refuse a text holds, and no reason checked earlier does.
 abbrev pub IsReason : TextError → List ℕ → Type 0

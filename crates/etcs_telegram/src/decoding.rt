@@ -3,8 +3,8 @@
 ghost use Rattle.std.specs.Prelude.{◌≡◌, Err, IfOk};
 ghost use Rattle.etcs_bits.specs.declared.layout.fault.Fault.{Fault};
 ghost use Rattle.etcs_bits.specs.layout.Fault.{IsFault};
-ghost use Rattle.etcs_bits.specs.layout.Results.{IfFault, Means};
-ghost use Rattle.etcs_packet.specs.Whole.{start};
+ghost use Rattle.etcs_bits.specs.layout.Results.{IfFault, IfMemory, Means};
+ghost use Rattle.etcs_packet.specs.Whole.{IsFollowed, start};
 ghost use Rattle.etcs_telegram.specs.Header.{header};
 ghost use Rattle.etcs_telegram.specs.Telegram.{AreUserBits, IsNoTelegram, IsTelegram, IsTelegramFault};
 ghost use Rattle.etcs_telegram.specs.Meaning.{telegram_of};
@@ -29,6 +29,9 @@ pub(crate) fn decode_slice(alloc: Global, bits: BitSlice<'_>) -> Result<Telegram
     // The header's fault is always reported: reading the header needs no memory.
     ensures header { (f : Fault) → IsFault header.fields (start bits.entry) f
         → result ≡ Err (DecodeError.Fault f) }
+
+    // Memory is asked for only where a packet is due behind the header.
+    ensures memory { IfMemory result (IsFollowed Stop.Telegram header.rows (start bits.entry)) }
 {
     let size = Size::of_len(bits.len()).unwrap();
     let mut cur = Cursor::over(bits);
@@ -59,6 +62,10 @@ pub fn decode(alloc: Global, bits: &Bits) -> Result<Telegram, DecodeError>
     // The header's fault is always reported: reading the header needs no memory.
     ensures header { (f : Fault) → IsFault header.fields (start bits.now) f
         → result ≡ Err (DecodeError.Fault f) }
+
+    // Memory is asked for only where a packet is due behind the header. So a telegram without
+    // packets is always read.
+    ensures memory { IfMemory result (IsFollowed Stop.Telegram header.rows (start bits.now)) }
 {
     decode_slice(alloc, bits.slice())
 }

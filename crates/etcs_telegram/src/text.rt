@@ -6,7 +6,7 @@ ghost use Rattle.etcs_bits.specs.declared.layout.fault.Fault.{Fault};
 ghost use Rattle.etcs_telegram.specs.Sizes.{byte_count};
 ghost use Rattle.etcs_telegram.specs.Meaning.{telegram_of};
 ghost use Rattle.etcs_telegram.specs.Telegram.{IsTelegram, IsTooBig};
-ghost use Rattle.etcs_telegram.specs.Text.{ArePadded, HasHeaderFault, HaveHeaderFault, IsCanonicalText, IsHexadecimal, IsReason, IsReasonDecoded, IsReasonIn, IsTelegramText, IsTextMeaning, user_bits_in};
+ghost use Rattle.etcs_telegram.specs.Text.{ArePadded, HasHeaderFault, HasPackets, HaveHeaderFault, HavePackets, IsCanonicalText, IsHexadecimal, IsReason, IsReasonDecoded, IsReasonIn, IsTelegramText, IsTextMeaning, user_bits_in};
 ghost use Rattle.etcs_telegram.specs.TextMeaning.{of_bits, of_bytes, pads_with_zeros, telegram_of_text};
 
 use crate::decoding::decode_slice;
@@ -63,6 +63,9 @@ fn telegram_in(alloc: Global, bytes: &[u8]) -> Result<Telegram, TextError>
         → (bits : List Bool) × (of_bytes bytes.now ≡ of_bits (telegram_of bits)) }
     ensures header { (f : Fault) → HaveHeaderFault bytes.now f
         → result ≡ Err (TextError.Fault f) }
+
+    // Memory is asked for only where a packet is due.
+    ensures packets { IsErrOf result TextError.Memory → HavePackets bytes.now }
 {
     let Some(size) = Size::in_bytes(bytes.len()) else {
         return Err(TextError::WrongSize);
@@ -90,6 +93,7 @@ fn telegram_of_digits<const N: usize>(alloc: Global, text: &[u8]) -> Result<Tele
         ↔ IsReasonDecoded TextError.PadBits text.now }
     ensures header { (f : Fault) → HasHeaderFault text.now f
         → result ≡ Err (TextError.Fault f) }
+    ensures packets { IsErrOf result TextError.Memory → HasPackets text.now }
 {
     let mut bytes = [0u8; N];
     if !read_digits(text, &mut bytes) {
@@ -119,6 +123,10 @@ pub fn from_hex(alloc: Global, text: &[u8]) -> Result<Telegram, TextError>
         ↔ IsReasonDecoded TextError.PadBits text.now }
     ensures header { (f : Fault) → HasHeaderFault text.now f
         → result ≡ Err (TextError.Fault f) }
+
+    // Memory is asked for only where a packet is due behind the header. So a telegram without
+    // packets is always read.
+    ensures packets { IsErrOf result TextError.Memory → HasPackets text.now }
 {
     match text.len() {
         54 => telegram_of_digits::<27>(alloc, text),

@@ -1,6 +1,6 @@
 //! Lists of bits, and what a cursor takes of them.
 
-use etcs_bits::{Bits, Cursor, DecodeError, Fault, FaultKind, Same};
+use etcs_bits::{Bits, Cursor, Fault, FaultKind, Same};
 use std::test::Fail;
 
 // Bits from the middle of bytes, whose last byte is not full.
@@ -68,11 +68,11 @@ fn bits_are_copied_as_they_are(rt: HostRuntime) -> Result<(), Fail> {
     let bits = Bits::from_bytes(alloc, &FIVE, 40)?;
     let mut cur = Cursor::new(&bits);
     assert_eq!(rt; cur.take(3), Ok(5));
-    let first = cur.take_bits(alloc, 33)?;
+    let first = cur.take_slice(33)?.to_bits(alloc)?;
     assert!(rt; first.len() == 33 && cur.at() == 36);
-    let none = cur.take_bits(alloc, 0)?;
+    let none = cur.take_slice(0)?.to_bits(alloc)?;
     assert!(rt; none.len() == 0 && cur.at() == 36);
-    let last = cur.take_bits(alloc, 4)?;
+    let last = cur.take_slice(4)?.to_bits(alloc)?;
     assert!(rt; last.len() == 4 && cur.left() == 0);
 
     let mut copy = Bits::new(alloc);
@@ -85,21 +85,21 @@ fn bits_are_copied_as_they_are(rt: HostRuntime) -> Result<(), Fail> {
 }
 
 #[test]
-fn bits_that_are_not_there_are_not_copied(rt: HostRuntime) -> Result<(), Fail> {
+fn bits_that_are_not_there_are_not_taken(rt: HostRuntime) -> Result<(), Fail> {
     let alloc = rt.alloc();
     let bits = Bits::from_bytes(alloc, &[0xff], 8)?;
     let mut cur = Cursor::new(&bits);
     assert_eq!(rt; cur.take(5), Ok(31));
-    let short = DecodeError::Fault(Fault {
+    let short = Fault {
         at: 5,
         end: 8,
         why: FaultKind::Short,
-    });
+    };
     for width in [4, 8, usize::MAX] {
-        assert!(rt; cur.take_bits(alloc, width).err() == Some(short), "{width}");
+        assert!(rt; cur.take_slice(width).err() == Some(short), "{width}");
     }
     let mut ahead = cur.fork();
-    let rest = ahead.take_bits(alloc, 3)?;
+    let rest = ahead.take_slice(3)?.to_bits(alloc)?;
     assert!(rt; rest.len() == 3 && ahead.at() == 8 && cur.at() == 5);
     Ok(())
 }

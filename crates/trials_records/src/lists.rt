@@ -3,8 +3,8 @@
 use crate::spelled::{all_kinds, read_one, spelled};
 use etcs_bits::{Bits, Cursor, DecodeError, Layout, Plain, Same};
 use etcs_packet::{
-    CoverMarker, Stop, TrackPacket, is_end, next_item, next_whole, read_items, read_packets,
-    read_whole, write_items, write_packets,
+    CoverMarker, Stop, TrackPacket, next_view, next_whole, read_items, read_packets, write_items,
+    write_packets,
 };
 use std::alloc::Global;
 use std::test::Fail;
@@ -50,7 +50,7 @@ fn lists_may_be_longer_than_their_first_room(rt: HostRuntime) {
 
 // Whether there is a next packet.
 fn has_next(alloc: Global, cur: &mut Cursor<'_>) -> Result<bool, DecodeError> {
-    Ok(next_item::<TrackPacket>(alloc, cur, Stop::Message)?.is_some())
+    Ok(next_view(alloc, cur, Stop::Message)?.is_some())
 }
 
 // How many more packets there are.
@@ -71,7 +71,6 @@ fn packets_are_read_one_by_one(rt: HostRuntime) -> Result<(), Fail> {
     let bits = spelled(rt.alloc(), "00000000 100101 00000000 100110 000")?;
     let mut cur = Cursor::new(&bits);
     assert!(rt; are_read_one_by_one(rt.alloc(), &mut cur) == Ok(true));
-    assert!(rt; is_end(&cur, Stop::Message) && !is_end(&cur, Stop::Telegram));
     Ok(())
 }
 
@@ -82,12 +81,6 @@ fn whole(alloc: Global, cur: &mut Cursor<'_>) -> Result<(u32, bool, usize), Deco
     Ok((head.0.number(), head.1, found.len()))
 }
 
-// The same of a head that is a flag alone, at the beginning.
-fn whole_of(alloc: Global, bits: &Bits) -> Result<(bool, usize), DecodeError> {
-    let (head, found) = read_whole::<bool, TrackPacket>(alloc, bits, Stop::Message)?;
-    Ok((head, found.len()))
-}
-
 #[test]
 fn packets_stand_behind_a_head(rt: HostRuntime) -> Result<(), Fail> {
     let alloc = rt.alloc();
@@ -96,7 +89,6 @@ fn packets_stand_behind_a_head(rt: HostRuntime) -> Result<(), Fail> {
     let mut cur = Cursor::new(&bits);
     assert!(rt; whole(alloc, &mut cur) == Ok((6, true, 1)));
     assert!(rt; cur.at() == 18);
-    assert!(rt; whole_of(alloc, &spelled(alloc, "1 00000000 100101")?) == Ok((true, 1)));
     Ok(())
 }
 

@@ -1,10 +1,10 @@
 //! Bits that are kept in bytes, eight in each, most significant first.
 
-ghost use Rattle.std.specs.Prelude.{◌≡◌, ◌+◌, ◌-◌, ◌*◌, ◌/◌, ◌%◌, ◌^◌, ◌<◌, ◌≤◌, ◌++◌, length, take, drop, slice_get, slice_index, vec_len, Some, OnOk, OnErr};
+ghost use Rattle.std.specs.Prelude.{◌≡◌, ◌+◌, ◌-◌, ◌*◌, ◌/◌, ◌%◌, ◌^◌, ◌<◌, ◌≤◌, ◌++◌, length, take, drop, slice_get, slice_index, vec_len, Some, IfOk, OnOk, OnErr};
 ghost use Rattle.etcs_bits.specs.bits.Number.{num, num_of_bits, bits_of_bytes};
 ghost use Rattle.etcs_bits.specs.bits.Packed.{IsPacked};
 
-use std::alloc::AllocError;
+use std::alloc::{AllocError, Global};
 
 // Eight bytes from byte `first`, as one number. The compiler makes one load of it.
 #[inline(always)]
@@ -88,6 +88,16 @@ pub fn bit_at(bytes: &[u8], i: usize) -> bool
     (bytes[i / 8] >> (7 - i % 8)) & 1 == 1
 }
 
+// A copy of some bytes. A copy of none takes no memory.
+pub fn copy_of(alloc: Global, bytes: &[u8]) -> Result<Vec<u8>, AllocError>
+    ensures bytes { IfOk result (λ v. v.items ≡ bytes.now) }
+    ensures memory { OnErr result (0 < length bytes.now) }
+{
+    let mut copy = Vec::with_capacity(alloc, bytes.len())?;
+    copy.extend_from_slice(bytes)?;
+    Ok(copy)
+}
+
 // Appends the first `count` of some bytes. Each count has an arm of its own, in which the compiler
 // knows how many bytes to copy.
 #[inline(always)]
@@ -95,8 +105,12 @@ fn append_few(bytes: &mut Vec<u8>, block: &[u8], count: usize) -> Result<(), All
     requires { (count ≤ length block.now) × (5 ≤ length block.now) }
     ensures ok { OnOk result (bytes.new.items ≡ bytes.old.items ++ take count block.now) }
     ensures err { OnErr result (bytes.new.items ≡ bytes.old.items) }
+
+    // To append nothing takes no memory.
+    ensures memory { OnErr result (0 < count) }
 {
     match count {
+        0 => Ok(()),
         1 => bytes.extend_from_slice(&block[..1]),
         2 => bytes.extend_from_slice(&block[..2]),
         3 => bytes.extend_from_slice(&block[..3]),
@@ -135,6 +149,9 @@ fn append_within(bytes: &mut Vec<u8>, used: u32, width: u32, n: u64) -> Result<(
         ≡ (take (8 * (vec_len bytes.old - 1) + used) (bits_of_bytes bytes.old.items) ++ num width n)
         ++ num (8 * ((used + width + 7) / 8) - used - width) 0) }
     ensures err { OnErr result (bytes.new.items ≡ bytes.old.items) }
+
+    // Where the last byte has room, no memory is asked for.
+    ensures memory { OnErr result (8 < used + width) }
 {
     let last = bytes.len() - 1;
     let count = (used + width + 7) / 8;
@@ -155,6 +172,9 @@ pub fn append(bytes: &mut Vec<u8>, len: usize, width: u32, n: u64) -> Result<(),
     ensures bits { OnOk result (take (len + width) (bits_of_bytes bytes.new.items)
         ≡ take len (bits_of_bytes bytes.old.items) ++ num width n) }
     ensures err { OnErr result (bytes.new.items ≡ bytes.old.items) }
+
+    // Where the last byte has room, no memory is asked for.
+    ensures memory { 0 < len % 8 → OnErr result (8 < len % 8 + width) }
 {
     let used = (len % 8) as u32;
     if used == 0 {

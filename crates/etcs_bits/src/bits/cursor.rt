@@ -2,18 +2,15 @@
 
 ghost use Rattle.std.specs.Prelude.{◌≡◌, ◌↔◌, ◌+◌, ◌<◌, ◌≤◌, ◌^◌, length, take, drop, Ok, Err, Some, None, IfSome, IsOk, IfOk, IfErr, MatchResult, OnOk, OnErr};
 ghost use Rattle.etcs_bits.specs.layout.Fault.{short};
-ghost use Rattle.etcs_bits.specs.bits.Number.{num_of_bits};
-ghost use Rattle.etcs_bits.specs.layout.Reading.{forward, taken, field_at};
-ghost use Rattle.etcs_bits.specs.layout.Results.{Gives};
+ghost use Rattle.etcs_bits.specs.layout.Reading.{forward, taken};
 
 use crate::bits::Bits;
 use crate::bits::slice::BitSlice;
-use crate::layout::fault::{DecodeError, Fault, FaultKind};
-use std::alloc::Global;
+use crate::layout::fault::{Fault, FaultKind};
 use std::marker::Model;
 
 /// The place where a reader stands: borrowed bits, and the place of the next bit. Contracts see it
-/// as such a place. Of its calls, [`Cursor::take_bits`] alone takes memory.
+/// as such a place. None of its calls takes memory.
 #[derive(Drop)]
 pub struct Cursor<'a> {
     bits: BitSlice<'a>,
@@ -44,8 +41,6 @@ fn no_room(at: usize, end: usize) -> Fault
 }
 
 impl<'a> Cursor<'a> {
-    ghost use Rattle.etcs_bits.specs.variables.Variables.{free};
-
     /// The beginning of the bits.
     #[inline]
     pub fn new(bits: &'a Bits) -> Cursor<'a>
@@ -170,30 +165,6 @@ impl<'a> Cursor<'a> {
         let part = self.bits.part(self.at, self.at + n);
         self.at += n;
         Ok(part)
-    }
-
-    /// A copy of the next `width` bits, as they are. The cursor then stands after them.
-    ///
-    /// If fewer bits are left, the error is a Short fault at the cursor, whose `end` is the length
-    /// of the bits, and no memory is asked for. If memory runs out, the error is Memory. After an
-    /// error the cursor has not moved.
-    pub fn take_bits(&mut self, alloc: Global, width: usize) -> Result<Bits, DecodeError>
-        ensures gives { Gives num_of_bits result (field_at (free width) self.old) self.new }
-        ensures len { IfOk result (λ bits. length bits ≡ width) }
-        ensures err { OnErr result (self.new ≡ self.old) }
-
-        // If too few bits are left, no memory is asked for.
-        ensures short { length self.old.bits < self.old.at + width
-            → result ≡ Err (DecodeError.Fault (short self.old)) }
-    {
-        let len = self.bits.len();
-        if len - self.at < width {
-            return Err(DecodeError::Fault(no_room(self.at, len)));
-        }
-        let end = self.at + width;
-        let bits = self.bits.part(self.at, end).to_bits(alloc)?;
-        self.at = end;
-        Ok(bits)
     }
 
     // The fault of a field of `width` bits that allows no number.

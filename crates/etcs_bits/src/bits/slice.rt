@@ -1,6 +1,6 @@
 //! Borrowed bits.
 
-ghost use Rattle.std.specs.Prelude.{◌≡◌, ◌↔◌, ◌+◌, ◌-◌, ◌*◌, ◌<◌, ◌≤◌, ◌^◌, length, take, drop, slice_get, Some, IfOk, IsTrue};
+ghost use Rattle.std.specs.Prelude.{◌≡◌, ◌↔◌, ◌+◌, ◌-◌, ◌*◌, ◌<◌, ◌≤◌, ◌^◌, length, take, drop, slice_get, Some, IfOk, OnErr, IsTrue};
 ghost use Rattle.etcs_bits.specs.bits.Number.{num_of_bits, bits_of_bytes};
 
 use crate::bits::memory::Memory;
@@ -129,6 +129,9 @@ impl<'a> BitSlice<'a> {
     pub fn to_bits(&self, alloc: Global) -> Result<Bits, Memory>
         ensures bits { IfOk result (λ b. b ≡ self.now) }
         ensures len { IfOk result (λ b. length b ≡ length self.now) }
+
+        // No bits take no memory.
+        ensures memory { OnErr result (0 < length self.now) }
     {
         let mut copy = Bits::with_room(alloc, self.len())?;
         copy.push_slice(self.part(0, self.len()))?;

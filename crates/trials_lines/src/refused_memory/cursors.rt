@@ -3,7 +3,7 @@
 use super::{Answer, LENGTH, at_packet, expect_answers};
 use crate::halt::Halt;
 use etcs_bits::{BitSlice, Cursor, DecodeError, Layout};
-use etcs_packet::{Stop, TrackPacket, next_item, next_view, next_whole, read_items, read_packets};
+use etcs_packet::{Stop, TrackPacket, next_view, next_whole, read_items, read_packets};
 use std::alloc::Global;
 
 /// A bit, and the packet after it: 79 bits.
@@ -36,12 +36,6 @@ fn record(alloc: Global) -> Answer {
     stands(&read, &cur, LENGTH)
 }
 
-fn item(alloc: Global) -> Answer {
-    let mut cur = at_packet();
-    let read = next_item::<TrackPacket>(alloc, &mut cur, Stop::Telegram);
-    stands(&read, &cur, LENGTH)
-}
-
 fn items(alloc: Global) -> Answer {
     let mut cur = at_packet();
     let read = read_items::<TrackPacket>(alloc, &mut cur, Stop::Telegram);
@@ -54,26 +48,13 @@ fn headed(alloc: Global) -> Answer {
     stands(&read, &cur, 79)
 }
 
-// Bits of their own. Where there are too few, no memory is asked for.
-fn taken(alloc: Global) -> Answer {
-    let mut cur = at_packet();
-    let has_fault = matches!(cur.take_bits(alloc, 87), Err(DecodeError::Fault(_)));
-    if !has_fault || cur.at() != 0 {
-        return Ok(false);
-    }
-    let read = cur.take_bits(alloc, LENGTH);
-    stands(&read, &cur, LENGTH)
-}
-
-pub fn answers(alloc: Global) -> [Answer; 7] {
+pub fn answers(alloc: Global) -> [Answer; 5] {
     [
         view(alloc),
         packets(alloc),
         record(alloc),
-        item(alloc),
         items(alloc),
         headed(alloc),
-        taken(alloc),
     ]
 }
 

@@ -4,7 +4,7 @@ use Rattle.etcs_bits.specs.declared.layout.fault.DecodeError.TheVariants as erro
 use Rattle.etcs_bits.specs.declared.layout.fault.FaultKind.TheVariants.{NoEnd}
 use Rattle.etcs_packet.specs.Lists.{ends}
 use Rattle.etcs_packet.proofs.EndLemmas.{no_end_here}
-use Rattle.etcs_packet.proofs.ListLemmas.{lacks_step, no_step}
+use Rattle.etcs_packet.proofs.ListLemmas.{lacks_step, no_step, of_memory}
 use Rattle.etcs_packet.proofs.list.next_item.Goals as goal
 
 -- the fault of the packet that is due lies past the eight bits that show that the list goes on
@@ -31,3 +31,10 @@ returns-then-left-lt8-clause-none g c =
     let few : length p.bits < p.at + 8 = omega (arith, c.left.ensures, c.if-left-lt8.true) in
     let is = c.refused.ensures ∙ ap (λ (at : ℕ). errors.Fault (record { at = at; end = p.at; why = NoEnd })) c.at.ensures.place in
     rw is (lacks_step g.T.Layout.format.laid c.args.stop p c.requires c.is_end.ensures.inside goes few)
+
+-- the packet that is due takes memory
+pub returns-in_err-item-clause-memory : goal.returns-in_err-item-clause-memory
+returns-in_err-item-clause-memory g c =
+    let failed = err_from_is_err_and c.from_residual.result c.from_residual.ensures.1 in
+    let goes : ends c.args.stop c.args.cur.now ≡ false = cc (c.is_end.ensures.value, c.if-is_end.false) in
+    rw (failed.1, failed.2) (of_memory c.in_err-item.field-0.0 (λ (grows : g.T.Layout.grows). (goes, grows)) c.in_err-item.ensures.memory)

@@ -1,7 +1,7 @@
-use Rattle.std.proofs.Common.{ap, map, Some, None, Err}
+use Rattle.std.proofs.Common.{◌≡◌, ap, map, false, Some, None, Err}
 use Rattle.std.proofs.lemmas.Result.{err_from_is_err_and}
 use Rattle.etcs_bits.specs.layout.Results.{OfFault}
-use Rattle.etcs_packet.specs.Lists.{IsListFault, IsStep, Stand}
+use Rattle.etcs_packet.specs.Lists.{IsListFault, IsStep, Stand, ends}
 use Rattle.etcs_packet.proofs.EndLemmas.{less_left}
 use Rattle.etcs_packet.proofs.FollowLemmas.{follow_begins, follow_within}
 use Rattle.etcs_packet.proofs.ListLemmas.{if_memory, of_memory, goes_on, no_error, none_before, over, same_error, list_fault, list_fails, none_of, stand_is_read}
@@ -80,7 +80,7 @@ pub returns-in_err-item-clause-memory : goal.returns-in_err-item-clause-memory
 returns-in_err-item-clause-memory g c =
     let failed = err_from_is_err_and c.from_residual.result c.from_residual.ensures.1 in
     let begins = follow_begins c.args.stop g.T.Layout.format.fields (map g.T.Layout.format.rows c.loop-found.found.items) c.args.cur.now c.loop-found.ahead c.loop-found.invariant.follow in
-    rw (failed.1, failed.2) (of_memory c.in_err-item.field-0.0 begins c.in_err-item.ensures.memory)
+    rw (failed.1, failed.2) (of_memory c.in_err-item.field-0.0 (λ (due : (ends c.args.stop c.loop-found.ahead ≡ false) × g.T.Layout.grows). begins due.0) c.in_err-item.ensures.memory)
 
 pub returns-in_err-append-clause-memory : goal.returns-in_err-append-clause-memory
 returns-in_err-append-clause-memory g c =

@@ -35,3 +35,9 @@ returns-clause-ok c =
     let goes : ends c.args.stop p ≡ false = cc (c.is_end.ensures.value, c.if-is_end.false) in
     let read = rw c.fork-ahead.ensures.same at c.in_ok-view.ensures.gives in
     (read.0, read.1, (goes, is_spelled track_packet.fields (track_packet.rows read.0) p c.scan.new.cur c.is_end.ensures.inside read.2))
+
+-- and the fork stands where the cursor does
+pub returns-in_err-view-clause-direction : goal.returns-in_err-view-clause-direction
+returns-in_err-view-clause-direction c =
+    let failed = err_from_is_err_and c.from_residual.result c.from_residual.ensures.1 in
+    rw (failed.1, failed.2) (rw c.fork-ahead.ensures.same at c.in_err-view.ensures.direction)

@@ -4,7 +4,8 @@ use Rattle.etcs_bits.specs.layout.Rows.{IsSpelled}
 use Rattle.etcs_bits.specs.layout.Fault.{IsFault}
 use Rattle.etcs_bits.specs.layout.Results.{OfFault}
 use Rattle.etcs_packet.specs.Whole.{IsWhole}
-use Rattle.etcs_packet.proofs.WholeLemmas.{head_fault, head_stands, head_fault_is_reported, later_fault, whole_fails, whole_is_read, none_of_whole}
+use Rattle.etcs_packet.proofs.ListLemmas.{of_memory}
+use Rattle.etcs_packet.proofs.WholeLemmas.{head_fault, followed, head_stands, head_fault_is_reported, later_fault, whole_fails, whole_is_read, none_of_whole}
 use Rattle.etcs_packet.proofs.whole.next_whole.Goals as goal
 
 -- the fault of the head is that of the whole
@@ -68,3 +69,15 @@ returns-clause-head g c = λ none f fault.
     let inside : c.args.cur.now.at ≤ length c.args.cur.now.bits = rw c.fork-ahead.ensures.same at c.fork-ahead.ensures.inside in
     let spelled : IsSpelled (g.H.Layout.format.rows c.in_ok-head.head) c.args.cur.now c.read.new.cur = rw c.fork-ahead.ensures.same at c.in_ok-head.ensures.ok in
     absurd (head_stands g.H.Layout.format.fields g.H.Layout.format.rows c.in_ok-head.head c.args.cur.now c.read.new.cur f inside g.H.Layout.format.laid.are_rows spelled fault)
+
+-- where reading the head takes no memory, only the packets after it do
+pub returns-in_err-head-clause-memory : goal.returns-in_err-head-clause-memory
+returns-in_err-head-clause-memory g c = λ none.
+    let failed = err_from_is_err_and c.from_residual.result c.from_residual.ensures.1 in
+    rw (failed.1, failed.2) (of_memory c.in_err-head.field-0.0 (λ (grows : g.H.Layout.grows). absurd (none grows)) c.in_err-head.ensures.memory)
+
+pub returns-in_err-items-clause-memory : goal.returns-in_err-items-clause-memory
+returns-in_err-items-clause-memory g c = λ none.
+    let failed = err_from_is_err_and c.from_residual-in_err-items.result c.from_residual-in_err-items.ensures.1 in
+    let spelled : IsSpelled (g.H.Layout.format.rows c.in_ok-head.head) c.args.cur.now c.read.new.cur = rw c.fork-ahead.ensures.same at c.in_ok-head.ensures.ok in
+    rw (failed.1, failed.2) (of_memory c.in_err-items.field-0.0 (followed g.H.Layout.format.rows c.in_ok-head.head c.args.stop c.args.cur.now c.read.new.cur spelled) c.in_err-items.ensures.memory)

@@ -9,8 +9,8 @@ use Rattle.etcs_radio.proofs.PacketsLemmas.{by_fails, by_ok, by_err, not_there, 
 use Rattle.etcs_radio.proofs.decoding.movement.Goals as goal
 
 -- the fault of the packets is that of the message
-pub returns-in_err-packets : goal.returns-in_err-packets
-returns-in_err-packets c =
+pub returns-in_err-packets-clause-means : goal.returns-in_err-packets-clause-means
+returns-in_err-packets-clause-means c =
     let failed = err_from_is_err_and c.from_residual.result c.from_residual.ensures.1 in
     rw (failed.1, failed.2) (by_fails track_packet has_authority NoAuthority (movement_with c.args.fields) c.in_err-packets.field-0.0 c.args.cur.now c.in_err-packets.ensures.exact)
 
@@ -20,16 +20,25 @@ incomplete-requires c =
     omega (arith, c.requires, ap length same)
 
 -- packet 15 is there
-pub returns-in-Ok : goal.returns-in-Ok
-returns-in-Ok c =
+pub returns-in-Ok-clause-means : goal.returns-in-Ok-clause-means
+returns-in-Ok-clause-means c =
     let items = c.in_ok-packets.packets.items in
     by_ok track_packet has_authority NoAuthority (movement_with c.args.fields) items c.args.cur.now c.read_packets.new.cur c.in_ok-packets.ensures.exact (c.in-Ok.ensures.made.0 refl)
     ∙ ap Ok (movement_made c.args.fields items c.identity.result c.in-Ok.message c.identity.ensures c.in-Ok.ensures.ok)
 
 -- packet 15 is not there
-pub returns-in-Err : goal.returns-in-Err
-returns-in-Err c =
+pub returns-in-Err-clause-means : goal.returns-in-Err-clause-means
+returns-in-Err-clause-means c =
     let items = c.in_ok-packets.packets.items in
     let none = not_there c.new.result _ (has_authority items) c.new.ensures.made c.in-Err.is in
     rw c.incomplete.ensures
     (by_err track_packet has_authority NoAuthority (movement_with c.args.fields) items c.args.cur.now c.read_packets.new.cur c.in_ok-packets.ensures.exact none)
+
+-- only packets take memory
+pub returns-in_err-packets-clause-memory : goal.returns-in_err-packets-clause-memory
+returns-in_err-packets-clause-memory c =
+    let failed = err_from_is_err_and c.from_residual.result c.from_residual.ensures.1 in
+    rw (failed.1, failed.2) c.in_err-packets.ensures.memory
+
+pub returns-in-Err-clause-memory : goal.returns-in-Err-clause-memory
+returns-in-Err-clause-memory c = rw c.incomplete.ensures tt

@@ -9,8 +9,8 @@ use Rattle.etcs_radio.proofs.PacketsLemmas.{by_fails, by_ok, by_err, not_there, 
 use Rattle.etcs_radio.proofs.decoding.position.Goals as goal
 
 -- the fault of the packets is that of the message
-pub returns-in_err-packets : goal.returns-in_err-packets
-returns-in_err-packets c =
+pub returns-in_err-packets-clause-means : goal.returns-in_err-packets-clause-means
+returns-in_err-packets-clause-means c =
     let failed = err_from_is_err_and c.from_residual.result c.from_residual.ensures.1 in
     rw (failed.1, failed.2) (by_fails train_packet has_report NoReport (position_with c.args.fields) c.in_err-packets.field-0.0 c.args.cur.now c.in_err-packets.ensures.exact)
 
@@ -20,16 +20,25 @@ incomplete-requires c =
     omega (arith, c.requires, ap length same)
 
 -- a report is there
-pub returns-in-Ok : goal.returns-in-Ok
-returns-in-Ok c =
+pub returns-in-Ok-clause-means : goal.returns-in-Ok-clause-means
+returns-in-Ok-clause-means c =
     let items = c.in_ok-packets.packets.items in
     by_ok train_packet has_report NoReport (position_with c.args.fields) items c.args.cur.now c.read_items.new.cur c.in_ok-packets.ensures.exact (c.in-Ok.ensures.made.0 refl)
     ∙ ap Ok (position_made c.args.fields items c.in-Ok.message c.in-Ok.ensures.ok)
 
 -- a report is not there
-pub returns-in-Err : goal.returns-in-Err
-returns-in-Err c =
+pub returns-in-Err-clause-means : goal.returns-in-Err-clause-means
+returns-in-Err-clause-means c =
     let items = c.in_ok-packets.packets.items in
     let none = not_there c.new.result _ (has_report items) c.new.ensures.made c.in-Err.is in
     rw c.incomplete.ensures
     (by_err train_packet has_report NoReport (position_with c.args.fields) items c.args.cur.now c.read_items.new.cur c.in_ok-packets.ensures.exact none)
+
+-- only packets take memory
+pub returns-in_err-packets-clause-memory : goal.returns-in_err-packets-clause-memory
+returns-in_err-packets-clause-memory c =
+    let failed = err_from_is_err_and c.from_residual.result c.from_residual.ensures.1 in
+    rw (failed.1, failed.2) c.in_err-packets.ensures.memory
+
+pub returns-in-Err-clause-memory : goal.returns-in-Err-clause-memory
+returns-in-Err-clause-memory c = rw c.incomplete.ensures tt

@@ -43,3 +43,10 @@ pub returns-clause-header : goal.returns-clause-header
 returns-clause-header c = λ f fault.
     let head = rw c.over-cur.ensures at c.in_ok-header.ensures.head in
     no_error _ _ (head (λ none. none) f fault)
+
+-- the header takes no memory
+pub returns-in_err-header-clause-memory : goal.returns-in_err-header-clause-memory
+returns-in_err-header-clause-memory c =
+    let failed = err_from_is_err_and c.from_residual.result c.from_residual.ensures.1 in
+    let memory = rw c.over-cur.ensures at c.in_err-header.ensures.memory in
+    rw (failed.1, failed.2) (memory (λ none. none))

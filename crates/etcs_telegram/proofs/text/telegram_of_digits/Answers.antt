@@ -46,3 +46,11 @@ pub returns-clause-header : goal.returns-clause-header
 returns-clause-header g c = λ f x.
     let decoded = c.read_digits.ensures.digits c.if-not-read_digits.false in
     c.telegram_in.ensures.header f (fault_of_bytes c.args.text.now c.read_digits.new.bytes f decoded x)
+
+pub returns-clause-packets : goal.returns-clause-packets
+returns-clause-packets g c = λ memory.
+    record {
+      bytes = c.read_digits.new.bytes;
+      decoded = c.read_digits.ensures.digits c.if-not-read_digits.false;
+      packets = c.telegram_in.ensures.packets memory;
+    }

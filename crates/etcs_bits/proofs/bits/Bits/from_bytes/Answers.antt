@@ -7,7 +7,7 @@ pub returns-clause-bits : goal.returns-clause-bits
 returns-clause-bits c =
     let enough : c.args.len ≤ 8 * c.div_ceil.result = omega (arith, c.div_ceil.ensures) in
     c.cut.ensures.bits
-    ∙ ap (λ bytes. take c.args.len (bits_of_bytes bytes)) c.in_ok-kept.ensures.items
+    ∙ ap (λ bytes. take c.args.len (bits_of_bytes bytes)) c.in_ok-kept.ensures.bytes
     ∙ in_few_bytes c.args.bytes.now c.args.len c.div_ceil.result enough
 
 pub returns-clause-len : goal.returns-clause-len

@@ -10,8 +10,8 @@ loop-at-preserved c = (
       c.loop-at.invariant.1 c.num.ensures.value c.in_ok-push_num.ensures.ok,
 )
 
-pub returns-in_ok-push_num-2 : goal.returns-in_ok-push_num-2
-returns-in_ok-push_num-2 c =
+pub returns-in_ok-push_num-2-clause-puts : goal.returns-in_ok-push_num-2-clause-puts
+returns-in_ok-push_num-2-clause-puts c =
     let k = c.len-len.result - c.loop-at.at in
     more_pushed c.args.self.now c.loop-at.self c.push_num-then-left-gt0.new.self c.args.bits c.loop-at.at k c.num-then-left-gt0.result (omega arith)
     c.loop-at.invariant.1 c.num-then-left-gt0.ensures.value c.in_ok-push_num-2.ensures.ok

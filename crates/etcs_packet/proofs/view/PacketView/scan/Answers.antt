@@ -1,4 +1,5 @@
 use Rattle.std.proofs.Common.{◌≡◌, true, length, Ok, refl, sym, ◌∙◌}
+use Rattle.std.proofs.lemmas.Result.{err_from_is_err_and}
 use Rattle.etcs_bits.specs.layout.Rows.{alone}
 use Rattle.etcs_bits.specs.layout.Reading.{rows_at}
 use Rattle.etcs_bits.proofs.SumLemmas.{rest_read, chosen_read}
@@ -8,7 +9,7 @@ use Rattle.etcs_packet.specs.FoundRaw.{raw}
 use Rattle.etcs_packet.specs.Raw.{raw_rest}
 use Rattle.etcs_packet.specs.Track.{track_numbered}
 use Rattle.etcs_packet.proofs.RawLemmas.{kept_of}
-use Rattle.etcs_packet.proofs.TrackLemmas.{other_next}
+use Rattle.etcs_packet.proofs.TrackLemmas.{field_forward, other_next}
 use Rattle.etcs_packet.proofs.view.PacketView.scan.Goals as goal
 
 -- the packet has the number, the direction and the body that were read
@@ -30,3 +31,10 @@ returns-clause-gives c =
     let n = c.in_ok-number.number in
     let p = c.in_ok-scan_known.field-0 in
     (p, c.in_ok-scan_known.ensures.known, chosen_read nid_track track_numbered track_numbered.next n c.args.cur.now c.scan_number.new.cur _ _ c.in_ok-number.ensures.gives refl c.in_ok-scan_known.ensures.gives)
+
+-- Q_DIR comes after the number
+pub returns-in_err-scan_known-clause-direction : goal.returns-in_err-scan_known-clause-direction
+returns-in_err-scan_known-clause-direction c =
+    let failed = err_from_is_err_and c.from_residual-in_err-scan_known.result c.from_residual-in_err-scan_known.ensures.1 in
+    let after = field_forward nid_track c.args.cur.now c.scan_number.new.cur c.in_ok-number.number c.in_ok-number.ensures.gives in
+    rw (failed.1, failed.2) (rw after at c.in_err-scan_known.ensures.direction)

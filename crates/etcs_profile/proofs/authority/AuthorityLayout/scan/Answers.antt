@@ -12,4 +12,4 @@ pub returns-clause-gives : goal.returns-clause-gives
 returns-clause-gives c =
     let n = c.in_ok-number.number in
     let number = number_read authority_variable n c.args.cur.now c.take.new.self refl (allowed n c.else-number-ne12.either) c.in_ok-number.ensures.exact in
-    chosen_gives numbered_of authority_variable numbered n c.args.cur.now c.take.new.self c.scan_rest.new.cur c.scan_rest.result number c.scan_rest.ensures
+    chosen_gives numbered_of authority_variable numbered n c.args.cur.now c.take.new.self c.scan_rest.new.cur c.scan_rest.result number c.scan_rest.ensures.gives

@@ -1,4 +1,4 @@
-use Rattle.std.proofs.Common.{arith, ◌≡◌, refl}
+use Rattle.std.proofs.Common.{refl}
 use Rattle.etcs_bits.proofs.NumberLemmas.{worth_of_digit}
 use Rattle.etcs_bits.specs.layout.Rows.{alone}
 use Rattle.etcs_profile.proofs.gradient.GradientElementLayout.scan.Goals as goal

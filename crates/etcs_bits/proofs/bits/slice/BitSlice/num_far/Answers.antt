@@ -1,4 +1,4 @@
-use Rattle.std.proofs.Common.{◌-◌, ◌≤◌, ◌+◌, ◌∙◌, sym, ap, arith, length, take, drop}
+use Rattle.std.proofs.Common.{◌-◌, ◌∙◌, sym, ap, arith, length, take, drop}
 use Rattle.etcs_bits.specs.bits.Number.{num_of_bits, bits_of_bytes}
 use Rattle.etcs_bits.proofs.StepLemmas.{next-lt}
 use Rattle.etcs_bits.proofs.ViewLemmas.{length-part, part_of_part}
