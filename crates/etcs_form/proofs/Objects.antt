@@ -1,6 +1,5 @@
 -- Faults as the code finds them, and objects as it makes them.
 use Rattle.std.proofs.Common.{◌≡◌, ◌∙◌, ℕ, List, [], true, false, Option, Some, None, Result, Ok, Err, IfOk, IfSome, IsErrAnd, String, Global, BTreeMap, ap, sym, refl}
-use Rattle.std.specs.Prelude.{IsOk}
 use Rattle.serde_json.specs.View.{members_view, view}
 use Rattle.serde_json.specs.declared.value.Value.{Value, Object as ValueObject}
 use Rattle.serde_json.proofs.Views.{view-Object}
@@ -8,11 +7,9 @@ use Rattle.serde_json.specs.Data.{Data, Members, object}
 use Rattle.serde_json.specs.Find.{as_object}
 use Rattle.etcs_form.specs.Shape.{Object, Shape}
 use Rattle.etcs_form.specs.Entries.{are_known, members_onto, object_of}
-use Rattle.etcs_form.specs.Chosen.{any_object, first_at}
-use Rattle.etcs_form.specs.Fault.{Fault, Fails, Gives, IfMemory, IsAround, IsDeeper, IsFault, Kind, OfMemory, Step, Unknown, fault_of, here, under}
+use Rattle.etcs_form.specs.Fault.{Fault, Fails, Gives, IsAround, IsDeeper, IsFault, Kind, Step, Unknown, fault_of, here, under}
 use Rattle.etcs_form.specs.Reading.{object_with, known_or}
 use Rattle.etcs_form.specs.declared.error.FormError.{FormError}
-use Rattle.etcs_form.specs.declared.error.FormError.TheVariants as errors
 
 fails_at : {Y : Type 0} (o : Option Fault) (f : Fault) (r : Result Y Fault) → IfSome o (λ g. g ≡ f) → r ≡ Err f → IfSome o (λ g. r ≡ Err g)
 fails_at None f r is read = tt
@@ -74,38 +71,3 @@ read_again s x d is fits = ap s.of is ∙ s.again x fits
 pub written_again : {X E : Type 0} → (s : Shape X) (x : X) (result : Result Value E) → s.fits x ≡ true → IfOk result (λ v. view v ≡ s.to x) → IfOk result (λ v. Unit {0} → s.of (view v) ≡ Ok x)
 written_again s x (Ok v) fits is = λ _. read_again s x (view v) is fits
 written_again s x (Err e) fits is = tt
-
--- ---- where memory is asked for
-
-pub may_ask : (e : FormError) {P : Type 0} → P → OfMemory e P
-may_ask errors.Memory h = h
-may_ask (errors.Missing path) h = tt
-may_ask (errors.Unknown path) h = tt
-may_ask (errors.Kind path) h = tt
-may_ask (errors.Range path) h = tt
-
--- an error that is never that memory ran out
-pub never_asks : (e : FormError) {P : Type 0} → OfMemory e ⊥ → OfMemory e P
-never_asks errors.Memory no = absurd no
-never_asks (errors.Missing path) no = tt
-never_asks (errors.Unknown path) no = tt
-never_asks (errors.Kind path) no = tt
-never_asks (errors.Range path) no = tt
-
-pub read_ok : {A : Type 0} (r : Result A Fault) (x : A) → r ≡ Ok x → IsOk r
-read_ok (Ok y) x is = tt
-read_ok (Err f) x is = absurd cc
-
--- what was found at a key stands in an object
-pub first_ok : {A : Type 0} (read : Data → Result A Fault) (name : List ℕ) (d : Data) (x : A) → first_at read name d ≡ Ok x → IsOk (any_object d)
-first_ok read name d x is = go (any_object d) refl
-  where
-    go : (r : Result (Unit {0}) Fault) → any_object d ≡ r → IsOk r
-    go (Ok u) e = tt
-    go (Err f) e = absurd (none (sym (ap (λ r. after r) e) ∙ is))
-      where
-        none : Err f ≡ Ok x → ⊥
-        none h = cc
-
-        after : Result (Unit {0}) Fault → Result _ Fault
-        after r = r >>= λ u. at_key read name d
