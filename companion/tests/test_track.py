@@ -14,8 +14,8 @@ from balisekit import csv_writing
 from balisekit.canvas import LEFT, RIGHT, WIDTH, Picture, Shape
 from balisekit.geometry import kilometre
 from balisekit.links import look
-from balisekit.track_drawing import LANES, _km, track_pictures, tracks_of
-from balisekit.track_view import pages
+from balisekit.track_drawing import LANES, track_pictures, tracks_of
+from balisekit.track_view import at_km, pages
 from cases_of_program import TOP
 from conftest import Run
 from telegrams import ALONE, MESSAGE
@@ -238,4 +238,4 @@ def test_far_away_ends_make_no_pages() -> None:
 
 @pytest.mark.parametrize("place", [0, 1, 10, 123_450, 123_456, -5, -123_450, 99_999_999])
 def test_kilometres_are_written_as_elsewhere(place: int) -> None:
-    assert _km(place) == f"km {kilometre(Decimal(place).scaleb(-4))}"
+    assert at_km(place) == f"km {kilometre(Decimal(place).scaleb(-4))}"

@@ -5,6 +5,8 @@ Coordinates are whole tenths of a pixel. The template draws what stands here and
 from __future__ import annotations
 
 from dataclasses import dataclass, field
+from functools import lru_cache
+from heapq import heappop, heappush
 from typing import List, NamedTuple, Tuple
 
 from balisekit.geometry import NOMINAL, REVERSE, Kilometres
@@ -41,9 +43,32 @@ class Picture:
     shapes: Tuple[Shape, ...]
 
 
+@lru_cache(maxsize=1 << 14)
 def tenths(number: int) -> str:
     """A coordinate of whole tenths, as SVG has it."""
     return f"{number / 10:.1f}"
+
+
+class Rows:
+    """Rows below each other, so that what stands in one does not overlap. It has to come in the order of its beginning.
+
+    A row that is free again is put on a heap, since a page may have hundreds of them.
+    """
+
+    def __init__(self) -> None:
+        self.count = 0
+        self._free: List[int] = []
+        self._used: List[Tuple[int, int]] = []
+
+    def take(self, begin: int, end: int) -> int:
+        """The first row that is free from here on. It is used up to the end."""
+        while self._used and self._used[0][0] <= begin:
+            heappush(self._free, heappop(self._used)[1])
+        if not self._free:
+            self._free, self.count = [self.count], self.count + 1
+        row = heappop(self._free)
+        heappush(self._used, (end, row))
+        return row
 
 
 @dataclass

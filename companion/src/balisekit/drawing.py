@@ -64,7 +64,7 @@ def draw(title: str, contents: Sequence[Content], kilometres: Kilometres, titled
     if titled:
         sheet.text("title", clean(title), 40, 20)
         sheet.y = 28
-    top = _speed_top(ways for _, ways in rows)
+    top = speed_top(ways for _, ways in rows)
     last = max((place for place, (one, ways) in enumerate(rows) if any(ways) and not one.infill), default=None)
     for place, (content, ways) in enumerate(rows):
         sheet.kilometres = Kilometres() if content.infill else kilometres
@@ -74,7 +74,7 @@ def draw(title: str, contents: Sequence[Content], kilometres: Kilometres, titled
     return Picture(clean(title), WIDTH, sheet.y + 6, tuple(sheet.shapes))
 
 
-def _speed_top(ways: Iterable[Sequence[Way]]) -> int:
+def speed_top(ways: Iterable[Sequence[Way]]) -> int:
     """The speed at the upper edge: the greatest one, rounded up to 20 km/h."""
     speeds = [element.value * 5 for some in ways for one in some for profile in one.speeds
               for element in profile.elements]

@@ -9,7 +9,7 @@ from decimal import Decimal
 from typing import Dict, Iterator, List, Optional, Sequence, Tuple
 
 from balisekit.chains import Chain, Link
-from balisekit.geometry import DIRECTIONS, Way, way
+from balisekit.geometry import DIRECTIONS, Way, kilometre_of, way
 from balisekit.links import Found, Links
 from balisekit.model import Aspect, Row
 from balisekit.stations import Line, Station
@@ -62,6 +62,11 @@ class Page:
 def place_of(station: Station) -> int:
     """Where a group is that has a kilometre."""
     return int((station.km or Decimal()) * 10_000)
+
+
+def at_km(place: int) -> str:
+    """A place in words."""
+    return f"km {kilometre_of(place)}"
 
 
 def chosen(station: Station, aspect: Optional[str]) -> Optional[Aspect]:
