@@ -4,7 +4,8 @@ from __future__ import annotations
 from typing import Iterator, List, Optional, Tuple
 
 from balisekit.canvas import LEFT, LETTER, RIGHT, WIDTH, Rows, Sheet, tenths
-from balisekit.geometry import Authority, Profile, Way
+from balisekit.drawing import BOLD_LETTER, NO_PROFILE, Short, gradient_words, missing
+from balisekit.geometry import DIRECTIONS, Authority, Profile, Way
 from balisekit.track_view import PAGE, Band, Page, at_km, open_end, place_of
 from balisekit.values import Around, metres, value_words
 from balisekit.wording import clean
@@ -18,6 +19,22 @@ def _label(band: Band) -> str:
     speeds = [one.form["v_main"] for each in band.ways for one in each.authorities if "v_main" in one.form]
     main = f", V_MAIN {value_words('v_main', speeds[0], Around())}" if speeds else ""
     return f"{clean(band.station.group.name)}{aspect}{main}"
+
+
+def _found(band: Band) -> str:
+    """What the program has found of profiles under the authority, F10 to F13, each once."""
+    said = (f"F{short.rule}: " + (NO_PROFILE.get(short.rule) or f"{metres(end - begin)} missing")
+            for short, _, (begin, end) in _gaps(band))
+    return "; ".join(dict.fromkeys(said))
+
+
+def _gaps(band: Band) -> Iterator[Tuple[Short, Way, Tuple[int, int]]]:
+    """F10 to F13, with the track on which a profile is missing."""
+    for short in band.short:
+        one = band.ways[DIRECTIONS.index(short.direction)]
+        places = missing(short, one)
+        if places is not None:
+            yield short, one, places
 
 
 def lanes(page: Page) -> List[List[Band]]:
@@ -34,16 +51,24 @@ def lanes(page: Page) -> List[List[Band]]:
 
 def _room(page: Page, band: Band) -> Tuple[int, int]:
     """From where to where a band needs its lane: where it is drawn, and where its name stands."""
-    width = (len(_label(band)) * LETTER // 10 + 12) * (PAGE // (WIDTH - LEFT - RIGHT))
+    width = (sum(_widths(band)) // 10 + 12) * (PAGE // (WIDTH - LEFT - RIGHT))
     begin = min(max(band.begin, page.begin), page.end - width)
     return begin, max(min(band.end, page.end), begin + width)
 
 
+def _widths(band: Band) -> Tuple[int, int]:
+    """How wide the band's name is, and what was found behind it."""
+    found = _found(band)
+    return len(_label(band)) * LETTER, (len(found) + 2) * BOLD_LETTER if found else 0
+
+
 def draw_band(sheet: Sheet, band: Band, most: int) -> None:
-    """Speeds, gradients and authority of a group, and its name above them."""
-    label = _label(band)
-    begin = max(sheet.x(max(band.begin, sheet.least)), 40)
-    sheet.text("small", label, min(begin, WIDTH * 10 - len(label) * LETTER - 40), sheet.top + 10)
+    """Speeds, gradients and authority of a group, what is missing of them, and its name above them."""
+    name, found = _widths(band)
+    begin = min(max(sheet.x(max(band.begin, sheet.least)), 40), WIDTH * 10 - name - found - 40)
+    sheet.text("small", _label(band), begin, sheet.top + 10)
+    if found:
+        sheet.text("red begin", _found(band), begin + name + BOLD_LETTER, sheet.top + 10)
     for one in band.ways:
         sign = band.station.along(one.direction) or 1
         for profile in one.speeds:
@@ -52,9 +77,26 @@ def draw_band(sheet: Sheet, band: Band, most: int) -> None:
             _gradients(sheet, band, one, profile, sign)
         for authority in one.authorities:
             _authority(sheet, band, authority, sign, one.direction)
+    for short, one, (near, far) in _gaps(band):
+        _gap(sheet, band, short, one, near, far)
     at = place_of(band.station)
     if sheet.least <= at <= sheet.greatest:
         sheet.mark("group", "", at, sheet.top + 14, LANE - 18)
+
+
+def _gap(sheet: Sheet, band: Band, short: Short, one: Way, near: int, far: int) -> None:
+    """The part on the page of the track on which a profile is missing."""
+    at, sign = place_of(band.station), band.station.along(one.direction) or 1
+    places = _clip(sheet, at + sign * near, at + sign * far)
+    if places is None:
+        return
+    words = NO_PROFILE.get(short.rule) or f"{metres(far - near)} are missing"
+    title = (f"F{short.rule}: {words}, from {at_km(at + sign * near)} to {at_km(at + sign * far)}, {one.direction}, "
+             f"{clean(band.station.group.name)}")
+    if short.rule in (12, 13):
+        sheet.rect("gap", title, places, sheet.top + 26, SPEED - 10)
+    else:
+        sheet.rect("gap", title, places, sheet.top + 18 + SPEED, LOW)
 
 
 def _clip(sheet: Sheet, one: int, other: int) -> Optional[Tuple[int, int]]:
@@ -87,16 +129,36 @@ def _speeds(sheet: Sheet, band: Band, one: Way, profile: Profile, sign: int, mos
         is_open = " open" if profile.elements[place].end is None else ""
         sheet.path(f"step{is_open}", f"{value} km/h {words}", f"M{tenths(begin)} {base - tall}H{tenths(end)}")
         sheet.inside("small", str(value), begin, end, base - tall - 2)
+    _ends(sheet, band, one, profile, "speed profile", (base - SPEED + 10, SPEED - 10))
 
 
 def _gradients(sheet: Sheet, band: Band, one: Way, profile: Profile, sign: int) -> None:
     top = sheet.top + 18 + SPEED
     for places, words, place in _pieces(sheet, band, one, profile, sign):
         element = profile.elements[place]
-        said = value_words("g_a", element.value, Around({}, element.form))
+        said = gradient_words(element)
         look = "level" if element.value == 0 else "up" if element.form["q_gdir"] else "down"
         begin, end = sheet.rect(look, f"{said} {words}", places, top, LOW)
         sheet.inside("halo", said, begin, end, top + 10)
+    _ends(sheet, band, one, profile, "gradient profile", (top, LOW))
+
+
+def _ends(sheet: Sheet, band: Band, one: Way, profile: Profile, name: str, lane: Tuple[int, int]) -> None:
+    """An end mark as a bar, an open profile as an arrow, and the track before the first element as grey lines."""
+    at, sign, (top, height) = place_of(band.station), band.station.along(one.direction) or 1, lane
+    who = f"{one.direction}, {clean(band.station.group.name)}"
+    end = at + sign * (open_end(one) if profile.reach is None else profile.reach)
+    if sheet.least <= end <= sheet.greatest:
+        if profile.reach is not None:
+            sheet.mark("endmark", f"end mark: the {name} reaches {at_km(end)}, {who}", end, top, height)
+        else:
+            tip, middle = sheet.x(end), top + height - 6
+            sheet.path("arrow", f"the {name} has no end mark: it is open, {who}",
+                       f"M{tenths(tip - sign * 80)} {middle - 5}L{tenths(tip)} {middle}"
+                       f"L{tenths(tip - sign * 80)} {middle + 5}")
+    before = _clip(sheet, at, at + sign * profile.first) if profile.first > 0 and profile.elements else None
+    if before is not None:
+        sheet.rect("none", f"not given here: up to {at_km(at + sign * profile.first)}, {who}", before, top, height)
 
 
 def _authority(sheet: Sheet, band: Band, authority: Authority, sign: int, direction: str) -> None:

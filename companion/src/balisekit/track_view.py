@@ -9,9 +9,11 @@ from decimal import Decimal
 from typing import Dict, Iterator, List, Optional, Sequence, Tuple
 
 from balisekit.chains import Chain, Link
+from balisekit.drawing import Short
 from balisekit.geometry import DIRECTIONS, Way, kilometre_of, way
 from balisekit.links import Found, Links
 from balisekit.model import Aspect, Row
+from balisekit.pictures import short_profiles
 from balisekit.stations import Line, Station
 from balisekit.wording import quoted
 
@@ -28,6 +30,8 @@ class Band:
     ways: Tuple[Way, ...]
     begin: int
     end: int
+    short: Tuple[Short, ...] = ()
+    """The profiles that the program has found too short or missing."""
 
 
 @dataclass(frozen=True)
@@ -123,7 +127,9 @@ def _bands(line: Line, stations: Sequence[Station], aspect: Optional[str]) -> It
         if any(ways):
             at = place_of(station)
             ends = [at + reach * (station.along(each.direction) or 1) for each in ways for reach in _reach(each)]
-            yield Band(station, one.name, ways, min([at, *ends]), max([at, *ends]))
+            index = station.group.aspects.index(one)
+            findings = [each for each in line.findings.get(station.group.name, ()) if (each.aspect or 0) == index]
+            yield Band(station, one.name, ways, min([at, *ends]), max([at, *ends]), short_profiles(findings))
 
 
 def _reach(one: Way) -> Iterator[int]:
