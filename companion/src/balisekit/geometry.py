@@ -18,8 +18,6 @@ NOMINAL, REVERSE = "nominal", "reverse"
 INFILL = 136
 """The packet behind which distances count from another group."""
 DIRECTIONS = (NOMINAL, REVERSE)
-HOLDING: Mapping[str, Tuple[int, int]] = {NOMINAL: (1, 2), REVERSE: (0, 2)}
-"""The Q_DIR with which a packet holds in a direction."""
 ELEMENT_KEYS: Mapping[int, Tuple[str, str, int]] = {21: ("d_gradient", "g_a", 255), 27: ("d_static", "v_static", 127)}
 """Of each profile: the keys of distance and value, and the value that is its end mark."""
 
@@ -212,13 +210,18 @@ def is_silent(forms: Sequence[Form], balise: int, direction: str) -> bool:
 
 def holds(packet: Form, direction: str) -> bool:
     """Whether a packet from track to train is for this direction. Packet 0, which has no Q_DIR, is for both."""
-    return packet.get("q_dir", 2) in HOLDING[direction]
+    return packet.get("q_dir", 2) in _holding(direction)
+
+
+def _holding(direction: str) -> Tuple[int, int]:
+    """The Q_DIR of the packets that hold in this direction."""
+    return 2, 1 if direction == NOMINAL else 0
 
 
 def passed(forms: Sequence[Form], direction: str) -> List[Tuple[Site, Form]]:
     """The packets of a group for one direction in passing order, without those of silent balises."""
     order = range(len(forms)) if direction == NOMINAL else range(len(forms) - 1, -1, -1)
-    holding = HOLDING[direction]
+    holding = _holding(direction)
     return [(Site(balise, place), packet)
             for balise in order if not is_silent(forms, balise, direction)
             for place, packet in enumerate(forms[balise]["packets"]) if packet.get("q_dir", 2) in holding]

@@ -40,7 +40,9 @@ def balise_words(group: Optional[Group], row: Row) -> str:
                   if one.number == row.number), None)
     parts = [f"row {row.number}", clean(row.group), *_where(row)]
     parts += ["every aspect"] if row.aspect == "*" else [f"aspect {quoted(row.aspect)}"] if row.aspect else []
-    parts += [] if place is None else [f"balise {place}" + (f" {quoted(row.name)}" if row.name else "")]
+    if place is not None:
+        number = f" (number {row.balise} in the table)" if row.balise not in (None, place) else ""
+        parts.append(f"balise {place}{f' {quoted(row.name)}' if row.name else ''}{number}")
     return "  ".join(parts)
 
 
