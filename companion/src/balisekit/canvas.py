@@ -7,7 +7,7 @@ from __future__ import annotations
 from dataclasses import dataclass, field
 from functools import lru_cache
 from heapq import heappop, heappush
-from typing import List, NamedTuple, Tuple
+from typing import Dict, List, NamedTuple, Tuple
 
 from balisekit.geometry import NOMINAL, REVERSE, Kilometres
 from balisekit.values import metres
@@ -84,6 +84,13 @@ class Sheet:
     top: int = 0
     height: int = 0
     shapes: List[Shape] = field(default_factory=list)
+    said: Dict[Tuple[int, str], str] = field(default_factory=dict)
+    """Places in words, by place and direction, for these kilometres."""
+
+    def count_from(self, kilometres: Kilometres) -> None:
+        """Places have these kilometres from now on."""
+        if kilometres is not self.kilometres:
+            self.kilometres, self.said = kilometres, {}
 
     def edge(self, direction: str) -> int:
         """The farthest place that is drawn in this direction."""
@@ -118,9 +125,12 @@ class Sheet:
             self.text(f"{look} middle", text, (begin + end) // 2, y)
 
     def place(self, place: int, direction: str) -> str:
-        """A place in words."""
-        km = self.kilometres.words(abs(place), direction)
-        return metres(abs(place)) + (f", km {km}" if km else "")
+        """A place in words. What ends at one begins the next, so they come again and again."""
+        key = place, direction
+        if key not in self.said:
+            km = self.kilometres.words(abs(place), direction)
+            self.said[key] = metres(abs(place)) + (f", km {km}" if km else "")
+        return self.said[key]
 
 
 def draw_axis(sheet: Sheet) -> None:

@@ -69,7 +69,7 @@ def draw(title: str, contents: Sequence[Content], kilometres: Kilometres, titled
     top = speed_top(ways for _, ways in rows)
     last = max((place for place, (one, ways) in enumerate(rows) if any(ways) and not one.infill), default=None)
     for place, (content, ways) in enumerate(rows):
-        sheet.kilometres = Kilometres() if content.infill else kilometres
+        sheet.count_from(Kilometres() if content.infill else kilometres)
         _row(sheet, content, ways, top)
         if any(ways):
             _base(sheet, content, content.infill or place == last)

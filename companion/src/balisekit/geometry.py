@@ -126,7 +126,7 @@ class Kilometres:
         """The kilometre of a place as it is written, or nothing if it is not known."""
         if self.group is None or (self.rising is None and place_dm != 0):
             return ""
-        whole, along = self._whole, self._along(direction) * place_dm
+        whole, along = self._whole, place_dm if (self.rising != -1) == (direction == NOMINAL) else -place_dm
         return kilometre(self.group + Decimal(along).scaleb(-4)) if whole is None else kilometre_of(whole + along)
 
     def _along(self, direction: str) -> int:

@@ -2,10 +2,10 @@
 from __future__ import annotations
 
 from dataclasses import dataclass
+from itertools import accumulate
 from typing import Callable, Dict, Iterator, Mapping, Optional, Sequence, Tuple
 
-from balisekit.geometry import (DIRECTIONS, ELEMENT_KEYS, Kilometres, Site, authority, holds, infill,
-                                kilometres, profile)
+from balisekit.geometry import (DIRECTIONS, ELEMENT_KEYS, Kilometres, Site, authority, holds, infill, kilometres)
 from balisekit.model import Group
 from balisekit.values import Form, metres, unit_dm
 
@@ -95,15 +95,14 @@ def _authority_notes(packet: Form, place: Place) -> Notes:
 
 def _profile_notes(packet: Form, place: Place) -> Notes:
     """Where each element begins, and how far the profile reaches."""
-    found = profile(Site(0, 0), packet)
-    distance = ELEMENT_KEYS[packet["nid_packet"]][0]
-    at = 0
-    for index, element in enumerate(packet["elements"]):
-        at += element[distance] * unit_dm(packet)
-        behind = found.reach is not None and index > len(found.elements)
-        word = "at" if index == len(found.elements) else "from"
-        yield f"/elements/{index}", f"{word} {place(at)}{', behind the end' if behind else ''}"
-    yield "", ("no end mark: an open profile" if found.reach is None else f"reaches {place(found.reach)}")
+    distance, value, mark = ELEMENT_KEYS[packet["nid_packet"]]
+    unit, elements = unit_dm(packet), packet["elements"]
+    said = [place(at * unit) for at in accumulate(element[distance] for element in elements)]
+    end = next((index for index, element in enumerate(elements) if element[value] == mark), len(elements))
+    for index, where in enumerate(said):
+        words = f"from {where}" if index < end else f"at {where}" if index == end else f"from {where}, behind the end"
+        yield f"/elements/{index}", words
+    yield "", f"reaches {said[end]}" if end < len(elements) else "no end mark: an open profile"
 
 
 def _linking_notes(packet: Form, place: Place) -> Notes:
