@@ -7,18 +7,11 @@ from balisekit.canvas import LEFT, LETTER, RIGHT, WIDTH, Rows, Sheet, tenths
 from balisekit.drawing import BOLD_LETTER, NO_PROFILE, Short, gradient_words, missing
 from balisekit.geometry import DIRECTIONS, Authority, Profile, Way
 from balisekit.track_view import PAGE, Band, Page, at_km, open_end, place_of
-from balisekit.values import Around, metres, value_words
+from balisekit.values import metres
 from balisekit.wording import clean
 
 LANE, SPEED, LOW = 76, 28, 12
 """Heights of a lane, and in it of the speeds, and of gradients and authority."""
-
-
-def _label(band: Band) -> str:
-    aspect = f", {clean(band.aspect)}" if band.aspect else ""
-    speeds = [one.form["v_main"] for each in band.ways for one in each.authorities if "v_main" in one.form]
-    main = f", V_MAIN {value_words('v_main', speeds[0], Around())}" if speeds else ""
-    return f"{clean(band.station.group.name)}{aspect}{main}"
 
 
 def _found(band: Band) -> str:
@@ -59,14 +52,14 @@ def _room(page: Page, band: Band) -> Tuple[int, int]:
 def _widths(band: Band) -> Tuple[int, int]:
     """How wide the band's name is, and what was found behind it."""
     found = _found(band)
-    return len(_label(band)) * LETTER, (len(found) + 2) * BOLD_LETTER if found else 0
+    return len(band.label) * LETTER, (len(found) + 2) * BOLD_LETTER if found else 0
 
 
 def draw_band(sheet: Sheet, band: Band, most: int) -> None:
     """Speeds, gradients and authority of a group, what is missing of them, and its name above them."""
     name, found = _widths(band)
     begin = min(max(sheet.x(max(band.begin, sheet.least)), 40), WIDTH * 10 - name - found - 40)
-    sheet.text("small", _label(band), begin, sheet.top + 10)
+    sheet.text("small", band.label, begin, sheet.top + 10)
     if found:
         sheet.text("red begin", _found(band), begin + name + BOLD_LETTER, sheet.top + 10)
     for one in band.ways:

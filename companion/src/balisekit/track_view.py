@@ -6,6 +6,7 @@ from __future__ import annotations
 
 from dataclasses import dataclass
 from decimal import Decimal
+from functools import cached_property
 from typing import Dict, Iterator, List, Optional, Sequence, Tuple
 
 from balisekit.chains import Chain, Link
@@ -15,7 +16,8 @@ from balisekit.links import Found, Links
 from balisekit.model import Aspect, Row
 from balisekit.pictures import short_profiles
 from balisekit.stations import Line, Station
-from balisekit.wording import quoted
+from balisekit.values import Around, value_words
+from balisekit.wording import clean, quoted
 
 PAGE = 50_000
 """The length of a page."""
@@ -32,6 +34,14 @@ class Band:
     end: int
     short: Tuple[Short, ...] = ()
     """The profiles that the program has found too short or missing."""
+
+    @cached_property
+    def label(self) -> str:
+        """The group's name, the aspect, and V_MAIN."""
+        aspect = f", {clean(self.aspect)}" if self.aspect else ""
+        speeds = [one.form["v_main"] for each in self.ways for one in each.authorities if "v_main" in one.form]
+        main = f", V_MAIN {value_words('v_main', speeds[0], Around())}" if speeds else ""
+        return f"{clean(self.station.group.name)}{aspect}{main}"
 
 
 @dataclass(frozen=True)

@@ -19,6 +19,8 @@ LENGTHS = (54, 208)
 
 def clean(text: str) -> str:
     """The text without characters that move a cursor, turn the direction of writing, or are no text."""
+    if text.isascii() and text.isprintable():
+        return text
     return UNSAFE.sub(lambda found: ascii(found[0])[1:-1], text)
 
 
