@@ -111,14 +111,26 @@ def _part(into: List[Line], depth: int, key: str, whole: Form, path: str, around
 
 def text_of(line: Line) -> str:
     """The line as text, broken where it is too long. A break never parts a name from its raw value."""
-    label = f"{'  ' * line.depth}{line.label}"
-    first = f"{label:<{LABEL_WIDTH}}" if len(label) < LABEL_WIDTH else f"{label} "
-    whole = f"{first}{'  '.join(line.texts)}" + (f"  = {line.note}" if line.note else "")
-    return whole if len(whole) <= WIDTH else _broken(first, line.texts, line.note)
+    first, values = _label(line.depth, line.label), "  ".join(line.texts)
+    lines = [first + values] if len(first) + len(values) <= WIDTH else _broken(first, line.texts)
+    if not line.note:
+        return "\n".join(lines)
+    if len(lines[-1]) + 4 + len(line.note) <= WIDTH:
+        lines[-1] += f"  = {line.note}"
+    else:
+        lines += _wrapped(f"= {line.note}")
+    return "\n".join(lines)
 
 
-def _broken(last: str, values: Sequence[str], note: str) -> str:
-    """The values behind the beginning of a line, and the note, on as many lines as they need."""
+@lru_cache(maxsize=1024)
+def _label(depth: int, label: str) -> str:
+    """What stands before the values of a line."""
+    said = f"{'  ' * depth}{label}"
+    return f"{said:<{LABEL_WIDTH}}" if len(said) < LABEL_WIDTH else f"{said} "
+
+
+def _broken(last: str, values: Sequence[str]) -> List[str]:
+    """The values behind the beginning of a line, on as many lines as they need."""
     lines: List[str] = []
     fresh = True
     for value in values:
@@ -127,14 +139,7 @@ def _broken(last: str, values: Sequence[str], note: str) -> str:
             last, fresh = " " * LABEL_WIDTH, True
         last += value if fresh else f"  {value}"
         fresh = False
-    if note:
-        if len(last) + 4 + len(note) > WIDTH:
-            lines.append(last)
-            *full, last = _wrapped(f"= {note}")
-            lines.extend(full)
-        else:
-            last += f"  = {note}"
-    return "\n".join([*lines, last])
+    return [*lines, last]
 
 
 def _wrapped(note: str) -> List[str]:
