@@ -95,7 +95,8 @@ def test_incomplete_stays_incomplete(run: Run, table: Write) -> None:
     path = twice(table, f"X,{SPARE}")
     status, out, _ = run("check", path, "--accepted", table(HEADING, entry(), name="accepted.csv"))
     assert status == 2 and out[-2:] == ["findings 1: accepted 1, open 0",
-                                        "INCOMPLETE: 1 of 3 telegrams refused, 1 of 3 groups left out"]
+                                        "INCOMPLETE: 1 of 3 telegrams refused, 1 of 3 groups left out; "
+                                        "findings in the rest: 1"]
 
 
 def test_a_group_that_is_put_in_before_moves_nothing(run: Run, table: Write) -> None:

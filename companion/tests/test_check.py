@@ -73,7 +73,9 @@ def test_messages(run: Run, table: Write) -> None:
     odd = "line 4: it has 35 digits, an odd number: a digit is missing, or one too many; a message 3 begins with 03"
     assert odd in out
     assert "message of line 1  to train 7  nominal: no gradient" in out
-    assert out[-1] == "INCOMPLETE: 0 of 3 telegrams refused, 3 of 4 messages refused, 0 of 2 groups left out"
+    assert out[-1] == (
+        "INCOMPLETE: 0 of 3 telegrams refused, 3 of 4 messages refused, 0 of 2 groups left out; "
+        "findings in the rest: 2")
 
 
 def test_by_position(run: Run, table: Write) -> None:
@@ -240,7 +242,7 @@ def test_after_too_many_refused_messages(run: Run, table: Write, monkeypatch: py
     status, out, _ = run("check", path, "--messages", radio, "--json", tmp_path / "out.json")
     assert status == 2 and "and 2 messages not looked at: --all goes on" in out
     assert out[-1] == ("INCOMPLETE: 0 of 3 telegrams refused, 3 of 6 messages refused, 0 of 2 groups left out, "
-                       "2 messages not looked at")
+                       "2 messages not looked at; findings in the rest: 2")
     assert json.loads((tmp_path / "out.json").read_text())["counts"]["messages_not_looked_at"] == 2
     assert "4 of 6 messages refused" in run("check", path, "--messages", radio, "--all")[1][-1]
     status, out, _ = run("show", "--messages", radio)
@@ -353,6 +355,60 @@ def test_findings_of_one_cause_have_a_heading(run: Run, table: Write, tmp_path: 
         for aspect in range(3) for balise in range(2)]
     said = [line[len("    program: "):] for line in out if line.startswith("    program: ")]
     assert said == [one["line"] for one in findings] and len(said) > 8
+
+
+def _said(out: List[str], rule: str) -> List[str]:
+    """The words above each line of the program about this rule."""
+    return [line for line, below in zip(out, out[1:]) if below.startswith(f"    program: {rule} ")]
+
+
+def test_what_differs_is_told(run: Run, table: Write, tmp_path: Path) -> None:
+    """F1, F2 and F3 with the numbers of the program's JSON, in words and for other tools."""
+    for name, rule, wanted in (
+            ("position-wrong", "F1", "balise 1: position wrong: N_PIG is 0, and the table has it as balise 1"),
+            ("total-wrong", "F2", "balise 0: total wrong: N_TOTAL + 1 says 1 balise, and the table has 2"),
+            ("identity-differs", "F3", "balise 1: version, identity or link flag differs: NID_BG is 2, and 1 in balise "
+                                       "0, row 2")):
+        document = json.loads((TOP / "examples" / "check" / f"{name}.json").read_text())
+        path = table("group,telegram", *[f"A,{text}" for text in document["groups"][0]["balises"]])
+        _, out, _ = run("check", path, "--json", tmp_path / "out.json")
+        one, = json.loads((tmp_path / "out.json").read_text("utf-8"))["findings"]
+        assert _said(out, rule) == [one["words"]] and one["words"].endswith(f"  A  {wanted}")
+        assert wanted.endswith(f": {one['differs']}") and one["line"].endswith(one["name"])
+    run("check", table("group,telegram", f"A,{ALONE}", f"B,{ALONE}"), "--json", tmp_path / "out.json")
+    assert json.loads((tmp_path / "out.json").read_text("utf-8"))["findings"][0]["differs"] is None
+
+
+def test_each_value_that_differs_is_told(run: Run, table: Write, program: Program) -> None:
+    """Against balise 0 of the first aspect, with the names of values."""
+    form = json.loads((TOP / "examples" / "header-only.json").read_text())
+    other = {**form, "m_version": 32, "nid_c": 7, "q_link": 1 - form["q_link"]}
+    texts = [one.line for one in program.encode([form, other])]
+    out = run("check", table("group,aspect,telegram", f"A,red,{texts[0]}", f"A,green,{texts[1]}"))[1]
+    flags = ("linked", "unlinked") if other["q_link"] else ("unlinked", "linked")
+    said, = _said(out, "F3")
+    assert said.endswith(
+        f'M_VERSION is 32 (2.0), and 33 (2.1); NID_C is 7, and {form["nid_c"]}; Q_LINK is {other["q_link"]} '
+        f'({flags[0]}), and {form["q_link"]} ({flags[1]}) in balise 0 of aspect "red", row 2')
+
+
+def test_a_missing_balise_renumbers_the_others(run: Run, table: Write) -> None:
+    """The table's own number stands beside the program's, and which position no telegram has."""
+    out = run("check", table("group,name,balise,telegram", f"A,A2,2,{SECOND}"))[1]
+    assert _said(out, "F1") == ['row 2  A  balise 0 "A2" (number 2 in the table): position wrong: N_PIG is 1, and the '
+                                "table has it as balise 0"]
+    assert _said(out, "F2") == ['row 2  A  balise 0 "A2" (number 2 in the table): total wrong: N_TOTAL + 1 says 2 '
+                                "balises, and the table has 1: none has N_PIG 0"]
+    out = run("check", table("group,balise,telegram", f"A,0,{FIRST}", f"A,1,{SECOND}", f"A,2,{SECOND}"))[1]
+    assert "in the table)" not in "".join(out)
+
+
+def test_what_is_not_whole_counts_its_findings(run: Run, table: Write) -> None:
+    """A yes of the rest is no word of the last line."""
+    rows = ["group,telegram", f"A,{SPARE}", f"B,{OTHER}"]
+    wanted = "INCOMPLETE: 1 of {} telegrams refused, 1 of {} groups left out"
+    assert run("check", table(*rows))[1][-1] == wanted.format(2, 2)
+    assert run("check", table(*rows, f"C,{OTHER}"))[1][-1] == wanted.format(3, 3) + "; findings in the rest: 1"
 
 
 def test_headings_stand_where_the_rule_or_the_group_changes() -> None:

@@ -109,6 +109,35 @@ def test_the_example_of_readme_has_none(run: Run) -> None:
     assert any(one.startswith("note: rows 14 to 15  Infill of D  km 16.500: its direction") for one in out)
 
 
+@pytest.mark.parametrize("left, notes", [
+    ("EFGH", ["note: 3 links lead beyond Signal D (km 16.900), the group with the greatest kilometre, to NID_BG 105, "
+              "106: if the table is a part of a line, that is why L1 names them"]),
+    ("FGH", ["note: 3 links lead beyond Signal E (km 18.250), the group with the greatest kilometre, to NID_BG 106, "
+             "107: if the table is a part of a line, that is why L1 names them"]),
+    ("CF", []), ("", [])], ids=["D", "E", "inside", "whole"])
+def test_links_that_lead_out_of_a_part_of_a_line(left: str, notes: List[str], run: Run, table: Write) -> None:
+    """Several over one end have one note, and each is found still. A group that lacks between others has none."""
+    lines = (TOP / "examples" / "table" / "line.csv").read_text("utf-8").splitlines()
+    some = [line for line in lines if not line.startswith(tuple(f"Signal {one}" for one in left))]
+    out = run("links", table(*some))[1]
+    found = [line for line in out if line.startswith("note: ") and "lead beyond" in line]
+    assert found == notes and (not notes or sum(": links L1: " in line for line in out) == 3)
+
+
+def test_links_that_lead_out_down_the_kilometres() -> None:
+    """Each end of each track by itself; a link alone has no note, and one to a group that is not known is none."""
+    def line_of_links(*distances: int, nid_bg: int = 7) -> List[str]:
+        links = [link_tables.link(distance, nid_bg, 1) for distance in distances]
+        made = line_with((group("A", "5", nominal="falling", track="2"), [header(1, link_tables.linking(1, *links))]),
+                         (group("B", "6", nominal="falling", track="2"), [header(2)]))
+        return [note for note in look(made).notes if "lead beyond" in note]
+
+    assert line_of_links(500) == line_of_links(500, 500, nid_bg=16_383) == []
+    assert line_of_links(500, 500) == [
+        '2 links lead beyond A (km 5.000), the group with the least kilometre of track "2", to NID_BG 7: if the table '
+        "is a part of a line, that is why L1 names them"]
+
+
 def test_the_page_has_what_is_written(run: Run, monkeypatch: pytest.MonkeyPatch) -> None:
     monkeypatch.chdir(TOP)
     block = r"^```console\n\$ \./balisekit (.+?)( \| tail -n 2)?\n(.+?)```$"

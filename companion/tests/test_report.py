@@ -372,6 +372,15 @@ def test_premises_are_those_of_the_document() -> None:
     assert len(premises()) == 7 and metres(1) == "0.1 m"
 
 
+def test_findings_stand_before_what_a_yes_means(tmp_path: Path) -> None:
+    """The cover has a link to it."""
+    _, page = _report(LINE, tmp_path / "r.html")
+    wanted = ["What was left out", "Findings", "What a yes means", "The track", "Groups and messages"]
+    headings = re.findall("<h2[^>]*>(.+?)</h2>", page)
+    assert headings[:5] == wanted and page.count('id="yes"') == 1
+    assert page.index('<a href="#yes">') < page.index('<div class="finding"><a href="#g') < page.index('id="yes"')
+
+
 def test_a_list_is_a_list(tmp_path: Path) -> None:
     """What a yes means has a list of four, without the document's hyphens."""
     _, page = _report(_table(tmp_path / "t.csv", {"group": "A", "telegram": HEADER}), tmp_path / "r.html")

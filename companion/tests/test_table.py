@@ -286,6 +286,19 @@ def test_each_repeated_row_is_named(table: Write) -> None:
         'row 7, column aspect: row 6 has balise "B1" of aspect "y" too']
 
 
+def test_a_name_that_all_balises_of_groups_share_has_one_hint(table: Write) -> None:
+    """At the heading, before the rows. One group alone has none: it may be a row that was put in twice."""
+    rows = [f"{group},{aspect},S {group},{ALONE}" for group in "AB" for aspect in ("*", "x", "y")]
+    for lines, hints in ((rows, 1), (rows[:3], 0), ([*rows[:3], *rows[4:]], 0)):
+        with pytest.raises(TableErrors) as raised:
+            tables.read(str(table("group,aspect,name,telegram", *lines)))
+        said = [line.split(": ", 1)[1] for line in raised.value.lines()]
+        hint = ('row 1, column name: in 2 groups all balises have one name, as "S A" in group "A": it tells no balise. '
+                "If it is that of a signal, give the column another heading, under which it is passed over")
+        assert said[:1] == [hint] if hints else not any(line.startswith("row 1") for line in said)
+        assert any(line.startswith("row 3, column ") for line in said)
+
+
 def test_notes(table: Write) -> None:
     read = tables.read(str(table("group,balise,telegram", f"Signal A,1,{ALONE}", f"signal  a,1,{OTHER}",
                                  f"signal  a,3,{OTHER}")))

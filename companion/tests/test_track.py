@@ -1,6 +1,7 @@
 """A whole track in `draw` and `report`: what stands on which page, and where."""
 from __future__ import annotations
 
+import json
 import re
 import xml.etree.ElementTree as ElementTree
 from decimal import Decimal
@@ -14,8 +15,8 @@ from balisekit import csv_writing
 from balisekit.canvas import LEFT, RIGHT, WIDTH, Picture, Shape
 from balisekit.geometry import kilometre
 from balisekit.links import look
-from balisekit.track_drawing import LANES, _km, track_pictures, tracks_of
-from balisekit.track_view import pages
+from balisekit.track_drawing import LANES, track_pictures, tracks_of
+from balisekit.track_view import at_km, pages
 from cases_of_program import TOP
 from conftest import Run
 from telegrams import ALONE, MESSAGE
@@ -238,4 +239,60 @@ def test_far_away_ends_make_no_pages() -> None:
 
 @pytest.mark.parametrize("place", [0, 1, 10, 123_450, 123_456, -5, -123_450, 99_999_999])
 def test_kilometres_are_written_as_elsewhere(place: int) -> None:
-    assert _km(place) == f"km {kilometre(Decimal(place).scaleb(-4))}"
+    assert at_km(place) == f"km {kilometre(Decimal(place).scaleb(-4))}"
+
+
+def _titles(path: Path, look_wanted: str) -> List[str]:
+    """What the shapes of a look say."""
+    some = ElementTree.parse(path).iter()
+    return [one.findtext(f"{SVG}title") or "" for one in some if one.get("class") == look_wanted]
+
+
+def test_gaps_and_end_marks(run: Run, tmp_path: Path) -> None:
+    """F10 to F13 of the aspect that is shown, where a profile is missing, and beside the group's name; end marks."""
+    for aspect, gaps, said in (
+            ("green", ["F11: 100 m are missing, from km 21.500 to km 21.600, nominal, Signal E"],
+             ["F11: 100 m missing"]),
+            ("yellow", [], []),
+            ("red", ["F10: no gradient, from km 15.300 to km 15.500, nominal, Signal C",
+                     "F12: no speed profile, from km 15.300 to km 15.500, nominal, Signal C"],
+             ["F10: no gradient; F12: no speed profile"])):
+        run("draw", LINE, "--track", "--aspect", aspect, "--svg", tmp_path / "t.svg")
+        assert sorted(_titles(tmp_path / "t.svg", "gap")) == gaps
+        texts = [one.text or "" for one in ElementTree.parse(tmp_path / "t.svg").iter(f"{SVG}text")]
+        assert sorted({text for text in texts if re.match("F[0-9]", text)}) == said
+        marks = _titles(tmp_path / "t.svg", "endmark")
+        assert "end mark: the speed profile reaches km 15.500, nominal, Signal A" in marks or aspect != "green"
+        assert len(marks) == {"green": 16, "yellow": 14, "red": 14}[aspect]
+
+
+@pytest.mark.parametrize("name, wanted", [
+    ("gradient-short", "F11: 10 m are missing, from km 1.010 to km 1.000, nominal, A"),
+    ("speed-profile-short", "F13: 50 m are missing, from km 1.000 to km 0.950, nominal, A")])
+def test_a_gap_down_the_kilometres(name: str, wanted: str, run: Run, table: Write, tmp_path: Path) -> None:
+    document = json.loads((TOP / "examples" / "check" / f"{name}.json").read_text())
+    rows = [f"A,2.000,falling,{text}" for text in document["groups"][0]["balises"]]
+    path = table("group,km,nominal,telegram", *rows)
+    assert run("draw", path, "--track", "--svg", tmp_path / "t.svg")[0] == 0
+    assert set(_titles(tmp_path / "t.svg", "gap")) == {wanted}
+
+
+def test_what_a_profile_does_not_give() -> None:
+    """An open one has an arrow in place of its end mark; the track before its first element is grey."""
+    packets = authority()
+    packets[2]["elements"].pop()
+    packets[2]["elements"][0]["d_static"] = 100
+    picture, = drawn((group("A", "1", nominal="rising"), [header(1, *packets)]))
+    assert [one.title for one in looks(picture, "arrow")] == [
+        "the speed profile has no end mark: it is open, nominal, A"]
+    assert [one.title for one in looks(picture, "none")] == ["not given here: up to km 1.100, nominal, A"]
+    assert [one.title for one in looks(picture, "endmark")] == [
+        "end mark: the gradient profile reaches km 2.000, nominal, A"]
+
+
+def test_a_minus_is_as_wide_as_a_plus(run: Run, tmp_path: Path) -> None:
+    """In either picture: a hyphen is not seen on the dots of downhill."""
+    for words in (["--track"], ["--group", "Signal B"]):
+        run("draw", LINE, *words, "--aspect", "green", "--svg", tmp_path / "t.svg")
+        texts = [one.text for one in ElementTree.parse(tmp_path / "t.svg").iter(f"{SVG}text")]
+        assert "\u22125 \u2030" in texts and "-5 \u2030" not in texts and "+2 \u2030" in texts

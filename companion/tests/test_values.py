@@ -130,5 +130,5 @@ def test_words_that_are_kept_are_those_of_the_place(beside: int, from_track: boo
                     continue
                 words, raw = value_words(key, value, around), f"[{value}]" if value_words(key, value, around) else value
                 wanted = " ".join(filter(None, [variable_name(key, packet), words, str(raw)]))
-                assert said(key, value, around) == wanted
-        assert value_words("body", "00", around) in said("body", "00", around)
+                assert said([key], {**packet, key: value}, around) == [wanted]
+        assert value_words("body", "00", around) in said(["body"], {"body": "00"}, around)[0]

@@ -5,7 +5,9 @@ Coordinates are whole tenths of a pixel. The template draws what stands here and
 from __future__ import annotations
 
 from dataclasses import dataclass, field
-from typing import List, NamedTuple, Tuple
+from functools import lru_cache
+from heapq import heappop, heappush
+from typing import Dict, List, NamedTuple, Tuple
 
 from balisekit.geometry import NOMINAL, REVERSE, Kilometres
 from balisekit.values import metres
@@ -41,9 +43,32 @@ class Picture:
     shapes: Tuple[Shape, ...]
 
 
+@lru_cache(maxsize=1 << 14)
 def tenths(number: int) -> str:
     """A coordinate of whole tenths, as SVG has it."""
     return f"{number / 10:.1f}"
+
+
+class Rows:
+    """Rows below each other, so that what stands in one does not overlap. It has to come in the order of its beginning.
+
+    A row that is free again is put on a heap, since a page may have hundreds of them.
+    """
+
+    def __init__(self) -> None:
+        self.count = 0
+        self._free: List[int] = []
+        self._used: List[Tuple[int, int]] = []
+
+    def take(self, begin: int, end: int) -> int:
+        """The first row that is free from here on. It is used up to the end."""
+        while self._used and self._used[0][0] <= begin:
+            heappush(self._free, heappop(self._used)[1])
+        if not self._free:
+            self._free, self.count = [self.count], self.count + 1
+        row = heappop(self._free)
+        heappush(self._used, (end, row))
+        return row
 
 
 @dataclass
@@ -59,6 +84,13 @@ class Sheet:
     top: int = 0
     height: int = 0
     shapes: List[Shape] = field(default_factory=list)
+    said: Dict[Tuple[int, str], str] = field(default_factory=dict)
+    """Places in words, by place and direction, for these kilometres."""
+
+    def count_from(self, kilometres: Kilometres) -> None:
+        """Places have these kilometres from now on."""
+        if kilometres is not self.kilometres:
+            self.kilometres, self.said = kilometres, {}
 
     def edge(self, direction: str) -> int:
         """The farthest place that is drawn in this direction."""
@@ -93,9 +125,12 @@ class Sheet:
             self.text(f"{look} middle", text, (begin + end) // 2, y)
 
     def place(self, place: int, direction: str) -> str:
-        """A place in words."""
-        km = self.kilometres.words(abs(place), direction)
-        return metres(abs(place)) + (f", km {km}" if km else "")
+        """A place in words. What ends at one begins the next, so they come again and again."""
+        key = place, direction
+        if key not in self.said:
+            km = self.kilometres.words(abs(place), direction)
+            self.said[key] = metres(abs(place)) + (f", km {km}" if km else "")
+        return self.said[key]
 
 
 def draw_axis(sheet: Sheet) -> None:

@@ -10,6 +10,7 @@ COLUMNS = ("group", "telegram", "name", "km", "track", "aspect", "balise", "nomi
 NEEDED = COLUMNS[:2]
 BLANKS = " \t\u00a0\u2000-\u200b\u202f\u3000"
 QUOTES = "\"'\u2018\u2019\u201c\u201d\u201e\u00ab\u00bb"
+DIGITS = re.compile("[0-9A-Fa-f]+")
 PAIRS = re.compile(r"[^:-]{2}(?:([:-])[^:-]{2})(?:\1[^:-]{2})*")
 
 
@@ -33,6 +34,8 @@ def headings(row: List[str]) -> List[str]:
 
 def digits(cell: str) -> str:
     """The cell without what stands around and between digits: blanks, quotes, 0x, h, colons and hyphens of pairs."""
+    if DIGITS.fullmatch(cell):
+        return cell
     text = re.sub(f"[{BLANKS}]", "", cell).strip(QUOTES)
     if text[:2] in ("0x", "0X"):
         text = text[2:]

@@ -136,6 +136,7 @@ def finding_words(place: Place) -> str:
     parts = [f"packet {finding.packet}"] if finding.packet is not None else []
     parts += [finding.direction] if finding.direction else []
     name = finding.name + (f" by {group_words(place.earlier)}" if place.earlier else "")
+    name += f": {place.differs}" if place.differs else ""
     return "  ".join([words, *parts]) + f": {name}"
 
 
@@ -158,7 +159,8 @@ def last_line(checked: Checked) -> str:
     parts += [f"{checked.not_looked_at} rows not looked at"] if checked.not_looked_at else []
     some = checked.messages_not_looked_at
     parts += [f"{some} messages not looked at"] if some else []
-    return "INCOMPLETE: " + ", ".join(parts)
+    found = f"; findings in the rest: {len(checked.findings)}" if checked.findings else ""
+    return f"INCOMPLETE: {', '.join(parts)}{found}"
 
 
 def as_json(checked: Checked, judged: Optional[Judged] = None) -> Dict[str, Any]:
@@ -222,7 +224,8 @@ def _finding_json(place: Place) -> Dict[str, Any]:
             "group": place.group.name if place.group else None, "aspect": place.aspect,
             "row": row.number if row else None, "balise": finding.balise, "packet": finding.packet,
             "direction": finding.direction, "message": place.message.number if place.message else None,
-            "earlier_group": place.earlier.name if place.earlier else None, "words": finding_words(place)}
+            "earlier_group": place.earlier.name if place.earlier else None, "differs": place.differs or None,
+            "words": finding_words(place)}
 
 
 COMMAND = Command("check", "check the telegrams and groups of a table", add_words, run)

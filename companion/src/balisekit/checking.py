@@ -6,10 +6,12 @@ import tempfile
 from dataclasses import dataclass
 from typing import Any, Dict, Iterable, Iterator, List, Mapping, Optional, Sequence, Set, Tuple, Union
 
+from balisekit.differing import differs
 from balisekit.errors import NoAnswer
 from balisekit.grammar import Finding, Refusal, Verdict
 from balisekit.model import Aspect, Group, Message, Messages, Row, Table
 from balisekit.program import Program, Record, Report
+from balisekit.values import Form
 
 GREATEST_REFUSED = 10_000
 """After so many refused telegrams the others are not tried."""
@@ -82,6 +84,8 @@ class Place:
     message: Optional[Message] = None
     earlier: Optional[Group] = None
     """Of F14: the first group with the same identity."""
+    differs: str = ""
+    """Of F1, F2 and F3: what differs, by the numbers that the program has decoded."""
 
 
 @dataclass(frozen=True)
@@ -142,7 +146,8 @@ def check(program: Program, table: Table, messages: Optional[Messages] = None, b
         report = _ask(program, kept, good)
     found = report.findings if report else ()
     first = _first_groups(kept, accepted) if any(one.rule == 14 for one in found) else {}
-    places = tuple(_place(one, kept, first, good) for one in found)
+    forms = _forms(kept, accepted, found)
+    places = tuple(_place(one, kept, first, good, forms) for one in found)
     return Checked(program, table, messages, accepted, refused, left, left_out, kept, good, bad,
                    report.verdict if report else None, places)
 
@@ -239,8 +244,15 @@ def _ask(program: Program, kept: Sequence[Group], messages: Sequence[AcceptedMes
     return report
 
 
+def _forms(kept: Sequence[Group], accepted: Mapping[int, Accepted], found: Sequence[Finding]) -> Dict[int, Form]:
+    """The telegrams, by their rows, of the groups that have F1, F2 or F3."""
+    groups = {one.group or 0 for one in found if one.rule in (1, 2, 3)}
+    rows = {row.number for number in groups if number < len(kept) for row in kept[number].rows()}
+    return {number: accepted[number].form for number in rows}
+
+
 def _place(finding: Finding, kept: Sequence[Group], first: Mapping[int, Group],
-           messages: Sequence[AcceptedMessage]) -> Place:
+           messages: Sequence[AcceptedMessage], forms: Mapping[int, Form]) -> Place:
     """What the numbers of the finding stand for. `first` has the first group with the identity of each one."""
     try:
         if finding.message is not None:
@@ -250,9 +262,10 @@ def _place(finding: Finding, kept: Sequence[Group], first: Mapping[int, Group],
         aspect = group.aspects[finding.aspect or 0]
         row = None if finding.balise is None else aspect.rows[finding.balise]
         earlier = first[finding.group or 0] if finding.rule == 14 else None
+        said = differs(finding.rule, group, aspect.rows, finding.balise or 0, forms) if finding.rule < 4 else ""
     except IndexError:
         raise NoAnswer(f"the program names what was not handed to it: {finding.line}") from None
-    return Place(finding, group, None if whole else aspect.name, row, earlier=earlier)
+    return Place(finding, group, None if whole else aspect.name, row, earlier=earlier, differs=said)
 
 
 def _first_groups(kept: Sequence[Group], accepted: Mapping[int, Accepted]) -> Dict[int, Group]:

@@ -2,6 +2,7 @@
 from __future__ import annotations
 
 import argparse
+import gc
 import os
 import sys
 from typing import List, Optional
@@ -45,6 +46,8 @@ def main(arguments: Optional[List[str]] = None) -> int:
         if hasattr(stream, "reconfigure"):
             stream.reconfigure(encoding="utf-8", errors="backslashreplace")
     words = parser().parse_args(arguments)
+    collects = gc.isenabled()
+    gc.disable()    # (what is made here holds nothing that holds it, so that all is freed without a search for circles)
     try:
         status: int = words.run(words)
         sys.stdout.flush()
@@ -61,6 +64,9 @@ def main(arguments: Optional[List[str]] = None) -> int:
     except Exception as error:
         said = f"an error of balisekit itself, {type(error).__name__}: {error}; --debug shows where it comes from"
         return _ended(error, words.debug, said)
+    finally:
+        if collects:
+            gc.enable()
 
 
 def _ended(error: BaseException, debug: bool, *lines: str, status: int = 3) -> int:

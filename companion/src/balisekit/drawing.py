@@ -15,6 +15,8 @@ from balisekit.wording import clean
 
 SPEED_HEIGHT, GRADIENT_HEIGHT, AUTHORITY_HEIGHT = 58, 20, 50
 LINE = 12
+NO_PROFILE = {10: "no gradient", 12: "no speed profile"}
+"""The findings of a profile that is missing as a whole."""
 BOLD_LETTER = 70
 """The width of a bold letter, in tenths of a pixel."""
 
@@ -64,17 +66,17 @@ def draw(title: str, contents: Sequence[Content], kilometres: Kilometres, titled
     if titled:
         sheet.text("title", clean(title), 40, 20)
         sheet.y = 28
-    top = _speed_top(ways for _, ways in rows)
+    top = speed_top(ways for _, ways in rows)
     last = max((place for place, (one, ways) in enumerate(rows) if any(ways) and not one.infill), default=None)
     for place, (content, ways) in enumerate(rows):
-        sheet.kilometres = Kilometres() if content.infill else kilometres
+        sheet.count_from(Kilometres() if content.infill else kilometres)
         _row(sheet, content, ways, top)
         if any(ways):
             _base(sheet, content, content.infill or place == last)
     return Picture(clean(title), WIDTH, sheet.y + 6, tuple(sheet.shapes))
 
 
-def _speed_top(ways: Iterable[Sequence[Way]]) -> int:
+def speed_top(ways: Iterable[Sequence[Way]]) -> int:
     """The speed at the upper edge: the greatest one, rounded up to 20 km/h."""
     speeds = [element.value * 5 for some in ways for one in some for profile in one.speeds
               for element in profile.elements]
@@ -96,17 +98,17 @@ def _row(sheet: Sheet, content: Content, ways: Sequence[Way], top: int) -> None:
             sheet.text("small begin", "nominal →", sheet.x(0) + 60, sheet.y)
     for some in zip_longest(*[one.speeds for one in ways]):
         _lane(sheet, "speed, km/h", SPEED_HEIGHT)
-        for direction, profile in zip(DIRECTIONS, some):
+        for one, profile in zip(ways, some):
             if profile:
-                _speed(sheet, profile, direction, top)
-                _gap(sheet, content, profile, ways)
+                _speed(sheet, profile, one.direction, top)
+                _gap(sheet, content, profile, one)
     _missing(sheet, content, ways, 12)
     for some in zip_longest(*[one.gradients for one in ways]):
         _lane(sheet, "gradient, ‰", GRADIENT_HEIGHT)
-        for direction, profile in zip(DIRECTIONS, some):
+        for one, profile in zip(ways, some):
             if profile:
-                _gradient(sheet, profile, direction)
-                _gap(sheet, content, profile, ways)
+                _gradient(sheet, profile, one.direction)
+                _gap(sheet, content, profile, one)
     _missing(sheet, content, ways, 10)
     for few in zip_longest(*[one.authorities for one in ways]):
         _lane(sheet, "authority", AUTHORITY_HEIGHT + (LINE if all(few) else 0))
@@ -149,10 +151,15 @@ def _speed(sheet: Sheet, profile: Profile, direction: str, most: int) -> None:
     _ending(sheet, profile, direction, "speed profile")
 
 
+def gradient_words(element: Element) -> str:
+    """A gradient with a minus that is as wide as a plus, so that it is seen on the dots of downhill."""
+    return value_words("g_a", element.value, Around({}, element.form)).replace("-", "\u2212")
+
+
 def _gradient(sheet: Sheet, profile: Profile, direction: str) -> None:
     for element, begin, end, where in _elements(sheet, profile, direction):
         up = bool(element.form["q_gdir"])
-        words = value_words("g_a", element.value, Around({}, element.form))
+        words = gradient_words(element)
         look = "level" if element.value == 0 else "up" if up else "down"
         left, right = sheet.rect(look, f"{words} {where}", (begin, end), sheet.top, sheet.height)
         sheet.inside("small halo", words, left, right, sheet.top + 14)
@@ -175,19 +182,28 @@ def _ending(sheet: Sheet, profile: Profile, direction: str, name: str) -> None:
                    sign * element.begin, sheet.top, sheet.height)
 
 
-def _gap(sheet: Sheet, content: Content, profile: Profile, ways: Sequence[Way]) -> None:
+def missing(short: Short, one: Way) -> Optional[Tuple[int, int]]:
+    """From where to where a profile is missing: up to the greatest supervised location."""
+    if one.supervised is None:
+        return None
+    if short.site is None:
+        return 0, one.supervised
+    reach = next((profile.reach for profile in (*one.gradients, *one.speeds) if profile.site == short.site), None)
+    return None if reach is None else (reach, one.supervised)
+
+
+def _gap(sheet: Sheet, content: Content, profile: Profile, one: Way) -> None:
     """The track between a profile that the program has found too short and the greatest supervised location."""
     for short in content.short:
-        supervised = ways[DIRECTIONS.index(short.direction)].supervised
-        rule = 11 if profile.number == 21 else 13
-        if (short.rule, short.site) != (rule, profile.site) or supervised is None or profile.reach is None:
+        places = missing(short, one)
+        if (short.site, short.direction) != (profile.site, one.direction) or places is None:
             continue
-        sign = _sign(short.direction)
-        length = metres(supervised - profile.reach)
-        title = (f"F{rule}: {length} are missing, from {sheet.place(profile.reach, short.direction)} "
-                 f"to {sheet.place(supervised, short.direction)}, {short.direction}")
-        left, right = sheet.rect("gap", title, (sign * profile.reach, sign * supervised), sheet.top, sheet.height)
-        _red(sheet, f"F{rule}: {length}", left, right)
+        reach, supervised = places
+        sign, length = _sign(one.direction), metres(supervised - reach)
+        title = (f"F{short.rule}: {length} are missing, from {sheet.place(reach, one.direction)} "
+                 f"to {sheet.place(supervised, one.direction)}, {one.direction}")
+        left, right = sheet.rect("gap", title, (sign * reach, sign * supervised), sheet.top, sheet.height)
+        _red(sheet, f"F{short.rule}: {length}", left, right)
 
 
 def _red(sheet: Sheet, words: str, left: int, right: int) -> None:
@@ -206,7 +222,7 @@ def _missing(sheet: Sheet, content: Content, ways: Sequence[Way], rule: int) -> 
     found = [short for short in content.short if short.rule == rule]
     if not found:
         return
-    name = "no gradient" if rule == 10 else "no speed profile"
+    name = NO_PROFILE[rule]
     _lane(sheet, "gradient, ‰" if rule == 10 else "speed, km/h", GRADIENT_HEIGHT)
     for short in found:
         supervised = ways[DIRECTIONS.index(short.direction)].supervised

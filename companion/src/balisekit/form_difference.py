@@ -145,7 +145,7 @@ def _shown(form: Form, around: Around) -> Iterator[str]:
             if isinstance(item, dict):
                 yield from _shown(item, inner)
             else:
-                yield said(key, item, inner)
+                yield from said((key,), {**form, key: item}, inner)
 
 
 def align(old: Sequence[Form], new: Sequence[Form]) -> List[Pair]:

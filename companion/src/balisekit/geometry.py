@@ -8,12 +8,15 @@ from __future__ import annotations
 from dataclasses import dataclass
 from decimal import Decimal
 from functools import cached_property, lru_cache
+from itertools import accumulate
 from typing import Dict, FrozenSet, List, Mapping, NamedTuple, Optional, Sequence, Tuple
 
 from balisekit.model import Group
 from balisekit.values import Form, unit_dm
 
 NOMINAL, REVERSE = "nominal", "reverse"
+INFILL = 136
+"""The packet behind which distances count from another group."""
 DIRECTIONS = (NOMINAL, REVERSE)
 ELEMENT_KEYS: Mapping[int, Tuple[str, str, int]] = {21: ("d_gradient", "g_a", 255), 27: ("d_static", "v_static", 127)}
 """Of each profile: the keys of distance and value, and the value that is its end mark."""
@@ -123,9 +126,8 @@ class Kilometres:
         """The kilometre of a place as it is written, or nothing if it is not known."""
         if self.group is None or (self.rising is None and place_dm != 0):
             return ""
-        if self._whole is None:
-            return kilometre(self.group + Decimal(self._along(direction) * place_dm).scaleb(-4))
-        return kilometre_of(self._whole + self._along(direction) * place_dm)
+        whole, along = self._whole, place_dm if (self.rising != -1) == (direction == NOMINAL) else -place_dm
+        return kilometre(self.group + Decimal(along).scaleb(-4)) if whole is None else kilometre_of(whole + along)
 
     def _along(self, direction: str) -> int:
         return (self.rising or 1) * (1 if direction == NOMINAL else -1)
@@ -187,19 +189,15 @@ def authority(site: Site, packet: Form) -> Authority:
 def profile(site: Site, packet: Form) -> Profile:
     """The places of a packet 21 or 27."""
     distance, value, mark = ELEMENT_KEYS[packet["nid_packet"]]
-    unit, at = unit_dm(packet), 0
-    places: List[int] = []
-    for element in packet["elements"]:
-        at += element[distance] * unit
-        places.append(at)
-    ends: List[Optional[int]] = [*places[1:], None]
-    elements = [Element(place, end, element, element[value])
-                for place, end, element in zip(places, ends, packet["elements"])]
-    marks = [index for index, element in enumerate(elements) if element.value == mark]
-    before = marks[0] if marks else len(elements)
+    unit, sent = unit_dm(packet), packet["elements"]
+    places = [at * unit for at in accumulate(element[distance] for element in sent)]
+    values = [element[value] for element in sent]
+    elements = tuple(map(Element, places, [*places[1:], None], sent, values))
+    if mark not in values:
+        return Profile(site, packet["nid_packet"], elements, (), places[0], None)
+    before = values.index(mark)
     beyond = tuple(element for element in elements[before + 1:] if element.value != mark)
-    reach = places[before] if marks else None
-    return Profile(site, packet["nid_packet"], tuple(elements[:before]), beyond, places[0], reach)
+    return Profile(site, packet["nid_packet"], elements[:before], beyond, places[0], places[before])
 
 
 def is_silent(forms: Sequence[Form], balise: int, direction: str) -> bool:
@@ -212,20 +210,31 @@ def is_silent(forms: Sequence[Form], balise: int, direction: str) -> bool:
 
 def holds(packet: Form, direction: str) -> bool:
     """Whether a packet from track to train is for this direction. Packet 0, which has no Q_DIR, is for both."""
-    return packet.get("q_dir", 2) in (2, 1 if direction == NOMINAL else 0)
+    return packet.get("q_dir", 2) in _holding(direction)
+
+
+def _holding(direction: str) -> Tuple[int, int]:
+    """The Q_DIR of the packets that hold in this direction."""
+    return 2, 1 if direction == NOMINAL else 0
 
 
 def passed(forms: Sequence[Form], direction: str) -> List[Tuple[Site, Form]]:
     """The packets of a group for one direction in passing order, without those of silent balises."""
     order = range(len(forms)) if direction == NOMINAL else range(len(forms) - 1, -1, -1)
+    holding = _holding(direction)
     return [(Site(balise, place), packet)
             for balise in order if not is_silent(forms, balise, direction)
-            for place, packet in enumerate(forms[balise]["packets"]) if holds(packet, direction)]
+            for place, packet in enumerate(forms[balise]["packets"]) if packet.get("q_dir", 2) in holding]
 
 
 def infill(forms: Sequence[Form], direction: str) -> FrozenSet[Site]:
     """The packets that are passed behind a packet 136: their distances count from another group."""
-    return _behind_infill(passed(forms, direction))
+    return _behind_infill(passed(forms, direction)) if has_infill(forms) else NONE
+
+
+def has_infill(forms: Sequence[Form]) -> bool:
+    """Whether there is a packet 136 at all, as most groups have none."""
+    return any(packet["nid_packet"] == INFILL for form in forms for packet in form["packets"])
 
 
 def _behind_infill(packets: Sequence[Tuple[Site, Form]]) -> FrozenSet[Site]:
@@ -234,7 +243,7 @@ def _behind_infill(packets: Sequence[Tuple[Site, Form]]) -> FrozenSet[Site]:
     for site, packet in packets:
         if behind:
             sites.add(site)
-        behind = behind or packet["nid_packet"] == 136
+        behind = behind or packet["nid_packet"] == INFILL
     return frozenset(sites) if sites else NONE
 
 

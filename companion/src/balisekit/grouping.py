@@ -21,7 +21,7 @@ UNKNOWN = {"", None}
 def groups_of(rows: Sequence[Row], by_position: bool = False) -> Tuple[Tuple[Group, ...], Tuple[str, ...]]:
     """The groups of these rows, and notes on names that look alike."""
     blocks, faults = _blocks(rows)
-    groups, notes = [], _alike(blocks)
+    groups, shared, notes = [], [], _alike(blocks)
     for name, block in blocks.items():
         try:
             aspects, gaps = _aspects(name, block, by_position)
@@ -29,9 +29,27 @@ def groups_of(rows: Sequence[Row], by_position: bool = False) -> Tuple[Tuple[Gro
             notes += gaps
         except (TableError, TableErrors) as fault:
             faults += fault.faults if isinstance(fault, TableErrors) else [fault]
+            shared += [block] if _has_one_name(block) else []
     if faults:
-        raise TableErrors(faults)
+        raise TableErrors([*_shared_names(shared), *faults])
     return tuple(groups), tuple(notes)
+
+
+def _has_one_name(block: Sequence[Row]) -> bool:
+    """Whether all balises of a group have one name, and there are several in each aspect."""
+    names, counts = {row.name for row in block}, Counter(row.aspect for row in block)
+    every = counts.pop(EVERY, 0)
+    return len(names) == 1 and not names & UNKNOWN and every + min(counts.values(), default=0) > 1
+
+
+def _shared_names(shared: Sequence[Sequence[Row]]) -> List[TableError]:
+    """One hint at the heading where the column seems to name something else than balises."""
+    if len(shared) < 2:
+        return []
+    row = shared[0][0]
+    return [TableError(f'in {len(shared)} groups all balises have one name, as "{row.name}" in group "{row.group}": it '
+                       "tells no balise. If it is that of a signal, give the column another heading, under which it is "
+                       "passed over", row=1, column="name")]
 
 
 def _blocks(rows: Sequence[Row]) -> Tuple[Dict[str, List[Row]], List[TableError]]:

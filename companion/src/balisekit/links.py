@@ -10,6 +10,7 @@ from typing import Dict, Iterator, List, Optional, Sequence, Set, Tuple
 
 from balisekit.chains import Chain, chains, infill_links, known_pairs
 from balisekit.geometry import DIRECTIONS, NOMINAL, REVERSE, Profile, kilometre, way
+from balisekit.line_ends import line_ends
 from balisekit.packets import packet_name
 from balisekit.stations import NOT_KNOWN, Identity, Line, Source, Station, Where
 from balisekit.values import metres
@@ -245,6 +246,7 @@ def _notes(line: Line, some: Sequence[Chain]) -> Iterator[str]:
         yield f"{where}: its distances count from the group of packet 136, and are not compared"
     for chain in some:
         yield from _not_compared(chain)
+    yield from line_ends(line, some)
 
 
 def _lacks(station: Station) -> str:

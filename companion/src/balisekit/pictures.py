@@ -41,12 +41,15 @@ def picture_of_message(title: str, form: Form, findings: Sequence[Finding], wher
 
 def _contents(title: str, forms: Sequence[Form], findings: Sequence[Finding]) -> List[Content]:
     """What these telegrams say of places from their own group, and from the group of a packet 136."""
-    short: Tuple[Short, ...] = tuple(
-        _short(one) for one in findings if one.rule in (10, 11, 12, 13) and one.direction)
-    contents = [Content(title, forms, short)]
+    contents = [Content(title, forms, short_profiles(findings))]
     if any(infill(forms, direction) for direction in DIRECTIONS):
         contents.append(Content(f"{title}, infill: metres from the group of packet 136", forms, infill=True))
     return contents
+
+
+def short_profiles(findings: Sequence[Finding]) -> Tuple[Short, ...]:
+    """F10 to F13 of these findings."""
+    return tuple(_short(one) for one in findings if one.rule in (10, 11, 12, 13) and one.direction)
 
 
 def _short(finding: Finding) -> Short:

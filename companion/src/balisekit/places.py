@@ -2,14 +2,16 @@
 from __future__ import annotations
 
 from dataclasses import dataclass
+from itertools import accumulate
 from typing import Callable, Dict, Iterator, Mapping, Optional, Sequence, Tuple
 
-from balisekit.geometry import (DIRECTIONS, ELEMENT_KEYS, Kilometres, NOMINAL, Site, authority, holds, infill,
-                                kilometres, profile)
+from balisekit.geometry import (DIRECTIONS, ELEMENT_KEYS, Kilometres, Site, authority, holds, infill, kilometres)
 from balisekit.model import Group
 from balisekit.values import Form, metres, unit_dm
 
 Notes = Iterator[Tuple[str, str]]
+Place = Callable[[int], str]
+"""How a place of whole decimetres is written."""
 
 
 @dataclass(frozen=True)
@@ -20,14 +22,20 @@ class Here:
     elsewhere: Tuple[int, ...] = ()
     """Packets of the telegram that are passed behind a packet 136, by their places in it."""
 
-    def place(self, place_dm: int, packet: Form) -> str:
-        """A place as "850 m, km 13.050", for a packet in both directions with the kilometre of either."""
+    def places(self, packet: Form) -> Place:
+        """How a place is written: "850 m, km 13.050", for a packet in both directions with the kilometre of either."""
         ways = [direction for direction in DIRECTIONS if holds(packet, direction)]
-        known = [self.kilometres.words(place_dm, direction) for direction in ways]
-        words = [f"km {km}" for km in known if km]
-        if len(words) == 2:
-            words = words[:1] if words[0] == words[1] else [f"{words[0]} ({NOMINAL})", f"{words[1]} (reverse)"]
-        return ", ".join([metres(place_dm), *words])
+        if self.kilometres.group is None or not ways:
+            return metres
+        words, first, last = self.kilometres.words, ways[0], ways[-1]
+
+        def place(place_dm: int) -> str:
+            km = words(place_dm, first)
+            other = km if first == last else words(place_dm, last)
+            if km == other:
+                return f"{metres(place_dm)}, km {km}" if km else metres(place_dm)
+            return f"{metres(place_dm)}, km {km} ({first}), km {other} ({last})"
+        return place
 
 
 class Identities:
@@ -56,64 +64,62 @@ def place_notes(form: Form, here: Here) -> Dict[str, str]:
     """What balisekit works out of a telegram or a message 3, by the path of the object that it is about."""
     found: Dict[str, str] = {}
     for index, packet in enumerate(form["packets"]):
-        there = Here() if index in here.elsewhere else here
         path = f"/packets/{index}"
         if packet["nid_packet"] in NOTES:
-            found.update((path + below, note) for below, note in NOTES[packet["nid_packet"]](packet, there))
+            place = (Here() if index in here.elsewhere else here).places(packet)
+            found.update((path + below, note) for below, note in NOTES[packet["nid_packet"]](packet, place))
         if index in here.elsewhere:
             found[path] = "; ".join(filter(None, ["infill: counted from the group of packet 136", found.get(path)]))
     return found
 
 
-def _authority_notes(packet: Form, here: Here) -> Notes:
+def _authority_notes(packet: Form, place: Place) -> Notes:
     """Where sections end and timers stop, and where the authority ends."""
     found = authority(Site(0, 0), packet)
     stops = list(found.timer_stops)
     for index, (section, cut) in enumerate(zip(packet["sections"], found.cuts)):
-        yield f"/sections/{index}", f"to {here.place(cut, packet)}"
+        yield f"/sections/{index}", f"to {place(cut)}"
         if "section_timer" in section:
-            yield f"/sections/{index}/section_timer", f"stops at {here.place(stops.pop(0), packet)}"
+            yield f"/sections/{index}/section_timer", f"stops at {place(stops.pop(0))}"
     if stops:
-        yield "/section_timer", f"stops at {here.place(stops[0], packet)}"
+        yield "/section_timer", f"stops at {place(stops[0])}"
     if found.end_timer is not None:
-        yield "/end_timer", f"starts at {here.place(found.end_timer, packet)}"
+        yield "/end_timer", f"starts at {place(found.end_timer)}"
     if found.danger_point is not None:
-        yield "/danger_point", f"at {here.place(found.danger_point, packet)}"
+        yield "/danger_point", f"at {place(found.danger_point)}"
     if found.overlap is not None and found.overlap_timer is not None:
-        yield "/overlap", (f"ends at {here.place(found.overlap, packet)}; "
-                           f"timer starts at {here.place(found.overlap_timer, packet)}")
-    yield "/l_endsection", (f"end of the authority at {here.place(found.end, packet)}; "
-                            f"supervised location at {here.place(found.supervised, packet)}")
+        yield "/overlap", f"ends at {place(found.overlap)}; timer starts at {place(found.overlap_timer)}"
+    yield "/l_endsection", (f"end of the authority at {place(found.end)}; "
+                            f"supervised location at {place(found.supervised)}")
 
 
-def _profile_notes(packet: Form, here: Here) -> Notes:
+def _profile_notes(packet: Form, place: Place) -> Notes:
     """Where each element begins, and how far the profile reaches."""
-    found = profile(Site(0, 0), packet)
-    distance = ELEMENT_KEYS[packet["nid_packet"]][0]
-    at = 0
-    for index, element in enumerate(packet["elements"]):
-        at += element[distance] * unit_dm(packet)
-        behind = found.reach is not None and index > len(found.elements)
-        word = "at" if index == len(found.elements) else "from"
-        yield f"/elements/{index}", f"{word} {here.place(at, packet)}{', behind the end' if behind else ''}"
-    yield "", ("no end mark: an open profile" if found.reach is None else f"reaches {here.place(found.reach, packet)}")
+    distance, value, mark = ELEMENT_KEYS[packet["nid_packet"]]
+    unit, elements = unit_dm(packet), packet["elements"]
+    said = [place(at * unit) for at in accumulate(element[distance] for element in elements)]
+    end = next((index for index, element in enumerate(elements) if element[value] == mark), len(elements))
+    for index, where in enumerate(said):
+        words = f"from {where}" if index < end else f"at {where}" if index == end else f"from {where}, behind the end"
+        yield f"/elements/{index}", words
+    yield "", f"reaches {said[end]}" if end < len(elements) else "no end mark: an open profile"
 
 
-def _linking_notes(packet: Form, here: Here) -> Notes:
+def _linking_notes(packet: Form, place: Place) -> Notes:
     """Where each group of a linking packet is."""
     at = 0
     for index, link in enumerate(packet["links"]):
         at += link["d_link"] * unit_dm(packet)
-        yield f"/links/{index}", f"at {here.place(at, packet)}"
+        yield f"/links/{index}", f"at {place(at)}"
 
 
-def _level_notes(packet: Form, here: Here) -> Notes:
+def _level_notes(packet: Form, place: Place) -> Notes:
     """Where the level changes."""
     if packet["d_leveltr"] != 32_767:
-        yield "", f"at {here.place(packet['d_leveltr'] * unit_dm(packet), packet)}"
+        yield "", f"at {place(packet['d_leveltr'] * unit_dm(packet))}"
 
 
-NOTES: Mapping[int, Callable[[Form, Here], Notes]] = {
+NOTES: Mapping[int, Callable[[Form, Place], Notes]] = {
     5: _linking_notes, 12: _authority_notes, 15: _authority_notes, 21: _profile_notes, 27: _profile_notes,
     41: _level_notes,
 }

@@ -2,7 +2,6 @@
 from __future__ import annotations
 
 import argparse
-import gc
 
 from balisekit import accepted, checking, files, premises
 from balisekit.accepted_output import closing_lines
@@ -37,7 +36,6 @@ def run(words: argparse.Namespace) -> int:
     look_at_aspect(table, words.aspect)
     checked = checking.check(program, table, messages, words.by_position, words.all)
     judged = accepted.judge(checked, entries, accepted.today()) if entries else None
-    gc.freeze()     # What was read stays to the end. It need not be searched for what may be freed, again and again.
     sheet = style("page.css") + style("picture.css") + style("track.css")
     findings = told_all(checked, judged)
     line = line_of(checked)

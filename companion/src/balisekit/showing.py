@@ -9,7 +9,7 @@ from functools import lru_cache
 from typing import List, Mapping, NamedTuple, Sequence, Tuple, Union
 
 from balisekit.places import Here, place_notes
-from balisekit.values import Around, Form, ORDER, said
+from balisekit.values import ORDER, VARIABLES, Around, Form, said
 
 WIDTH = 118
 LABEL_WIDTH = 22
@@ -17,6 +17,8 @@ LABELS: Mapping[str, str] = {
     "packets": "packet", "links": "link", "sections": "section", "elements": "element", "differences": "difference",
     "transitions": "choice", "section_timer": "section timer", "end_timer": "end timer", "danger_point": "danger point",
 }
+END_SECTION = "l_endsection"
+"""What follows it in an authority belongs to its end section."""
 LEGEND = (
     "Raw values are in square brackets. Packets and their items are counted from 0, as in the program's lines. "
     "What follows a = is worked out by balisekit: places are sums of distances, counted from the group.")
@@ -37,8 +39,18 @@ class Line(NamedTuple):
 
     depth: int
     label: str
-    values: Tuple[Shown, ...]
+    path: str
+    """Where the JSON has the object of the values."""
+    keys: Sequence[str]
+    form: Form
+    """The object."""
+    texts: Sequence[str]
     note: str = ""
+
+    @property
+    def values(self) -> List[Shown]:
+        """The values one by one."""
+        return [Shown(f"{self.path}/{key}", self.form[key], words) for key, words in zip(self.keys, self.texts)]
 
 
 def form_lines(form: Form, here: Here = Here()) -> List[Line]:
@@ -52,9 +64,20 @@ def form_lines(form: Form, here: Here = Here()) -> List[Line]:
 
 
 @lru_cache(maxsize=1024)
-def _ordered(keys: Tuple[str, ...]) -> List[str]:
-    """The keys of an object in the order of the standard. Objects have few sets of keys."""
-    return sorted(keys, key=lambda one: (ORDER.get(one, len(ORDER)), one))
+def _steps(keys: Tuple[str, ...]) -> List[Tuple[Tuple[str, ...], str]]:
+    """The keys of an object in the order of the standard: those whose values share a line, or the key of a part.
+
+    Objects have few sets of keys. One that is not known may have anything, so it is taken for a part.
+    """
+    steps: List[Tuple[Tuple[str, ...], str]] = []
+    for key in sorted(keys, key=lambda one: (ORDER.get(one, len(ORDER)), one)):
+        if key not in VARIABLES:
+            steps.append(((), key))
+        elif key == END_SECTION or not steps or steps[-1][1]:
+            steps.append(((key,), ""))
+        else:
+            steps[-1] = ((*steps[-1][0], key), "")
+    return steps
 
 
 def _lines(into: List[Line], label: str, depth: int, form: Form, path: str, around: Around,
@@ -62,39 +85,52 @@ def _lines(into: List[Line], label: str, depth: int, form: Form, path: str, arou
     """Adds the lines of an object: its values up to its first part, that part, and so on."""
     inner = Around(form if "nid_packet" in form else around.packet, form, around.from_track)
     anchor = path
-    values: List[Shown] = []
-    for key in _ordered(tuple(form)):
-        value, below = form[key], f"{path}/{key}"
-        is_list, is_part = type(value) is list, type(value) is dict
-        if values and (is_list or is_part or key == "l_endsection"):
-            into.append(Line(depth, label, tuple(values), notes.get(anchor, "")))
-            label, anchor, values = "", "", []
-        if is_list:
-            name = LABELS.get(key, key)
-            for place, item in enumerate(value):
-                object_of = item if type(item) is dict else {name: item}
-                _lines(into, f"{name} {place}", depth + 1, object_of, f"{below}/{place}", inner, notes)
-        elif is_part:
-            _lines(into, LABELS.get(key, key), depth + 1, value, below, inner, notes)
-        else:
-            if key == "l_endsection":
-                label, anchor, depth = "end section", below, depth + 1
-            values.append(Shown(below, value, said(key, value, inner)))
-    if values:
-        into.append(Line(depth, label, tuple(values), notes.get(anchor, "")))
+    for keys, part in _steps(tuple(form)):
+        if part:
+            _part(into, depth + 1, part, form, f"{path}/{part}", inner, notes)
+            continue
+        if keys[0] == END_SECTION:
+            label, anchor, depth = "end section", f"{path}/{END_SECTION}", depth + 1
+        into.append(Line(depth, label, path, keys, form, said(keys, form, inner), notes.get(anchor, "")))
+        label, anchor = "", ""
+
+
+def _part(into: List[Line], depth: int, key: str, whole: Form, path: str, around: Around,
+          notes: Mapping[str, str]) -> None:
+    """Adds the lines of a part: an object, a list with its items, or a value whose key is not known."""
+    name, part = LABELS.get(key, key), whole[key]
+    if isinstance(part, list):
+        for place, item in enumerate(part):
+            form = item if isinstance(item, dict) else {name: item}
+            _lines(into, f"{name} {place}", depth, form, f"{path}/{place}", around, notes)
+    elif isinstance(part, dict):
+        _lines(into, name, depth, part, path, around, notes)
+    else:
+        into.append(Line(depth, "", path[:-len(key) - 1], (key,), whole, said((key,), whole, around)))
 
 
 def text_of(line: Line) -> str:
     """The line as text, broken where it is too long. A break never parts a name from its raw value."""
-    label = f"{'  ' * line.depth}{line.label}"
-    first = f"{label:<{LABEL_WIDTH}}" if len(label) < LABEL_WIDTH else f"{label} "
-    values = [value.text for value in line.values]
-    whole = f"{first}{'  '.join(values)}" + (f"  = {line.note}" if line.note else "")
-    return whole if len(whole) <= WIDTH else _broken(first, values, line.note)
+    first, values = _label(line.depth, line.label), "  ".join(line.texts)
+    lines = [first + values] if len(first) + len(values) <= WIDTH else _broken(first, line.texts)
+    if not line.note:
+        return "\n".join(lines)
+    if len(lines[-1]) + 4 + len(line.note) <= WIDTH:
+        lines[-1] += f"  = {line.note}"
+    else:
+        lines += _wrapped(f"= {line.note}")
+    return "\n".join(lines)
 
 
-def _broken(last: str, values: Sequence[str], note: str) -> str:
-    """The values behind the beginning of a line, and the note, on as many lines as they need."""
+@lru_cache(maxsize=1024)
+def _label(depth: int, label: str) -> str:
+    """What stands before the values of a line."""
+    said = f"{'  ' * depth}{label}"
+    return f"{said:<{LABEL_WIDTH}}" if len(said) < LABEL_WIDTH else f"{said} "
+
+
+def _broken(last: str, values: Sequence[str]) -> List[str]:
+    """The values behind the beginning of a line, on as many lines as they need."""
     lines: List[str] = []
     fresh = True
     for value in values:
@@ -103,14 +139,7 @@ def _broken(last: str, values: Sequence[str], note: str) -> str:
             last, fresh = " " * LABEL_WIDTH, True
         last += value if fresh else f"  {value}"
         fresh = False
-    if note:
-        if len(last) + 4 + len(note) > WIDTH:
-            lines.append(last)
-            *full, last = _wrapped(f"= {note}")
-            lines.extend(full)
-        else:
-            last += f"  = {note}"
-    return "\n".join([*lines, last])
+    return [*lines, last]
 
 
 def _wrapped(note: str) -> List[str]:

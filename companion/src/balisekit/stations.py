@@ -9,12 +9,14 @@ from typing import Dict, Iterator, List, Mapping, Optional, Sequence, Set, Tuple
 
 from balisekit.checking import Checked
 from balisekit.geometry import NOMINAL, Site, kilometres
+from balisekit.grammar import Finding
 from balisekit.model import Group, Message, Row
 from balisekit.values import Form
 from balisekit.wording import balise_words, message_words
 
 NOT_KNOWN = 16_383
 """The NID_BG that says that an identity is not known."""
+NO_FINDINGS: Mapping[str, Sequence[Finding]] = {}
 Identity = Tuple[int, int]
 """NID_C and NID_BG."""
 
@@ -136,6 +138,8 @@ class Line:
     """Of each track: its groups that have a kilometre, in the order of the kilometres."""
     linked: Mapping[str, Linked]
     """Of each track: those of them that say that they are linked."""
+    findings: Mapping[str, Sequence[Finding]]
+    """What the program has found of a group, by the group's name."""
 
     def passed_over(self, one: Station, other: Station, known: Set[Identity]) -> Tuple[List[Station], int]:
         """The linked groups between these two on one track whose identity is not known here: three, and how many."""
@@ -149,10 +153,15 @@ def line_of(checked: Checked) -> Line:
     kept = {group.name: group for group in checked.kept}
     forms = {number: one.form for number, one in checked.accepted.items()}
     groups = [kept.get(group.name, group) for group in checked.table.groups]
-    return line(groups, forms, [(one.message, one.form) for one in checked.accepted_messages])
+    findings: Dict[str, List[Finding]] = {}
+    for place in checked.findings:
+        if place.group is not None:
+            findings.setdefault(place.group.name, []).append(place.finding)
+    return line(groups, forms, [(one.message, one.form) for one in checked.accepted_messages], findings)
 
 
-def line(groups: Sequence[Group], forms: Mapping[int, Form], messages: Sequence[Tuple[Message, Form]] = ()) -> Line:
+def line(groups: Sequence[Group], forms: Mapping[int, Form], messages: Sequence[Tuple[Message, Form]] = (),
+         findings: Mapping[str, Sequence[Finding]] = NO_FINDINGS) -> Line:
     """The line of these groups, whose telegrams are in `forms` by their rows, and messages."""
     stations = tuple(_station(number, group, forms) for number, group in enumerate(groups))
     by_identity: Dict[Identity, Station] = {}
@@ -166,7 +175,7 @@ def line(groups: Sequence[Group], forms: Mapping[int, Form], messages: Sequence[
         some.sort(key=lambda one: one.km or Decimal())
     sources = [*_aspects(stations, forms), *_messages(messages, by_identity)]
     linked = {track: Linked.of(some) for track, some in along.items()}
-    return Line(stations, tuple(sources), forms, by_identity, along, linked)
+    return Line(stations, tuple(sources), forms, by_identity, along, linked, findings)
 
 
 def _station(number: int, group: Group, forms: Mapping[int, Form]) -> Station:

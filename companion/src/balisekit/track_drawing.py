@@ -7,16 +7,18 @@ from __future__ import annotations
 from decimal import Decimal
 from typing import Iterator, List, Optional, Sequence, Tuple
 
-from balisekit.canvas import LEFT, LETTER, RIGHT, WIDTH, Picture, Sheet, tenths
-from balisekit.geometry import NOMINAL, Authority, Kilometres, Profile, Way, kilometre, kilometre_of
+from balisekit.canvas import LETTER, RIGHT, WIDTH, Picture, Rows, Sheet, tenths
+from balisekit.drawing import speed_top
+from balisekit.geometry import NOMINAL, Kilometres, kilometre
 from balisekit.links import Links
 from balisekit.stations import Line, Station
-from balisekit.track_view import PAGE, Arc, Band, Page, open_end, pages, place_of
-from balisekit.values import Around, metres, value_words
+from balisekit.track_bands import LANE, draw_band, lanes
+from balisekit.track_view import Arc, Band, Page, at_km, pages, place_of
+from balisekit.values import metres
 from balisekit.wording import clean, quoted
 
-ARCS, LANE, SPEED, LOW = 84, 76, 28, 12
-"""Heights of the arcs, of a lane, and in it of the speeds, and of gradients and authority."""
+ARCS = 84
+"""Height of the arcs."""
 LANES = 12
 """So many lanes fit on a printed page."""
 TICK = 5000
@@ -25,11 +27,11 @@ TICK = 5000
 def track_pictures(line: Line, links: Links, track: str, aspect: Optional[str]) -> Iterator[Picture]:
     """The pictures of a track. Where a page has too many lanes the next picture goes on with them."""
     for page in pages(line, links, track, aspect):
-        lanes = _lanes(page)
-        parts = [lanes[place:place + LANES] for place in range(0, len(lanes), LANES)] or [[]]
+        needed, top = lanes(page), speed_top(band.ways for band in page.bands)
+        parts = [needed[place:place + LANES] for place in range(0, len(needed), LANES)] or [[]]
         for number, some in enumerate(parts):
             part = f", part {number + 1} of {len(parts)}" if len(parts) > 1 else ""
-            yield _picture(page, track, aspect, some, part, number == 0)
+            yield _picture(page, track, aspect, some, top, part, number == 0)
 
 
 def note(words: str) -> Picture:
@@ -44,7 +46,7 @@ def tracks_of(line: Line) -> List[str]:
     return list(dict.fromkeys(station.track for station in line.stations if station.km is not None))
 
 
-def _picture(page: Page, track: str, aspect: Optional[str], lanes: Sequence[Sequence[Band]], part: str,
+def _picture(page: Page, track: str, aspect: Optional[str], some: Sequence[Sequence[Band]], top: int, part: str,
              first: bool) -> Picture:
     """One picture. Where a page has several, names and links are on its first one."""
     sheet = Sheet(page.begin, page.end, Kilometres())
@@ -61,22 +63,15 @@ def _picture(page: Page, track: str, aspect: Optional[str], lanes: Sequence[Sequ
         _wrong(sheet, arc)
     _axis(sheet)
     _names(sheet, page.stations if first else ())
-    top = max(20, -(-max((element.value * 5 for band in page.bands for one in band.ways for profile in one.speeds
-                          for element in profile.elements), default=20) // 20) * 20)
-    for lane in lanes:
+    for lane in some:
         sheet.top = sheet.y
         for band in lane:
-            _band(sheet, band, top)
+            draw_band(sheet, band, top)
         sheet.y += LANE
-    if not lanes:
+    if not some:
         sheet.text("small", "no authority, gradient or speed profile", 400, sheet.y + 12)
         sheet.y += 20
     return Picture(title, WIDTH, sheet.y + 8, tuple(sheet.shapes))
-
-
-def _km(place: int) -> str:
-    """A place in words."""
-    return f"km {kilometre_of(place)}"
 
 
 def _axis(sheet: Sheet) -> None:
@@ -93,24 +88,28 @@ def _axis(sheet: Sheet) -> None:
 def _names(sheet: Sheet, stations: Sequence[Station]) -> None:
     """Each group as a mark on the axis, and its name below, in as many rows as they need."""
     base = sheet.y
-    rows: List[int] = []
-    for station in stations:
-        at = sheet.x(place_of(station))
-        sign = {1: "\u25b8", -1: "\u25c2"}.get(station.rising or 0, "\u2022")
-        name = f"{sign} {clean(station.group.name)}{': refused' if station.unread else ''}"
-        width = len(name) * LETTER + 60
-        begin = min(max(at - width // 2, 20), WIDTH * 10 - width)
-        row = next((place for place, end in enumerate(rows) if end <= begin), len(rows))
-        rows[row:row + 1] = [begin + width]
+    rows = Rows()
+    named = sorted((*_named(sheet, station), place) for place, station in enumerate(stations))
+    for begin, width, name, place in named:
+        station = stations[place]
+        at, row = sheet.x(place_of(station)), rows.take(begin, begin + width)
         identity = "identity not known" if station.identity is None else (
             f"group {station.identity[1]} of country or region {station.identity[0]}")
-        title = f"{clean(station.group.name)}, {_km(place_of(station))}, {identity}, balises: {station.count}"
+        title = f"{clean(station.group.name)}, {at_km(place_of(station))}, {identity}, balises: {station.count}"
         title += f"; refused: row {', '.join(map(str, station.unread))}" if station.unread else ""
         y = base + 22 + 13 * row
         sheet.path("leader", "", f"M{tenths(at)} {base + 4}V{y + 2}")
         sheet.path("station refused" if station.unread else "station", title, f"M{tenths(at)} {base}l-4 -7h8z")
         sheet.text("red middle" if station.unread else "name middle", name, begin + width // 2, y + 11)
-    sheet.y = base + 40 + 13 * max(len(rows), 1)
+    sheet.y = base + 40 + 13 * max(rows.count, 1)
+
+
+def _named(sheet: Sheet, station: Station) -> Tuple[int, int, str]:
+    """Where a group's name begins, how wide it is, and the name itself behind the arrow of its direction."""
+    sign = {1: "\u25b8", -1: "\u25c2"}.get(station.rising or 0, "\u2022")
+    name = f"{sign} {clean(station.group.name)}{': refused' if station.unread else ''}"
+    width = len(name) * LETTER + 60
+    return min(max(sheet.x(place_of(station)) - width // 2, 20), WIDTH * 10 - width), width, name
 
 
 def _arc(sheet: Sheet, arc: Arc) -> None:
@@ -151,107 +150,3 @@ def _wrong(sheet: Sheet, arc: Arc) -> None:
 def _height(sheet: Sheet, arc: Arc) -> int:
     """How high an arc is: the higher the longer."""
     return min(ARCS - 16, 14 + abs(sheet.x(arc.end) - sheet.x(arc.begin)) // 60)
-
-
-def _label(band: Band) -> str:
-    aspect = f", {clean(band.aspect)}" if band.aspect else ""
-    speeds = [one.form["v_main"] for each in band.ways for one in each.authorities if "v_main" in one.form]
-    main = f", V_MAIN {value_words('v_main', speeds[0], Around())}" if speeds else ""
-    return f"{clean(band.station.group.name)}{aspect}{main}"
-
-
-def _lanes(page: Page) -> List[List[Band]]:
-    """The bands of a page in as many lanes as they need, so that no two of them overlap."""
-    room = PAGE // (WIDTH - LEFT - RIGHT)
-    lanes: List[Tuple[int, List[Band]]] = []
-    for band in sorted(page.bands, key=lambda one: one.begin):
-        begin = max(band.begin, page.begin)
-        width = (len(_label(band)) * LETTER // 10 + 12) * room
-        begin = min(begin, page.end - width)
-        end = max(min(band.end, page.end), begin + width)
-        place = next((place for place, (used, _) in enumerate(lanes) if used <= begin), None)
-        if place is None:
-            lanes.append((end, [band]))
-        else:
-            lanes[place] = (end, [*lanes[place][1], band])
-    return [some for _, some in lanes]
-
-
-def _band(sheet: Sheet, band: Band, most: int) -> None:
-    """Speeds, gradients and authority of a group, and its name above them."""
-    label = _label(band)
-    begin = max(sheet.x(max(band.begin, sheet.least)), 40)
-    sheet.text("small", label, min(begin, WIDTH * 10 - len(label) * LETTER - 40), sheet.top + 10)
-    for one in band.ways:
-        sign = band.station.along(one.direction) or 1
-        for profile in one.speeds:
-            _speeds(sheet, band, one, profile, sign, most)
-        for profile in one.gradients:
-            _gradients(sheet, band, one, profile, sign)
-        for authority in one.authorities:
-            _authority(sheet, band, authority, sign, one.direction)
-    at = place_of(band.station)
-    if sheet.least <= at <= sheet.greatest:
-        sheet.mark("group", "", at, sheet.top + 14, LANE - 18)
-
-
-def _clip(sheet: Sheet, one: int, other: int) -> Optional[Tuple[int, int]]:
-    """The part between two places that lies on the page."""
-    begin, end = max(min(one, other), sheet.least), min(max(one, other), sheet.greatest)
-    return (begin, end) if begin < end or begin == end and one == other else None
-
-
-Piece = Tuple[Tuple[int, int], str, int]
-
-
-def _pieces(sheet: Sheet, band: Band, one: Way, profile: Profile, sign: int) -> Iterator[Piece]:
-    """Each element on the page: from where to where, in words, and its place among all."""
-    at = place_of(band.station)
-    for place, element in enumerate(profile.elements):
-        end = open_end(one) if element.end is None else element.end
-        places = _clip(sheet, at + sign * element.begin, at + sign * end)
-        words = f"{_km(at + sign * element.begin)} to " + (
-            "an open end" if element.end is None else _km(at + sign * end))
-        if places is not None:
-            yield places, f"{words}, {one.direction}, {clean(band.station.group.name)}", place
-
-
-def _speeds(sheet: Sheet, band: Band, one: Way, profile: Profile, sign: int, most: int) -> None:
-    base = sheet.top + 16 + SPEED
-    for places, words, place in _pieces(sheet, band, one, profile, sign):
-        value = profile.elements[place].value * 5
-        tall = max(1, value * (SPEED - 10) // most)
-        begin, end = sheet.rect("speed", f"{value} km/h {words}", places, base - tall, tall)
-        is_open = " open" if profile.elements[place].end is None else ""
-        sheet.path(f"step{is_open}", f"{value} km/h {words}", f"M{tenths(begin)} {base - tall}H{tenths(end)}")
-        sheet.inside("small", str(value), begin, end, base - tall - 2)
-
-
-def _gradients(sheet: Sheet, band: Band, one: Way, profile: Profile, sign: int) -> None:
-    top = sheet.top + 18 + SPEED
-    for places, words, place in _pieces(sheet, band, one, profile, sign):
-        element = profile.elements[place]
-        said = value_words("g_a", element.value, Around({}, element.form))
-        look = "level" if element.value == 0 else "up" if element.form["q_gdir"] else "down"
-        begin, end = sheet.rect(look, f"{said} {words}", places, top, LOW)
-        sheet.inside("halo", said, begin, end, top + 10)
-
-
-def _authority(sheet: Sheet, band: Band, authority: Authority, sign: int, direction: str) -> None:
-    at, top = place_of(band.station), sheet.top + 20 + SPEED + LOW
-    begin, name = 0, f"{direction}, {clean(band.station.group.name)}"
-    for place, cut in enumerate([*authority.cuts, authority.end]):
-        places = _clip(sheet, at + sign * begin, at + sign * cut)
-        if places is not None:
-            title = f"authority from {_km(at + sign * begin)} to {_km(at + sign * cut)}, {name}"
-            left, right = sheet.rect(f"section{place % 2}", title, places, top, LOW)
-            sheet.inside("light", metres(cut - begin), left, right, top + 10)
-        begin = cut
-    beyond = authority.supervised
-    places = _clip(sheet, at + sign * authority.end, at + sign * beyond)
-    if beyond > authority.end and places is not None:
-        sheet.rect("overlap", f"up to the supervised location, {_km(at + sign * beyond)}, {name}", places, top, LOW)
-    for place, look, what in ((authority.end, "end", "end of the authority"),
-                              (beyond, "supervised", "supervised location")):
-        if sheet.least <= at + sign * place <= sheet.greatest:
-            sheet.mark(look, f"{what}: {_km(at + sign * place)}, {name}", at + sign * place, top - 3, LOW + 6)

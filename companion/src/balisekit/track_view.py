@@ -6,14 +6,18 @@ from __future__ import annotations
 
 from dataclasses import dataclass
 from decimal import Decimal
+from functools import cached_property
 from typing import Dict, Iterator, List, Optional, Sequence, Tuple
 
 from balisekit.chains import Chain, Link
-from balisekit.geometry import DIRECTIONS, Way, way
+from balisekit.drawing import Short
+from balisekit.geometry import DIRECTIONS, Way, kilometre_of, way
 from balisekit.links import Found, Links
 from balisekit.model import Aspect, Row
+from balisekit.pictures import short_profiles
 from balisekit.stations import Line, Station
-from balisekit.wording import quoted
+from balisekit.values import Around, value_words
+from balisekit.wording import clean, quoted
 
 PAGE = 50_000
 """The length of a page."""
@@ -28,6 +32,16 @@ class Band:
     ways: Tuple[Way, ...]
     begin: int
     end: int
+    short: Tuple[Short, ...] = ()
+    """The profiles that the program has found too short or missing."""
+
+    @cached_property
+    def label(self) -> str:
+        """The group's name, the aspect, and V_MAIN."""
+        aspect = f", {clean(self.aspect)}" if self.aspect else ""
+        speeds = [one.form["v_main"] for each in self.ways for one in each.authorities if "v_main" in one.form]
+        main = f", V_MAIN {value_words('v_main', speeds[0], Around())}" if speeds else ""
+        return f"{clean(self.station.group.name)}{aspect}{main}"
 
 
 @dataclass(frozen=True)
@@ -62,6 +76,11 @@ class Page:
 def place_of(station: Station) -> int:
     """Where a group is that has a kilometre."""
     return int((station.km or Decimal()) * 10_000)
+
+
+def at_km(place: int) -> str:
+    """A place in words."""
+    return f"km {kilometre_of(place)}"
 
 
 def chosen(station: Station, aspect: Optional[str]) -> Optional[Aspect]:
@@ -118,7 +137,9 @@ def _bands(line: Line, stations: Sequence[Station], aspect: Optional[str]) -> It
         if any(ways):
             at = place_of(station)
             ends = [at + reach * (station.along(each.direction) or 1) for each in ways for reach in _reach(each)]
-            yield Band(station, one.name, ways, min([at, *ends]), max([at, *ends]))
+            index = station.group.aspects.index(one)
+            findings = [each for each in line.findings.get(station.group.name, ()) if (each.aspect or 0) == index]
+            yield Band(station, one.name, ways, min([at, *ends]), max([at, *ends]), short_profiles(findings))
 
 
 def _reach(one: Way) -> Iterator[int]:

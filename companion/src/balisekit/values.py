@@ -7,7 +7,7 @@ from __future__ import annotations
 
 from dataclasses import dataclass
 from functools import lru_cache
-from typing import Any, Callable, Dict, Mapping, NamedTuple, Tuple, Union
+from typing import Any, Callable, Dict, List, Mapping, NamedTuple, Optional, Sequence, Tuple, Union
 
 from balisekit.packets import MESSAGES, packet_name
 
@@ -270,20 +270,21 @@ def body_words(around: Around) -> str:
     return f"{count} bits, not decoded" if count else "no bits"
 
 
-BY_PARENT = frozenset(("g_a", "q_gdir", "nc", "body"))
-"""The keys whose words need more of what is around them than the unit of distances."""
+BESIDE: Mapping[str, str] = {"g_a": "q_gdir", "q_gdir": "g_a", "nc": "q_diff"}
+"""The keys whose words need the value of another key beside them. `body` needs its packet."""
 
 
-def said(key: str, value: Union[int, str], around: Around) -> str:
-    """A value with its name, as "Q_DIR nominal [1]". Most values come again and again, so that this is kept."""
-    if key in BY_PARENT:
-        return _said(key, value, around)
-    return _kept(key, value, around.packet.get("q_scale", 0), around.from_track)
+def said(keys: Sequence[str], form: Form, around: Around) -> List[str]:
+    """Values of an object with their names, as "Q_DIR nominal [1]". Most come again and again, so they are kept."""
+    scale, from_track = around.packet.get("q_scale", 0), around.from_track
+    return [_said(key, form[key], around) if key == "body" else
+            _kept(key, form[key], scale, from_track, form.get(BESIDE[key]) if key in BESIDE else None) for key in keys]
 
 
 @lru_cache(maxsize=1 << 14)
-def _kept(key: str, value: Union[int, str], scale: int, from_track: bool) -> str:
-    return _said(key, value, Around({"q_scale": scale}, NO_FORM, from_track))
+def _kept(key: str, value: Union[int, str], scale: int, from_track: bool, beside: Optional[int]) -> str:
+    parent = NO_FORM if beside is None else {BESIDE[key]: beside}
+    return _said(key, value, Around({"q_scale": scale}, parent, from_track))
 
 
 def _said(key: str, value: Union[int, str], around: Around) -> str:

@@ -19,6 +19,8 @@ LENGTHS = (54, 208)
 
 def clean(text: str) -> str:
     """The text without characters that move a cursor, turn the direction of writing, or are no text."""
+    if text.isascii() and text.isprintable():
+        return text
     return UNSAFE.sub(lambda found: ascii(found[0])[1:-1], text)
 
 
@@ -40,7 +42,9 @@ def balise_words(group: Optional[Group], row: Row) -> str:
                   if one.number == row.number), None)
     parts = [f"row {row.number}", clean(row.group), *_where(row)]
     parts += ["every aspect"] if row.aspect == "*" else [f"aspect {quoted(row.aspect)}"] if row.aspect else []
-    parts += [] if place is None else [f"balise {place}" + (f" {quoted(row.name)}" if row.name else "")]
+    if place is not None:
+        number = f" (number {row.balise} in the table)" if row.balise not in (None, place) else ""
+        parts.append(f"balise {place}{f' {quoted(row.name)}' if row.name else ''}{number}")
     return "  ".join(parts)
 
 
