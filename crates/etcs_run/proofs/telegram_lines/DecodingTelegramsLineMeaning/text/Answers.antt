@@ -1,6 +1,8 @@
-use Rattle.std.proofs.Common.{Err}
+use Rattle.std.proofs.Common.{◌≡◌, Err, ℕ, List, subst}
 use Rattle.etcs_telegram.specs.TextMeaning.{telegram_of_text}
-use Rattle.etcs_run.specs.TelegramLines.{decoded_of}
+use Rattle.etcs_telegram.specs.declared.error.TextError.{TextError}
+use Rattle.etcs_telegram.specs.declared.error.TextError.TheVariants as texts
+use Rattle.etcs_run.specs.TelegramLines.{IsEarly, decoded_of}
 use Rattle.etcs_run.proofs.FormLemmas.{refused_early, text_refused}
 use Rattle.etcs_run.proofs.telegram_lines.DecodingTelegramsLineMeaning.text.Goals as goal
 
@@ -17,3 +19,13 @@ returns-clause-early c why early =
     let same =
     refused_early (Err c.in-Err.why) c.args.line.now why early said.not_hex said.wrong_size said.pad_bits
     said.header in cc
+
+-- want of memory is no reason that is found before any packet is read
+pub returns-in-Memory-clause-early : goal.returns-in-Memory-clause-early
+returns-in-Memory-clause-early c why early =
+    let said = c.in-Err.ensures in
+    let same =
+    refused_early (Err c.in-Err.why) c.args.line.now why early said.not_hex said.wrong_size said.pad_bits
+    said.header in
+    let memory : why ≡ texts.Memory = cc (same, c.in-Memory.is) in
+    absurd (subst (λ w. IsEarly w c.args.line.now) memory early)
