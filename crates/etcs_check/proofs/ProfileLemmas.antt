@@ -13,7 +13,9 @@ use Rattle.etcs_telegram.specs.Record.{Telegram}
 use Rattle.etcs_group.specs.Places.{At}
 use Rattle.etcs_group.specs.Packets.{is_silent, said_by}
 use Rattle.etcs_group.proofs.PlaceLemmas.{at_list_any, list_any-at, list_any-none}
-use Rattle.etcs_check.specs.Profiles.{limit_of, Reaches, HasProfiles}
+use Rattle.etcs_packet.specs.Track.{track_number}
+use Rattle.etcs_packet.specs.declared.track.TrackPacket.TheVariants as packets
+use Rattle.etcs_check.specs.Profiles.{gradient_reach, speed_reach, limit_of, Reaches, HasProfiles}
 use Rattle.etcs_check.specs.Harm.{HasProfile, IsLong}
 use Rattle.etcs_check.specs.Findings.{lacks, lies_past, goes_past, is_short, is_short_at}
 use Rattle.etcs_check.specs.Line.{is_short_in}
@@ -164,3 +166,23 @@ pub long-held : (reach : TrackPacket → Option Reach) (packets : List TrackPack
 long-held reach packets run h k p at = long-in reach packets run p (λ held.
     let f = at-filter (holds run) packets k p at held in
     profiles-long reach (filter (holds run) packets) h f.0 p f.1)
+
+-- ---- packets by their numbers
+
+pub gradient-21 : (p : TrackPacket) → is_some (gradient_reach p) ≡ true → track_number p ≡ 21
+gradient-21 (packets.Gradient g) h = refl
+gradient-21 (packets.Cover g) h = absurd (both_ways _ refl h)
+gradient-21 (packets.Linking g) h = absurd (both_ways _ refl h)
+gradient-21 (packets.Authority g) h = absurd (both_ways _ refl h)
+gradient-21 (packets.Speed g) h = absurd (both_ways _ refl h)
+gradient-21 (packets.Transition g) h = absurd (both_ways _ refl h)
+gradient-21 (packets.Raw g) h = absurd (both_ways _ refl h)
+
+pub speed-27 : (p : TrackPacket) → is_some (speed_reach p) ≡ true → track_number p ≡ 27
+speed-27 (packets.Speed g) h = refl
+speed-27 (packets.Cover g) h = absurd (both_ways _ refl h)
+speed-27 (packets.Linking g) h = absurd (both_ways _ refl h)
+speed-27 (packets.Authority g) h = absurd (both_ways _ refl h)
+speed-27 (packets.Gradient g) h = absurd (both_ways _ refl h)
+speed-27 (packets.Transition g) h = absurd (both_ways _ refl h)
+speed-27 (packets.Raw g) h = absurd (both_ways _ refl h)

@@ -204,4 +204,4 @@ module _ (group : List Telegram) (b : ℕ) (t : Telegram) (at : At group b t) wh
   pub pair-hurts : (run : Run) → pair_differs run t (slice_get group (b + 1)) ≡ true → IsWellFormed group → DependsOnMissed group run b
   pair-hurts run fact formed =
       let p = pair-says run t (slice_get group (b + 1)) fact in
-      (only-covered group run b t formed at p.2, λ _ same. both_ways _ (pair-from_same group run formed b t at (λ _. same)) fact)
+      (only-covered group run b t formed at p.2, λ same. both_ways _ (pair-from_same group run formed b t at (λ _. same)) fact)

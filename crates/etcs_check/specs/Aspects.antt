@@ -29,7 +29,7 @@ aspect_of site aspects a = record { site = site; aspect = told_aspect aspects a 
 
 -- ---- the facts about a group as a whole
 
--- two groups have the same identity; none that is empty has one
+-- Two groups have the same identity. A group without a balise has none.
 abbrev pub have_one_identity : List (List Telegram) → List (List Telegram) → Bool
 have_one_identity g h =
     option_map_or (λ i. option_map_or (same_identity i) (group_identity h) false) (group_identity g) false
@@ -42,7 +42,7 @@ is_used earlier aspects = list_any (λ h. have_one_identity h aspects) earlier
 abbrev pub all_at : (Telegram → Bool) → ℕ → List (List Telegram) → Bool
 all_at test b aspects = list_all (λ group. option_map_or test (slice_get group b) false) aspects
 
--- a telegram's counter is 255, and it is this one
+-- telegram u has the counter 255, and t is the same telegram
 abbrev pub is_steady : Telegram → Telegram → Bool
 is_steady t u = (u.header.counter == 255) && same_telegram t u
 

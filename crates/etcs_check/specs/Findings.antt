@@ -1,6 +1,6 @@
 -- The facts against one aspect of a balise group, and their list in order (this project's rules, after
--- SUBSET-026, 3.16.2). A group that no lineside unit switches has one aspect. No reading is mentioned
--- here: each fact is seen at a balise, at its neighbour, in what the aspect says, and in other aspects.
+-- SUBSET-026, 3.16.2). A group that no lineside unit switches has one aspect. A fact is seen in the
+-- telegrams of the aspect and of the aspects before it: no definition here speaks of what a train reads.
 -- A place counts the balises of the group from 0.
 use Rattle.std.specs.Prelude.{ℕ, ◌+◌, ◌==◌, ◌&&◌, nat_lt, Bool, true, false, not, if◌then◌else◌, List, [], ◌∷◌, ◌++◌, length, slice_get, Option, Some, None, is_some, flat_map}
 use Rattle.std.specs.Bool.{beq}
@@ -35,7 +35,8 @@ is_misplaced b t = not (t.header.position == b)
 abbrev pub is_miscounted : List Telegram → Telegram → Bool
 is_miscounted group t = not ((t.header.total + 1) == length group)
 
--- F3: its version, identity or link flag is not that of this balise, if there is one
+-- F3: the telegram's version, identity or link flag is not that of the other one. It is no fact where
+-- there is no other one.
 abbrev pub is_unlike : Option Telegram → Telegram → Bool
 is_unlike None t = false
 is_unlike (Some u) t =
@@ -70,7 +71,7 @@ abbrev pub counter_differs : List Telegram → Telegram → Bool
 counter_differs group t =
     nat_lt t.header.counter 254 && is_other (first_counter group) t.header.counter
 
--- F15: its mark is not that of this balise, if there is one
+-- F15: the telegram's mark is not that of the other one. It is no fact where there is no other one.
 abbrev pub mark_differs : Option Telegram → Telegram → Bool
 mark_differs None t = false
 mark_differs (Some u) t = not (same_mark t.header.dup u.header.dup)
@@ -84,8 +85,8 @@ abbrev pub is_counter_taken : List (List Telegram) → Telegram → Bool
 is_counter_taken before t =
     nat_lt t.header.counter 254 && list_any (has_counter t.header.counter) before
 
--- The fact of a rule about one balise of an aspect by itself. The balise is compared with `first`,
--- aspect 0, and with the aspects before its own.
+-- Whether the telegram t, of balise b of an aspect, breaks a rule about single balises. It is compared
+-- with its own aspect, with `first`, which is aspect 0, and with the aspects before its own.
 abbrev pub balise_fact : List Telegram → List (List Telegram) → List Telegram → Rule → ℕ → Telegram → Bool
 balise_fact first before group rules.PositionWrong b t = is_misplaced b t
 balise_fact first before group rules.TotalWrong b t = is_miscounted group t

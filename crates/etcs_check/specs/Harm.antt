@@ -46,13 +46,12 @@ IsNeverAccepted group = (run : Run) → IsAccepted run (reading_of run none_miss
 abbrev pub full_packets : List Telegram → Run → List TrackPacket
 full_packets group run = packets_of run (reading_of run none_missed group)
 
--- the balise of a pair that is passed first may be missed, and its reading is then refused or gives
--- other packets than the reading with nothing missed
+-- the balise of a pair that is passed first may be missed, and the packets are then others than those of
+-- the reading with nothing missed
 abbrev pub DependsOnMissed : List Telegram → Run → ℕ → Type 0
 DependsOnMissed group run b =
     IsCovered group (only (passed_first run b))
-    × (IsAccepted run (reading_of run (only (passed_first run b)) group)
-    → packets_of run (reading_of run (only (passed_first run b)) group) ≢ full_packets group run)
+    × (packets_of run (reading_of run (only (passed_first run b)) group) ≢ full_packets group run)
 
 -- the packets of the reading with nothing missed are not reached
 abbrev pub IsNotReached : List Telegram → Run → Type 0

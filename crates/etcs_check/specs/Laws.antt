@@ -1,5 +1,6 @@
 -- The laws that join findings and soundness.
-use Rattle.std.specs.Prelude.{◌≡◌, ◌≢◌, ◌↔◌, ℕ, ◌<◌, Bool, List, [], length, Option, IsTrue}
+use Rattle.std.specs.Prelude.{◌≡◌, ◌≢◌, ◌↔◌, ℕ, ◌<◌, Bool, List, [], length, Option, is_some, IsTrue}
+use Rattle.etcs_packet.specs.Track.{track_number}
 use Rattle.etcs_packet.specs.declared.run.Run.{Run}
 use Rattle.etcs_packet.specs.declared.track.TrackPacket.{TrackPacket}
 use Rattle.etcs_telegram.specs.Record.{Telegram}
@@ -11,10 +12,11 @@ use Rattle.etcs_group.specs.Laws.{IsDecided, IsMixtureDecided}
 use Rattle.etcs_group.specs.Controlled.{IsControlled}
 use Rattle.etcs_group.specs.Mixture.{Fits}
 use Rattle.etcs_check.specs.Duplicates.{same_packet, same_telegram}
+use Rattle.etcs_check.specs.Profiles.{gradient_reach, speed_reach}
 use Rattle.etcs_check.specs.Soundness.{IsSoundGroup, IsSoundControlled, IsSoundMessage, IsSoundLine, group_identity}
 use Rattle.etcs_check.specs.Line.{group_findings, findings, IsUnnamed}
 use Rattle.etcs_check.specs.Meaning.{States}
-use Rattle.etcs_check.specs.Harm.{HasParts, Hurts}
+use Rattle.etcs_check.specs.Harm.{HasParts, Hurts, IsNew}
 use Rattle.etcs_check.specs.declared.finding.Finding.{Finding}
 use Rattle.etcs_check.specs.declared.finding.Site.{Site}
 use Rattle.etcs_check.specs.declared.finding.Site.TheVariants as sites
@@ -27,6 +29,12 @@ PacketsAreTheirNumbers = (p q : TrackPacket) → IsTrue (same_packet p q) ↔ (p
 -- their packets.
 abbrev pub TelegramsAreTheirParts : Type 0
 TelegramsAreTheirParts = (t u : Telegram) → IsTrue (same_telegram t u) ↔ (t ≡ u)
+
+-- A packet that is a gradient profile is packet 21, and one that is a speed profile is packet 27.
+abbrev pub ProfilesAreTheirPackets : Type 0
+ProfilesAreTheirPackets =
+    ((p : TrackPacket) → IsTrue (is_some (gradient_reach p)) → track_number p ≡ 21)
+    × ((p : TrackPacket) → IsTrue (is_some (speed_reach p)) → track_number p ≡ 27)
 
 -- A controlled group has no finding exactly where it is sound and no earlier group has its identity.
 abbrev pub NoFindingMeansSoundGroup : Type 0
@@ -45,17 +53,18 @@ abbrev pub NoFindingMeansSoundLine : Type 0
 NoFindingMeansSoundLine = (groups : List (List (List Telegram))) (messages : List Message) → AreControlled groups
     → (findings groups messages ≡ []) ↔ IsSoundLine groups messages
 
--- each group and each message that no finding of the list names is sound
-abbrev pub AreSoundUnlessNamed : List (List (List Telegram)) → List Message → List Finding → Type 0
-AreSoundUnlessNamed groups messages found =
-    ((g : ℕ) (aspects : List (List Telegram)) → At groups g aspects → IsUnnamed found (sites.Group g)
-    → IsSoundControlled aspects)
-    × ((i : ℕ) (m : Message) → At messages i m → IsUnnamed found (sites.Message i) → IsSoundMessage m)
+-- The findings of the list name exactly the groups that are not sound, or have the identity of an earlier
+-- group, and the messages that are not sound.
+abbrev pub NamesTheUnsound : List (List (List Telegram)) → List Message → List Finding → Type 0
+NamesTheUnsound groups messages found =
+    ((g : ℕ) (aspects : List (List Telegram)) → At groups g aspects
+    → IsUnnamed found (sites.Group g) ↔ (IsSoundControlled aspects × IsNew groups g aspects))
+    × ((i : ℕ) (m : Message) → At messages i m → IsUnnamed found (sites.Message i) ↔ IsSoundMessage m)
 
--- What no finding of a line names is sound.
+-- The findings of a line do.
 abbrev pub UnnamedMeansSound : Type 0
 UnnamedMeansSound = (groups : List (List (List Telegram))) (messages : List Message) → AreControlled groups
-    → AreSoundUnlessNamed groups messages (findings groups messages)
+    → NamesTheUnsound groups messages (findings groups messages)
 
 -- Each finding states a fact at its place, where its part of soundness does not hold.
 abbrev pub FindingsAreFacts : Type 0
@@ -63,7 +72,7 @@ FindingsAreFacts = (groups : List (List (List Telegram))) (messages : List Messa
     → At (findings groups messages) i f
     → States groups messages f × (AreControlled groups → Hurts groups messages f)
 
--- Where a rule has no finding, its part of soundness holds.
+-- At each place where a rule has no finding, its part of soundness holds.
 abbrev pub PartsHoldUnlessFound : Type 0
 PartsHoldUnlessFound = (groups : List (List (List Telegram))) (messages : List Message) (f : Finding)
     → AreControlled groups → ((i : ℕ) → At (findings groups messages) i f → ⊥) → HasParts groups messages f

@@ -247,7 +247,9 @@ fn pair_differs(first: &Telegram, second: &Telegram, run: Run) -> bool
     are_pair(first.header.dup, second.header.dup) && !same_held(first, second, run)
 }
 
-// The same of the balise at this place and the one after it.
+// Whether the balise at this place and the one after it are a pair of duplicates whose packets that hold
+// differ. It is inlined because the quick look at a group asks it of each balise for each direction.
+#[inline]
 fn pair_differs_at(group: &[Telegram], run: Run, place: usize) -> bool
     requires { place < length group.now }
     ensures { (t : Telegram) → slice_get group.now place ≡ Some t

@@ -47,7 +47,7 @@ pub enum Rule {
     MarksDiffer,
     /// F16: a train that reads two aspects could take them for one. Either no aspect is named: a balise
     /// is neither one and the same telegram with counter 255 in all aspects, nor has a counter below 254
-    /// in each of them. Or it is: the balise's counter is below 254, and stands in an earlier aspect.
+    /// in each of them. Or an aspect is named: the balise's counter is below 254, and stands in an earlier aspect.
     NotToldApart,
 }
 

@@ -1,7 +1,7 @@
 //! Laws of findings and soundness, for users. Each law is the contract of a function that does
 //! nothing.
 
-ghost use Rattle.etcs_check.specs.Laws.{FactsAreFindings, FindingsAreFacts, NoFindingMeansSoundGroup, NoFindingMeansSoundLine, NothingHurtsASoundLine, PacketsAreTheirNumbers, PartsHoldUnlessFound, SoundGroupsAreDecided, SoundMixturesAreDecided, TelegramsAreTheirParts, UnnamedMeansSound};
+ghost use Rattle.etcs_check.specs.Laws.{FactsAreFindings, FindingsAreFacts, NoFindingMeansSoundGroup, NoFindingMeansSoundLine, NothingHurtsASoundLine, PacketsAreTheirNumbers, PartsHoldUnlessFound, ProfilesAreTheirPackets, SoundGroupsAreDecided, SoundMixturesAreDecided, TelegramsAreTheirParts, UnnamedMeansSound};
 
 /// Two packets are equal exactly if the numbers in the rows of their tables are.
 pub fn packets_are_their_numbers()
@@ -12,6 +12,11 @@ pub fn packets_are_their_numbers()
 /// packets.
 pub fn telegrams_are_their_parts()
     ensures { TelegramsAreTheirParts }
+{}
+
+/// A packet that is a gradient profile is packet 21, and one that is a speed profile is packet 27.
+pub fn profiles_are_their_packets()
+    ensures { ProfilesAreTheirPackets }
 {}
 
 /// A group has no finding exactly if it is sound and no earlier group has its identity.
@@ -25,22 +30,23 @@ pub fn no_finding_means_sound_line()
     ensures { NoFindingMeansSoundLine }
 {}
 
-/// A group or a message that no finding of its line names is sound, whatever is found elsewhere.
+/// A group or a message is sound exactly if no finding of its line names it, whatever is found elsewhere. Of
+/// two groups with one identity the later one is named.
 pub fn unnamed_means_sound()
     ensures { UnnamedMeansSound }
 {}
 
 /// Each finding of a line states a fact at its site, aspect, running direction, balise and packet. The part
-/// of soundness that its rule asks for does not hold there. A counter that does not fit means that the
-/// reading with nothing missed is refused. In a well-formed aspect, duplicates that differ mean that what a
-/// train makes of the group depends on which of the two it misses, and a missing or short profile means that
-/// what the group says does not reach a supervised location.
+/// of soundness that its rule asks for does not hold there. A counter of 254, and two that
+/// differ below it, mean that the reading with nothing missed is refused. In a well-formed aspect, duplicates
+/// that differ mean that the packets without the first of the two are others than with nothing missed, and a
+/// missing or short profile means that what the group says does not reach a supervised location.
 pub fn findings_are_facts()
     ensures { FindingsAreFacts }
 {}
 
-/// Where a rule has no finding, the part of soundness that it asks for holds: at each site, aspect, running
-/// direction, balise and packet.
+/// At each site, aspect, running direction, balise and packet where a rule has no finding, the part of
+/// soundness that it asks for holds.
 pub fn parts_hold_unless_found()
     ensures { PartsHoldUnlessFound }
 {}

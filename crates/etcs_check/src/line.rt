@@ -10,7 +10,7 @@ ghost use Rattle.etcs_group.specs.Laws.{IsDecided, IsMixtureDecided};
 ghost use Rattle.etcs_group.specs.Mixture.{Fits};
 ghost use Rattle.etcs_check.specs.Harm.{Hurts};
 ghost use Rattle.etcs_check.specs.Identities.{IsNumbered, identity_number, is_marked};
-ghost use Rattle.etcs_check.specs.Laws.{AreControlled, AreSoundUnlessNamed};
+ghost use Rattle.etcs_check.specs.Laws.{AreControlled, NamesTheUnsound};
 ghost use Rattle.etcs_check.specs.Line.{findings, group_list, message_list};
 ghost use Rattle.etcs_check.specs.Meaning.{States};
 ghost use Rattle.etcs_check.specs.Soundness.{IsSoundControlled, IsSoundGroup, IsSoundLine};
@@ -101,8 +101,8 @@ fn note_messages(found: &mut Vec<Finding>, messages: &[Message]) -> Result<(), M
 /// - Each aspect of a group is well formed: the positions, totals, versions, identities, link flags and
 ///   marks of its balises fit together. No two groups have one identity. No group and no message 3 has
 ///   a packet 0, 136 or 254.
-/// - For each aspect of every group, running direction and set of missed balises whose duplicates are
-///   read, a train makes the same message.
+/// - For each aspect of every group and each running direction, a train makes the same message whatever
+///   it misses, as long as it reads the duplicate of each missed balise.
 /// - In that message, and in each message 3 for either direction, every movement authority has a gradient
 ///   and a speed profile, and all such profiles reach its supervised location.
 /// - The aspects of a group are contents of one group, and their counters tell them apart. So a train
@@ -118,9 +118,10 @@ pub fn check(alloc: Global, line: &Line) -> Result<Vec<Finding>, Memory>
     ensures sound { IfOk result (λ found. (found.items ≡ [])
         ↔ IsSoundLine line.now.groups.items line.now.messages.items) }
 
-    // A group or a message that no finding names is sound, whatever is found elsewhere.
+    // A group or a message is sound exactly where no finding names it, whatever is found elsewhere. Of two
+    // groups with one identity the later one is named.
     ensures unnamed { IfOk result
-        (λ found. AreSoundUnlessNamed line.now.groups.items line.now.messages.items found.items) }
+        (λ found. NamesTheUnsound line.now.groups.items line.now.messages.items found.items) }
 
     // Each finding states a fact, and at its place its own part of soundness does not hold.
     ensures facts { IfOk result (λ found. (i : ℕ) (f : Finding) → At found.items i f
@@ -131,8 +132,8 @@ pub fn check(alloc: Global, line: &Line) -> Result<Vec<Finding>, Memory>
     ensures all { IfOk result (λ found. (f : Finding)
         → States line.now.groups.items line.now.messages.items f → (i : ℕ) × At found.items i f) }
 
-    // Each reading of a sound aspect is accepted or refused by what was missed alone. Like the next clause,
-    // this is a law of the line, whatever is found.
+    // What was missed alone decides whether a reading of a sound aspect is accepted. This clause and the
+    // next one are laws of the line, whatever is found.
     ensures decided { OnOk result ((g a : ℕ) (aspects : List (List Telegram)) (group : List Telegram) (run : Run)
         (missed : ℕ → Bool) → At line.now.groups.items g aspects → At aspects a group → IsSoundGroup group
         → IsSetOf group missed → IsDecided run group missed (reading_of run missed group)) }

@@ -32,6 +32,15 @@ fn send_digits<const N: usize>(out: &mut Writer, n: u64, digits: [u8; N]) -> Res
     out.number(unsafe { str::from_utf8_unchecked(&digits) })
 }
 
+// Sends a number of six digits or more. It stands apart so that shorter numbers save fewer registers.
+#[cold]
+#[inline(never)]
+fn send_long(out: &mut Writer, n: u64) -> Result<(), AllocError>
+    ensures { Writes result out.old out.new (number (decimal n)) }
+{
+    out.u64(n)
+}
+
 /// Sends a number in decimal digits. The contract is that of [`Writer::u64`], its error included.
 pub fn send_decimal(out: &mut Writer, n: u64) -> Result<(), AllocError>
     ensures { Writes result out.old out.new (number (decimal n)) }
@@ -57,5 +66,5 @@ pub fn send_decimal(out: &mut Writer, n: u64) -> Result<(), AllocError>
         let first = b'0' + (n / 10_000) as u8;
         return send_digits(out, n, [first, middle[0], middle[1], last[0], last[1]]);
     }
-    out.u64(n)
+    send_long(out, n)
 }

@@ -1,7 +1,8 @@
 -- A line's groups and messages, checked one after the other.
-use Rattle.std.proofs.Common.{◌≡◌, ℕ, zero, suc, ◌+◌, ◌-◌, ◌<◌, ◌≤◌, ◌||◌, eqb, List, [], ◌∷◌, ◌++◌, length, take, replicate, codes, Some, None, Result, Ok, Err, option_and_then, lit≤, refl, ap, ap₂, sym, subst, ◌∙◌, arith}
+use Rattle.std.proofs.Common.{◌≡◌, ℕ, Bool, false, zero, suc, ◌+◌, ◌-◌, ◌<◌, ◌||◌, eqb, List, [], ◌∷◌, ◌++◌, length, take, codes, Some, None, Result, Ok, Err, option_and_then, refl, ap, ap₂, sym, subst, ◌∙◌, arith}
 use Rattle.std.specs.Str.{IsUtf8}
-use Rattle.std.proofs.lemmas.List.{append-nil, append_assoc, length-append, length-replicate, take-append-le, take_all}
+use Rattle.std.proofs.lemmas.List.{append-nil, append_assoc, length-append, take-append-le}
+use Rattle.std.proofs.lemmas.List.Folds.{list_any-append}
 use Rattle.std.proofs.lemmas.Option.{none-some, same_Some}
 use Rattle.json.specs.Json.{after_end_array, if_last, read_key, value}
 use Rattle.json.specs.Lex.{tokens}
@@ -10,11 +11,11 @@ use Rattle.serde_json.specs.Data.{Data}
 use Rattle.serde_json.specs.Read.{of_json}
 use Rattle.etcs_check.specs.Aspects.{group_facts, is_used}
 use Rattle.etcs_check.specs.Findings.{each_from as found_from}
-use Rattle.etcs_check.specs.Identities.{AreNumbered, HasSeen, IsNumbered, identity_number, is_marked}
+use Rattle.etcs_check.specs.Identities.{IsNumbered, identity_number, is_among}
 use Rattle.etcs_check.specs.Line.{group_at as found_at, group_list, message_at as found_in, message_list}
 use Rattle.etcs_check.specs.declared.finding.Finding.{Finding}
 use Rattle.etcs_check.specs.declared.finding.Site.TheVariants as sites
-use Rattle.etcs_check.proofs.IdentityLemmas.{number-is, seen_more, seen_none, used-among, used_mark}
+use Rattle.etcs_check.proofs.IdentityLemmas.{or_false, or_swap, used-among}
 use Rattle.etcs_form.proofs.DocumentLemmas.{is_json}
 use Rattle.etcs_form.proofs.DocumentTokenLemmas.{each_read, first_more, list_taken, list_values, none_first, object_stands}
 use Rattle.etcs_form.proofs.TokenLemmas.{converted_some, key_stands, then_stand}
@@ -77,39 +78,29 @@ messages_found ms m =
 
 -- ---- groups
 
-pub none_seen : (depth : ℕ) (old : List Token) (was : List Finding) (table : List ℕ) → table ≡ replicate 262144 0 → AreSeen depth old 0 was was table old
-none_seen depth old was table is = record {
+pub none_seen : (depth : ℕ) (old : List Token) (was : List Finding) (is_seen : ℕ → Bool) → ((n : ℕ) → is_seen n ≡ false) → AreSeen depth old 0 was was is_seen old
+none_seen depth old was is_seen none = record {
   all = record { groups = []; first = none_first IsGroup depth old; counts = refl; finds = sym (append-nil was) };
   numbered = λ i g at. absurd (none-some g at);
-  seen = subst (λ t. HasSeen 0 16777216 t []) (sym is) (seen_none 0 16777216 262144 (lit≤ tt));
-  long = ap length is ∙ length-replicate {A = ℕ} 262144 0;
+  seen = none;
 }
 
-seen_and : (gs : List (List (List Telegram))) (g : List (List Telegram)) (table marked : List ℕ) → ((p : ℕ) → is_marked marked p ≡ (eqb p (identity_number g) || is_marked table p)) → HasSeen 0 16777216 table gs
-    → HasSeen 0 16777216 marked (gs ++ g ∷ [])
-seen_and gs g table marked marks seen =
-    let before = subst (HasSeen 0 16777216 table) (sym (all_but_last gs g)) seen in
-    let count : length (gs ++ g ∷ []) ≤ length gs + 1 = omega (arith, count_more gs g) in
-    subst (HasSeen 0 16777216 marked) (take_all (length gs + 1) (gs ++ g ∷ []) count) (seen_more (gs ++ g ∷ []) (length gs) g table marked (at_last gs g) marks before)
+-- one more group, the number of whose identity is now seen
+seen_and : (gs : List (List (List Telegram))) (g : List (List Telegram)) (was_seen is_seen : ℕ → Bool) → ((n : ℕ) → is_seen n ≡ (eqb (identity_number g) n || was_seen n)) → ((n : ℕ) → was_seen n ≡ is_among gs n)
+    → (n : ℕ) → is_seen n ≡ is_among (gs ++ g ∷ []) n
+seen_and gs g was_seen is_seen now before n =
+    let own = eqb (identity_number g) n in
+    now n ∙ ap (λ b. own || b) (before n) ∙ or_swap own (is_among gs n) ∙ ap (λ b. is_among gs n || b) (sym (or_false own false refl)) ∙ sym (list_any-append (λ h. eqb (identity_number h) n) gs (g ∷ []))
 
-used_told : (gs : List (List (List Telegram))) (g : List (List Telegram)) (table : List ℕ) → AreNumbered gs → IsNumbered g → HasSeen 0 16777216 table gs → is_used gs g ≡ is_marked table (identity_number g)
-used_told gs g table all own seen =
-    let n = number-is g own.0 own.1 in
-    let country = own.2 in
-    let group = own.3 in
-    let small : identity_number g < 16777216 = omega arith in
-    let whole : identity_number g ≡ 0 + identity_number g = omega arith in
-    used_mark 0 16777216 table gs g (identity_number g) whole small seen (used-among gs g all own)
-
-pub groups_more : (depth : ℕ) (old : List Token) (n next : ℕ) (was found more : List Finding) (table marked : List ℕ) (mid new : List Token) → AreSeen depth old n was found table mid → after_end_array mid ≡ None
-    → IsNextGroup depth mid n found table more marked new → next ≡ n + 1 → AreSeen depth old next was more marked new
-groups_more depth old n next was found more table marked mid new so going one is =
+pub groups_more : (depth : ℕ) (old : List Token) (n next : ℕ) (was found more : List Finding) (was_seen is_seen : ℕ → Bool) (mid new : List Token) → AreSeen depth old n was found was_seen mid → after_end_array mid ≡ None
+    → IsNextGroup depth mid n found was_seen more is_seen new → next ≡ n + 1 → AreSeen depth old next was more is_seen new
+groups_more depth old n next was found more was_seen is_seen mid new so going one is =
     let gs = so.all.groups in
     let g = one.group in
-    let used = used_told gs g table so.numbered one.numbered so.seen in
     let place = so.all.counts in
-    let facts : group_facts (sites.Group n) (is_marked table (identity_number g)) g ≡ group_facts (sites.Group (length gs)) (is_used gs g) g =
-    ap (λ i. group_facts (sites.Group i) (is_marked table (identity_number g)) g) (sym place) ∙ ap (λ u. group_facts (sites.Group (length gs)) u g) (sym used) in
+    let used : was_seen (identity_number g) ≡ is_used gs g = so.seen (identity_number g) ∙ sym (used-among gs g so.numbered one.numbered) in
+    let facts : group_facts (sites.Group n) (was_seen (identity_number g)) g ≡ group_facts (sites.Group (length gs)) (is_used gs g) g =
+    ap₂ (λ i u. group_facts (sites.Group i) u g) (sym place) used in
     record {
       all = record {
         groups = gs ++ g ∷ [];
@@ -119,8 +110,7 @@ groups_more depth old n next was found more table marked mid new so going one is
             one.finds ∙ ap₂ ◌++◌ so.all.finds facts ∙ append_assoc was (group_list gs) _ ∙ ap (λ l. was ++ l) (sym (groups_found gs g));
       };
       numbered = each_and IsNumbered gs g so.numbered one.numbered;
-      seen = seen_and gs g table marked one.marks so.seen;
-      long = one.long ∙ so.long;
+      seen = seen_and gs g was_seen is_seen one.seen so.seen;
     }
 
 pub group_list_taken : (depth : ℕ) (old begun ended : List Token) (n : ℕ) (was found : List Finding) (new : List Token) → 0 < depth → old ≡ Token.begin_array ∷ begun → AreGroups (depth - 1) begun n was found ended

@@ -5,15 +5,16 @@ use Rattle.etcs_check.proofs.AspectLemmas.{aspect_long, sound_mixtures_are_decid
 use Rattle.etcs_check.proofs.LineLemmas.{no_finding_means_sound_line}
 use Rattle.etcs_check.proofs.NamedLemmas.{unnamed_means_sound}
 use Rattle.etcs_check.proofs.SoundLemmas.{sound_groups_are_decided}
-use Rattle.etcs_check.specs.Laws.{AreControlled, AreSoundUnlessNamed}
+use Rattle.etcs_check.specs.Laws.{AreControlled, NamesTheUnsound}
 use Rattle.etcs_check.specs.Line.{findings}
+use Rattle.etcs_check.specs.declared.finding.Finding.{Finding}
 use Rattle.etcs_check.specs.Soundness.{IsSoundControlled, IsSoundGroup, IsSoundLine}
 use Rattle.etcs_form.proofs.SoundLemmas.{line_controlled, no_finding_sound}
 use Rattle.etcs_form.proofs.VerdictLemmas.{says_yes}
 use Rattle.etcs_form.specs.Document.{◌then◌, line_of, line_of_text}
 use Rattle.etcs_form.specs.DocumentFault.{DocumentFault}
 use Rattle.etcs_form.specs.Laws.{NoFindingSaysYes}
-use Rattle.etcs_form.specs.Verdict.{Counted, IsSoundTextUnlessNamed, SaysYes, TextSaysYes, counted, counted_of_text, judged}
+use Rattle.etcs_form.specs.Verdict.{Counted, NamesTheUnsoundIn, SaysYes, TextSaysYes, counted, counted_of_text, judged}
 use Rattle.etcs_group.specs.Laws.{IsDecided, IsMixtureDecided}
 use Rattle.etcs_group.specs.Missed.{IsSetOf}
 use Rattle.etcs_group.specs.Mixture.{Fits}
@@ -63,12 +64,16 @@ text_says_yes bytes groups ms said =
 
 -- what is found about the line of the bytes
 counted_in : (bytes : List ℕ) (c : Counted) (r : Result (List (List (List Telegram)) × List Message) DocumentFault) → line_of_text bytes ≡ r
-    → ((r then λ line. Ok (judged line)) then λ v. Ok (counted v)) ≡ Ok c → IsOkAnd r (λ line. AreSoundUnlessNamed line.0 line.1 c.1)
+    → ((r then λ line. Ok (judged line)) then λ v. Ok (counted v)) ≡ Ok c → IsOkAnd r (λ line. NamesTheUnsound line.0 line.1 c.1)
 counted_in bytes c (Ok line) is found =
     let same : findings line.0 line.1 ≡ c.1 = cc in
-    subst (AreSoundUnlessNamed line.0 line.1) same (unnamed_means_sound line.0 line.1 (controlled bytes line.0 line.1 is))
+    subst (NamesTheUnsound line.0 line.1) same (unnamed_means_sound line.0 line.1 (controlled bytes line.0 line.1 is))
 counted_in bytes c (Err f) is found = absurd cc
 
--- what no finding of the bytes names is sound
-pub counted_unnamed : (bytes : List ℕ) (c : Counted) → counted_of_text bytes ≡ Ok c → IsSoundTextUnlessNamed bytes c.1
+-- the findings of the bytes name what is not sound
+pub counted_unnamed : (bytes : List ℕ) (c : Counted) → counted_of_text bytes ≡ Ok c → NamesTheUnsoundIn bytes c.1
 counted_unnamed bytes c found = counted_in bytes c (line_of_text bytes) refl found
+
+-- the same of a line that was read
+pub judged_unnamed : (bytes : List ℕ) (groups : List (List (List Telegram))) (ms : List Message) (found : List Finding) → line_of_text bytes ≡ Ok (groups, ms) → NamesTheUnsound groups ms found → NamesTheUnsoundIn bytes found
+judged_unnamed bytes groups ms found is names = subst (λ r. IsOkAnd r (λ line. NamesTheUnsound line.0 line.1 found)) (sym is) names

@@ -1,11 +1,11 @@
 -- The document of a railway line read from the tokens of its text, and checked group by group, with no
 -- value and no line built for it. The keys have to stand in the order in which this project writes them.
 -- Any other text is left to the reading of a value.
-use Rattle.std.specs.Prelude.{◌≡◌, ◌++◌, ◌||◌, ◌==◌, ℕ, true, codes, List, [], ◌∷◌, length, Option, Some, Ok}
+use Rattle.std.specs.Prelude.{◌≡◌, ◌++◌, ◌||◌, ◌==◌, ℕ, Bool, true, codes, List, [], ◌∷◌, length, Option, Some, Ok}
 use Rattle.json.specs.Token.{Token}
 use Rattle.serde_json.specs.Data.{Data, array, no_items}
 use Rattle.etcs_check.specs.Aspects.{group_facts}
-use Rattle.etcs_check.specs.Identities.{AreNumbered, HasSeen, IsNumbered, identity_number, is_marked}
+use Rattle.etcs_check.specs.Identities.{AreNumbered, IsNumbered, identity_number, is_among}
 use Rattle.etcs_check.specs.Line.{group_list, message_list}
 use Rattle.etcs_check.specs.declared.finding.Finding.{Finding}
 use Rattle.etcs_check.specs.declared.finding.Site.TheVariants as sites
@@ -92,21 +92,19 @@ pub record AreGroups (depth : ℕ) (old : List Token) (count : ℕ) (was found :
   pub counts : length groups ≡ count
   pub finds : found ≡ was ++ group_list groups
 
--- the same, and their identities are marked in the table
-pub record AreSeen (depth : ℕ) (old : List Token) (count : ℕ) (was found : List Finding) (table : List ℕ) (new : List Token) : Type 0 where
+-- the same, and just the numbers of their identities were seen
+pub record AreSeen (depth : ℕ) (old : List Token) (count : ℕ) (was found : List Finding) (is_seen : ℕ → Bool) (new : List Token) : Type 0 where
   pub all : AreGroups depth old count was found new
   pub numbered : AreNumbered all.groups
-  pub seen : HasSeen 0 16777216 table all.groups
-  pub long : length table ≡ 262144
+  pub seen : (n : ℕ) → is_seen n ≡ is_among all.groups n
 
--- the first value is a group, whose findings were appended, and whose identity was marked
-pub record IsNextGroup (depth : ℕ) (old : List Token) (place : ℕ) (was : List Finding) (seen : List ℕ) (found : List Finding) (marked : List ℕ) (new : List Token) : Type 0 where
+-- the first value is a group, whose findings were appended, and the number of whose identity is now seen
+pub record IsNextGroup (depth : ℕ) (old : List Token) (place : ℕ) (was : List Finding) (was_seen : ℕ → Bool) (found : List Finding) (is_seen : ℕ → Bool) (new : List Token) : Type 0 where
   pub group : List (List Telegram)
   pub first : IsFirst IsGroup depth old group new
   pub numbered : IsNumbered group
-  pub marks : (p : ℕ) → is_marked marked p ≡ (p == identity_number group || is_marked seen p)
-  pub long : length marked ≡ length seen
-  pub finds : found ≡ was ++ group_facts (sites.Group place) (is_marked seen (identity_number group)) group
+  pub seen : (n : ℕ) → is_seen n ≡ (identity_number group == n || was_seen n)
+  pub finds : found ≡ was ++ group_facts (sites.Group place) (was_seen (identity_number group)) group
 
 -- the first value is the list of so many groups, whose findings were appended
 pub record IsGroupList (depth : ℕ) (old : List Token) (count : ℕ) (was found : List Finding) (new : List Token) : Type 0 where

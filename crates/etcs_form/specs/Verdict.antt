@@ -3,7 +3,7 @@ use Rattle.std.specs.Prelude.{◌≡◌, ◌↔◌, ℕ, Bool, List, [], length,
 use Rattle.std.specs.Option.{option_map_or}
 use Rattle.serde_json.specs.Data.{Data}
 use Rattle.serde_json.specs.Find.{as_str, at, get}
-use Rattle.etcs_check.specs.Laws.{AreSoundUnlessNamed}
+use Rattle.etcs_check.specs.Laws.{NamesTheUnsound}
 use Rattle.etcs_check.specs.Line.{findings}
 use Rattle.etcs_check.specs.Profiles.{AreReached}
 use Rattle.etcs_check.specs.Soundness.{IsSoundLine}
@@ -60,9 +60,9 @@ IsYes answer = IsOkAnd answer (λ verdict. verdict.findings.items ≡ [])
 abbrev pub IsSoundText : List ℕ → Type 0
 IsSoundText bytes = IsOkAnd (line_of_text bytes) (λ line. IsSoundLine line.0 line.1)
 
--- the bytes are a line, and what no finding of the list names in it is sound
-abbrev pub IsSoundTextUnlessNamed : List ℕ → List Finding → Type 0
-IsSoundTextUnlessNamed bytes found = IsOkAnd (line_of_text bytes) (λ line. AreSoundUnlessNamed line.0 line.1 found)
+-- the bytes are a line, and the findings of the list name exactly what is not sound in it
+abbrev pub NamesTheUnsoundIn : List ℕ → List Finding → Type 0
+NamesTheUnsoundIn bytes found = IsOkAnd (line_of_text bytes) (λ line. NamesTheUnsound line.0 line.1 found)
 
 -- ---- each telegram and each message has one record
 
@@ -113,8 +113,7 @@ AreMixturesDecided groups = (g : ℕ) (aspects : List (List Telegram)) (run : Ru
 -- direction and set of missed balises whose declared duplicates are read, the assembled message is
 -- accepted and equals that with nothing missed, every other set being refused. There, as in each radio
 -- message, every movement authority has gradient and speed profiles, all reaching at least its supervised
--- location. Mixtures of aspects are decided. All this makes a sound line, in which no two groups have one
--- identity.
+-- location. Mixtures of aspects are decided. And the line is sound, so no two groups have one identity.
 pub record SaysYes (bytes : List ℕ) (groups : List (List (List Telegram))) (messages : List Message) : Type 0 where
   pub document : Data
   pub json : json_of bytes ≡ Ok document

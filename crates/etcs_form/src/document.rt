@@ -57,7 +57,7 @@ fn read_document(alloc: Global, value: &Value) -> Result<Line, LineError>
 pub fn read_line(alloc: Global, bytes: &[u8]) -> Result<Line, LineError>
     ensures exact { Gives (λ l. (l.groups.items, l.messages.items)) result (line_of_text bytes.now) }
 
-    // No bytes are no JSON, nor are bytes that are not UTF-8, whatever memory there is.
+    // An empty input is not JSON, nor is one that is not UTF-8, whatever memory there is.
     ensures empty { bytes.now ≡ [] → result ≡ Err LineError.NotJson }
     ensures unreadable { is_utf8 bytes.now ≡ false → result ≡ Err LineError.NotJson }
 {

@@ -26,9 +26,9 @@ pub trait Form: Drop {
     /// Whether making the form may ask for memory: not if the form is a number.
     ghost builds: { Type 0 } = { Unit {0} };
 
-    /// Whether reading this value may ask for memory: not if the form is a number, nor where an object is
-    /// wanted and the value is none, or has a key that the form of a record does not have. (The way to a
-    /// fault of the value itself has no step.)
+    /// Whether reading this value may ask for memory. It never does where the form is a number, where an
+    /// object is wanted and the value is another one, or where the object has a key that the form of a record
+    /// lacks: such a fault is told without a path.
     ghost asks: { Data → Type 0 } = { λ _. Unit {0} };
 
     /// The form as a JSON value, which is read as this value again if the value is in range. The

@@ -1,15 +1,17 @@
 //! The document of a railway line, checked group by group as it is read.
 
-ghost use Rattle.std.specs.Prelude.{◌≡◌, ◌+◌, ◌++◌, [], false, List, Ok, Some, length, IfOk, IfSome, IsTrue};
+ghost use Rattle.std.specs.Prelude.{◌≡◌, ◌+◌, ◌++◌, [], false, List, Ok, Some, IfOk, IfSome, IsTrue};
+ghost use Rattle.std.specs.BTreeSet.{contains};
+ghost use Rattle.std.specs.Ordering.{nat_cmp};
 ghost use Rattle.std.specs.Str.{is_utf8};
 ghost use Rattle.json.specs.Json.{after_end_array};
 ghost use Rattle.json.specs.Token.{Token as JsonToken};
 ghost use Rattle.etcs_check.specs.Line.{message_at};
 ghost use Rattle.etcs_form.specs.DocumentFault.{Gives};
 ghost use Rattle.etcs_form.specs.DocumentTokens.{AreGroups, AreMessages, HasLine, IsChecked, IsFirst, IsGroupList, IsMessage, IsMessageList, IsNextGroup};
-ghost use Rattle.etcs_form.specs.Verdict.{IsSoundTextUnlessNamed, TextSaysYes, counted_of_text};
+ghost use Rattle.etcs_form.specs.Verdict.{NamesTheUnsoundIn, TextSaysYes, counted_of_text};
 
-use crate::identities::{identity_number, mark};
+use crate::identities::{identity_number, keep};
 use crate::judging::check_text;
 use crate::line_error::LineError;
 use crate::token_groups::{group, message, pass_list};
@@ -19,9 +21,7 @@ use etcs_check::{Finding, check_group, check_message};
 use etcs_radio::Message;
 use json::{Reader, Scratch};
 use std::alloc::Global;
-
-// How many words a table of all identities has.
-const WORDS: usize = 262_144;
+use std::collections::BTreeSet;
 
 // How deep a document may nest.
 const DEPTH: usize = 127;
@@ -44,23 +44,24 @@ fn push_all(findings: &mut Vec<Finding>, mut more: Vec<Finding>) -> bool
     findings.append(&mut more).is_ok()
 }
 
-// Reads the next group, marks its identity, and appends the findings about it.
+// Reads the next group, keeps its identity, and appends the findings about it.
 fn next_group(
     alloc: Global,
     reader: &mut Reader<'_>,
     depth: usize,
     place: usize,
-    table: &mut Vec<u64>,
+    seen: &mut BTreeSet<u32>,
     findings: &mut Vec<Finding>,
 ) -> bool
-    requires { length table.old.items ≡ 262144 }
-    ensures { IsTrue result → IsNextGroup depth reader.old place findings.old.items table.old.items
-        findings.new.items table.new.items reader.new }
+    ensures { IsTrue result → IsNextGroup depth reader.old place findings.old.items (contains nat_cmp seen.old)
+        findings.new.items (contains nat_cmp seen.new) reader.new }
 {
     let Some(group) = group(alloc, reader, depth) else {
         return false;
     };
-    let used = mark(table, identity_number(&group) as usize);
+    let Some(used) = keep(seen, identity_number(&group)) else {
+        return false;
+    };
     match check_group(alloc, place, used, &group) {
         Ok(more) => push_all(findings, more),
         Err(_) => false,
@@ -79,12 +80,10 @@ fn each_group(
         × AreGroups depth reader.old n findings.old.items findings.new.items ended
         × (after_end_array ended ≡ Some reader.new)) }
 {
-    let Ok(mut table) = (vec![in alloc; 0u64; WORDS]) else {
-        return None;
-    };
+    let mut seen = BTreeSet::new(alloc);
     let mut count: usize = 0;
     'groups: while !reader.take_end_array() {
-        if !next_group(alloc, reader, depth, count, &mut table, findings) {
+        if !next_group(alloc, reader, depth, count, &mut seen, findings) {
             return None;
         }
         count = count.checked_add(1)?;
@@ -223,9 +222,9 @@ pub(crate) fn quick_check(alloc: Global, bytes: &[u8]) -> Option<Checked>
 
 /// Checks the document of a railway line as [`check_text`] does, and keeps how many groups and messages
 /// there are and what is found about them, but no record. A document whose keys stand in the order
-/// `groups`, `messages` takes no more memory than one byte for each of its bytes, 2 MiB for the
-/// identities, the records of one group or message at a time, and the findings. Any other document, and
-/// one that is refused, is read as by [`check_text`].
+/// `groups`, `messages` takes no more memory than one byte for each of its bytes, the identities, the
+/// records of one group or message at a time, and the findings. Any other document, one
+/// that is refused, and one for which memory ran out, is read as by [`check_text`].
 ///
 /// The error is that of [`check_text`]. After an error neither counts nor findings are returned.
 pub fn check_in_order(alloc: Global, bytes: &[u8]) -> Result<Checked, LineError>
@@ -235,10 +234,11 @@ pub fn check_in_order(alloc: Global, bytes: &[u8]) -> Result<Checked, LineError>
     // Where nothing is found, the bytes are a line of which all is true that a yes says.
     ensures says { IfOk result (λ c. c.findings.items ≡ [] → TextSaysYes bytes.now) }
 
-    // A group or a message that no finding names is sound, whatever is found elsewhere.
-    ensures unnamed { IfOk result (λ c. IsSoundTextUnlessNamed bytes.now c.findings.items) }
+    // A group or a message is sound exactly where no finding names it, whatever is found elsewhere. Of two
+    // groups with one identity the later one is named.
+    ensures unnamed { IfOk result (λ c. NamesTheUnsoundIn bytes.now c.findings.items) }
 
-    // No bytes are no JSON, nor are bytes that are not UTF-8, whatever memory there is.
+    // An empty input is not JSON, nor is one that is not UTF-8, whatever memory there is.
     ensures empty { bytes.now ≡ [] → result ≡ Err LineError.NotJson }
     ensures unreadable { is_utf8 bytes.now ≡ false → result ≡ Err LineError.NotJson }
 {

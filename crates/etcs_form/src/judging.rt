@@ -9,10 +9,9 @@ ghost use Rattle.etcs_group.specs.Missed.{IsSetOf};
 ghost use Rattle.etcs_group.specs.Mixture.{Fits};
 ghost use Rattle.etcs_group.specs.Places.{At};
 ghost use Rattle.etcs_group.specs.Reading.{reading_of};
-ghost use Rattle.etcs_check.specs.Laws.{AreSoundUnlessNamed};
 ghost use Rattle.etcs_check.specs.Soundness.{IsSoundControlled, IsSoundGroup};
 ghost use Rattle.etcs_form.specs.DocumentFault.{Gives};
-ghost use Rattle.etcs_form.specs.Verdict.{IsSoundText, IsYes, SaysYes, verdict_of_text};
+ghost use Rattle.etcs_form.specs.Verdict.{IsSoundText, IsYes, NamesTheUnsoundIn, SaysYes, verdict_of_text};
 
 use crate::document::read_line;
 use crate::line_error::LineError;
@@ -42,9 +41,9 @@ pub fn check_text(alloc: Global, bytes: &[u8]) -> Result<Verdict, LineError>
     ensures says { IfOk result (λ v. v.findings.items ≡ []
         → SaysYes bytes.now v.line.groups.items v.line.messages.items) }
 
-    // A group or a message that no finding names is sound, whatever is found elsewhere.
-    ensures unnamed { IfOk result
-        (λ v. AreSoundUnlessNamed v.line.groups.items v.line.messages.items v.findings.items) }
+    // A group or a message is sound exactly where no finding names it, whatever is found elsewhere. Of two
+    // groups with one identity the later one is named.
+    ensures unnamed { IfOk result (λ v. NamesTheUnsoundIn bytes.now v.findings.items) }
 
     // Each reading of a sound aspect is accepted or refused by what was missed alone, whatever else is found.
     ensures decided { IfOk result (λ v. (g a : ℕ) (aspects : List (List Telegram)) (group : List Telegram)
@@ -57,7 +56,7 @@ pub fn check_text(alloc: Global, bytes: &[u8]) -> Result<Verdict, LineError>
         (shown : ℕ → Option ℕ) → At v.line.groups.items g aspects → IsSoundControlled aspects
         → Fits aspects shown → IsMixtureDecided run aspects shown) }
 
-    // No bytes are no JSON, nor are bytes that are not UTF-8, whatever memory there is.
+    // An empty input is not JSON, nor is one that is not UTF-8, whatever memory there is.
     ensures empty { bytes.now ≡ [] → result ≡ Err LineError.NotJson }
     ensures unreadable { is_utf8 bytes.now ≡ false → result ≡ Err LineError.NotJson }
 {

@@ -35,8 +35,8 @@ abbrev pub is_modelled : TrackPacket → Bool
 is_modelled p = not ((track_number p == 0) || ((track_number p == 136) || (track_number p == 254)))
 
 -- A well-formed group. Each position (N_PIG) is the place, each total (N_TOTAL) and one is the count,
--- all balises are alike, each mark has a partner, whose partner is the balise itself, and every packet
--- is modelled.
+-- all balises are alike, each mark that names a balise has a partner, whose partner is the balise itself,
+-- and every packet is modelled.
 pub record IsWellFormed (group : List Telegram) : Type 0 where
   pub placed : (b : ℕ) (t : Telegram) → At group b t → t.header.position ≡ b
   pub counted : (b : ℕ) (t : Telegram) → At group b t → t.header.total + 1 ≡ length group

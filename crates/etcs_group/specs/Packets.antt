@@ -18,7 +18,8 @@ use Rattle.etcs_group.specs.Assembly.{names}
 abbrev pub held_by : Run → Telegram → List TrackPacket
 held_by run t = filter (holds run) t.packets
 
--- those of the telegram at place i; none where its mark names a position at an earlier place
+-- The packets that hold of the telegram at place i. There are none where its mark names the position of a
+-- telegram that was read before it.
 abbrev pub given_at : Run → List Telegram → ℕ → Telegram → List TrackPacket
 given_at run read i t =
     if list_any (λ u. names t u.header.position) (take i read) then [] else held_by run t

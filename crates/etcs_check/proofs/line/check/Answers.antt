@@ -1,6 +1,6 @@
 use Rattle.std.proofs.Common.{◌≡◌, ◌++◌, sym, ap, subst, ◌∙◌}
 use Rattle.etcs_group.specs.Places.{At}
-use Rattle.etcs_check.specs.Laws.{AreControlled, AreSoundUnlessNamed}
+use Rattle.etcs_check.specs.Laws.{AreControlled, NamesTheUnsound}
 use Rattle.etcs_check.specs.Line.{group_list, message_list, findings}
 use Rattle.etcs_check.proofs.LineLemmas.{no_finding_means_sound_line}
 use Rattle.etcs_check.proofs.MeaningLemmas.{findings_are_facts}
@@ -63,5 +63,5 @@ returns-clause-unnamed c =
     ∙ ap (λ l. l ++ message_list c.deref-2.result.now) (c.in_ok-note_groups.ensures.ok ∙ ap (λ l. l ++ group_list c.deref.result.now) c.new-found.ensures.items)
     ∙ ap (λ l. group_list c.deref.result.now ++ message_list l) c.deref-2.ensures.value
     ∙ ap (λ l. group_list l ++ message_list c.args.line.now.messages.items) c.deref.ensures.value in
-    subst (AreSoundUnlessNamed c.args.line.now.groups.items c.args.line.now.messages.items) (sym eq)
+    subst (NamesTheUnsound c.args.line.now.groups.items c.args.line.now.messages.items) (sym eq)
     (unnamed_means_sound c.args.line.now.groups.items c.args.line.now.messages.items (subst AreControlled c.deref.ensures.value c.in_ok-note_groups.ensures.controlled))

@@ -1,4 +1,4 @@
-use Rattle.etcs_form.proofs.YesLemmas.{aspects_decided, mixtures_decided, sound_says_yes}
+use Rattle.etcs_form.proofs.YesLemmas.{aspects_decided, judged_unnamed, mixtures_decided, sound_says_yes}
 use Rattle.etcs_form.proofs.judging.check_text.Goals as goal
 
 -- without a finding the line is sound
@@ -10,3 +10,7 @@ returns-clause-decided c = aspects_decided _ _ _ c.in_ok-line.ensures.exact
 
 pub returns-clause-mixtures : goal.returns-clause-mixtures
 returns-clause-mixtures c = mixtures_decided _ _ _ c.in_ok-line.ensures.exact
+
+-- each finding names its group or its message
+pub returns-clause-unnamed : goal.returns-clause-unnamed
+returns-clause-unnamed c = judged_unnamed _ _ _ _ c.in_ok-line.ensures.exact c.in_ok-findings.ensures.unnamed
