@@ -1,5 +1,5 @@
 -- The table of digits, and bytes that are made of its values.
-use Rattle.std.proofs.Common.{◌≡◌, ℕ, zero, suc, ◌+◌, ◌*◌, ◌<◌, Bool, true, ◌&&◌, ◌==◌, List, [], ◌∷◌, slice_index, Option, Some, None, unwrap_or, Ok, inl, inr, ◌%◌, bit_or, Fits, w8, length, take, drop, slice_set, arith, refl, sym, ap, ◌∙◌}
+use Rattle.std.proofs.Common.{◌≡◌, ℕ, ◌+◌, ◌*◌, ◌<◌, Bool, true, ◌==◌, List, [], ◌∷◌, slice_index, Option, Some, None, unwrap_or, Ok, ◌%◌, bit_or, Fits, w8, length, take, drop, slice_set, arith, refl, sym, ap, ◌∙◌}
 use Rattle.std.proofs.lemmas.Bool.{agree_below_at, eqb-true}
 use Rattle.std.proofs.lemmas.Nat.{le_or_l, le_or_r, or_shifted}
 use Rattle.hex.specs.Hex.{decode_pairs, digit_or_error, hex_digit_value, pair_value, value_at}
