@@ -1,5 +1,5 @@
 -- A line's groups and messages, checked one after the other.
-use Rattle.std.proofs.Common.{◌≡◌, ℕ, Bool, false, zero, suc, ◌+◌, ◌-◌, ◌<◌, ◌||◌, eqb, List, [], ◌∷◌, ◌++◌, length, take, codes, Some, None, Result, Ok, Err, option_and_then, refl, ap, ap₂, sym, subst, ◌∙◌, arith}
+use Rattle.std.proofs.Common.{◌≡◌, ℕ, Bool, true, false, zero, suc, ◌+◌, ◌-◌, ◌<◌, ◌||◌, eqb, List, [], ◌∷◌, ◌++◌, length, take, codes, Some, None, Result, Ok, Err, option_and_then, refl, ap, ap₂, sym, subst, ◌∙◌, arith}
 use Rattle.std.specs.Str.{IsUtf8}
 use Rattle.std.proofs.lemmas.List.{append-nil, append_assoc, length-append, take-append-le}
 use Rattle.std.proofs.lemmas.List.Folds.{list_any-append}
@@ -15,7 +15,7 @@ use Rattle.etcs_check.specs.Identities.{IsNumbered, identity_number, is_among}
 use Rattle.etcs_check.specs.Line.{group_at as found_at, group_list, message_at as found_in, message_list}
 use Rattle.etcs_check.specs.declared.finding.Finding.{Finding}
 use Rattle.etcs_check.specs.declared.finding.Site.TheVariants as sites
-use Rattle.etcs_check.proofs.IdentityLemmas.{or_false, or_swap, used-among}
+use Rattle.etcs_check.proofs.IdentityLemmas.{or_swap, used-among}
 use Rattle.etcs_form.proofs.DocumentLemmas.{is_json}
 use Rattle.etcs_form.proofs.DocumentTokenLemmas.{each_read, first_more, list_taken, list_values, none_first, object_stands}
 use Rattle.etcs_form.proofs.TokenLemmas.{converted_some, key_stands, then_stand}
@@ -85,12 +85,16 @@ none_seen depth old was is_seen none = record {
   seen = none;
 }
 
+or_none : (b : Bool) → (b || false) ≡ b
+or_none true = refl
+or_none false = refl
+
 -- one more group, the number of whose identity is now seen
 seen_and : (gs : List (List (List Telegram))) (g : List (List Telegram)) (was_seen is_seen : ℕ → Bool) → ((n : ℕ) → is_seen n ≡ (eqb (identity_number g) n || was_seen n)) → ((n : ℕ) → was_seen n ≡ is_among gs n)
     → (n : ℕ) → is_seen n ≡ is_among (gs ++ g ∷ []) n
 seen_and gs g was_seen is_seen now before n =
     let own = eqb (identity_number g) n in
-    now n ∙ ap (λ b. own || b) (before n) ∙ or_swap own (is_among gs n) ∙ ap (λ b. is_among gs n || b) (sym (or_false own false refl)) ∙ sym (list_any-append (λ h. eqb (identity_number h) n) gs (g ∷ []))
+    now n ∙ ap (λ b. own || b) (before n) ∙ or_swap own (is_among gs n) ∙ ap (λ b. is_among gs n || b) (sym (or_none own)) ∙ sym (list_any-append (λ h. eqb (identity_number h) n) gs (g ∷ []))
 
 pub groups_more : (depth : ℕ) (old : List Token) (n next : ℕ) (was found more : List Finding) (was_seen is_seen : ℕ → Bool) (mid new : List Token) → AreSeen depth old n was found was_seen mid → after_end_array mid ≡ None
     → IsNextGroup depth mid n found was_seen more is_seen new → next ≡ n + 1 → AreSeen depth old next was more is_seen new
