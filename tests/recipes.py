@@ -1,13 +1,14 @@
 #!/usr/bin/env -S python3 -B
 """Runs the commands that documents show as they stand there, on the examples and on files made here, after the
-functions of examples/find-field.sh: those with what they have to write (blocks marked `console`), and the commands of
-the table of docs/REFUSALS.md that mend files. Each document has to have commands, and each file made here has to be
-used. The sums of L_PACKET in docs/FORMATS.md are compared with the examples, and the functions are tried with what they
-have to refuse.
+functions of examples/find-field.sh and examples/parallel.sh: those with what they have to write (blocks marked
+`console`), and the commands of the table of docs/REFUSALS.md that mend files. Each document has to have commands, and
+each file made here has to be used. The sums of L_PACKET in docs/FORMATS.md are compared with the examples, and the
+functions are tried with what they have to refuse. What needs jq or parallel is left out where that is missing.
 
 BALISECHECK names the program. The last line is `the recipes: N passed, M failed`, and the exit status is 1 if a test
 failed.
 """
+import json
 import math
 import os
 import pathlib
@@ -19,8 +20,10 @@ import tempfile
 from runner import EXAMPLES, TOP, Tests, program, run
 
 DOCUMENTS = ("README.md", "examples/README.md",
-             *(f"docs/{name}.md" for name in ("REFUSALS", "FORMATS", "FINDINGS", "BALISEKIT")))
-FUNCTIONS = EXAMPLES / "find-field.sh"
+             *(f"docs/{name}.md" for name in ("REFUSALS", "FORMATS", "FINDINGS", "BALISEKIT", "SPEED")))
+FUNCTIONS = EXAMPLES / "find-field.sh", EXAMPLES / "parallel.sh"
+# Tools that may be missing, each with a word of the commands that need it.
+TOOLS = {"jq": ("jq", "shared_identities"), "parallel": ("check_documents", "run_in_blocks")}
 # Telegrams of group 1 in country 1: without packets, with a cover marker, and three that are refused.
 ONES = b"f" * 38
 TELEGRAM, MARKED, SPARE = b"a1007f802000ff%bc0" % ONES, b"a1007f802000c011%bc0" % ONES[2:], b"a101ff802000ff%bc0" % ONES
@@ -79,16 +82,17 @@ class Recipes(Tests):
 
     def shell(self, command):
         """What a command writes to standard output and says beside it, in a bash of its own."""
-        ran = subprocess.run(["bash", "-c", '. "$0" && eval "$1"', FUNCTIONS, command], cwd=self.files, check=False,
-                             stdin=subprocess.DEVNULL, capture_output=True,
+        ran = subprocess.run(["bash", "-c", '. "$0" && . "$1" && eval "$2"', *FUNCTIONS, command], cwd=self.files,
+                             check=False, stdin=subprocess.DEVNULL, capture_output=True,
                              env={**os.environ, "BALISECHECK": program()})
         return ran.stdout.decode(errors="surrogateescape"), ran.stderr.decode(errors="surrogateescape")
 
     def writes(self, command, wanted):
         """The command writes this to standard output."""
-        if "jq" in command and not shutil.which("jq"):
-            print(f"left out, since jq is not there: {command}")
-            return
+        for tool, words in TOOLS.items():
+            if any(word in command for word in words) and not shutil.which(tool):
+                print(f"left out, since {tool} is not there: {command}")
+                return
         found, said = self.shell(command)
         self.lines(f"{command}\n{said if found != wanted else ''}", found, wanted)
 
@@ -177,6 +181,33 @@ def test_functions(tests):
     tests.refuses("number_lines missing.txt <<<'{}'", "missing.txt has no line for answer 1")
 
 
+def test_parts(tests):
+    """Work in parts ends with the greatest status, and with 3 where a part is lost."""
+    sound, found, refused, same = (f"examples/check/{name}" for name in (
+        "sound-line.json", "no-gradient.json", "no-gradient.txt", "identity-used-before.json"))
+    faulty = json.dumps({"groups": [{"balises": [SPARE.decode()]}], "messages": []})
+    # What is left of a refused block is more than a pipe holds.
+    tests.put({"long.txt": b"%b\n" % SPARE + b"%b\n" % TELEGRAM * 20000, "faulty.json": faulty.encode()})
+    for status, command in (
+            (2, f"check_documents {found} {refused} {sound}"),
+            (3, f"check_documents {refused} missing.json {sound}"),
+            (3, f"check_documents {sound} >/dev/full"),
+            (3, "check_documents"),
+            (3, f"echo 'kill -9 $PPID' >killing; chmod +x killing; BALISECHECK=./killing check_documents {sound}"),
+            (2, "run_in_blocks 2M long.txt ./balisecheck decode"),
+            (0, "run_in_blocks 60 /dev/null ./balisecheck decode"),
+            (3, "run_in_blocks 60 examples ./balisecheck decode"),
+            (3, "cat batch.txt | run_in_blocks 60 /dev/stdin ./balisecheck decode"),
+            (3, "run_in_blocks 60 batch.txt 'kill -9 $$'"),
+            (3, "run_in_blocks 60 examples/duplicated-pair.txt ./balisecheck decode >/dev/full"),
+            (1, f"shared_identities {same}"),
+            (1, "shared_identities examples/check/controlled-group.json examples/check/aspects-not-told-apart.json"),
+            (2, "shared_identities faulty.json"),
+            (3, f"shared_identities {sound} missing.json"),
+            (3, "shared_identities")):
+        tests.writes(f'{{ {command}; }} >parts.txt 2>&1; echo "status $?"', f"status {status}\n")
+
+
 def test_zeros(tests):
     """The zeros before a telegram are put after it, in a telegram of each size, and only zeros."""
     telegram = TELEGRAM.decode()
@@ -211,7 +242,7 @@ def main():
     with tempfile.TemporaryDirectory(prefix="recipes-") as room:
         tests = Recipes(pathlib.Path(room))
         test_line_ends(tests, test_commands(tests))
-        for test in (test_mending, test_functions, test_zeros, test_sums):
+        for test in (test_mending, test_functions, test_parts, test_zeros, test_sums):
             test(tests)
     tests.end("the recipes")
 
