@@ -1,32 +1,31 @@
 //! All rules, looked for in one group and in one message.
 
-ghost use Rattle.std.specs.Prelude.{◌≡◌, ◌≢◌, ◌↔◌, ◌<◌, ◌≤◌, ◌++◌, [], ℕ, false, length, flat_map, None, IsTrue, IfOk, OnOk, OnErr};
+ghost use Rattle.std.specs.Prelude.{◌≡◌, ◌≢◌, ◌<◌, ◌≤◌, ◌&&◌, ◌||◌, ◌==◌, ◌++◌, [], ℕ, true, false, length, flat_map, IsTrue, OnOk, OnErr};
+ghost use Rattle.std.specs.BTreeSet.{contains};
+ghost use Rattle.std.specs.Ordering.{nat_cmp};
 ghost use Rattle.etcs_check.specs.Aspects.{aspect_facts, group_facts, rule_facts, whole, whole_facts};
 ghost use Rattle.etcs_check.specs.Counters.{alone_facts};
 ghost use Rattle.etcs_check.specs.Findings.{all_rules, facts_in, facts_of, for_directions, for_each};
-ghost use Rattle.etcs_check.specs.Harm.{HurtsGroup, HurtsMessage};
+ghost use Rattle.etcs_check.specs.Identities.{IsNumbered, identity_number};
 ghost use Rattle.etcs_check.specs.Line.{message_facts, message_facts_in, message_findings};
-ghost use Rattle.etcs_check.specs.Meaning.{GroupFact, MessageFact};
 ghost use Rattle.etcs_check.specs.Quiet.{IsQuiet};
-ghost use Rattle.etcs_check.specs.Soundness.{IsSoundControlled, IsSoundMessage};
-ghost use Rattle.etcs_check.specs.declared.finding.Finding.{Finding};
 ghost use Rattle.etcs_check.specs.declared.finding.Site.TheVariants as sites;
-ghost use Rattle.etcs_group.specs.Places.{At};
 
 use crate::aspects::{aspect_of, first_aspect, note_taken, note_untold, whole};
 use crate::balise_rules::{
     is_quiet_balise, note_balises, note_group_unmodelled, note_pairs, note_unmodelled,
 };
 use crate::finding::{Finding, RULES, Rule, Site, Spot, note};
+use crate::identities::was_used;
 use crate::profile_rules::{
     Kind, is_quiet_in, note_lack, note_message_lack, note_message_short, note_short,
 };
 use etcs_bits::Memory;
-use etcs_group::{Controlled, Group};
+use etcs_group::Group;
 use etcs_packet::{Run, TrackPacket};
 use etcs_radio::Message;
 use etcs_telegram::Telegram;
-use std::alloc::Global;
+use std::collections::BTreeSet;
 
 // Appends the findings of a rule about an aspect in one running direction.
 fn note_in(
@@ -205,7 +204,7 @@ fn note_all(
 
 // Appends the findings about a group. Most groups have one aspect and no finding, which `is_quiet` sees in
 // one look. Where it does not, `note_all` goes through all rules and tells all facts.
-pub(crate) fn note_group(
+fn note_group(
     found: &mut Vec<Finding>,
     site: Site,
     used: bool,
@@ -219,6 +218,27 @@ pub(crate) fn note_group(
         return note_whole(found, Rule::IdentityUsed, site, used, aspects);
     }
     note_all(found, site, used, aspects)
+}
+
+// Appends the findings about the group at this place, whose identity is used if it was kept, and then keeps it. Where
+// no identity is used again, none has to be kept, and memory is asked for only if there is a finding.
+pub(crate) fn note_next(
+    found: &mut Vec<Finding>,
+    kept: &mut BTreeSet<u32>,
+    again: bool,
+    place: usize,
+    aspects: &[Group],
+) -> Result<(), Memory>
+    requires some { 0 < length aspects.now }
+    ensures ok { OnOk result (found.new.items ≡ found.old.items ++ group_facts (sites.Group place)
+        (again && contains nat_cmp kept.old (identity_number aspects.now)) aspects.now) }
+    ensures kept { OnOk result (again ≡ true → (n : ℕ) → contains nat_cmp kept.new n
+        ≡ (identity_number aspects.now == n || contains nat_cmp kept.old n)) }
+    ensures memory { OnErr result (again ≡ false → group_facts (sites.Group place) false aspects.now ≢ []) }
+    ensures numbered { IsNumbered aspects.now }
+{
+    let used = was_used(kept, again, aspects)?;
+    note_group(found, Site::Group(place), used, aspects)
 }
 
 // Appends the findings of a rule about the packets of a message in one running direction.
@@ -308,57 +328,4 @@ pub(crate) fn note_message(
         Message::Movement(movement) => note_packets(found, whole(site), movement.packets()),
         Message::Position(_) => Ok(()),
     }
-}
-
-/// The findings about one balise group, which stands at this place of its line: by rule, then by aspect
-/// (those about the whole group first), by running direction, nominal first, then by balise and packet.
-/// `used` says whether an earlier group of the line has its identity: only then is there a finding
-/// [`Rule::IdentityUsed`].
-///
-/// Memory is asked for only if there is a finding. The only error is that it runs out; then no finding is
-/// returned.
-pub fn check_group(
-    alloc: Global,
-    place: usize,
-    used: bool,
-    group: &Controlled,
-) -> Result<Vec<Finding>, Memory>
-    ensures ok { IfOk result (λ found. found.items ≡ group_facts (sites.Group place) used group.now) }
-    ensures memory { OnErr result (group_facts (sites.Group place) used group.now ≢ []) }
-
-    // No finding means sound, with an identity that no earlier group has.
-    ensures sound { IfOk result (λ found. (found.items ≡ []) ↔ (IsSoundControlled group.now × (used ≡ false))) }
-
-    // A finding is there exactly where its fact stands, and its own part of soundness does not hold there.
-    ensures facts { IfOk result (λ found. (f : Finding) → ((i : ℕ) × At found.items i f)
-        ↔ ((f.site ≡ sites.Group place) × GroupFact used group.now f.rule f.aspect f.dir f.balise f.packet)) }
-    ensures hurts { IfOk result (λ found. (i : ℕ) (f : Finding) → At found.items i f
-        → HurtsGroup (used ≡ false) group.now f.rule f.aspect f.dir f.balise f.packet) }
-{
-    let mut found = Vec::new(alloc);
-    note_group(&mut found, Site::Group(place), used, group.aspects())?;
-    Ok(found)
-}
-
-/// The findings about one radio message, which stands at this place of its line: by rule, then by
-/// running direction, nominal first, then by packet. A message 136 has none.
-///
-/// Memory is asked for only if there is a finding. The only error is that it runs out; then no finding is
-/// returned.
-pub fn check_message(alloc: Global, place: usize, message: &Message) -> Result<Vec<Finding>, Memory>
-    ensures ok { IfOk result (λ found. found.items ≡ message_findings (whole (sites.Message place)) message.now) }
-    ensures memory { OnErr result (message_findings (whole (sites.Message place)) message.now ≢ []) }
-
-    // No finding means sound.
-    ensures sound { IfOk result (λ found. (found.items ≡ []) ↔ IsSoundMessage message.now) }
-
-    // A finding is there exactly where its fact stands, and its own part of soundness does not hold there.
-    ensures facts { IfOk result (λ found. (f : Finding) → ((i : ℕ) × At found.items i f)
-        ↔ ((f.site ≡ sites.Message place) × (f.aspect ≡ None) × MessageFact message.now f.rule f.dir f.balise f.packet)) }
-    ensures hurts { IfOk result (λ found. (i : ℕ) (f : Finding) → At found.items i f
-        → HurtsMessage message.now f.rule f.dir f.balise f.packet) }
-{
-    let mut found = Vec::new(alloc);
-    note_message(&mut found, Site::Message(place), message)?;
-    Ok(found)
 }

@@ -7,7 +7,7 @@ use crate::shared::{
     controlled, group,
 };
 use etcs_bits::Memory;
-use etcs_check::{Finding, Line, check, check_group, check_message};
+use etcs_check::{Finding, Line, LineChecker, check};
 use etcs_group::{Controlled, Missed, Mixture, assemble};
 use etcs_packet::Run;
 use etcs_radio::from_hex;
@@ -51,30 +51,53 @@ fn repeated_group(alloc: Global) -> Answer {
     are_found(check(alloc, &line), 1)
 }
 
+// What a checker finds about a group that is handed to it twice. Its identity takes memory.
+fn found_twice(alloc: Global, group: &Controlled) -> Result<Vec<Finding>, Halt> {
+    let mut checker = LineChecker::new(alloc);
+    checker.group(group)?;
+    checker.group(group)?;
+    Ok(checker.finish()?)
+}
+
+// Whether so much is found about the group, which is handed over once.
+fn is_found(alloc: Global, group: &Controlled, count: usize) -> Answer {
+    let mut checker = LineChecker::new(alloc);
+    checker.group(group)?;
+    are_found(checker.finish(), count)
+}
+
 fn sound_group(alloc: Global) -> Answer {
     let pair = controlled(alloc, &[&[FIRST_7, SECOND_7], &[FIRST_8, SECOND_8]])?;
-    are_found(check_group(alloc, 0, false, &pair), 0)
+    is_found(alloc, &pair, 0)
 }
 
 // A group whose aspects are not told apart.
 fn equal_aspects(alloc: Global) -> Answer {
     let pair = controlled(alloc, &[&[FIRST_7, SECOND_7], &[FIRST_7, SECOND_7]])?;
-    are_found(check_group(alloc, 0, false, &pair), 2)
+    is_found(alloc, &pair, 2)
 }
 
 fn used_group(alloc: Global) -> Answer {
     let alone = controlled(alloc, &[&[ALONE]])?;
-    are_found(check_group(alloc, 0, true, &alone), 1)
+    Ok(found_twice(alloc, &alone)?.len() == 1)
+}
+
+// Whether so much is found about a message. Memory may run out only for a finding.
+fn is_told(alloc: Global, text: &str, count: usize) -> Answer {
+    let message = from_hex(alloc, text.as_bytes())?;
+    let mut checker = LineChecker::new(alloc);
+    match checker.message(&message) {
+        Ok(()) => are_found(checker.finish(), count),
+        Err(_) => are_found(Err(Memory), count),
+    }
 }
 
 fn sound_message(alloc: Global) -> Answer {
-    let message = from_hex(alloc, REPORT.as_bytes())?;
-    are_found(check_message(alloc, 0, &message), 0)
+    is_told(alloc, REPORT, 0)
 }
 
 fn unsound_message(alloc: Global) -> Answer {
-    let message = from_hex(alloc, MESSAGE.as_bytes())?;
-    are_found(check_message(alloc, 0, &message), 2)
+    is_told(alloc, MESSAGE, 2)
 }
 
 // What a train reads of a group, and the packets of it: an authority and both profiles.

@@ -1,0 +1,189 @@
+//! A railway line that is checked as it comes, and not kept.
+
+ghost use Rattle.std.specs.Prelude.{◌≡◌, ◌≢◌, ◌↔◌, ◌∷◌, ◌++◌, [], ℕ, List, length, IfOk, IsErrOf, OnOk, OnErr};
+ghost use Rattle.etcs_radio.specs.declared.message.Message.{Message as SomeMessage};
+ghost use Rattle.etcs_telegram.specs.Record.{Telegram};
+ghost use Rattle.etcs_group.specs.Places.{At};
+ghost use Rattle.etcs_check.specs.Harm.{Hurts};
+ghost use Rattle.etcs_check.specs.Laws.{NamesTheUnsound};
+ghost use Rattle.etcs_check.specs.Line.{findings, group_list, message_at, message_list};
+ghost use Rattle.etcs_check.specs.LineChecker.{HasChecked, TakesGroups, TakesMessages};
+ghost use Rattle.etcs_check.specs.Meaning.{States};
+ghost use Rattle.etcs_check.specs.Soundness.{IsSoundLine};
+ghost use Rattle.etcs_check.specs.declared.finding.Finding.{Finding as SomeFinding};
+
+use crate::checking::{note_message, note_next};
+use crate::finding::{Finding, Site};
+use etcs_bits::Memory;
+use etcs_group::Controlled;
+use etcs_radio::Message;
+use std::alloc::Global;
+use std::collections::BTreeSet;
+use std::marker::Model;
+use thiserror::Error;
+
+/// Why a group or a message was not taken.
+#[derive(Clone, Copy, Debug, PartialEq, Eq, Error)]
+pub enum CheckError {
+    /// Memory ran out.
+    #[error("out of memory")]
+    Memory,
+    /// `usize::MAX` of them were taken, and no more are counted.
+    #[error("too many to be counted")]
+    TooMany,
+}
+
+impl From<Memory> for CheckError {
+    ghost use Rattle.std.specs.Prelude.{◌≡◌};
+    ghost use Rattle.etcs_check.specs.declared.line_checker.CheckError.TheVariants as errors;
+
+    ghost from_gives = { λ _ error. error ≡ errors.Memory };
+
+    fn from(_memory: Memory) -> CheckError {
+        CheckError::Memory
+    }
+}
+
+/// The findings of a line whose groups and messages are handed over one by one, each kind in its order, and let go.
+/// What it holds grows with the identities and the findings alone. After an error nothing is known of what it holds.
+#[derive(Debug, Drop)]
+pub struct LineChecker {
+    about_groups: Vec<Finding>,
+    about_messages: Vec<Finding>,
+    groups: usize,
+    messages: usize,
+    identities: BTreeSet<u32>,
+}
+
+impl Model for LineChecker {
+    ghost use Rattle.etcs_check.specs.LineChecker.{Kept};
+
+    ghost Value = { Kept };
+
+    ghost view = { λ c. record { about_groups = c.about_groups.items; about_messages = c.about_messages.items; groups = c.groups; messages = c.messages; identities = c.identities } };
+}
+
+// The findings about groups, and then those about messages.
+fn joined(
+    mut about_groups: Vec<Finding>,
+    mut about_messages: Vec<Finding>,
+) -> Result<Vec<Finding>, Memory>
+    ensures ok { IfOk result (λ found. found.items ≡ about_groups.items ++ about_messages.items) }
+    ensures memory { OnErr result ((about_groups.items ≢ []) × (about_messages.items ≢ [])) }
+{
+    if about_groups.is_empty() {
+        return Ok(about_messages);
+    }
+    if !about_messages.is_empty() {
+        about_groups.append(&mut about_messages)?;
+    }
+    Ok(about_groups)
+}
+
+impl LineChecker {
+    /// A checker of a line without groups and messages. Takes no memory.
+    pub fn new(alloc: Global) -> LineChecker
+        ensures { HasChecked result [] [] }
+    {
+        LineChecker {
+            about_groups: Vec::new(alloc),
+            about_messages: Vec::new(alloc),
+            groups: 0,
+            messages: 0,
+            identities: BTreeSet::new(alloc),
+        }
+    }
+
+    /// Takes the next group. Memory is asked for if its identity is new, and for its findings.
+    pub fn group(&mut self, group: &Controlled) -> Result<(), CheckError>
+        ensures ok { OnOk result (TakesGroups self.old (group.now ∷ []) self.new) }
+
+        // Found before memory is asked for.
+        ensures too_many { (gs : List (List (List Telegram))) (ms : List SomeMessage) → HasChecked self.old gs ms
+            → IsErrOf result CheckError.TooMany ↔ (length gs ≡ usize.MAX) }
+    {
+        let Some(groups) = self.groups.checked_add(1) else {
+            return Err(CheckError::TooMany);
+        };
+        let aspects = group.aspects();
+        note_next(
+            &mut self.about_groups,
+            &mut self.identities,
+            true,
+            self.groups,
+            aspects,
+        )?;
+        self.groups = groups;
+        Ok(())
+    }
+
+    /// Takes the next message. Memory is asked for only if there is a finding about it.
+    pub fn message(&mut self, message: &Message) -> Result<(), CheckError>
+        ensures ok { OnOk result (TakesMessages self.old (message.now ∷ []) self.new) }
+
+        // Found before memory is asked for.
+        ensures too_many { (gs : List (List (List Telegram))) (ms : List SomeMessage) → HasChecked self.old gs ms
+            → IsErrOf result CheckError.TooMany ↔ (length ms ≡ usize.MAX) }
+        ensures memory { IsErrOf result CheckError.Memory → (gs : List (List (List Telegram))) (ms : List SomeMessage)
+            → HasChecked self.old gs ms → message_at (length ms) message.now ≢ [] }
+    {
+        let Some(messages) = self.messages.checked_add(1) else {
+            return Err(CheckError::TooMany);
+        };
+        let site = Site::Message(self.messages);
+        note_message(&mut self.about_messages, site, message)?;
+        self.messages = messages;
+        Ok(())
+    }
+
+    /// How many groups were taken.
+    pub fn groups(&self) -> usize
+        ensures { (gs : List (List (List Telegram))) (ms : List SomeMessage) → HasChecked self.now gs ms
+            → result ≡ length gs }
+    {
+        self.groups
+    }
+
+    /// How many messages were taken.
+    pub fn messages(&self) -> usize
+        ensures { (gs : List (List (List Telegram))) (ms : List SomeMessage) → HasChecked self.now gs ms
+            → result ≡ length ms }
+    {
+        self.messages
+    }
+
+    /// All facts against the line of these groups and messages, in the order of [`check`](crate::check). Memory is
+    /// asked for only if there are findings both about groups and about messages. If it runs out, no finding is
+    /// returned.
+    pub fn finish(self) -> Result<Vec<Finding>, Memory>
+        ensures ok { IfOk result (λ found. (gs : List (List (List Telegram))) (ms : List SomeMessage)
+            → HasChecked self gs ms → found.items ≡ findings gs ms) }
+        ensures memory { OnErr result ((gs : List (List (List Telegram))) (ms : List SomeMessage)
+            → HasChecked self gs ms → (group_list gs ≢ []) × (message_list ms ≢ [])) }
+
+        // No finding means sound.
+        ensures sound { IfOk result (λ found. (gs : List (List (List Telegram))) (ms : List SomeMessage)
+            → HasChecked self gs ms → (found.items ≡ []) ↔ IsSoundLine gs ms) }
+
+        // A group or a message is sound exactly where no finding names it, whatever is found elsewhere. Of two
+        // groups with one identity the later one is named.
+        ensures unnamed { IfOk result (λ found. (gs : List (List (List Telegram))) (ms : List SomeMessage)
+            → HasChecked self gs ms → NamesTheUnsound gs ms found.items) }
+
+        // A finding is there exactly where its fact stands, and its own part of soundness does not hold there.
+        ensures facts { IfOk result (λ found. (gs : List (List (List Telegram))) (ms : List SomeMessage)
+            → HasChecked self gs ms → (f : SomeFinding) → ((i : ℕ) × At found.items i f) ↔ States gs ms f) }
+        ensures hurts { IfOk result (λ found. (gs : List (List (List Telegram))) (ms : List SomeMessage)
+            → HasChecked self gs ms → (i : ℕ) (f : SomeFinding) → At found.items i f → Hurts gs ms f) }
+    {
+        let LineChecker {
+            about_groups,
+            about_messages,
+            groups: _,
+            messages: _,
+            identities: _,
+        } = self;
+        let found = joined(about_groups, about_messages)?;
+        Ok(found)
+    }
+}
