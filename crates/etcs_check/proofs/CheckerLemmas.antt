@@ -1,7 +1,8 @@
 -- One group or one message more that was handed to a checker.
 use Rattle.std.proofs.Common.{◌≡◌, ℕ, ◌+◌, ◌||◌, eqb, List, [], ◌∷◌, ◌++◌, ap, ap₂, sym, subst, ◌∙◌}
-use Rattle.std.specs.BTreeSet.{contains}
-use Rattle.std.specs.Ordering.{nat_cmp}
+use Rattle.std.specs.BTreeSet.{BTreeSet, IsUnchanged, contains}
+use Rattle.std.specs.List.{list_any}
+use Rattle.std.specs.Ordering.{is_eq, nat_cmp}
 use Rattle.std.proofs.lemmas.List.{append-nil, append_assoc, length-append}
 use Rattle.etcs_radio.specs.declared.message.Message.{Message}
 use Rattle.etcs_telegram.specs.Record.{Telegram}
@@ -9,7 +10,7 @@ use Rattle.etcs_group.specs.Controlled.{IsControlled}
 use Rattle.etcs_check.specs.Aspects.{group_facts, is_used}
 use Rattle.etcs_check.specs.Identities.{IsNumbered, identity_number}
 use Rattle.etcs_check.specs.Line.{findings, message_at}
-use Rattle.etcs_check.specs.LineChecker.{HasChecked, Kept, TakesGroups, TakesMessages}
+use Rattle.etcs_check.specs.LineChecker.{HasChecked, HasStill, Kept, TakesGroups, TakesMessages}
 use Rattle.etcs_check.specs.declared.finding.Finding.{Finding}
 use Rattle.etcs_check.specs.declared.finding.Site.TheVariants as sites
 use Rattle.etcs_check.proofs.IdentityLemmas.{kept_and, used-among}
@@ -52,6 +53,25 @@ message_taken old new m found others count counted kept gs ms was = record {
   numbered = was.numbered;
   controlled = was.controlled;
 }
+
+-- ---- what was refused
+
+-- the same findings, counts and identities
+pub still : (old new : Kept) → new.about_groups ≡ old.about_groups → new.about_messages ≡ old.about_messages → new.groups ≡ old.groups → new.messages ≡ old.messages
+    → IsUnchanged old.identities new.identities → HasStill old new
+still old new found others count counted kept gs ms was = record {
+  about_groups = found ∙ was.about_groups;
+  about_messages = others ∙ was.about_messages;
+  groups_counted = count ∙ was.groups_counted;
+  messages_counted = counted ∙ was.messages_counted;
+  seen = λ n. ap (λ ks. list_any (λ k. is_eq (nat_cmp n k)) ks) kept ∙ was.seen n;
+  numbered = was.numbered;
+  controlled = was.controlled;
+}
+
+-- what was appended is cut off again
+pub cut_off : (was more new : List Finding) (n : ℕ) → n ≡ length was → new ≡ take n (was ++ more) → new ≡ was
+cut_off was more new n is cut = cut ∙ ap (λ n. take n (was ++ more)) is ∙ take-append-le (length was) was more (omega arith) ∙ take-all was
 
 -- ---- what it has found
 

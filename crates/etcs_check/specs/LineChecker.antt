@@ -40,3 +40,7 @@ TakesGroups old groups new = (gs : List (List (List Telegram))) (ms : List Messa
 abbrev pub TakesMessages : Kept → List Message → Kept → Type 0
 TakesMessages old messages new = (gs : List (List (List Telegram))) (ms : List Message)
     → HasChecked old gs ms → HasChecked new gs (ms ++ messages)
+
+-- whatever was handed to it before, and nothing besides
+abbrev pub HasStill : Kept → Kept → Type 0
+HasStill old new = (gs : List (List (List Telegram))) (ms : List Message) → HasChecked old gs ms → HasChecked new gs ms

@@ -1,22 +1,17 @@
 //! All rules, looked for in one group and in one message.
 
-ghost use Rattle.std.specs.Prelude.{◌≡◌, ◌≢◌, ◌<◌, ◌≤◌, ◌&&◌, ◌||◌, ◌==◌, ◌++◌, [], ℕ, true, false, length, flat_map, IsTrue, OnOk, OnErr};
-ghost use Rattle.std.specs.BTreeSet.{contains};
-ghost use Rattle.std.specs.Ordering.{nat_cmp};
+ghost use Rattle.std.specs.Prelude.{◌≡◌, ◌≢◌, ◌<◌, ◌≤◌, ◌++◌, [], false, length, flat_map, IsTrue, OnOk, OnErr};
 ghost use Rattle.etcs_check.specs.Aspects.{aspect_facts, group_facts, rule_facts, whole, whole_facts};
 ghost use Rattle.etcs_check.specs.Counters.{alone_facts};
 ghost use Rattle.etcs_check.specs.Findings.{all_rules, facts_in, facts_of, for_directions, for_each};
-ghost use Rattle.etcs_check.specs.Identities.{IsNumbered, identity_number};
 ghost use Rattle.etcs_check.specs.Line.{message_facts, message_facts_in, message_findings};
 ghost use Rattle.etcs_check.specs.Quiet.{IsQuiet};
-ghost use Rattle.etcs_check.specs.declared.finding.Site.TheVariants as sites;
 
 use crate::aspects::{aspect_of, first_aspect, note_taken, note_untold, whole};
 use crate::balise_rules::{
     is_quiet_balise, note_balises, note_group_unmodelled, note_pairs, note_unmodelled,
 };
 use crate::finding::{Finding, RULES, Rule, Site, Spot, note};
-use crate::identities::was_used;
 use crate::profile_rules::{
     Kind, is_quiet_in, note_lack, note_message_lack, note_message_short, note_short,
 };
@@ -25,7 +20,6 @@ use etcs_group::Group;
 use etcs_packet::{Run, TrackPacket};
 use etcs_radio::Message;
 use etcs_telegram::Telegram;
-use std::collections::BTreeSet;
 
 // Appends the findings of a rule about an aspect in one running direction.
 fn note_in(
@@ -204,7 +198,7 @@ fn note_all(
 
 // Appends the findings about a group. Most groups have one aspect and no finding, which `is_quiet` sees in
 // one look. Where it does not, `note_all` goes through all rules and tells all facts.
-fn note_group(
+pub(crate) fn note_group(
     found: &mut Vec<Finding>,
     site: Site,
     used: bool,
@@ -218,27 +212,6 @@ fn note_group(
         return note_whole(found, Rule::IdentityUsed, site, used, aspects);
     }
     note_all(found, site, used, aspects)
-}
-
-// Appends the findings about the group at this place, whose identity is used if it was kept, and then keeps it. Where
-// no identity is used again, none has to be kept, and memory is asked for only if there is a finding.
-pub(crate) fn note_next(
-    found: &mut Vec<Finding>,
-    kept: &mut BTreeSet<u32>,
-    again: bool,
-    place: usize,
-    aspects: &[Group],
-) -> Result<(), Memory>
-    requires some { 0 < length aspects.now }
-    ensures ok { OnOk result (found.new.items ≡ found.old.items ++ group_facts (sites.Group place)
-        (again && contains nat_cmp kept.old (identity_number aspects.now)) aspects.now) }
-    ensures kept { OnOk result (again ≡ true → (n : ℕ) → contains nat_cmp kept.new n
-        ≡ (identity_number aspects.now == n || contains nat_cmp kept.old n)) }
-    ensures memory { OnErr result (again ≡ false → group_facts (sites.Group place) false aspects.now ≢ []) }
-    ensures numbered { IsNumbered aspects.now }
-{
-    let used = was_used(kept, again, aspects)?;
-    note_group(found, Site::Group(place), used, aspects)
 }
 
 // Appends the findings of a rule about the packets of a message in one running direction.

@@ -1,8 +1,8 @@
 //! Identities that were used before: kept by their numbers as groups come, or found in a list of groups by a table of
 //! bits and without memory from the heap.
 
-ghost use Rattle.std.specs.Prelude.{◌≡◌, ℕ, ◌+◌, ◌*◌, ◌^◌, ◌<◌, ◌≤◌, ◌&&◌, ◌||◌, ◌==◌, true, false, length, IsTrue, IsFalse, IfOk, OnOk, OnErr};
-ghost use Rattle.std.specs.BTreeSet.{contains};
+ghost use Rattle.std.specs.Prelude.{◌≡◌, ℕ, ◌+◌, ◌*◌, ◌^◌, ◌<◌, ◌≤◌, ◌||◌, ◌==◌, length, IsTrue, IsFalse, OnOk, OnErr};
+ghost use Rattle.std.specs.BTreeSet.{IsUnchanged, contains};
 ghost use Rattle.std.specs.Ordering.{nat_cmp};
 ghost use Rattle.etcs_check.specs.Identities.{AreNumbered, HasNoRepeat, HasRepeat, IsNumbered, identity_number, is_marked, number_of};
 
@@ -28,7 +28,7 @@ fn number_of(telegram: &Telegram) -> u32
 }
 
 // The number of the identity of a group with these aspects.
-fn identity_number(aspects: &[Group]) -> u32
+pub(crate) fn identity_number(aspects: &[Group]) -> u32
     requires { 0 < length aspects.now }
     ensures value { result ≡ identity_number aspects.now }
     ensures small { result < 16777216 }
@@ -38,34 +38,15 @@ fn identity_number(aspects: &[Group]) -> u32
     number_of(&first[0])
 }
 
-// Keeps the number of an identity, and tells whether it was kept before. Memory is asked for only where it was not.
-fn keep(kept: &mut BTreeSet<u32>, number: u32) -> Result<bool, Memory>
-    ensures before { IfOk result (λ used. used ≡ contains nat_cmp kept.old number) }
-    ensures after { OnOk result ((n : ℕ) → contains nat_cmp kept.new n ≡ (number == n || contains nat_cmp kept.old n)) }
-    ensures memory { OnErr result (contains nat_cmp kept.old number ≡ false) }
+// Keeps the number of an identity. Memory is asked for only where it was not kept. If it runs out, nothing changes.
+pub(crate) fn keep(kept: &mut BTreeSet<u32>, number: u32) -> Result<(), Memory>
+    ensures ok { OnOk result ((n : ℕ) → contains nat_cmp kept.new n ≡ (number == n || contains nat_cmp kept.old n)) }
+    ensures err { OnErr result (IsUnchanged kept.old kept.new) }
 {
     match kept.insert(number) {
-        Ok(added) => Ok(!added),
+        Ok(_) => Ok(()),
         Err(_) => Err(Memory),
     }
-}
-
-// Whether the identity of a group with these aspects was kept before; then keeps it. Where none is used again,
-// none has to be kept.
-pub(crate) fn was_used(
-    kept: &mut BTreeSet<u32>,
-    again: bool,
-    aspects: &[Group],
-) -> Result<bool, Memory>
-    requires { 0 < length aspects.now }
-    ensures before { IfOk result (λ used. used ≡ (again && contains nat_cmp kept.old (identity_number aspects.now))) }
-    ensures after { OnOk result (again ≡ true → (n : ℕ) → contains nat_cmp kept.new n
-        ≡ (identity_number aspects.now == n || contains nat_cmp kept.old n)) }
-    ensures memory { OnErr result ((again ≡ true) × (contains nat_cmp kept.old (identity_number aspects.now) ≡ false)) }
-    ensures numbered { IsNumbered aspects.now }
-{
-    let number = identity_number(aspects);
-    if again { keep(kept, number) } else { Ok(false) }
 }
 
 // Whether the place is marked.

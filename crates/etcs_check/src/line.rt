@@ -1,6 +1,8 @@
 //! A railway line, and all facts against it.
 
-ghost use Rattle.std.specs.Prelude.{◌≡◌, ◌≢◌, ◌↔◌, ◌++◌, [], ℕ, Bool, List, Option, IfOk, OnOk, OnErr};
+ghost use Rattle.std.specs.Prelude.{◌≡◌, ◌≢◌, ◌↔◌, ◌<◌, ◌++◌, ◌&&◌, ◌||◌, ◌==◌, [], ℕ, Bool, true, false, List, length, Option, IfOk, OnOk, OnErr};
+ghost use Rattle.std.specs.BTreeSet.{contains};
+ghost use Rattle.std.specs.Ordering.{nat_cmp};
 ghost use Rattle.etcs_packet.specs.declared.run.Run.{Run};
 ghost use Rattle.etcs_telegram.specs.Record.{Telegram};
 ghost use Rattle.etcs_group.specs.Places.{At};
@@ -8,18 +10,21 @@ ghost use Rattle.etcs_group.specs.Missed.{IsSetOf};
 ghost use Rattle.etcs_group.specs.Reading.{reading_of};
 ghost use Rattle.etcs_group.specs.Laws.{IsDecided, IsMixtureDecided};
 ghost use Rattle.etcs_group.specs.Mixture.{Fits};
+ghost use Rattle.etcs_check.specs.Aspects.{group_facts};
 ghost use Rattle.etcs_check.specs.Harm.{Hurts};
+ghost use Rattle.etcs_check.specs.Identities.{IsNumbered, identity_number};
 ghost use Rattle.etcs_check.specs.Laws.{AreControlled, NamesTheUnsound};
 ghost use Rattle.etcs_check.specs.Line.{findings, group_list, message_list};
 ghost use Rattle.etcs_check.specs.Meaning.{States};
 ghost use Rattle.etcs_check.specs.Soundness.{IsSoundControlled, IsSoundGroup, IsSoundLine};
 ghost use Rattle.etcs_check.specs.declared.finding.Finding.{Finding};
+ghost use Rattle.etcs_check.specs.declared.finding.Site.TheVariants as sites;
 
-use crate::checking::{note_message, note_next};
+use crate::checking::{note_group, note_message};
 use crate::finding::{Finding, Site};
-use crate::identities::has_repeat;
+use crate::identities::{has_repeat, identity_number, keep};
 use etcs_bits::Memory;
-use etcs_group::Controlled;
+use etcs_group::{Controlled, Group};
 use etcs_radio::Message;
 use std::alloc::Global;
 use std::collections::BTreeSet;
@@ -32,6 +37,29 @@ pub struct Line {
     pub groups: Vec<Controlled>,
     /// The radio messages.
     pub messages: Vec<Message>,
+}
+
+// Appends the findings about the group at this place, whose identity is used if it was kept, and then keeps it. Where
+// no identity is used again, none has to be kept, and memory is asked for only if there is a finding.
+fn note_next(
+    found: &mut Vec<Finding>,
+    kept: &mut BTreeSet<u32>,
+    again: bool,
+    place: usize,
+    aspects: &[Group],
+) -> Result<(), Memory>
+    requires some { 0 < length aspects.now }
+    ensures ok { OnOk result (found.new.items ≡ found.old.items ++ group_facts (sites.Group place)
+        (again && contains nat_cmp kept.old (identity_number aspects.now)) aspects.now) }
+    ensures kept { OnOk result (again ≡ true → (n : ℕ) → contains nat_cmp kept.new n
+        ≡ (identity_number aspects.now == n || contains nat_cmp kept.old n)) }
+    ensures memory { OnErr result (again ≡ false → group_facts (sites.Group place) false aspects.now ≢ []) }
+    ensures numbered { IsNumbered aspects.now }
+{
+    let identity = identity_number(aspects);
+    let used = again && kept.contains(&identity);
+    note_group(found, Site::Group(place), used, aspects)?;
+    if again { keep(kept, identity) } else { Ok(()) }
 }
 
 // Appends the findings about the groups. Each of them has aspects of one count.

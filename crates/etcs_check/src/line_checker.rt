@@ -7,13 +7,14 @@ ghost use Rattle.etcs_group.specs.Places.{At};
 ghost use Rattle.etcs_check.specs.Harm.{Hurts};
 ghost use Rattle.etcs_check.specs.Laws.{NamesTheUnsound};
 ghost use Rattle.etcs_check.specs.Line.{findings, group_list, message_at, message_list};
-ghost use Rattle.etcs_check.specs.LineChecker.{HasChecked, TakesGroups, TakesMessages};
+ghost use Rattle.etcs_check.specs.LineChecker.{HasChecked, HasStill, TakesGroups, TakesMessages};
 ghost use Rattle.etcs_check.specs.Meaning.{States};
 ghost use Rattle.etcs_check.specs.Soundness.{IsSoundLine};
 ghost use Rattle.etcs_check.specs.declared.finding.Finding.{Finding as SomeFinding};
 
-use crate::checking::{note_message, note_next};
+use crate::checking::{note_group, note_message};
 use crate::finding::{Finding, Site};
+use crate::identities::{identity_number, keep};
 use etcs_bits::Memory;
 use etcs_group::Controlled;
 use etcs_radio::Message;
@@ -45,7 +46,8 @@ impl From<Memory> for CheckError {
 }
 
 /// The findings of a line whose groups and messages are handed over one by one, each kind in its order, and let go.
-/// What it holds grows with the identities and the findings alone. After an error nothing is known of what it holds.
+/// What it holds grows with the identities and the findings alone. A group or a message that is refused is not taken,
+/// and may be handed over again.
 #[derive(Debug, Drop)]
 pub struct LineChecker {
     about_groups: Vec<Finding>,
@@ -63,21 +65,20 @@ impl Model for LineChecker {
     ghost view = { λ c. record { about_groups = c.about_groups.items; about_messages = c.about_messages.items; groups = c.groups; messages = c.messages; identities = c.identities } };
 }
 
-// The findings about groups, and then those about messages.
-fn joined(
-    mut about_groups: Vec<Finding>,
-    mut about_messages: Vec<Finding>,
-) -> Result<Vec<Finding>, Memory>
-    ensures ok { IfOk result (λ found. found.items ≡ about_groups.items ++ about_messages.items) }
-    ensures memory { OnErr result ((about_groups.items ≢ []) × (about_messages.items ≢ [])) }
+// Appends more findings. Memory is asked for only where there are some of both. If it runs out, nothing changes.
+fn append(found: &mut Vec<Finding>, mut more: Vec<Finding>) -> Result<(), Memory>
+    ensures ok { OnOk result (found.new.items ≡ found.old.items ++ more.items) }
+    ensures memory { OnErr result ((found.old.items ≢ []) × (more.items ≢ [])) }
+    ensures err { OnErr result (found.new.items ≡ found.old.items) }
 {
-    if about_groups.is_empty() {
-        return Ok(about_messages);
+    if found.is_empty() {
+        *found = more;
+        return Ok(());
     }
-    if !about_messages.is_empty() {
-        about_groups.append(&mut about_messages)?;
+    if !more.is_empty() {
+        found.append(&mut more)?;
     }
-    Ok(about_groups)
+    Ok(())
 }
 
 impl LineChecker {
@@ -95,43 +96,53 @@ impl LineChecker {
     }
 
     /// Takes the next group. Memory is asked for if its identity is new, and for its findings.
-    pub fn group(&mut self, group: &Controlled) -> Result<(), CheckError>
+    pub fn group(&mut self, alloc: Global, group: &Controlled) -> Result<(), CheckError>
         ensures ok { OnOk result (TakesGroups self.old (group.now ∷ []) self.new) }
 
         // Found before memory is asked for.
         ensures too_many { (gs : List (List (List Telegram))) (ms : List SomeMessage) → HasChecked self.old gs ms
             → IsErrOf result CheckError.TooMany ↔ (length gs ≡ usize.MAX) }
+
+        // A refused group changes nothing.
+        ensures kept { OnErr result (HasStill self.old self.new) }
     {
         let Some(groups) = self.groups.checked_add(1) else {
             return Err(CheckError::TooMany);
         };
         let aspects = group.aspects();
-        note_next(
-            &mut self.about_groups,
-            &mut self.identities,
-            true,
-            self.groups,
-            aspects,
-        )?;
+        let identity = identity_number(aspects);
+        let used = self.identities.contains(&identity);
+        let mut found = Vec::new(alloc);
+        note_group(&mut found, Site::Group(self.groups), used, aspects)?;
+        let before = self.about_groups.len();
+        append(&mut self.about_groups, found)?;
+        if keep(&mut self.identities, identity).is_err() {
+            self.about_groups.truncate(before);
+            return Err(CheckError::Memory);
+        }
         self.groups = groups;
         Ok(())
     }
 
     /// Takes the next message. Memory is asked for only if there is a finding about it.
-    pub fn message(&mut self, message: &Message) -> Result<(), CheckError>
+    pub fn message(&mut self, alloc: Global, message: &Message) -> Result<(), CheckError>
         ensures ok { OnOk result (TakesMessages self.old (message.now ∷ []) self.new) }
 
         // Found before memory is asked for.
         ensures too_many { (gs : List (List (List Telegram))) (ms : List SomeMessage) → HasChecked self.old gs ms
             → IsErrOf result CheckError.TooMany ↔ (length ms ≡ usize.MAX) }
+
+        // A refused message changes nothing. One without a finding is never refused for want of memory.
+        ensures kept { OnErr result (HasStill self.old self.new) }
         ensures memory { IsErrOf result CheckError.Memory → (gs : List (List (List Telegram))) (ms : List SomeMessage)
             → HasChecked self.old gs ms → message_at (length ms) message.now ≢ [] }
     {
         let Some(messages) = self.messages.checked_add(1) else {
             return Err(CheckError::TooMany);
         };
-        let site = Site::Message(self.messages);
-        note_message(&mut self.about_messages, site, message)?;
+        let mut found = Vec::new(alloc);
+        note_message(&mut found, Site::Message(self.messages), message)?;
+        append(&mut self.about_messages, found)?;
         self.messages = messages;
         Ok(())
     }
@@ -177,13 +188,13 @@ impl LineChecker {
             → HasChecked self gs ms → (i : ℕ) (f : SomeFinding) → At found.items i f → Hurts gs ms f) }
     {
         let LineChecker {
-            about_groups,
+            mut about_groups,
             about_messages,
             groups: _,
             messages: _,
             identities: _,
         } = self;
-        let found = joined(about_groups, about_messages)?;
-        Ok(found)
+        append(&mut about_groups, about_messages)?;
+        Ok(about_groups)
     }
 }

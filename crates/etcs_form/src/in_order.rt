@@ -47,7 +47,7 @@ fn next_group(
     let Some(group) = group(alloc, reader, depth) else {
         return false;
     };
-    checker.group(&group).is_ok()
+    checker.group(alloc, &group).is_ok()
 }
 
 // Reads groups, one after the other, up to the end of their list, and hands them to the checker.
@@ -93,7 +93,7 @@ fn next_message(
     let Some(message) = message(alloc, reader, depth) else {
         return false;
     };
-    checker.message(&message).is_ok()
+    checker.message(alloc, &message).is_ok()
 }
 
 // Reads messages, one after the other, up to the end of their list, and hands them to the checker.

@@ -54,7 +54,7 @@ fn take_groups(
     groups: &[&[&[&str]]],
 ) -> Result<(), Halt> {
     'groups: for aspects in groups {
-        checker.group(&controlled(alloc, aspects)?)?;
+        checker.group(alloc, &controlled(alloc, aspects)?)?;
     }
     Ok(())
 }
@@ -62,7 +62,7 @@ fn take_groups(
 // Hands the messages to it.
 fn take_messages(alloc: Global, checker: &mut LineChecker, texts: &[&str]) -> Result<(), Halt> {
     'messages: for text in texts {
-        checker.message(&from_hex(alloc, text.as_bytes())?)?;
+        checker.message(alloc, &from_hex(alloc, text.as_bytes())?)?;
     }
     Ok(())
 }
