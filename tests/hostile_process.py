@@ -59,7 +59,7 @@ def long_document(tests, groups=LONG):
     command = [sys.executable, TOP / "bench" / "documents.py", str(groups)]
     document = subprocess.run(command, capture_output=True, check=True).stdout
     turned = b'{"messages":[],' + document.strip().removesuffix(b',"messages":[]}').removeprefix(b"{") + b"}\n"
-    twice = b'{"messages":[],' + document.removeprefix(b"{")
+    twice = b'{"messages":[],' + turned.removeprefix(b"{")
     for text, times in ((document, 4), (turned, 4), (twice, KEPT)):
         answer = limited("v", times * len(text) // 1024 + 10000, CHECK, text)
         tests.equal(f"a long document in little memory, {times} times its size", answer,

@@ -1,5 +1,5 @@
--- What a checker holds of a line whose groups and messages were handed to it one by one, and let go: their
--- findings, how many there are, and the numbers of the groups' identities.
+-- A checker takes the groups and the messages of a line one by one, and lets them go. What it holds of them are their
+-- findings, the count of each kind, and the numbers of the groups' identities.
 use Rattle.std.specs.Prelude.{◌≡◌, ℕ, Bool, List, ◌++◌, length}
 use Rattle.std.specs.BTreeSet.{BTreeSet, contains}
 use Rattle.std.specs.Ordering.{nat_cmp}
@@ -18,11 +18,12 @@ pub record Kept : Type 0 where
   pub messages : ℕ
   pub identities : BTreeSet ℕ
 
--- just the numbers of these groups' identities are kept
+-- the numbers of these groups' identities are kept, and no others
 abbrev pub HasKept : (ℕ → Bool) → List (List (List Telegram)) → Type 0
 HasKept is_kept groups = (n : ℕ) → is_kept n ≡ is_among groups n
 
--- A checker that holds this was handed just these groups and messages. So it has their findings and no others.
+-- A checker holds this after it has taken these groups and messages, each kind in this order. It may hold the same
+-- after others: as many of each kind, with the same findings and identities.
 pub record HasChecked (kept : Kept) (groups : List (List (List Telegram))) (messages : List Message) : Type 0 where
   pub about_groups : kept.about_groups ≡ group_list groups
   pub about_messages : kept.about_messages ≡ message_list messages
@@ -32,15 +33,16 @@ pub record HasChecked (kept : Kept) (groups : List (List (List Telegram))) (mess
   pub numbered : AreNumbered groups
   pub controlled : AreControlled groups
 
--- whatever was handed to it before, these groups were handed to it besides; and these messages
+-- Whatever a checker had taken, it takes these groups besides, and holds the other then.
 abbrev pub TakesGroups : Kept → List (List (List Telegram)) → Kept → Type 0
 TakesGroups old groups new = (gs : List (List (List Telegram))) (ms : List Message)
     → HasChecked old gs ms → HasChecked new (gs ++ groups) ms
 
+-- the same of these messages
 abbrev pub TakesMessages : Kept → List Message → Kept → Type 0
 TakesMessages old messages new = (gs : List (List (List Telegram))) (ms : List Message)
     → HasChecked old gs ms → HasChecked new gs (ms ++ messages)
 
--- whatever was handed to it before, and nothing besides
+-- Whatever a checker had taken, it takes nothing besides, and holds the other then.
 abbrev pub HasStill : Kept → Kept → Type 0
 HasStill old new = (gs : List (List (List Telegram))) (ms : List Message) → HasChecked old gs ms → HasChecked new gs ms

@@ -39,8 +39,8 @@ pub struct Line {
     pub messages: Vec<Message>,
 }
 
-// Appends the findings about the group at this place, whose identity is used if it was kept, and then keeps it. Where
-// no identity is used again, none has to be kept, and memory is asked for only if there is a finding.
+// Appends the findings about the group at this place, and keeps its identity, which was used if it was kept before.
+// Where no identity is used again, none is kept, and memory is asked for only if there is a finding.
 fn note_next(
     found: &mut Vec<Finding>,
     kept: &mut BTreeSet<u32>,

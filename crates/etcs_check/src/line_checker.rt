@@ -29,7 +29,7 @@ pub enum CheckError {
     /// Memory ran out.
     #[error("out of memory")]
     Memory,
-    /// `usize::MAX` of them were taken, and no more are counted.
+    /// `usize::MAX` of them were taken before, and no more can be counted.
     #[error("too many to be counted")]
     TooMany,
 }
@@ -46,7 +46,7 @@ impl From<Memory> for CheckError {
 }
 
 /// The findings of a line whose groups and messages are handed over one by one, each kind in its order, and let go.
-/// What it holds grows with the identities and the findings alone. A group or a message that is refused is not taken,
+/// What it holds grows with the identities and the findings alone. A group or a message that is refused changes nothing,
 /// and may be handed over again.
 #[derive(Debug, Drop)]
 pub struct LineChecker {
@@ -65,7 +65,7 @@ impl Model for LineChecker {
     ghost view = { λ c. record { about_groups = c.about_groups.items; about_messages = c.about_messages.items; groups = c.groups; messages = c.messages; identities = c.identities } };
 }
 
-// Appends more findings. Memory is asked for only where there are some of both. If it runs out, nothing changes.
+// Appends the other findings. Memory is asked for only if neither list is empty. If it runs out, nothing changes.
 fn append(found: &mut Vec<Finding>, mut more: Vec<Finding>) -> Result<(), Memory>
     ensures ok { OnOk result (found.new.items ≡ found.old.items ++ more.items) }
     ensures memory { OnErr result ((found.old.items ≢ []) × (more.items ≢ [])) }
@@ -82,7 +82,7 @@ fn append(found: &mut Vec<Finding>, mut more: Vec<Finding>) -> Result<(), Memory
 }
 
 impl LineChecker {
-    /// A checker of a line without groups and messages. Takes no memory.
+    /// A checker that has taken nothing yet. It asks for no memory.
     pub fn new(alloc: Global) -> LineChecker
         ensures { HasChecked result [] [] }
     {
@@ -163,7 +163,7 @@ impl LineChecker {
         self.messages
     }
 
-    /// All facts against the line of these groups and messages, in the order of [`check`](crate::check). Memory is
+    /// All facts against the line of the groups and messages that were taken, in the order of [`check`](crate::check). Memory is
     /// asked for only if there are findings both about groups and about messages. If it runs out, no finding is
     /// returned.
     pub fn finish(self) -> Result<Vec<Finding>, Memory>

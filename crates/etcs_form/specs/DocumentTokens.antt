@@ -1,6 +1,5 @@
 -- The document of a railway line read from the tokens of its text, and checked group by group and message by
--- message, with no value and no line built for it. Any text that this does not know is left to the reading of a
--- value.
+-- message, with no value and no line built for it. A text that this reader does not know is left to that of values.
 use Rattle.std.specs.Prelude.{◌≡◌, ℕ, true, List, [], ◌∷◌, length, Option, Some, Ok}
 use Rattle.json.specs.Token.{Token}
 use Rattle.serde_json.specs.Data.{Data, array, no_items}
@@ -80,13 +79,13 @@ pub record HasGroup (depth : ℕ) (old : List Token) (aspects : List (List Teleg
 
 -- ---- what was handed to a checker
 
--- a checker that held the one took these, which were read, and then holds the other
+-- Some items are read. A checker that held the one takes them, and holds the other then.
 pub record AreTaken {X : Type 0} (AreRead : List X → Type 0) (Takes : Kept → List X → Kept → Type 0) (was is : Kept) : Type 0 where
   pub items : List X
   pub read : AreRead items
   pub takes : Takes was items is
 
--- the document of a line, whose groups and messages were handed to a checker that holds this
+-- The value is the document of a line. A checker holds this that has taken its groups and messages.
 pub record IsChecked (d : Data) (kept : Kept) : Type 0 where
   pub groups : List (List (List Telegram))
   pub messages : List Message

@@ -1,4 +1,5 @@
-//! The document of a railway line, checked group by group as it is read.
+//! The document of a railway line, checked group by group as it is read. Where a function here answers no, nothing is
+//! told of the document.
 
 ghost use Rattle.std.specs.Prelude.{◌≡◌, ◌∷◌, [], false, List, codes, Ok, Some, IfOk, IfSome, IsTrue};
 ghost use Rattle.std.specs.Str.{is_utf8};
@@ -50,7 +51,7 @@ fn next_group(
     checker.group(alloc, &group).is_ok()
 }
 
-// Reads groups, one after the other, up to the end of their list, and hands them to the checker.
+// Reads groups up to the end of their list, and hands each to the checker.
 fn each_group(
     alloc: Global,
     reader: &mut Reader<'_>,
@@ -69,7 +70,7 @@ fn each_group(
     true
 }
 
-// Reads the list of groups, and hands them to the checker.
+// Reads the list of groups, and hands each to the checker.
 fn groups(alloc: Global, reader: &mut Reader<'_>, depth: usize, checker: &mut LineChecker) -> bool
     ensures { IsTrue result → AreTaken (λ gs. IsFirst (IsList IsGroup) depth reader.old gs reader.new)
         TakesGroups checker.old checker.new }
@@ -96,7 +97,7 @@ fn next_message(
     checker.message(alloc, &message).is_ok()
 }
 
-// Reads messages, one after the other, up to the end of their list, and hands them to the checker.
+// Reads messages up to the end of their list, and hands each to the checker.
 fn each_message(
     alloc: Global,
     reader: &mut Reader<'_>,
@@ -115,7 +116,7 @@ fn each_message(
     true
 }
 
-// Reads the list of messages, and hands them to the checker.
+// Reads the list of messages, and hands each to the checker.
 fn messages(alloc: Global, reader: &mut Reader<'_>, depth: usize, checker: &mut LineChecker) -> bool
     ensures { IsTrue result → AreTaken (λ ms. IsFirst (IsList IsMessage) depth reader.old ms reader.new)
         TakesMessages checker.old checker.new }
@@ -126,7 +127,7 @@ fn messages(alloc: Global, reader: &mut Reader<'_>, depth: usize, checker: &mut 
     each_message(alloc, reader, depth - 1, checker)
 }
 
-// Reads the groups, once their key was passed, and then the messages.
+// Reads the groups, whose key was passed, and then the messages.
 fn groups_first(
     alloc: Global,
     reader: &mut Reader<'_>,
@@ -142,7 +143,7 @@ fn groups_first(
     messages(alloc, reader, depth, checker)
 }
 
-// Reads the messages, once their key was passed, and then the groups.
+// Reads the messages, whose key was passed, and then the groups.
 fn messages_first(
     alloc: Global,
     reader: &mut Reader<'_>,
@@ -202,8 +203,8 @@ fn found_by(checker: LineChecker) -> Option<Checked>
     }
 }
 
-/// Reads and checks the bytes of a document, group by group and message by message. Of any other bytes, and where
-/// memory runs out, nothing is told.
+/// Reads and checks a document group by group and message by message. None tells nothing: a key may stand twice, the
+/// bytes may be no document, or memory may have run out.
 pub(crate) fn quick_check(alloc: Global, bytes: &[u8]) -> Option<Checked>
     ensures { IfSome result
         (λ c. counted_of_text bytes.now ≡ Ok ((c.groups, c.messages), c.findings.items)) }
@@ -225,11 +226,13 @@ pub(crate) fn quick_check(alloc: Global, bytes: &[u8]) -> Option<Checked>
     }
 }
 
-/// Checks the document of a railway line as [`check_text`] does, and keeps how many groups and messages
-/// there are and what is found about them, but no record. A document whose keys stand once each, `groups` and
-/// `messages` in any order, takes no more memory than one byte for each of its bytes, the identities, the
-/// records of one group or message at a time, and the findings. Any other document, one
-/// that is refused, and one for which memory ran out, is read as by [`check_text`].
+/// Checks the document of a railway line as [`check_text`] does, but keeps no group and no message: only their counts,
+/// and what is found about them.
+///
+/// A document in which no key stands twice is read group by group and message by message, in either order of the two
+/// lists. That takes one byte of memory for each byte of the document. Besides it takes the identities, the findings,
+/// and the records of one group or message at a time. Any other document is read as by [`check_text`]. So is one that
+/// is refused, and one for which memory ran out.
 ///
 /// The error is that of [`check_text`]. After an error neither counts nor findings are returned.
 pub fn check_in_order(alloc: Global, bytes: &[u8]) -> Result<Checked, LineError>
