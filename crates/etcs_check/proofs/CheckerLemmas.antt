@@ -1,8 +1,9 @@
 -- One group or one message more that was handed to a checker.
-use Rattle.std.proofs.Common.{◌≡◌, ℕ, ◌+◌, ◌||◌, eqb, List, [], ◌∷◌, ◌++◌, ap, ap₂, sym, subst, ◌∙◌}
-use Rattle.std.specs.BTreeSet.{BTreeSet, IsUnchanged, contains}
-use Rattle.std.specs.List.{list_any}
-use Rattle.std.specs.Ordering.{is_eq, nat_cmp}
+use Rattle.std.proofs.Common.{◌≡◌, ℕ, ◌+◌, false, ◌||◌, eqb, List, [], ◌∷◌, ◌++◌, Result, Ok, Err, refl, ap, ap₂, sym, subst, ◌∙◌}
+use Rattle.std.specs.BTreeSet.{contains}
+use Rattle.std.specs.Ordering.{nat_cmp}
+use Rattle.std.specs.Result.{OnOk, is_err}
+use Rattle.std.proofs.lemmas.Bool.{both_ways}
 use Rattle.std.proofs.lemmas.List.{append-nil, append_assoc, length-append}
 use Rattle.etcs_radio.specs.declared.message.Message.{Message}
 use Rattle.etcs_telegram.specs.Record.{Telegram}
@@ -10,11 +11,19 @@ use Rattle.etcs_group.specs.Controlled.{IsControlled}
 use Rattle.etcs_check.specs.Aspects.{group_facts, is_used}
 use Rattle.etcs_check.specs.Identities.{IsNumbered, identity_number}
 use Rattle.etcs_check.specs.Line.{findings, message_at}
-use Rattle.etcs_check.specs.LineChecker.{HasChecked, HasStill, Kept, TakesGroups, TakesMessages}
+use Rattle.etcs_check.specs.LineChecker.{HasChecked, Kept, TakesGroups, TakesMessages}
 use Rattle.etcs_check.specs.declared.finding.Finding.{Finding}
 use Rattle.etcs_check.specs.declared.finding.Site.TheVariants as sites
 use Rattle.etcs_check.proofs.IdentityLemmas.{kept_and, used-among}
 use Rattle.etcs_check.proofs.LineLemmas.{each_and, groups_found, messages_found}
+
+-- findings that were noted apart, and then appended
+pub noted : (old none found new facts : List Finding) → none ≡ [] → found ≡ none ++ facts → new ≡ old ++ found → new ≡ old ++ facts
+noted old none found new facts empty some all = all ∙ ap (λ l. old ++ l) (some ∙ ap (λ l. l ++ facts) empty)
+
+pub unless_refused : {A E : Type 0} (r : Result A E) (P : Type 0) → is_err r ≡ false → OnOk r P → P
+unless_refused (Ok x) P no p = p
+unless_refused (Err e) P no p = absurd (both_ways _ no refl)
 
 taken : (old new : Kept) (g : List (List Telegram)) → IsControlled g → IsNumbered g
     → new.about_groups ≡ old.about_groups ++ group_facts (sites.Group old.groups) (contains nat_cmp old.identities (identity_number g)) g → new.about_messages ≡ old.about_messages
@@ -53,25 +62,6 @@ message_taken old new m found others count counted kept gs ms was = record {
   numbered = was.numbered;
   controlled = was.controlled;
 }
-
--- ---- what was refused
-
--- the same findings, counts and identities
-pub still : (old new : Kept) → new.about_groups ≡ old.about_groups → new.about_messages ≡ old.about_messages → new.groups ≡ old.groups → new.messages ≡ old.messages
-    → IsUnchanged old.identities new.identities → HasStill old new
-still old new found others count counted kept gs ms was = record {
-  about_groups = found ∙ was.about_groups;
-  about_messages = others ∙ was.about_messages;
-  groups_counted = count ∙ was.groups_counted;
-  messages_counted = counted ∙ was.messages_counted;
-  seen = λ n. ap (λ ks. list_any (λ k. is_eq (nat_cmp n k)) ks) kept ∙ was.seen n;
-  numbered = was.numbered;
-  controlled = was.controlled;
-}
-
--- what was appended is cut off again
-pub cut_off : (was more new : List Finding) (n : ℕ) → n ≡ length was → new ≡ take n (was ++ more) → new ≡ was
-cut_off was more new n is cut = cut ∙ ap (λ n. take n (was ++ more)) is ∙ take-append-le (length was) was more (omega arith) ∙ take-all was
 
 -- ---- what it has found
 
