@@ -2,9 +2,10 @@
 """Tests of `balisecheck check` from outside, of the documents in examples/check, and of docs/FINDINGS.md.
 
 Each document of tests/cases/documents.txt has to be answered as it says there, and so has the same in another spelling:
-keys in another order, blanks and escapes. Each one of examples/check has to be answered as the report beside it says,
-and each mended one by yes. With one aspect in the place of the balises of a group the answer has to be the same. The
-page has to have a section for each rule, with an example and its report as they stand in the folder.
+keys in another order, blanks and escapes. One that is not refused has the same answer with a key twice: then it is not
+read group by group. Each one of examples/check has to be answered as the report beside it says, and each mended one by
+yes. With one aspect in the place of the balises of a group the answer has to be the same. The page has to have a section
+for each rule, with an example and its report as they stand in the folder.
 
 BALISECHECK names the program. The last line is `the documents: N passed, M failed`, and the exit status is 1 if a
 test failed.
@@ -40,6 +41,8 @@ def test_cases(tests):
         tests.equal(f"{name}, and a line end", answer(f"{document}\r\n"), wanted)
         if report != ["refused: not JSON"]:
             tests.equal(f"{name}, spelled in another way", answer(respelled(document)), wanted)
+        if not report[0].startswith("refused: "):
+            tests.equal(f"{name}, a key twice", answer(document.replace("{", '{"messages":0,', 1)), wanted)
     for document in (b"", b" ", b"\xff", b'{"groups":[],"messages":[]}\xff', b'{"groups":["\xff"],"messages":[]}'):
         tests.equal(f"{document} is no JSON", answer(document), answered("refused: not JSON\n"))
 

@@ -12,7 +12,7 @@ from runner import DEVICE, MEMORY, TOP, Answer
 
 STACK = 512  # KiB of stack that README.md names
 LONG = 20000  # groups of a long document
-OTHER_ORDER = 9  # times the size of a document that is kept whole: it takes 8.1, and 10.6 where no list gives back room
+KEPT = 9  # times the size of a document that is kept whole: it takes 8.1, and 10.6 where no list gives back room
 
 
 def least(low, high, holds):
@@ -53,12 +53,14 @@ def memory_limits(tests, known, step):
 
 
 def long_document(tests, groups=LONG):
-    """A long document is checked group by group, in an address space that has no room for a JSON value of it. With its
-    keys in another order it is kept whole, and each list of packets gives back the room that it does not need."""
+    """A long document is checked group by group, in whichever order its keys stand, in an address space that has no room
+    for a JSON value of it. With a key twice it is kept whole, and each list of packets gives back the room that it does
+    not need."""
     command = [sys.executable, TOP / "bench" / "documents.py", str(groups)]
     document = subprocess.run(command, capture_output=True, check=True).stdout
-    other = b'{"messages":[],' + document.strip().removesuffix(b',"messages":[]}').removeprefix(b"{") + b"}\n"
-    for text, times in ((document, 4), (other, OTHER_ORDER)):
+    turned = b'{"messages":[],' + document.strip().removesuffix(b',"messages":[]}').removeprefix(b"{") + b"}\n"
+    twice = b'{"messages":[],' + turned.removeprefix(b"{")
+    for text, times in ((document, 4), (turned, 4), (twice, KEPT)):
         answer = limited("v", times * len(text) // 1024 + 10000, CHECK, text)
         tests.equal(f"a long document in little memory, {times} times its size", answer,
                     Answer(0, f"yes: groups {groups}, messages 0\n", ""))

@@ -1,12 +1,12 @@
 -- One more mark in a table, one more group that was seen, and what the marks tell.
-use Rattle.std.proofs.Common.{◌≡◌, ◌≢◌, ℕ, suc, ◌+◌, ◌*◌, ◌/◌, ◌%◌, ◌^◌, ◌<◌, ◌≤◌, Bool, true, false, ◌||◌, eqb, List, [], ◌∷◌, length, get_or, set, replicate, take, Option, Some, None, bit_or, slice_get, refl, sym, ap, ap₂, subst, ◌∙◌, arith}
+use Rattle.std.proofs.Common.{◌≡◌, ◌≢◌, ℕ, suc, ◌+◌, ◌*◌, ◌/◌, ◌%◌, ◌^◌, ◌<◌, ◌≤◌, Bool, true, false, ◌&&◌, ◌||◌, eqb, List, [], ◌∷◌, ◌++◌, length, get_or, set, replicate, take, Option, Some, None, bit_or, slice_get, refl, sym, ap, ap₂, subst, ◌∙◌, arith}
 use Rattle.std.specs.Int.{w64}
 use Rattle.std.specs.Option.{option_map_or}
 use Rattle.std.proofs.lemmas.Nat.{div-add-mod', mod_below, div_below}
 use Rattle.std.proofs.lemmas.Nat.Bits.{bit_at_set_same, bit_at_set_other, bit_at-zero}
-use Rattle.std.proofs.lemmas.Bool.{both_ways, cases_Bool, cases_eq, cases_lt, ne_eqb, eq-eqb, false_from_ne_true}
+use Rattle.std.proofs.lemmas.Bool.{both_ways, cases_eq, cases_lt, ne_eqb, eq-eqb, false_from_ne_true}
 use Rattle.std.proofs.lemmas.List.{get_or-set_same, get_or-set_other, get_or-replicate}
-use Rattle.std.proofs.lemmas.List.Folds.{list_any_more}
+use Rattle.std.proofs.lemmas.List.Folds.{list_any-append, list_any_more}
 use Rattle.std.proofs.lemmas.Option.{none-some, slice_get_within, get_or_from_slice_get, same_Some}
 use mathlib.Core.Logic.{inl, inr}
 use Rattle.etcs_bits.specs.declared.variables.identity.Identity.{Identity}
@@ -14,14 +14,16 @@ use Rattle.etcs_telegram.specs.Record.{Telegram}
 use Rattle.etcs_group.specs.Places.{At}
 use Rattle.etcs_group.proofs.PlaceLemmas.{At-take, at_list_any, list_any-none}
 use Rattle.etcs_check.specs.Duplicates.{same_identity}
-use Rattle.etcs_check.specs.Aspects.{whole, have_one_identity, is_used, rule_facts}
+use Rattle.etcs_check.specs.Aspects.{group_facts, whole, have_one_identity, is_used, rule_facts}
 use Rattle.etcs_check.specs.Findings.{finding_of}
 use Rattle.etcs_check.specs.Line.{group_at, group_list}
+use Rattle.etcs_check.specs.LineChecker.{HasKept}
 use Rattle.etcs_check.specs.declared.finding.Rule.TheVariants as rules
 use Rattle.etcs_check.specs.declared.finding.Site.TheVariants as sites
 use Rattle.etcs_check.proofs.FindingLemmas.{rules-say, for_each-says, noted-false, append_parts}
 use Rattle.etcs_check.specs.Identities.{number_of, identity_number, IsNumbered, AreNumbered, has_bit, is_marked, is_among, HasSeen, HasNoRepeat, HasRepeat}
 use Rattle.etcs_check.specs.Soundness.{identity_of, group_identity}
+use Rattle.etcs_check.proofs.NoteLemmas.{each_stands}
 use Rattle.etcs_check.proofs.NumberLemmas.{identity_same, same_identity-says, same_identity-is}
 
 -- ---- identities and their numbers
@@ -148,36 +150,46 @@ no_repeat_more m n next groups e low high i g at lo hi = elim (cases_lt (identit
   | inr ge ↦ high i g at (omega arith) (omega arith)
 ]
 
--- ---- the table of all identities
+-- ---- the identities that are kept
 
-pub seen_more : (groups : List (List (List Telegram))) (i : ℕ) (g : List (List Telegram)) (table new : List ℕ) → At groups i g
-    → ((p : ℕ) → is_marked new p ≡ (eqb p (identity_number g) || is_marked table p)) → HasSeen 0 16777216 table (take i groups) → HasSeen 0 16777216 new (take (i + 1) groups)
-seen_more groups i g table new at marked seen =
-    let whole : identity_number g ≡ 0 + identity_number g = omega arith in
-    seen_marked 0 16777216 table new groups i g (identity_number g) at whole marked seen
+-- one more group of a list, whose identity is kept now
+pub kept_more : (groups : List (List (List Telegram))) (i : ℕ) (g : List (List Telegram)) (was is : ℕ → Bool) → At groups i g → ((n : ℕ) → is n ≡ (eqb (identity_number g) n || was n)) → HasKept was (take i groups) → HasKept is (take (i + 1) groups)
+kept_more groups i g was is at now before n =
+    let own = eqb (identity_number g) n in
+    now n ∙ ap (λ b. own || b) (before n) ∙ or_swap own (is_among (take i groups) n) ∙ sym (among_more groups i g n at)
+
+-- one more group at the end
+pub kept_and : (groups : List (List (List Telegram))) (g : List (List Telegram)) (was is : ℕ → Bool) → ((n : ℕ) → is n ≡ (eqb (identity_number g) n || was n)) → HasKept was groups → HasKept is (groups ++ g ∷ [])
+kept_and groups g was is now before n =
+    let own = eqb (identity_number g) n in
+    now n ∙ ap (λ b. own || b) (before n) ∙ or_swap own (is_among groups n) ∙ ap (λ b. is_among groups n || b) (sym (or_false own false refl)) ∙ sym (list_any-append (λ h. eqb (identity_number h) n) groups (g ∷ []))
 
 -- what is told of one more group is whether its identity was used
-pub used_told : (groups : List (List (List Telegram))) (i : ℕ) (g : List (List Telegram)) (repeated used : Bool) (table : List ℕ) → At groups i g → IsNumbered g → AreNumbered (take i groups)
-    → (repeated ≡ true → used ≡ is_marked table (identity_number g)) → (repeated ≡ false → used ≡ false)
-    → (repeated ≡ false → HasNoRepeat 0 16777216 groups) → (repeated ≡ true → HasSeen 0 16777216 table (take i groups))
-    → used ≡ is_used (take i groups) g
-used_told groups i g repeated used table at own before marked not_marked none seen =
-    let n = number-is g own.0 own.1 in
+pub used_told : (groups : List (List (List Telegram))) (i : ℕ) (g : List (List Telegram)) (again : Bool) (is_kept : ℕ → Bool) → At groups i g → IsNumbered g → AreNumbered (take i groups)
+    → (again ≡ false → HasNoRepeat 0 16777216 groups) → (again ≡ true → HasKept is_kept (take i groups)) → (again && is_kept (identity_number g)) ≡ is_used (take i groups) g
+used_told groups i g true is_kept at own before none kept = kept refl (identity_number g) ∙ sym (used-among (take i groups) g before own)
+used_told groups i g false is_kept at own before none kept =
+    let is = number-is g own.0 own.1 in
     let country = own.2 in
     let group = own.3 in
-    let small : identity_number g < 16777216 = omega arith in
-    elim (cases_Bool repeated) [
-      | inl hit ↦
-          let whole : identity_number g ≡ 0 + identity_number g = omega arith in
-          marked hit ∙ sym (used_mark 0 16777216 table (take i groups) g (identity_number g) whole small (seen hit) (used-among (take i groups) g before own))
-      | inr out ↦ not_marked out ∙ sym (none out i g at (omega arith) (omega arith))
-    ]
+    sym (none refl i g at (omega arith) (omega arith))
 
 -- a repeat is a finding
 pub repeat_stands : (groups : List (List (List Telegram))) → HasRepeat groups → group_list groups ≢ []
 repeat_stands groups r h =
     let none = rules-say (rule_facts (sites.Group r.0) (is_used (take r.0 groups) r.1) r.1) (for_each-says groups (group_at groups) h r.0 r.1 r.2) rules.IdentityUsed in
     both_ways _ (noted-false _ (finding_of rules.IdentityUsed (whole (sites.Group r.0)) None None None) (append_parts _ _ none).0) r.3
+
+-- where memory was asked for there is a finding: that of a repeat, or one about this group
+pub next_stands : (groups : List (List (List Telegram))) (i : ℕ) (g : List (List Telegram)) (again : Bool) → At groups i g → IsNumbered g → (again ≡ true → HasRepeat groups) → (again ≡ false → HasNoRepeat 0 16777216 groups)
+    → (again ≡ false → group_facts (sites.Group i) false g ≢ []) → group_list groups ≢ []
+next_stands groups i g true at own repeat none some = repeat_stands groups (repeat refl)
+next_stands groups i g false at own repeat none some =
+    let is = number-is g own.0 own.1 in
+    let country = own.2 in
+    let group = own.3 in
+    let new : is_used (take i groups) g ≡ false = none refl i g at (omega arith) (omega arith) in
+    each_stands (group_at groups) groups i g at (subst (λ u. group_facts (sites.Group i) u g ≢ []) (sym new) (some refl))
 
 -- ---- identities that were used
 

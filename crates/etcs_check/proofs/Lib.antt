@@ -19,3 +19,5 @@ pub mod NoteLemmas
 pub mod GreatestLemmas
 pub mod IdentityLemmas
 pub mod QuietLemmas
+pub mod TellingLemmas
+pub mod CheckerLemmas

@@ -1,6 +1,8 @@
--- A line has no finding exactly where it is sound.
-use Rattle.std.proofs.Common.{◌≡◌, ℕ, List, [], take, Option, Some, None, refl}
+-- A line has no finding exactly where it is sound. The findings of a line with one group or one message more.
+use Rattle.std.proofs.Common.{◌≡◌, ℕ, zero, suc, ◌+◌, ◌<◌, List, [], ◌∷◌, ◌++◌, length, take, Option, Some, None, refl, sym, ap, ap₂, subst, ◌∙◌, arith}
 use Rattle.std.specs.List.{filter}
+use Rattle.std.proofs.lemmas.List.{append-nil, append_assoc, take-append-le}
+use Rattle.std.proofs.lemmas.Option.{none-some, same_Some}
 use Rattle.etcs_packet.specs.Track.{holds}
 use Rattle.etcs_packet.specs.declared.run.Run.{Run}
 use Rattle.etcs_packet.specs.declared.track.TrackPacket.{TrackPacket}
@@ -12,10 +14,11 @@ use Rattle.etcs_group.specs.Places.{At}
 use Rattle.etcs_group.proofs.PlaceLemmas.{At-take, at_take}
 use Rattle.etcs_check.specs.Profiles.{gradient_reach, speed_reach}
 use Rattle.etcs_check.specs.Soundness.{IsSoundMessage}
-use Rattle.etcs_check.specs.Aspects.{whole}
-use Rattle.etcs_check.specs.Findings.{finding_of, for_directions}
+use Rattle.etcs_check.specs.Aspects.{group_facts, is_used, whole}
+use Rattle.etcs_check.specs.Findings.{each_from, finding_of, for_directions}
 use Rattle.etcs_check.specs.Line.{message_lack, message_short_at, message_short, message_facts, message_findings, group_at, group_list, message_at, message_list}
 use Rattle.etcs_check.specs.Laws.{NoFindingMeansSoundLine}
+use Rattle.etcs_check.specs.declared.finding.Finding.{Finding}
 use Rattle.etcs_check.specs.declared.finding.Rule.{Rule}
 use Rattle.etcs_check.specs.declared.finding.Rule.TheVariants as rules
 use Rattle.etcs_check.specs.declared.finding.Spot.{Spot}
@@ -84,3 +87,41 @@ no_finding_means_sound_line groups messages some = (
       (for_each-empty groups (group_at groups) (λ i g at. (no_finding_means_sound_group (sites.Group i) (take i groups) g (some i g at)).1 (sound.sound i g at, λ j h at'. let t = At-take i groups j h at' in sound.distinct j i h g t.0 t.1 at)))
       (for_each-empty messages message_at (λ i m at. sound_message (whole (sites.Message i)) m (sound.messages_sound i m at))),
 )
+
+-- ---- one group or one message more
+
+pub each_and : {X : Type 0} (P : X → Type 0) (xs : List X) (x : X) → ((i : ℕ) (y : X) → At xs i y → P y) → P x → (i : ℕ) (y : X) → At (xs ++ x ∷ []) i y → P y
+each_and P [] x all now zero y at = subst P (same_Some x y at) now
+each_and P [] x all now (suc i) y at = absurd (none-some y at)
+each_and P (z ∷ zs) x all now zero y at = all 0 y at
+each_and P (z ∷ zs) x all now (suc i) y at = each_and P zs x (λ j w at'. all (suc j) w at') now i y at
+
+all_but_last : {X : Type 0} (xs : List X) (x : X) → take (length xs) (xs ++ x ∷ []) ≡ xs
+all_but_last [] x = refl
+all_but_last (y ∷ ys) x = ap (λ l. y ∷ l) (all_but_last ys x)
+
+-- the findings with one item more, where those before it are the same
+found_more : {X : Type 0} (f h : ℕ → X → List Finding) (b : ℕ) (xs : List X) (x : X) → ((i : ℕ) (y : X) → i < b + length xs → f i y ≡ h i y)
+    → each_from f b (xs ++ x ∷ []) ≡ each_from h b xs ++ f (b + length xs) x
+found_more f h b [] x same =
+    let here : b ≡ b + 0 = omega arith in
+    append-nil (f b x) ∙ ap (λ n. f n x) here
+found_more f h b (y ∷ ys) x same =
+    let next : b + 1 + length ys ≡ b + length (y ∷ ys) = omega arith in
+    ap₂ ◌++◌ (same b y (omega arith)) (found_more f h (b + 1) ys x (λ i z lt. same i z (omega arith)))
+    ∙ sym (append_assoc (h b y) (each_from h (b + 1) ys) (f (b + 1 + length ys) x))
+    ∙ ap (λ n. each_from h b (y ∷ ys) ++ f n x) next
+
+pub groups_found : (gs : List (List (List Telegram))) (g : List (List Telegram)) → group_list (gs ++ g ∷ []) ≡ group_list gs ++ group_facts (sites.Group (length gs)) (is_used gs g) g
+groups_found gs g =
+    let all = gs ++ g ∷ [] in
+    let first : 0 + length gs ≡ length gs = omega arith in
+    let more : group_list all ≡ group_list gs ++ group_at all (0 + length gs) g =
+    found_more (group_at all) (group_at gs) 0 gs g (λ i y lt. ap (λ l. group_facts (sites.Group i) (is_used l y) y) (take-append-le i gs (g ∷ []) (omega arith))) in
+    more ∙ ap (λ n. group_list gs ++ group_at all n g) first ∙ ap (λ l. group_list gs ++ group_facts (sites.Group (length gs)) (is_used l g) g) (all_but_last gs g)
+
+pub messages_found : (ms : List Message) (m : Message) → message_list (ms ++ m ∷ []) ≡ message_list ms ++ message_at (length ms) m
+messages_found ms m =
+    let first : 0 + length ms ≡ length ms = omega arith in
+    let more : message_list (ms ++ m ∷ []) ≡ message_list ms ++ message_at (0 + length ms) m = found_more message_at message_at 0 ms m (λ i y lt. refl) in
+    more ∙ ap (λ n. message_list ms ++ message_at n m) first

@@ -1,8 +1,8 @@
 -- Where a rule has no fact, its part of soundness holds.
-use Rattle.std.proofs.Common.{◌≡◌, ℕ, ◌+◌, ◌<◌, Bool, true, false, List, [], length, slice_get, take, Option, Some, None, refl, sym, ap, subst, ◌∙◌}
+use Rattle.std.proofs.Common.{◌≡◌, ℕ, Bool, false, List, [], take, Option, Some, None, refl, sym, ap, subst, ◌∙◌}
 use Rattle.std.specs.List.{filter}
 use Rattle.std.proofs.lemmas.Option.{none-some, same_Some}
-use Rattle.std.proofs.lemmas.Bool.{both_ways, eqb-true, eqb-false, not-false, false_from_ne_true}
+use Rattle.std.proofs.lemmas.Bool.{eqb-true, eqb-false, not-false, false_from_ne_true}
 use mathlib.Core.Logic.{inl, inr}
 use Rattle.etcs_packet.specs.Track.{holds}
 use Rattle.etcs_packet.specs.declared.run.Run.{Run}
@@ -16,7 +16,7 @@ use Rattle.etcs_group.specs.Controlled.{IsControlled}
 use Rattle.etcs_group.proofs.PlaceLemmas.{some_at, at_take}
 use Rattle.etcs_check.specs.Profiles.{gradient_reach, speed_reach}
 use Rattle.etcs_check.specs.Soundness.{first_aspect}
-use Rattle.etcs_check.specs.Findings.{is_unlike, is_unanswered, mark_differs, pair_differs}
+use Rattle.etcs_check.specs.Findings.{is_unlike, mark_differs, pair_differs}
 use Rattle.etcs_check.specs.Aspects.{is_used}
 use Rattle.etcs_check.specs.Line.{findings}
 use Rattle.etcs_check.specs.Meaning.{AspectFact, WholeFact, PacketFact, MessageFact, StatesAt}

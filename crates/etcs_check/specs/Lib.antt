@@ -5,6 +5,7 @@ pub mod Findings
 pub mod Aspects
 pub mod Line
 pub mod Identities
+pub mod LineChecker
 pub mod Counters
 pub mod Greatest
 pub mod Meaning

@@ -1,17 +1,11 @@
 //! All rules, looked for in one group and in one message.
 
-ghost use Rattle.std.specs.Prelude.{◌≡◌, ◌≢◌, ◌↔◌, ◌<◌, ◌≤◌, ◌++◌, [], ℕ, false, length, flat_map, None, IsTrue, IfOk, OnOk, OnErr};
+ghost use Rattle.std.specs.Prelude.{◌≡◌, ◌≢◌, ◌<◌, ◌≤◌, ◌++◌, [], false, length, flat_map, IsTrue, OnOk, OnErr};
 ghost use Rattle.etcs_check.specs.Aspects.{aspect_facts, group_facts, rule_facts, whole, whole_facts};
 ghost use Rattle.etcs_check.specs.Counters.{alone_facts};
 ghost use Rattle.etcs_check.specs.Findings.{all_rules, facts_in, facts_of, for_directions, for_each};
-ghost use Rattle.etcs_check.specs.Harm.{HurtsGroup, HurtsMessage};
 ghost use Rattle.etcs_check.specs.Line.{message_facts, message_facts_in, message_findings};
-ghost use Rattle.etcs_check.specs.Meaning.{GroupFact, MessageFact};
 ghost use Rattle.etcs_check.specs.Quiet.{IsQuiet};
-ghost use Rattle.etcs_check.specs.Soundness.{IsSoundControlled, IsSoundMessage};
-ghost use Rattle.etcs_check.specs.declared.finding.Finding.{Finding};
-ghost use Rattle.etcs_check.specs.declared.finding.Site.TheVariants as sites;
-ghost use Rattle.etcs_group.specs.Places.{At};
 
 use crate::aspects::{aspect_of, first_aspect, note_taken, note_untold, whole};
 use crate::balise_rules::{
@@ -22,11 +16,10 @@ use crate::profile_rules::{
     Kind, is_quiet_in, note_lack, note_message_lack, note_message_short, note_short,
 };
 use etcs_bits::Memory;
-use etcs_group::{Controlled, Group};
+use etcs_group::Group;
 use etcs_packet::{Run, TrackPacket};
 use etcs_radio::Message;
 use etcs_telegram::Telegram;
-use std::alloc::Global;
 
 // Appends the findings of a rule about an aspect in one running direction.
 fn note_in(
@@ -308,57 +301,4 @@ pub(crate) fn note_message(
         Message::Movement(movement) => note_packets(found, whole(site), movement.packets()),
         Message::Position(_) => Ok(()),
     }
-}
-
-/// The findings about one balise group, which stands at this place of its line: by rule, then by aspect
-/// (those about the whole group first), by running direction, nominal first, then by balise and packet.
-/// `used` says whether an earlier group of the line has its identity: only then is there a finding
-/// [`Rule::IdentityUsed`].
-///
-/// Memory is asked for only if there is a finding. The only error is that it runs out; then no finding is
-/// returned.
-pub fn check_group(
-    alloc: Global,
-    place: usize,
-    used: bool,
-    group: &Controlled,
-) -> Result<Vec<Finding>, Memory>
-    ensures ok { IfOk result (λ found. found.items ≡ group_facts (sites.Group place) used group.now) }
-    ensures memory { OnErr result (group_facts (sites.Group place) used group.now ≢ []) }
-
-    // No finding means sound, with an identity that no earlier group has.
-    ensures sound { IfOk result (λ found. (found.items ≡ []) ↔ (IsSoundControlled group.now × (used ≡ false))) }
-
-    // A finding is there exactly where its fact stands, and its own part of soundness does not hold there.
-    ensures facts { IfOk result (λ found. (f : Finding) → ((i : ℕ) × At found.items i f)
-        ↔ ((f.site ≡ sites.Group place) × GroupFact used group.now f.rule f.aspect f.dir f.balise f.packet)) }
-    ensures hurts { IfOk result (λ found. (i : ℕ) (f : Finding) → At found.items i f
-        → HurtsGroup (used ≡ false) group.now f.rule f.aspect f.dir f.balise f.packet) }
-{
-    let mut found = Vec::new(alloc);
-    note_group(&mut found, Site::Group(place), used, group.aspects())?;
-    Ok(found)
-}
-
-/// The findings about one radio message, which stands at this place of its line: by rule, then by
-/// running direction, nominal first, then by packet. A message 136 has none.
-///
-/// Memory is asked for only if there is a finding. The only error is that it runs out; then no finding is
-/// returned.
-pub fn check_message(alloc: Global, place: usize, message: &Message) -> Result<Vec<Finding>, Memory>
-    ensures ok { IfOk result (λ found. found.items ≡ message_findings (whole (sites.Message place)) message.now) }
-    ensures memory { OnErr result (message_findings (whole (sites.Message place)) message.now ≢ []) }
-
-    // No finding means sound.
-    ensures sound { IfOk result (λ found. (found.items ≡ []) ↔ IsSoundMessage message.now) }
-
-    // A finding is there exactly where its fact stands, and its own part of soundness does not hold there.
-    ensures facts { IfOk result (λ found. (f : Finding) → ((i : ℕ) × At found.items i f)
-        ↔ ((f.site ≡ sites.Message place) × (f.aspect ≡ None) × MessageFact message.now f.rule f.dir f.balise f.packet)) }
-    ensures hurts { IfOk result (λ found. (i : ℕ) (f : Finding) → At found.items i f
-        → HurtsMessage message.now f.rule f.dir f.balise f.packet) }
-{
-    let mut found = Vec::new(alloc);
-    note_message(&mut found, Site::Message(place), message)?;
-    Ok(found)
 }

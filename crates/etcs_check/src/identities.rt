@@ -1,11 +1,16 @@
-//! Identities that were used before, found by a table of bits and without memory from the heap.
+//! Identities that were used before: kept by their numbers as groups come, or found in a list of groups by a table of
+//! bits and without memory from the heap.
 
-ghost use Rattle.std.specs.Prelude.{◌≡◌, ℕ, ◌+◌, ◌*◌, ◌^◌, ◌<◌, ◌≤◌, ◌||◌, ◌==◌, length, IsTrue, IsFalse};
+ghost use Rattle.std.specs.Prelude.{◌≡◌, ℕ, ◌+◌, ◌*◌, ◌^◌, ◌<◌, ◌≤◌, ◌||◌, ◌==◌, length, IsTrue, IsFalse, OnOk, OnErr};
+ghost use Rattle.std.specs.BTreeSet.{IsUnchanged, contains};
+ghost use Rattle.std.specs.Ordering.{nat_cmp};
 ghost use Rattle.etcs_check.specs.Identities.{AreNumbered, HasNoRepeat, HasRepeat, IsNumbered, identity_number, is_marked, number_of};
 
 use crate::aspects::first_aspect;
+use etcs_bits::Memory;
 use etcs_group::{Controlled, Group};
 use etcs_telegram::Telegram;
+use std::collections::BTreeSet;
 
 // How many identities are looked at in one pass over the groups, 64 to a word of the table.
 const PART: u32 = 2_097_152;
@@ -31,6 +36,17 @@ pub(crate) fn identity_number(aspects: &[Group]) -> u32
 {
     let first = first_aspect(aspects);
     number_of(&first[0])
+}
+
+// Keeps the number of an identity. Memory is asked for only where it was not kept. If it runs out, nothing changes.
+pub(crate) fn keep(kept: &mut BTreeSet<u32>, number: u32) -> Result<(), Memory>
+    ensures ok { OnOk result ((n : ℕ) → contains nat_cmp kept.new n ≡ (number == n || contains nat_cmp kept.old n)) }
+    ensures err { OnErr result (IsUnchanged kept.old kept.new) }
+{
+    match kept.insert(number) {
+        Ok(_) => Ok(()),
+        Err(_) => Err(Memory),
+    }
 }
 
 // Whether the place is marked.

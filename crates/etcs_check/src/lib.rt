@@ -16,9 +16,10 @@ mod finding;
 mod identities;
 pub mod laws;
 mod line;
+mod line_checker;
 mod profile_rules;
 
-pub use checking::{check_group, check_message};
 pub use duplicates::same_packets;
 pub use finding::{Finding, Rule, Site};
 pub use line::{Line, check};
+pub use line_checker::{CheckError, LineChecker};

@@ -1,6 +1,8 @@
 //! A railway line, and all facts against it.
 
-ghost use Rattle.std.specs.Prelude.{◌≡◌, ◌≢◌, ◌↔◌, ◌<◌, ◌++◌, ◌||◌, ◌==◌, [], ℕ, Bool, true, false, List, length, replicate, Option, IfOk, OnOk, OnErr};
+ghost use Rattle.std.specs.Prelude.{◌≡◌, ◌≢◌, ◌↔◌, ◌<◌, ◌++◌, ◌&&◌, ◌||◌, ◌==◌, [], ℕ, Bool, true, false, List, length, Option, IfOk, OnOk, OnErr};
+ghost use Rattle.std.specs.BTreeSet.{contains};
+ghost use Rattle.std.specs.Ordering.{nat_cmp};
 ghost use Rattle.etcs_packet.specs.declared.run.Run.{Run};
 ghost use Rattle.etcs_telegram.specs.Record.{Telegram};
 ghost use Rattle.etcs_group.specs.Places.{At};
@@ -8,21 +10,24 @@ ghost use Rattle.etcs_group.specs.Missed.{IsSetOf};
 ghost use Rattle.etcs_group.specs.Reading.{reading_of};
 ghost use Rattle.etcs_group.specs.Laws.{IsDecided, IsMixtureDecided};
 ghost use Rattle.etcs_group.specs.Mixture.{Fits};
+ghost use Rattle.etcs_check.specs.Aspects.{group_facts};
 ghost use Rattle.etcs_check.specs.Harm.{Hurts};
-ghost use Rattle.etcs_check.specs.Identities.{IsNumbered, identity_number, is_marked};
+ghost use Rattle.etcs_check.specs.Identities.{IsNumbered, identity_number};
 ghost use Rattle.etcs_check.specs.Laws.{AreControlled, NamesTheUnsound};
 ghost use Rattle.etcs_check.specs.Line.{findings, group_list, message_list};
 ghost use Rattle.etcs_check.specs.Meaning.{States};
 ghost use Rattle.etcs_check.specs.Soundness.{IsSoundControlled, IsSoundGroup, IsSoundLine};
 ghost use Rattle.etcs_check.specs.declared.finding.Finding.{Finding};
+ghost use Rattle.etcs_check.specs.declared.finding.Site.TheVariants as sites;
 
 use crate::checking::{note_group, note_message};
 use crate::finding::{Finding, Site};
-use crate::identities::{has_repeat, identity_number, mark};
+use crate::identities::{has_repeat, identity_number, keep};
 use etcs_bits::Memory;
 use etcs_group::{Controlled, Group};
 use etcs_radio::Message;
 use std::alloc::Global;
+use std::collections::BTreeSet;
 
 /// The data of a railway line: its balise groups and its radio messages. A group that no lineside unit
 /// switches has one aspect.
@@ -34,35 +39,27 @@ pub struct Line {
     pub messages: Vec<Message>,
 }
 
-// How many words a table of all identities has.
-const WORDS: usize = 262_144;
-
-// A table of all identities, none of which is marked; an empty one where none is used twice.
-fn table_of(alloc: Global, repeated: bool) -> Result<Vec<u64>, Memory>
-    ensures all { IfOk result (λ table. repeated ≡ true → table.items ≡ replicate 262144 0) }
-    ensures memory { OnErr result (repeated ≡ true) }
-{
-    if repeated {
-        Ok(vec![in alloc; 0u64; WORDS]?)
-    } else {
-        Ok(Vec::new(alloc))
-    }
-}
-
-// Whether the identity of the group is marked in the table; then marks it. Where none is used twice,
-// there is no table.
-fn was_used(table: &mut Vec<u64>, repeated: bool, aspects: &[Group]) -> bool
+// Appends the findings about the group at this place, and keeps its identity, which was used if it was kept before.
+// Where no identity is used again, none is kept, and memory is asked for only if there is a finding.
+fn note_next(
+    found: &mut Vec<Finding>,
+    kept: &mut BTreeSet<u32>,
+    again: bool,
+    place: usize,
+    aspects: &[Group],
+) -> Result<(), Memory>
     requires some { 0 < length aspects.now }
-    requires long { repeated ≡ true → length table.old.items ≡ 262144 }
-    ensures before { repeated ≡ true → result ≡ is_marked table.old.items (identity_number aspects.now) }
-    ensures none { repeated ≡ false → result ≡ false }
-    ensures after { repeated ≡ true → (p : ℕ) → is_marked table.new.items p
-        ≡ (p == identity_number aspects.now || is_marked table.old.items p) }
-    ensures long { repeated ≡ true → length table.new.items ≡ 262144 }
+    ensures ok { OnOk result (found.new.items ≡ found.old.items ++ group_facts (sites.Group place)
+        (again && contains nat_cmp kept.old (identity_number aspects.now)) aspects.now) }
+    ensures kept { OnOk result (again ≡ true → (n : ℕ) → contains nat_cmp kept.new n
+        ≡ (identity_number aspects.now == n || contains nat_cmp kept.old n)) }
+    ensures memory { OnErr result (again ≡ false → group_facts (sites.Group place) false aspects.now ≢ []) }
     ensures numbered { IsNumbered aspects.now }
 {
     let identity = identity_number(aspects);
-    repeated && mark(table, identity as usize)
+    let used = again && kept.contains(&identity);
+    note_group(found, Site::Group(place), used, aspects)?;
+    if again { keep(kept, identity) } else { Ok(()) }
 }
 
 // Appends the findings about the groups. Each of them has aspects of one count.
@@ -71,12 +68,10 @@ fn note_groups(alloc: Global, found: &mut Vec<Finding>, groups: &[Controlled]) -
     ensures memory { OnErr result (group_list groups.now ≢ []) }
     ensures controlled { OnOk result (AreControlled groups.now) }
 {
-    let repeated = has_repeat(groups);
-    let mut table = table_of(alloc, repeated)?;
+    let again = has_repeat(groups);
+    let mut kept = BTreeSet::new(alloc);
     'places: for place in 0..groups.len() {
-        let aspects = groups[place].aspects();
-        let used = was_used(&mut table, repeated, aspects);
-        note_group(found, Site::Group(place), used, aspects)?;
+        note_next(found, &mut kept, again, place, groups[place].aspects())?;
     }
     Ok(())
 }
@@ -108,8 +103,8 @@ fn note_messages(found: &mut Vec<Finding>, messages: &[Message]) -> Result<(), M
 /// - The aspects of a group are contents of one group, and their counters tell them apart. So a train
 ///   that passes while the group is switched refuses what it reads, unless one aspect has all of it.
 ///
-/// Memory is asked for only if there is a finding. An identity that repeats is one, and takes a table of all
-/// identities besides: 2 MiB, once. The only error is that memory runs out; then no finding is returned.
+/// Memory is asked for only if there is a finding. An identity that repeats is one, and then the number of each
+/// identity is kept besides. The only error is that memory runs out; then no finding is returned.
 pub fn check(alloc: Global, line: &Line) -> Result<Vec<Finding>, Memory>
     ensures ok { IfOk result (λ found. found.items ≡ findings line.now.groups.items line.now.messages.items) }
     ensures memory { OnErr result (findings line.now.groups.items line.now.messages.items ≢ []) }

@@ -1,18 +1,12 @@
--- The document of a railway line read from the tokens of its text, and checked group by group, with no
--- value and no line built for it. The keys have to stand in the order in which this project writes them.
--- Any other text is left to the reading of a value.
-use Rattle.std.specs.Prelude.{◌≡◌, ◌++◌, ◌||◌, ◌==◌, ℕ, Bool, true, codes, List, [], ◌∷◌, length, Option, Some, Ok}
+-- The document of a railway line read from the tokens of its text, and checked group by group and message by
+-- message, with no value and no line built for it. A text that this reader does not know is left to that of values.
+use Rattle.std.specs.Prelude.{◌≡◌, ℕ, true, List, [], ◌∷◌, length, Option, Some, Ok}
 use Rattle.json.specs.Token.{Token}
 use Rattle.serde_json.specs.Data.{Data, array, no_items}
-use Rattle.etcs_check.specs.Aspects.{group_facts}
-use Rattle.etcs_check.specs.Identities.{AreNumbered, IsNumbered, identity_number, is_among}
-use Rattle.etcs_check.specs.Line.{group_list, message_list}
-use Rattle.etcs_check.specs.declared.finding.Finding.{Finding}
-use Rattle.etcs_check.specs.declared.finding.Site.TheVariants as sites
-use Rattle.etcs_form.specs.Document.{◌then◌, aspects_of, balises_of, group_at, has_count, line_of, message_at, telegram_at, telegrams_of, values_of}
-use Rattle.etcs_form.specs.Entries.{object_of}
+use Rattle.etcs_check.specs.LineChecker.{HasChecked, Kept}
+use Rattle.etcs_form.specs.Document.{aspects_of, balises_of, group_at, has_count, line_of, message_at, telegram_at, telegrams_of, values_of}
+use Rattle.etcs_form.specs.Entries.{Entry, object_of}
 use Rattle.etcs_form.specs.Tokens.{HasItems, HasMembers, first_value, items_onto}
-use Rattle.etcs_form.specs.Verdict.{Counted, counted, judged}
 use Rattle.etcs_radio.specs.declared.message.Message.{Message}
 use Rattle.etcs_telegram.specs.Record.{Telegram}
 
@@ -83,57 +77,23 @@ pub record HasGroup (depth : ℕ) (old : List Token) (aspects : List (List Teleg
   pub stand : HasMembers depth ((name, Some found) ∷ []) old new
   pub is : IsGroup (object_of ((name, Some found) ∷ [])) aspects
 
--- ---- what was checked
+-- ---- what was handed to a checker
 
--- the first items are so many groups, whose findings were appended
-pub record AreGroups (depth : ℕ) (old : List Token) (count : ℕ) (was found : List Finding) (new : List Token) : Type 0 where
+-- Some items are read. A checker that held the one takes them, and holds the other then.
+pub record AreTaken {X : Type 0} (AreRead : List X → Type 0) (Takes : Kept → List X → Kept → Type 0) (was is : Kept) : Type 0 where
+  pub items : List X
+  pub read : AreRead items
+  pub takes : Takes was items is
+
+-- The value is the document of a line. A checker holds this that has taken its groups and messages.
+pub record IsChecked (d : Data) (kept : Kept) : Type 0 where
   pub groups : List (List (List Telegram))
-  pub first : AreFirst IsGroup depth old groups new
-  pub counts : length groups ≡ count
-  pub finds : found ≡ was ++ group_list groups
-
--- the same, and just the numbers of their identities were seen
-pub record AreSeen (depth : ℕ) (old : List Token) (count : ℕ) (was found : List Finding) (is_seen : ℕ → Bool) (new : List Token) : Type 0 where
-  pub all : AreGroups depth old count was found new
-  pub numbered : AreNumbered all.groups
-  pub seen : (n : ℕ) → is_seen n ≡ is_among all.groups n
-
--- the first value is a group, whose findings were appended, and the number of whose identity is now seen
-pub record IsNextGroup (depth : ℕ) (old : List Token) (place : ℕ) (was : List Finding) (was_seen : ℕ → Bool) (found : List Finding) (is_seen : ℕ → Bool) (new : List Token) : Type 0 where
-  pub group : List (List Telegram)
-  pub first : IsFirst IsGroup depth old group new
-  pub numbered : IsNumbered group
-  pub seen : (n : ℕ) → is_seen n ≡ (identity_number group == n || was_seen n)
-  pub finds : found ≡ was ++ group_facts (sites.Group place) (was_seen (identity_number group)) group
-
--- the first value is the list of so many groups, whose findings were appended
-pub record IsGroupList (depth : ℕ) (old : List Token) (count : ℕ) (was found : List Finding) (new : List Token) : Type 0 where
-  pub groups : List (List (List Telegram))
-  pub first : IsFirst (IsList IsGroup) depth old groups new
-  pub counts : length groups ≡ count
-  pub finds : found ≡ was ++ group_list groups
-
--- the first items are so many messages, whose findings were appended
-pub record AreMessages (depth : ℕ) (old : List Token) (count : ℕ) (was found : List Finding) (new : List Token) : Type 0 where
   pub messages : List Message
-  pub first : AreFirst IsMessage depth old messages new
-  pub counts : length messages ≡ count
-  pub finds : found ≡ was ++ message_list messages
+  pub line : line_of d ≡ Ok (groups, messages)
+  pub checked : HasChecked kept groups messages
 
--- the first value is the list of so many messages, whose findings were appended
-pub record IsMessageList (depth : ℕ) (old : List Token) (count : ℕ) (was found : List Finding) (new : List Token) : Type 0 where
-  pub messages : List Message
-  pub first : IsFirst (IsList IsMessage) depth old messages new
-  pub counts : length messages ≡ count
-  pub finds : found ≡ was ++ message_list messages
-
--- the document of a line with these counts and findings
-abbrev pub IsChecked : Data → Counted → Type 0
-IsChecked d c = (line_of d then λ line. Ok (counted (judged line))) ≡ Ok c
-
--- the first two members are those of a document with these counts and findings
-pub record HasLine (depth : ℕ) (old : List Token) (c : Counted) (new : List Token) : Type 0 where
-  pub groups : Data
-  pub messages : Data
-  pub stand : HasMembers depth ((codes "groups", Some groups) ∷ (codes "messages", Some messages) ∷ []) old new
-  pub is : IsChecked (object_of ((codes "groups", Some groups) ∷ (codes "messages", Some messages) ∷ [])) c
+-- the first members are those of such a document
+pub record HasLine (depth : ℕ) (old : List Token) (kept : Kept) (new : List Token) : Type 0 where
+  pub entries : List Entry
+  pub stand : HasMembers depth entries old new
+  pub is : IsChecked (object_of entries) kept

@@ -1,27 +1,25 @@
-//! The document of a railway line, checked group by group as it is read.
+//! The document of a railway line, checked group by group as it is read. Where a function here answers no, nothing is
+//! told of the document.
 
-ghost use Rattle.std.specs.Prelude.{◌≡◌, ◌+◌, ◌++◌, [], false, List, Ok, Some, IfOk, IfSome, IsTrue};
-ghost use Rattle.std.specs.BTreeSet.{contains};
-ghost use Rattle.std.specs.Ordering.{nat_cmp};
+ghost use Rattle.std.specs.Prelude.{◌≡◌, ◌∷◌, [], false, List, codes, Ok, Some, IfOk, IfSome, IsTrue};
 ghost use Rattle.std.specs.Str.{is_utf8};
-ghost use Rattle.json.specs.Json.{after_end_array};
+ghost use Rattle.json.specs.Json.{after_end_array, read_key};
 ghost use Rattle.json.specs.Token.{Token as JsonToken};
-ghost use Rattle.etcs_check.specs.Line.{message_at};
+ghost use Rattle.etcs_check.specs.LineChecker.{HasChecked, TakesGroups, TakesMessages};
 ghost use Rattle.etcs_form.specs.DocumentFault.{Gives};
-ghost use Rattle.etcs_form.specs.DocumentTokens.{AreGroups, AreMessages, HasLine, IsChecked, IsFirst, IsGroupList, IsMessage, IsMessageList, IsNextGroup};
-ghost use Rattle.etcs_form.specs.Verdict.{NamesTheUnsoundIn, TextSaysYes, counted_of_text};
+ghost use Rattle.etcs_form.specs.DocumentTokens.{AreFirst, AreTaken, HasLine, IsChecked, IsFirst, IsGroup, IsList, IsMessage};
+ghost use Rattle.etcs_form.specs.Verdict.{NamesTheUnsoundIn, TextSaysYes, counted, counted_of_text, judged};
+ghost use Rattle.etcs_radio.specs.declared.message.Message.{Message as SomeMessage};
+ghost use Rattle.etcs_telegram.specs.Record.{Telegram};
 
-use crate::identities::{identity_number, keep};
 use crate::judging::check_text;
 use crate::line_error::LineError;
 use crate::token_groups::{group, message, pass_list};
 use crate::token_members::{pass_begin, pass_end};
 use crate::token_reading::pass_key;
-use etcs_check::{Finding, check_group, check_message};
-use etcs_radio::Message;
+use etcs_check::{Finding, LineChecker};
 use json::{Reader, Scratch};
 use std::alloc::Global;
-use std::collections::BTreeSet;
 
 // How deep a document may nest.
 const DEPTH: usize = 127;
@@ -37,171 +35,176 @@ pub struct Checked {
     pub findings: Vec<Finding>,
 }
 
-// Appends findings.
-fn push_all(findings: &mut Vec<Finding>, mut more: Vec<Finding>) -> bool
-    ensures { IsTrue result → findings.new.items ≡ findings.old.items ++ more.items }
-{
-    findings.append(&mut more).is_ok()
-}
-
-// Reads the next group, keeps its identity, and appends the findings about it.
+// Reads the next group, and hands it to the checker.
 fn next_group(
     alloc: Global,
     reader: &mut Reader<'_>,
     depth: usize,
-    place: usize,
-    seen: &mut BTreeSet<u32>,
-    findings: &mut Vec<Finding>,
+    checker: &mut LineChecker,
 ) -> bool
-    ensures { IsTrue result → IsNextGroup depth reader.old place findings.old.items (contains nat_cmp seen.old)
-        findings.new.items (contains nat_cmp seen.new) reader.new }
+    ensures { IsTrue result → (g : List (List Telegram)) × IsFirst IsGroup depth reader.old g reader.new
+        × TakesGroups checker.old (g ∷ []) checker.new }
 {
     let Some(group) = group(alloc, reader, depth) else {
         return false;
     };
-    let Some(used) = keep(seen, identity_number(&group)) else {
-        return false;
-    };
-    match check_group(alloc, place, used, &group) {
-        Ok(more) => push_all(findings, more),
-        Err(_) => false,
-    }
+    checker.group(alloc, &group).is_ok()
 }
 
-// Reads groups, one after the other, up to the end of their list, and appends the findings about them.
-// Returns how many there are.
+// Reads groups up to the end of their list, and hands each to the checker.
 fn each_group(
     alloc: Global,
     reader: &mut Reader<'_>,
     depth: usize,
-    findings: &mut Vec<Finding>,
-) -> Option<usize>
-    ensures { IfSome result (λ n. (ended : List JsonToken)
-        × AreGroups depth reader.old n findings.old.items findings.new.items ended
-        × (after_end_array ended ≡ Some reader.new)) }
+    checker: &mut LineChecker,
+) -> bool
+    ensures { IsTrue result → (ended : List JsonToken)
+        × AreTaken (λ gs. AreFirst IsGroup depth reader.old gs ended) TakesGroups checker.old checker.new
+        × (after_end_array ended ≡ Some reader.new) }
 {
-    let mut seen = BTreeSet::new(alloc);
-    let mut count: usize = 0;
     'groups: while !reader.take_end_array() {
-        if !next_group(alloc, reader, depth, count, &mut seen, findings) {
-            return None;
+        if !next_group(alloc, reader, depth, checker) {
+            return false;
         }
-        count = count.checked_add(1)?;
     }
-    Some(count)
+    true
 }
 
-// Reads the list of groups, and appends the findings about them.
-fn groups(
-    alloc: Global,
-    reader: &mut Reader<'_>,
-    depth: usize,
-    findings: &mut Vec<Finding>,
-) -> Option<usize>
-    ensures { IfSome result (λ n. IsGroupList depth reader.old n findings.old.items findings.new.items reader.new) }
+// Reads the list of groups, and hands each to the checker.
+fn groups(alloc: Global, reader: &mut Reader<'_>, depth: usize, checker: &mut LineChecker) -> bool
+    ensures { IsTrue result → AreTaken (λ gs. IsFirst (IsList IsGroup) depth reader.old gs reader.new)
+        TakesGroups checker.old checker.new }
 {
     if depth == 0 || !pass_list(reader) {
-        return None;
+        return false;
     }
-    each_group(alloc, reader, depth - 1, findings)
+    each_group(alloc, reader, depth - 1, checker)
 }
 
-// Reads the next message, and appends the findings about it.
+// Reads the next message, and hands it to the checker.
 fn next_message(
     alloc: Global,
     reader: &mut Reader<'_>,
     depth: usize,
-    place: usize,
-    findings: &mut Vec<Finding>,
-) -> Option<Message>
-    ensures { IfSome result (λ m. IsFirst IsMessage depth reader.old m reader.new
-        × (findings.new.items ≡ findings.old.items ++ message_at place m)) }
+    checker: &mut LineChecker,
+) -> bool
+    ensures { IsTrue result → (m : SomeMessage) × IsFirst IsMessage depth reader.old m reader.new
+        × TakesMessages checker.old (m ∷ []) checker.new }
 {
-    let message = message(alloc, reader, depth)?;
-    match check_message(alloc, place, &message) {
-        Ok(more) => {
-            if push_all(findings, more) {
-                Some(message)
-            } else {
-                None
-            }
-        }
-        Err(_) => None,
-    }
+    let Some(message) = message(alloc, reader, depth) else {
+        return false;
+    };
+    checker.message(alloc, &message).is_ok()
 }
 
-// Reads messages, one after the other, up to the end of their list, and appends the findings about
-// them. Returns how many there are.
+// Reads messages up to the end of their list, and hands each to the checker.
 fn each_message(
     alloc: Global,
     reader: &mut Reader<'_>,
     depth: usize,
-    findings: &mut Vec<Finding>,
-) -> Option<usize>
-    ensures { IfSome result (λ n. (ended : List JsonToken)
-        × AreMessages depth reader.old n findings.old.items findings.new.items ended
-        × (after_end_array ended ≡ Some reader.new)) }
+    checker: &mut LineChecker,
+) -> bool
+    ensures { IsTrue result → (ended : List JsonToken)
+        × AreTaken (λ ms. AreFirst IsMessage depth reader.old ms ended) TakesMessages checker.old checker.new
+        × (after_end_array ended ≡ Some reader.new) }
 {
-    let mut count: usize = 0;
     'messages: while !reader.take_end_array() {
-        next_message(alloc, reader, depth, count, findings)?;
-        count = count.checked_add(1)?;
+        if !next_message(alloc, reader, depth, checker) {
+            return false;
+        }
     }
-    Some(count)
+    true
 }
 
-// Reads the list of messages, and appends the findings about them.
-fn messages(
+// Reads the list of messages, and hands each to the checker.
+fn messages(alloc: Global, reader: &mut Reader<'_>, depth: usize, checker: &mut LineChecker) -> bool
+    ensures { IsTrue result → AreTaken (λ ms. IsFirst (IsList IsMessage) depth reader.old ms reader.new)
+        TakesMessages checker.old checker.new }
+{
+    if depth == 0 || !pass_list(reader) {
+        return false;
+    }
+    each_message(alloc, reader, depth - 1, checker)
+}
+
+// Reads the groups, whose key was passed, and then the messages.
+fn groups_first(
     alloc: Global,
     reader: &mut Reader<'_>,
     depth: usize,
-    findings: &mut Vec<Finding>,
-) -> Option<usize>
-    ensures { IfSome result (λ n. IsMessageList depth reader.old n findings.old.items findings.new.items reader.new) }
+    checker: &mut LineChecker,
+) -> bool
+    ensures { IsTrue result → HasChecked checker.old [] [] → (old : List JsonToken)
+        → read_key old ≡ Some (Some (codes "groups"), reader.old) → HasLine depth old checker.new reader.new }
 {
-    if depth == 0 || !pass_list(reader) {
-        return None;
+    if !groups(alloc, reader, depth, checker) || !pass_key(reader, "messages") {
+        return false;
     }
-    each_message(alloc, reader, depth - 1, findings)
+    messages(alloc, reader, depth, checker)
 }
 
-// Reads the two members of a document, the groups and then the messages.
-fn members(alloc: Global, reader: &mut Reader<'_>, depth: usize) -> Option<Checked>
-    ensures { IfSome result (λ c. HasLine depth reader.old ((c.groups, c.messages), c.findings.items) reader.new) }
+// Reads the messages, whose key was passed, and then the groups.
+fn messages_first(
+    alloc: Global,
+    reader: &mut Reader<'_>,
+    depth: usize,
+    checker: &mut LineChecker,
+) -> bool
+    ensures { IsTrue result → HasChecked checker.old [] [] → (old : List JsonToken)
+        → read_key old ≡ Some (Some (codes "messages"), reader.old) → HasLine depth old checker.new reader.new }
 {
-    let mut findings = Vec::new(alloc);
-    if !pass_key(reader, "groups") {
-        return None;
+    if !messages(alloc, reader, depth, checker) || !pass_key(reader, "groups") {
+        return false;
     }
-    let groups = groups(alloc, reader, depth, &mut findings)?;
-    if !pass_key(reader, "messages") {
-        return None;
-    }
-    let messages = messages(alloc, reader, depth, &mut findings)?;
-    Some(Checked {
-        groups,
-        messages,
-        findings,
-    })
+    groups(alloc, reader, depth, checker)
 }
 
-// Reads and checks a document.
-fn document(alloc: Global, reader: &mut Reader<'_>, depth: usize) -> Option<Checked>
-    ensures { IfSome result (λ c. IsFirst IsChecked depth reader.old ((c.groups, c.messages), c.findings.items) reader.new) }
+// Reads the two members of a document, in whichever order they stand.
+fn members(alloc: Global, reader: &mut Reader<'_>, depth: usize, checker: &mut LineChecker) -> bool
+    ensures { IsTrue result → HasChecked checker.old [] [] → HasLine depth reader.old checker.new reader.new }
+{
+    let Ok(Some(name)) = reader.next_key() else {
+        return false;
+    };
+    if name == "groups" {
+        return groups_first(alloc, reader, depth, checker);
+    }
+    if name == "messages" {
+        return messages_first(alloc, reader, depth, checker);
+    }
+    false
+}
+
+// Reads a document, and hands its groups and messages to the checker.
+fn document(alloc: Global, reader: &mut Reader<'_>, depth: usize, checker: &mut LineChecker) -> bool
+    ensures { IsTrue result → HasChecked checker.old [] []
+        → IsFirst IsChecked depth reader.old checker.new reader.new }
 {
     if depth == 0 || !pass_begin(reader) {
-        return None;
+        return false;
     }
-    let checked = members(alloc, reader, depth - 1)?;
-    if pass_end(reader) {
-        Some(checked)
-    } else {
-        None
+    members(alloc, reader, depth - 1, checker) && pass_end(reader)
+}
+
+// What a checker has found.
+fn found_by(checker: LineChecker) -> Option<Checked>
+    ensures { IfSome result (λ c. (gs : List (List (List Telegram))) (ms : List SomeMessage)
+        → HasChecked checker gs ms → ((c.groups, c.messages), c.findings.items) ≡ counted (judged (gs, ms))) }
+{
+    let groups = checker.groups();
+    let messages = checker.messages();
+    match checker.finish() {
+        Ok(findings) => Some(Checked {
+            groups,
+            messages,
+            findings,
+        }),
+        Err(_) => None,
     }
 }
 
-/// Reads and checks bytes with the keys in the order in which this project writes them. Of any other
-/// bytes, and where memory runs out, nothing is told.
+/// Reads and checks a document group by group and message by message. None tells nothing: a key may stand twice, the
+/// bytes may be no document, or memory may have run out.
 pub(crate) fn quick_check(alloc: Global, bytes: &[u8]) -> Option<Checked>
     ensures { IfSome result
         (λ c. counted_of_text bytes.now ≡ Ok ((c.groups, c.messages), c.findings.items)) }
@@ -213,18 +216,23 @@ pub(crate) fn quick_check(alloc: Global, bytes: &[u8]) -> Option<Checked>
     let Ok(mut reader) = Reader::new(text, &mut scratch) else {
         return None;
     };
-    let checked = document(alloc, &mut reader, DEPTH)?;
+    let mut checker = LineChecker::new(alloc);
+    if !document(alloc, &mut reader, DEPTH, &mut checker) {
+        return None;
+    }
     match reader.next() {
-        None => Some(checked),
+        None => found_by(checker),
         Some(_) => None,
     }
 }
 
-/// Checks the document of a railway line as [`check_text`] does, and keeps how many groups and messages
-/// there are and what is found about them, but no record. A document whose keys stand in the order
-/// `groups`, `messages` takes no more memory than one byte for each of its bytes, the identities, the
-/// records of one group or message at a time, and the findings. Any other document, one
-/// that is refused, and one for which memory ran out, is read as by [`check_text`].
+/// Checks the document of a railway line as [`check_text`] does, but keeps no group and no message: only their counts,
+/// and what is found about them.
+///
+/// A document in which no key stands twice is read group by group and message by message, in either order of the two
+/// lists. That takes one byte of memory for each byte of the document. Besides it takes the identities, the findings,
+/// and the records of one group or message at a time. Any other document is read as by [`check_text`]. So is one that
+/// is refused, and one for which memory ran out.
 ///
 /// The error is that of [`check_text`]. After an error neither counts nor findings are returned.
 pub fn check_in_order(alloc: Global, bytes: &[u8]) -> Result<Checked, LineError>

@@ -11,7 +11,7 @@
 //! and [`refusal_text`] why an input is refused.
 //!
 //! Two quick readers build no JSON value: [`read_quickly`] reads a record from the tokens of its form,
-//! and [`check_in_order`] checks a document group by group. They know one spelling, and leave any other
+//! and [`check_in_order`] checks a document group by group. They know few spellings, and leave any other
 //! to the readers above, whose answer theirs is. Read `token_form.rt` first, with `specs/Tokens.antt`.
 #![tactic(auto)]
 
@@ -30,7 +30,6 @@ mod error;
 mod form;
 mod gradient_form;
 mod head_form;
-mod identities;
 mod in_order;
 mod integrity_form;
 mod judging;

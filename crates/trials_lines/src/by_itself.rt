@@ -1,11 +1,11 @@
-//! Groups and messages that are checked by themselves, and telegrams that are compared: what no document asks.
+//! Groups and messages that are handed to a checker, and telegrams that are compared: what no document asks.
 
 use crate::halt::Halt;
 use crate::shared::{
-    ALONE, FIRST, FIRST_7, MESSAGE, REPORT, SECOND, SECOND_7, SECOND_8, WITH_GRADIENT, controlled,
-    telegram,
+    ALONE, FIRST, FIRST_7, FIRST_8, MESSAGE, REPORT, SECOND, SECOND_7, SECOND_8, WITH_GRADIENT,
+    controlled, telegram,
 };
-use etcs_check::{Finding, check_group, check_message, same_packets};
+use etcs_check::{LineChecker, same_packets};
 use etcs_form::report_counts;
 use etcs_packet::Run;
 use etcs_radio::from_hex;
@@ -17,60 +17,84 @@ const IN_ONE_ORDER: &str = "a102ff802000c5601b40001fe01b80740000fe003f";
 
 const IN_ANOTHER: &str = "a1137f802000c6e01d00003f80015806d00007f83f";
 
-const SOUND: &str = "yes: groups 0, messages 0\n";
-
-/// Aspects, whether the identity was used before, and what is found about the group with number 3.
-const GROUPS: [(&[&[&str]], bool, &str); 3] = [
-    (&[&[ALONE]], false, SOUND),
+/// The aspects of each group, the messages, and what is told of the line.
+const LINES: [(&[&[&[&str]]], &[&str], &str); 4] = [
+    (&[&[&[ALONE]]], &[REPORT], "yes: groups 1, messages 1\n"),
     (
-        &[&[SECOND]],
-        true,
-        "no: findings 4\n\
-F1 group 3 balise 0: position wrong\n\
-F2 group 3 balise 0: total wrong\n\
-F4 group 3 balise 0: mark points outside\n\
-F14 group 3: identity used before\n",
-    ),
-    (
-        &[&[FIRST_7, SECOND_7], &[FIRST_7, SECOND_8]],
-        true,
+        &[&[&[FIRST_7, SECOND_7], &[FIRST_8, SECOND_8]], &[&[ALONE]]],
+        &[MESSAGE],
         "no: findings 3\n\
-F7 group 3 aspect 1 balise 1: counters differ\n\
-F14 group 3: identity used before\n\
-F16 group 3 aspect 1 balise 0: aspects not told apart\n",
+F14 group 1: identity used before\n\
+F10 message 0 nominal: no gradient\n\
+F12 message 0 nominal: no speed profile\n",
     ),
-];
-
-/// Messages, and what is found about the one with number 2.
-const MESSAGES: [(&str, &str); 2] = [
     (
-        MESSAGE,
-        "no: findings 2\nF10 message 2 nominal: no gradient\nF12 message 2 nominal: no speed profile\n",
+        &[&[&[SECOND]]],
+        &[REPORT, MESSAGE],
+        "no: findings 5\n\
+F1 group 0 balise 0: position wrong\n\
+F2 group 0 balise 0: total wrong\n\
+F4 group 0 balise 0: mark points outside\n\
+F10 message 1 nominal: no gradient\n\
+F12 message 1 nominal: no speed profile\n",
     ),
-    (REPORT, SOUND),
+    (
+        &[&[&[FIRST_7, SECOND_7], &[FIRST_7, SECOND_8]]],
+        &[],
+        "no: findings 2\n\
+F7 group 0 aspect 1 balise 1: counters differ\n\
+F16 group 0 aspect 1 balise 0: aspects not told apart\n",
+    ),
 ];
 
-// The findings as text.
-fn told(alloc: Global, found: &[Finding]) -> Result<String, Halt> {
-    Ok(report_counts(alloc, 0, 0, found)?)
+// Hands the groups to a checker.
+fn take_groups(
+    alloc: Global,
+    checker: &mut LineChecker,
+    groups: &[&[&[&str]]],
+) -> Result<(), Halt> {
+    'groups: for aspects in groups {
+        checker.group(alloc, &controlled(alloc, aspects)?)?;
+    }
+    Ok(())
+}
+
+// Hands the messages to it.
+fn take_messages(alloc: Global, checker: &mut LineChecker, texts: &[&str]) -> Result<(), Halt> {
+    'messages: for text in texts {
+        checker.message(alloc, &from_hex(alloc, text.as_bytes())?)?;
+    }
+    Ok(())
+}
+
+// What a checker tells of what it took.
+fn told(alloc: Global, checker: LineChecker) -> Result<String, Halt> {
+    let groups = checker.groups();
+    let messages = checker.messages();
+    let found = checker.finish()?;
+    Ok(report_counts(alloc, groups, messages, found.as_slice())?)
 }
 
 #[test]
-fn a_group_is_checked_by_itself(rt: HostRuntime) -> Result<(), Fail> {
+fn a_line_is_checked_as_it_comes(rt: HostRuntime) -> Result<(), Fail> {
     let alloc = rt.alloc();
-    'rows: for (aspects, used, wanted) in &GROUPS {
-        let found = check_group(alloc, 3, *used, &controlled(alloc, aspects)?)?;
-        assert_eq!(rt; told(alloc, found.as_slice())?.as_str(), *wanted);
+    'rows: for (groups, messages, wanted) in &LINES {
+        let mut checker = LineChecker::new(alloc);
+        take_groups(alloc, &mut checker, groups)?;
+        take_messages(alloc, &mut checker, messages)?;
+        assert_eq!(rt; told(alloc, checker)?.as_str(), *wanted);
     }
     Ok(())
 }
 
 #[test]
-fn a_message_is_checked_by_itself(rt: HostRuntime) -> Result<(), Fail> {
+fn messages_may_come_first(rt: HostRuntime) -> Result<(), Fail> {
     let alloc = rt.alloc();
-    'rows: for (text, wanted) in &MESSAGES {
-        let found = check_message(alloc, 2, &from_hex(alloc, text.as_bytes())?)?;
-        assert_eq!(rt; told(alloc, found.as_slice())?.as_str(), *wanted);
+    'rows: for (groups, messages, wanted) in &LINES {
+        let mut checker = LineChecker::new(alloc);
+        take_messages(alloc, &mut checker, messages)?;
+        take_groups(alloc, &mut checker, groups)?;
+        assert_eq!(rt; told(alloc, checker)?.as_str(), *wanted);
     }
     Ok(())
 }

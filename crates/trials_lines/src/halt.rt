@@ -1,6 +1,7 @@
 //! Why calls came to no answer. A test of refused memory has to tell want of memory from anything else.
 
 use etcs_bits::{DecodeError, Memory};
+use etcs_check::CheckError;
 use etcs_form::{FormError, LineError};
 use etcs_group::Refused;
 use etcs_radio::RadioTextError;
@@ -61,6 +62,12 @@ impl From<etcs_telegram::EncodeError> for Halt {
 impl From<etcs_radio::EncodeError> for Halt {
     fn from(error: etcs_radio::EncodeError) -> Halt {
         halt_of(error == etcs_radio::EncodeError::Memory)
+    }
+}
+
+impl From<CheckError> for Halt {
+    fn from(error: CheckError) -> Halt {
+        halt_of(error == CheckError::Memory)
     }
 }
 

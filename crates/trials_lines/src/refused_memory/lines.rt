@@ -7,7 +7,7 @@ use crate::shared::{
     controlled, group,
 };
 use etcs_bits::Memory;
-use etcs_check::{Finding, Line, check, check_group, check_message};
+use etcs_check::{Finding, Line, LineChecker, check};
 use etcs_group::{Controlled, Missed, Mixture, assemble};
 use etcs_packet::Run;
 use etcs_radio::from_hex;
@@ -51,30 +51,68 @@ fn repeated_group(alloc: Global) -> Answer {
     are_found(check(alloc, &line), 1)
 }
 
+// Whether a checker has so many findings. None of them are about groups, or none about messages: no memory is due.
+fn has_found(checker: LineChecker, count: usize) -> Answer {
+    match checker.finish() {
+        Ok(found) => Ok(found.len() == count),
+        Err(_) => Ok(false),
+    }
+}
+
+// Whether so much is found about a group that is handed over so many times, once more where it was refused. Each time
+// memory is due: for its identity, or for the finding that it was used.
+fn is_found(alloc: Global, group: &Controlled, times: usize, count: usize) -> Answer {
+    let mut checker = LineChecker::new(alloc);
+    'times: for _ in 0..times {
+        if checker.group(alloc, group).is_err() {
+            checker.group(alloc, group)?;
+        }
+    }
+    has_found(checker, count)
+}
+
 fn sound_group(alloc: Global) -> Answer {
     let pair = controlled(alloc, &[&[FIRST_7, SECOND_7], &[FIRST_8, SECOND_8]])?;
-    are_found(check_group(alloc, 0, false, &pair), 0)
+    is_found(alloc, &pair, 1, 0)
 }
 
 // A group whose aspects are not told apart.
 fn equal_aspects(alloc: Global) -> Answer {
     let pair = controlled(alloc, &[&[FIRST_7, SECOND_7], &[FIRST_7, SECOND_7]])?;
-    are_found(check_group(alloc, 0, false, &pair), 2)
+    is_found(alloc, &pair, 1, 2)
 }
 
 fn used_group(alloc: Global) -> Answer {
     let alone = controlled(alloc, &[&[ALONE]])?;
-    are_found(check_group(alloc, 0, true, &alone), 1)
+    is_found(alloc, &alone, 2, 1)
 }
 
+// A message without findings asks for no memory.
 fn sound_message(alloc: Global) -> Answer {
     let message = from_hex(alloc, REPORT.as_bytes())?;
-    are_found(check_message(alloc, 0, &message), 0)
+    let mut checker = LineChecker::new(alloc);
+    if checker.message(alloc, &message).is_err() {
+        return Ok(false);
+    }
+    has_found(checker, 0)
 }
 
+// A message with findings, handed over once more where it was refused.
 fn unsound_message(alloc: Global) -> Answer {
     let message = from_hex(alloc, MESSAGE.as_bytes())?;
-    are_found(check_message(alloc, 0, &message), 2)
+    let mut checker = LineChecker::new(alloc);
+    if checker.message(alloc, &message).is_err() {
+        checker.message(alloc, &message)?;
+    }
+    has_found(checker, 2)
+}
+
+// Findings of both kinds are put together, which may take memory.
+fn both_kinds(alloc: Global) -> Answer {
+    let mut checker = LineChecker::new(alloc);
+    checker.group(alloc, &controlled(alloc, &[&[SECOND]])?)?;
+    checker.message(alloc, &from_hex(alloc, MESSAGE.as_bytes())?)?;
+    are_found(checker.finish(), 5)
 }
 
 // What a train reads of a group, and the packets of it: an authority and both profiles.
@@ -102,7 +140,7 @@ fn mixed(alloc: Global) -> Answer {
     are_two(alloc, &pair, &Mixture { run, shown })
 }
 
-pub fn answers(alloc: Global) -> [Answer; 10] {
+pub fn answers(alloc: Global) -> [Answer; 11] {
     [
         sound_pair(alloc),
         sound_line(alloc),
@@ -112,6 +150,7 @@ pub fn answers(alloc: Global) -> [Answer; 10] {
         used_group(alloc),
         sound_message(alloc),
         unsound_message(alloc),
+        both_kinds(alloc),
         reading(alloc),
         mixed(alloc),
     ]

@@ -1,22 +1,21 @@
 use Rattle.std.proofs.Common.{rules, length, ap, arith}
-use Rattle.std.specs.BTreeSet.{contains}
-use Rattle.std.specs.Ordering.{is_eq, nat_cmp}
-use Rattle.std.specs.List.{list_any}
+use Rattle.etcs_check.specs.LineChecker.{TakesGroups}
+use Rattle.etcs_check.proofs.CheckerLemmas.{more_groups, no_groups}
 use Rattle.etcs_form.specs.DocumentTokens.{IsGroup}
 use Rattle.etcs_form.proofs.DocumentTokenLemmas.{first_shorter}
-use Rattle.etcs_form.proofs.InOrderLemmas.{groups_more, none_seen}
+use Rattle.etcs_form.proofs.InOrderLemmas.{none_taken, one_taken}
 use Rattle.etcs_form.proofs.in_order.each_group.Goals as goal
 
 pub groups-init : goal.groups-init
-groups-init c = none_seen _ _ _ (contains nat_cmp c.new-seen.result) (λ n. ap (λ ks. list_any (λ k. is_eq (nat_cmp n k)) ks) c.new-seen.ensures.empty)
+groups-init c = none_taken IsGroup TakesGroups _ _ _ (no_groups _)
 
 pub groups-smaller : goal.groups-smaller
 groups-smaller c =
     let one = c.next_group.ensures (search rules) in
-    omega (arith, ap length c.groups-test.ensures.1, first_shorter IsGroup _ _ _ _ one.first)
+    omega (arith, ap length c.groups-test.ensures.1, first_shorter IsGroup _ _ _ _ one.1)
 
--- one more group was read and checked, and its identity kept
+-- one more was read, and handed to the checker
 pub groups-preserved : goal.groups-preserved
 groups-preserved c =
     let one = c.next_group.ensures (search rules) in
-    groups_more _ _ c.groups.count _ _ c.groups.findings.items _ (contains nat_cmp c.groups.seen) _ _ _ c.groups.invariant c.groups-test.ensures.0 (rw c.groups-test.ensures.1 at one) c.in_ok-count.ensures.1
+    one_taken IsGroup TakesGroups _ _ _ _ _ _ _ (more_groups _ _ _) c.groups.invariant c.groups-test.ensures.0 one.0 (rw c.groups-test.ensures.1 at one.1) one.2

@@ -1,17 +1,21 @@
-use Rattle.std.proofs.Common.{length, ap, arith}
+use Rattle.std.proofs.Common.{rules, length, ap, arith}
+use Rattle.etcs_check.specs.LineChecker.{TakesMessages}
+use Rattle.etcs_check.proofs.CheckerLemmas.{more_messages, no_messages}
 use Rattle.etcs_form.specs.DocumentTokens.{IsMessage}
 use Rattle.etcs_form.proofs.DocumentTokenLemmas.{first_shorter}
-use Rattle.etcs_form.proofs.InOrderLemmas.{messages_more, none_told}
+use Rattle.etcs_form.proofs.InOrderLemmas.{none_taken, one_taken}
 use Rattle.etcs_form.proofs.in_order.each_message.Goals as goal
 
 pub messages-init : goal.messages-init
-messages-init c = none_told _ _ _
+messages-init c = none_taken IsMessage TakesMessages _ _ _ (no_messages _)
 
 pub messages-smaller : goal.messages-smaller
-messages-smaller c = omega (arith, ap length c.messages-test.ensures.1, first_shorter IsMessage _ _ _ _ c.in_ok-next_message.ensures.0)
+messages-smaller c =
+    let one = c.next_message.ensures (search rules) in
+    omega (arith, ap length c.messages-test.ensures.1, first_shorter IsMessage _ _ _ _ one.1)
 
--- one more message was read and checked
+-- one more was read, and handed to the checker
 pub messages-preserved : goal.messages-preserved
 messages-preserved c =
-    messages_more _ _ c.messages.count _ _ c.messages.findings.items _ c.in_ok-next_message.field-0 _ _ c.messages.invariant c.messages-test.ensures.0 (rw c.messages-test.ensures.1 at c.in_ok-next_message.ensures.0)
-    c.in_ok-next_message.ensures.1 c.in_ok-count.ensures.1
+    let one = c.next_message.ensures (search rules) in
+    one_taken IsMessage TakesMessages _ _ _ _ _ _ _ (more_messages _ _ _) c.messages.invariant c.messages-test.ensures.0 one.0 (rw c.messages-test.ensures.1 at one.1) one.2

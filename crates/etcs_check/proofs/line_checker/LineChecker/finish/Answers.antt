@@ -1,0 +1,28 @@
+use Rattle.etcs_check.proofs.CheckerLemmas.{held_findings}
+use Rattle.etcs_check.proofs.TellingLemmas.{found_all, found_facts, found_sound, found_unnamed}
+use Rattle.etcs_check.proofs.line_checker.LineChecker.finish.Goals as goal
+
+-- The list has the findings of the line that was taken.
+pub returns-clause-ok : goal.returns-clause-ok
+returns-clause-ok c = λ gs ms was. held_findings _ _ _ gs ms c.self.view_is c.in_ok-append.ensures.ok was
+
+-- It is empty exactly where the line is sound.
+pub returns-clause-sound : goal.returns-clause-sound
+returns-clause-sound c = λ gs ms was.
+    found_sound gs ms _ (held_findings _ _ _ gs ms c.self.view_is c.in_ok-append.ensures.ok was) was.controlled
+
+-- Each finding names its group or its message.
+pub returns-clause-unnamed : goal.returns-clause-unnamed
+returns-clause-unnamed c = λ gs ms was.
+    found_unnamed gs ms _ (held_findings _ _ _ gs ms c.self.view_is c.in_ok-append.ensures.ok was) was.controlled
+
+-- Each finding is a fact, and each fact has its finding.
+pub returns-clause-facts : goal.returns-clause-facts
+returns-clause-facts c = λ gs ms was f.
+    let is = held_findings _ _ _ gs ms c.self.view_is c.in_ok-append.ensures.ok was in
+    (λ listed. (found_facts gs ms _ is was.controlled listed.0 f listed.1).0, λ fact. found_all gs ms _ is f fact)
+
+-- Each finding hurts.
+pub returns-clause-hurts : goal.returns-clause-hurts
+returns-clause-hurts c = λ gs ms was i f at.
+    (found_facts gs ms _ (held_findings _ _ _ gs ms c.self.view_is c.in_ok-append.ensures.ok was) was.controlled i f at).1

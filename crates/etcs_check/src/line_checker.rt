@@ -1,0 +1,200 @@
+//! A railway line that is checked as it comes, and not kept.
+
+ghost use Rattle.std.specs.Prelude.{◌≡◌, ◌≢◌, ◌↔◌, ◌∷◌, ◌++◌, [], ℕ, List, length, IfOk, IsErrOf, OnOk, OnErr};
+ghost use Rattle.etcs_radio.specs.declared.message.Message.{Message as SomeMessage};
+ghost use Rattle.etcs_telegram.specs.Record.{Telegram};
+ghost use Rattle.etcs_group.specs.Places.{At};
+ghost use Rattle.etcs_check.specs.Harm.{Hurts};
+ghost use Rattle.etcs_check.specs.Laws.{NamesTheUnsound};
+ghost use Rattle.etcs_check.specs.Line.{findings, group_list, message_at, message_list};
+ghost use Rattle.etcs_check.specs.LineChecker.{HasChecked, HasStill, TakesGroups, TakesMessages};
+ghost use Rattle.etcs_check.specs.Meaning.{States};
+ghost use Rattle.etcs_check.specs.Soundness.{IsSoundLine};
+ghost use Rattle.etcs_check.specs.declared.finding.Finding.{Finding as SomeFinding};
+
+use crate::checking::{note_group, note_message};
+use crate::finding::{Finding, Site};
+use crate::identities::{identity_number, keep};
+use etcs_bits::Memory;
+use etcs_group::Controlled;
+use etcs_radio::Message;
+use std::alloc::Global;
+use std::collections::BTreeSet;
+use std::marker::Model;
+use thiserror::Error;
+
+/// Why a group or a message was not taken.
+#[derive(Clone, Copy, Debug, PartialEq, Eq, Error)]
+pub enum CheckError {
+    /// Memory ran out.
+    #[error("out of memory")]
+    Memory,
+    /// `usize::MAX` of them were taken before, and no more can be counted.
+    #[error("too many to be counted")]
+    TooMany,
+}
+
+impl From<Memory> for CheckError {
+    ghost use Rattle.std.specs.Prelude.{◌≡◌};
+    ghost use Rattle.etcs_check.specs.declared.line_checker.CheckError.TheVariants as errors;
+
+    ghost from_gives = { λ _ error. error ≡ errors.Memory };
+
+    fn from(_memory: Memory) -> CheckError {
+        CheckError::Memory
+    }
+}
+
+/// The findings of a line whose groups and messages are handed over one by one, each kind in its order, and let go.
+/// What it holds grows with the identities and the findings alone. A group or a message that is refused changes nothing,
+/// and may be handed over again.
+#[derive(Debug, Drop)]
+pub struct LineChecker {
+    about_groups: Vec<Finding>,
+    about_messages: Vec<Finding>,
+    groups: usize,
+    messages: usize,
+    identities: BTreeSet<u32>,
+}
+
+impl Model for LineChecker {
+    ghost use Rattle.etcs_check.specs.LineChecker.{Kept};
+
+    ghost Value = { Kept };
+
+    ghost view = { λ c. record { about_groups = c.about_groups.items; about_messages = c.about_messages.items; groups = c.groups; messages = c.messages; identities = c.identities } };
+}
+
+// Appends the other findings. Memory is asked for only if neither list is empty. If it runs out, nothing changes.
+fn append(found: &mut Vec<Finding>, mut more: Vec<Finding>) -> Result<(), Memory>
+    ensures ok { OnOk result (found.new.items ≡ found.old.items ++ more.items) }
+    ensures memory { OnErr result ((found.old.items ≢ []) × (more.items ≢ [])) }
+    ensures err { OnErr result (found.new.items ≡ found.old.items) }
+{
+    if found.is_empty() {
+        *found = more;
+        return Ok(());
+    }
+    if !more.is_empty() {
+        found.append(&mut more)?;
+    }
+    Ok(())
+}
+
+impl LineChecker {
+    /// A checker that has taken nothing yet. It asks for no memory.
+    pub fn new(alloc: Global) -> LineChecker
+        ensures { HasChecked result [] [] }
+    {
+        LineChecker {
+            about_groups: Vec::new(alloc),
+            about_messages: Vec::new(alloc),
+            groups: 0,
+            messages: 0,
+            identities: BTreeSet::new(alloc),
+        }
+    }
+
+    /// Takes the next group. Memory is asked for if its identity is new, and for its findings.
+    pub fn group(&mut self, alloc: Global, group: &Controlled) -> Result<(), CheckError>
+        ensures ok { OnOk result (TakesGroups self.old (group.now ∷ []) self.new) }
+
+        // Found before memory is asked for.
+        ensures too_many { (gs : List (List (List Telegram))) (ms : List SomeMessage) → HasChecked self.old gs ms
+            → IsErrOf result CheckError.TooMany ↔ (length gs ≡ usize.MAX) }
+
+        // A refused group changes nothing.
+        ensures kept { OnErr result (HasStill self.old self.new) }
+    {
+        let Some(groups) = self.groups.checked_add(1) else {
+            return Err(CheckError::TooMany);
+        };
+        let aspects = group.aspects();
+        let identity = identity_number(aspects);
+        let used = self.identities.contains(&identity);
+        let mut found = Vec::new(alloc);
+        note_group(&mut found, Site::Group(self.groups), used, aspects)?;
+        let before = self.about_groups.len();
+        append(&mut self.about_groups, found)?;
+        if keep(&mut self.identities, identity).is_err() {
+            self.about_groups.truncate(before);
+            return Err(CheckError::Memory);
+        }
+        self.groups = groups;
+        Ok(())
+    }
+
+    /// Takes the next message. Memory is asked for only if there is a finding about it.
+    pub fn message(&mut self, alloc: Global, message: &Message) -> Result<(), CheckError>
+        ensures ok { OnOk result (TakesMessages self.old (message.now ∷ []) self.new) }
+
+        // Found before memory is asked for.
+        ensures too_many { (gs : List (List (List Telegram))) (ms : List SomeMessage) → HasChecked self.old gs ms
+            → IsErrOf result CheckError.TooMany ↔ (length ms ≡ usize.MAX) }
+
+        // A refused message changes nothing. One without a finding is never refused for want of memory.
+        ensures kept { OnErr result (HasStill self.old self.new) }
+        ensures memory { IsErrOf result CheckError.Memory → (gs : List (List (List Telegram))) (ms : List SomeMessage)
+            → HasChecked self.old gs ms → message_at (length ms) message.now ≢ [] }
+    {
+        let Some(messages) = self.messages.checked_add(1) else {
+            return Err(CheckError::TooMany);
+        };
+        let mut found = Vec::new(alloc);
+        note_message(&mut found, Site::Message(self.messages), message)?;
+        append(&mut self.about_messages, found)?;
+        self.messages = messages;
+        Ok(())
+    }
+
+    /// How many groups were taken.
+    pub fn groups(&self) -> usize
+        ensures { (gs : List (List (List Telegram))) (ms : List SomeMessage) → HasChecked self.now gs ms
+            → result ≡ length gs }
+    {
+        self.groups
+    }
+
+    /// How many messages were taken.
+    pub fn messages(&self) -> usize
+        ensures { (gs : List (List (List Telegram))) (ms : List SomeMessage) → HasChecked self.now gs ms
+            → result ≡ length ms }
+    {
+        self.messages
+    }
+
+    /// All facts against the line of the groups and messages that were taken, in the order of [`check`](crate::check). Memory is
+    /// asked for only if there are findings both about groups and about messages. If it runs out, no finding is
+    /// returned.
+    pub fn finish(self) -> Result<Vec<Finding>, Memory>
+        ensures ok { IfOk result (λ found. (gs : List (List (List Telegram))) (ms : List SomeMessage)
+            → HasChecked self gs ms → found.items ≡ findings gs ms) }
+        ensures memory { OnErr result ((gs : List (List (List Telegram))) (ms : List SomeMessage)
+            → HasChecked self gs ms → (group_list gs ≢ []) × (message_list ms ≢ [])) }
+
+        // No finding means sound.
+        ensures sound { IfOk result (λ found. (gs : List (List (List Telegram))) (ms : List SomeMessage)
+            → HasChecked self gs ms → (found.items ≡ []) ↔ IsSoundLine gs ms) }
+
+        // A group or a message is sound exactly where no finding names it, whatever is found elsewhere. Of two
+        // groups with one identity the later one is named.
+        ensures unnamed { IfOk result (λ found. (gs : List (List (List Telegram))) (ms : List SomeMessage)
+            → HasChecked self gs ms → NamesTheUnsound gs ms found.items) }
+
+        // A finding is there exactly where its fact stands, and its own part of soundness does not hold there.
+        ensures facts { IfOk result (λ found. (gs : List (List (List Telegram))) (ms : List SomeMessage)
+            → HasChecked self gs ms → (f : SomeFinding) → ((i : ℕ) × At found.items i f) ↔ States gs ms f) }
+        ensures hurts { IfOk result (λ found. (gs : List (List (List Telegram))) (ms : List SomeMessage)
+            → HasChecked self gs ms → (i : ℕ) (f : SomeFinding) → At found.items i f → Hurts gs ms f) }
+    {
+        let LineChecker {
+            mut about_groups,
+            about_messages,
+            groups: _,
+            messages: _,
+            identities: _,
+        } = self;
+        append(&mut about_groups, about_messages)?;
+        Ok(about_groups)
+    }
+}
