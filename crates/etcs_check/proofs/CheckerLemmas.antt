@@ -22,8 +22,8 @@ pub noted : (old none found new facts : List Finding) → none ≡ [] → found 
 noted old none found new facts empty some all = all ∙ ap (λ l. old ++ l) (some ∙ ap (λ l. l ++ facts) empty)
 
 pub unless_refused : {A E : Type 0} (r : Result A E) (P : Type 0) → is_err r ≡ false → OnOk r P → P
-unless_refused (Ok x) P no p = p
-unless_refused (Err e) P no p = absurd (both_ways _ no refl)
+unless_refused (Ok x) P fine p = p
+unless_refused (Err e) P fine p = absurd (both_ways _ fine refl)
 
 taken : (old new : Kept) (g : List (List Telegram)) → IsControlled g → IsNumbered g
     → new.about_groups ≡ old.about_groups ++ group_facts (sites.Group old.groups) (contains nat_cmp old.identities (identity_number g)) g → new.about_messages ≡ old.about_messages
