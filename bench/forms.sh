@@ -39,7 +39,7 @@ values() {
 
 build json serde_json
 json=$built
-build forms etcs_form etcs_radio etcs_telegram json
+build forms etcs_json etcs_radio etcs_telegram json
 forms=$built
 make_lines "$count"
 machine

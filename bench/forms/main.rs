@@ -2,7 +2,7 @@
 //! with a word as forms of radio messages. `bench/forms.sh` proves, builds and runs it.
 #![tactic(auto)]
 
-use etcs_form::{TokenForm, read_quickly};
+use etcs_json::{TokenForm, read_quickly};
 use etcs_radio::Message;
 use etcs_telegram::Telegram;
 use json::Scratch;

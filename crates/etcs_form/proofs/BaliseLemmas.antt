@@ -8,8 +8,8 @@ use Rattle.etcs_form.proofs.ResultLemmas.{first_ok, form_ok, if_ok, not_ok, part
 use Rattle.etcs_form.proofs.ValueLemmas.{each_at, list_read, stands}
 use Rattle.etcs_form.specs.Document.{◌then◌, as_balise, aspect_at, aspects_of, balises_of, controlled_at, each_from, group_at, group_or, groups_of, has_count, in_aspect, in_group, list_at, list_of_aspects, only_aspect, others_of, telegram_at, telegram_or, telegrams_of, values_of, with_first}
 use Rattle.etcs_form.specs.DocumentFault.{bad_aspects, bad_count}
-use Rattle.etcs_form.specs.Fault.{Fault, key, place, under}
-use Rattle.etcs_form.specs.Reading.{at_key, object_with}
+use Rattle.etcs_json.specs.Fault.{Fault, key, place, under}
+use Rattle.etcs_json.specs.Reading.{at_key, object_with}
 use Rattle.etcs_form.specs.Verdict.{IsOnlyTelegram, aspect_in, balise_in, balise_text}
 use Rattle.etcs_group.specs.Places.{At}
 use Rattle.etcs_telegram.proofs.LawLemmas as telegrams

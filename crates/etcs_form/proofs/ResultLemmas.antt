@@ -3,8 +3,8 @@ use Rattle.std.proofs.Common.{◌≡◌, ◌∙◌, Bool, true, false, List, ◌
 use Rattle.std.specs.Prelude.{if◌then◌else◌}
 use Rattle.etcs_form.specs.Document.{◌then◌, in_form, with_first}
 use Rattle.etcs_form.specs.DocumentFault.{DocumentFault}
-use Rattle.etcs_form.specs.Fault.{Fault, Step, under}
-use Rattle.etcs_form.specs.Reading.{◌>>=◌}
+use Rattle.etcs_json.specs.Fault.{Fault, Step, under}
+use Rattle.etcs_json.specs.Reading.{◌>>=◌}
 
 abbrev or_else : {A E : Type 0} → A → Result A E → A
 or_else x (Ok y) = y

@@ -8,7 +8,7 @@ use Rattle.etcs_form.proofs.BaliseLemmas.{some_and, telegrams_read}
 use Rattle.etcs_form.proofs.ResultLemmas.{form_ok, not_ok, same_ok, then_ok}
 use Rattle.etcs_form.proofs.ValueLemmas.{each_at, list_read, stands}
 use Rattle.etcs_form.specs.Document.{◌then◌, as_item, each_from, groups_of, in_form, json_of, line_of, line_of_text, list_at, message_at, message_or, messages_of}
-use Rattle.etcs_form.specs.Reading.{object_with}
+use Rattle.etcs_json.specs.Reading.{object_with}
 use Rattle.etcs_form.specs.Verdict.{AreMixturesDecided, IsOnlyMessage, IsReachedMessage, SaysYes, message_text}
 use Rattle.etcs_group.specs.Laws.{IsDecided}
 use Rattle.etcs_group.specs.Missed.{IsSetOf}

@@ -9,8 +9,8 @@ use Rattle.serde_json.specs.Data.{Data, Items}
 use Rattle.serde_json.specs.Find.{as_array, as_str, get}
 use Rattle.serde_json.specs.Read.{read}
 use Rattle.etcs_form.specs.DocumentFault.{DocumentFault, bad_aspect_telegram, bad_aspects, bad_count, bad_form, bad_message, bad_telegram, no_json}
-use Rattle.etcs_form.specs.Fault.{Fault, Kind, Step, fault, here, key, place, under}
-use Rattle.etcs_form.specs.Reading.{◌>>=◌, at_key, data_list, object_with}
+use Rattle.etcs_json.specs.Fault.{Fault, Kind, Step, fault, here, key, place, under}
+use Rattle.etcs_json.specs.Reading.{◌>>=◌, at_key, data_list, object_with}
 use Rattle.etcs_radio.specs.TextMeaning.{message_of_text}
 use Rattle.etcs_radio.specs.declared.error.RadioTextError.{RadioTextError}
 use Rattle.etcs_radio.specs.declared.message.Message.{Message}

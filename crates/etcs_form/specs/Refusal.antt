@@ -1,14 +1,15 @@
 -- The lines that tell why an input is refused. The words are this project's.
-use Rattle.std.specs.Prelude.{◌++◌, ℕ, List, [], ◌∷◌, codes, decimal, map, Option, Some, None}
+use Rattle.std.specs.Prelude.{◌++◌, ℕ, List, [], codes, decimal, map, Option, Some, None}
 use Rattle.etcs_bits.specs.layout.FaultWords.{fault_words}
 use Rattle.etcs_telegram.specs.declared.error.TextError.{TextError}
 use Rattle.etcs_telegram.specs.declared.error.TextError.TheVariants as texts
 use Rattle.etcs_radio.specs.declared.error.RadioTextError.{RadioTextError}
 use Rattle.etcs_radio.specs.declared.error.RadioTextError.TheVariants as radio
-use Rattle.etcs_form.specs.Fault.{Fault, Reason, Missing, Unknown, Kind, Range, Step, fault_of, key, place, step_of}
-use Rattle.etcs_form.specs.declared.error.Step.{Step as CodeStep}
-use Rattle.etcs_form.specs.declared.error.FormError.{FormError}
-use Rattle.etcs_form.specs.declared.error.FormError.TheVariants as forms
+use Rattle.etcs_json.specs.Fault.{Fault, Reason, Missing, Unknown, Kind, Range, fault_of, step_of}
+use Rattle.etcs_json.specs.Path.{path_words}
+use Rattle.etcs_json.specs.declared.error.Step.{Step as CodeStep}
+use Rattle.etcs_json.specs.declared.error.FormError.{FormError}
+use Rattle.etcs_json.specs.declared.error.FormError.TheVariants as forms
 use Rattle.etcs_form.specs.declared.line_error.LineError.{LineError}
 use Rattle.etcs_form.specs.declared.line_error.LineError.TheVariants as documents
 use Rattle.etcs_form.specs.declared.refusal.LineFault.{LineFault}
@@ -35,20 +36,6 @@ radio_words radio.NotHex = codes "not hexadecimal"
 radio_words (radio.Fault fault) = fault_words fault
 
 -- ---- why a value is no form
-
--- a slash, and then the key or the place
-abbrev pub step_words : Step → List ℕ
-step_words (key name) = codes "/" ++ name
-step_words (place i) = codes "/" ++ decimal i
-
-abbrev pub steps_words : List Step → List ℕ
-steps_words [] = []
-steps_words (step ∷ steps) = step_words step ++ steps_words steps
-
--- the way to what is at fault; a slash alone is the whole value
-abbrev pub path_words : List Step → List ℕ
-path_words [] = codes "/"
-path_words (step ∷ steps) = steps_words (step ∷ steps)
 
 -- what is wrong
 abbrev pub reason_words : Reason → List ℕ

@@ -8,9 +8,9 @@ ghost use Rattle.etcs_form.specs.DocumentFault.{Gives};
 
 use crate::document_groups::read_groups;
 use crate::document_messages::read_messages;
-use crate::known_keys::check_keys;
 use crate::line_error::LineError;
 use etcs_check::Line;
+use etcs_json::check_keys;
 use serde_json::Value;
 use std::alloc::Global;
 

@@ -4,13 +4,12 @@ ghost use Rattle.std.specs.Prelude.{◌≡◌, ◌<◌, map};
 ghost use Rattle.serde_json.specs.View.{view};
 ghost use Rattle.etcs_form.specs.Document.{aspect_at, balise_path, balises_of, each_from, has_count, telegram_at, telegrams_of};
 ghost use Rattle.etcs_form.specs.DocumentFault.{Gives, IsFault, bad_form};
-ghost use Rattle.etcs_form.specs.Fault.{Gives as GivesForm, Kind, fault};
+ghost use Rattle.etcs_json.specs.Fault.{Gives as GivesForm, Kind, fault};
 
 use crate::document_values::values_at;
-use crate::error::{FormError, Step};
-use crate::known_keys::check_keys;
 use crate::line_error::{LineError, kind_at};
 use etcs_group::Group;
+use etcs_json::{FormError, Step, check_keys};
 use etcs_telegram::{Telegram, TextError, from_hex};
 use serde_json::Value;
 use std::alloc::Global;

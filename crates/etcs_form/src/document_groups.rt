@@ -4,14 +4,13 @@ ghost use Rattle.std.specs.Prelude.{◌∷◌, [], ◌<◌, map};
 ghost use Rattle.serde_json.specs.View.{view};
 ghost use Rattle.etcs_form.specs.Document.{aspects_of, controlled_at, each_from, group_at, groups_of, list_of_aspects, only_aspect, others_of, with_first};
 ghost use Rattle.etcs_form.specs.DocumentFault.{Gives};
-ghost use Rattle.etcs_form.specs.Fault.{Gives as GivesForm};
+ghost use Rattle.etcs_json.specs.Fault.{Gives as GivesForm};
 
 use crate::document_aspects::{balises_in, read_aspect, read_counted};
 use crate::document_values::values_at;
-use crate::error::{FormError, Step};
-use crate::known_keys::check_keys;
 use crate::line_error::LineError;
 use etcs_group::{Controlled, Group};
+use etcs_json::{FormError, Step, check_keys};
 use serde_json::Value;
 use std::alloc::Global;
 

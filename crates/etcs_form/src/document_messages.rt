@@ -6,8 +6,8 @@ ghost use Rattle.etcs_form.specs.Document.{each_from, message_at, messages_of};
 ghost use Rattle.etcs_form.specs.DocumentFault.{Gives};
 
 use crate::document_values::values_at;
-use crate::error::Step;
 use crate::line_error::{LineError, kind_at};
+use etcs_json::Step;
 use etcs_radio::{Message, RadioTextError, from_hex};
 use serde_json::Value;
 use std::alloc::Global;

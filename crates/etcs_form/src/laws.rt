@@ -1,32 +1,13 @@
 //! Laws of forms and of documents, for users. They hold for any reader and any writer. Each law is the
 //! contract of a function that does nothing.
 
-ghost use Rattle.etcs_form.specs.Laws.{MessagesAreReadAgain, MessagesHaveFormsOfTheirOwn, NoFindingMeansSoundText, NoFindingSaysYes, TelegramsAreReadAgain, TelegramsHaveFormsOfTheirOwn};
+ghost use Rattle.etcs_form.specs.Laws.{NoFindingMeansSoundText, NoFindingSaysYes};
 
 use etcs_check::laws::no_finding_means_sound_line;
-
-/// The form of a telegram is read as that telegram, if none of its numbers is spare. Each value of
-/// `etcs_telegram::Telegram` is such a telegram.
-pub fn telegrams_are_read_again()
-    ensures { TelegramsAreReadAgain }
-{}
-
-/// Two telegrams with one form are equal, if none of their numbers is spare.
-pub fn telegrams_have_forms_of_their_own()
-    ensures { TelegramsHaveFormsOfTheirOwn }
-{}
-
-/// The form of a radio message is read as that message, if none of its numbers is spare and it
-/// holds the packet that it has to hold. Each value of `etcs_radio::Message` is such a message.
-pub fn messages_are_read_again()
-    ensures { MessagesAreReadAgain }
-{}
-
-/// Two radio messages with one form are equal, if none of their numbers is spare and each holds the
-/// packet that it has to hold.
-pub fn messages_have_forms_of_their_own()
-    ensures { MessagesHaveFormsOfTheirOwn }
-{}
+pub use etcs_json::laws::{
+    messages_are_read_again, messages_have_forms_of_their_own, telegrams_are_read_again,
+    telegrams_have_forms_of_their_own,
+};
 
 /// Bytes are read as a line without a finding exactly if they are the document of a sound line.
 /// [`check_text`](crate::check_text) and [`check_in_order`](crate::check_in_order) answer what this

@@ -2,11 +2,11 @@
 
 ghost use Rattle.std.specs.Prelude.{◌≡◌, map};
 ghost use Rattle.etcs_form.specs.DocumentFault.{IsFault, IsOfForm, bad_form};
-ghost use Rattle.etcs_form.specs.Fault.{Kind, fault, step_of};
+ghost use Rattle.etcs_json.specs.Fault.{Kind, fault, step_of};
 ghost use Rattle.etcs_form.specs.declared.line_error.LineError.TheVariants as errors;
 
-use crate::error::{FormError, Step};
 use etcs_bits::Memory;
+use etcs_json::{FormError, Step};
 use etcs_radio::RadioTextError;
 use etcs_telegram::TextError;
 use std::alloc::Global;

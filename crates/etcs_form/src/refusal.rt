@@ -3,9 +3,9 @@
 ghost use Rattle.std.specs.Prelude.{◌≡◌, string_bytes, IfOk};
 ghost use Rattle.etcs_form.specs.Refusal.{IsDocumentTold, IsFormTold, IsLineTold, IsRadioTextTold, IsTextTold, IsTold, document_words, form_fault, form_words, line_words, radio_words, refusal_words, stream_words, text_words};
 
-use crate::error::{FormError, Path, Step};
 use crate::line_error::LineError;
 use etcs_bits::{Fault, Memory};
+use etcs_json::{FormError, Path, Step};
 use etcs_radio::RadioTextError;
 use etcs_telegram::TextError;
 use std::alloc::{AllocError, Global};

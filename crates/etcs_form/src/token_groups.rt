@@ -6,9 +6,8 @@ ghost use Rattle.json.specs.Token.{Token as JsonToken, begin_array, string as st
 ghost use Rattle.etcs_form.specs.DocumentTokens.{AreFirst, HasGroup, IsAspect, IsAspects, IsBalises, IsFirst, IsGroup, IsMessage, IsOnlyAspect, IsTelegram};
 
 use crate::document_groups::alone;
-use crate::token_members::{pass_begin, pass_end};
-use crate::token_reading::pass_key;
 use etcs_group::{Controlled, Group};
+use etcs_json::{pass_begin, pass_end, pass_key};
 use etcs_radio::Message;
 use etcs_telegram::Telegram;
 use json::{Reader, Token};

@@ -5,7 +5,7 @@ use Rattle.json.specs.Written.{Written}
 use Rattle.serde_json.proofs.Texts.{print-outline}
 use Rattle.serde_json.specs.Data.{Data}
 use Rattle.serde_json.specs.Written.{compact_text}
-use Rattle.etcs_form.specs.Sending.{SendsValue, tokens_of}
+use Rattle.etcs_json.specs.Sending.{SendsValue, tokens_of}
 
 -- a value that was sent to a new writer stands there as text, and nothing else
 pub text_of_sent : (d : Data) (room : List ℕ) (old new : Written) (line : List ℕ) → room ≡ [] → old.before ≡ room → old.tokens ≡ []

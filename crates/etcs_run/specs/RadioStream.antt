@@ -12,7 +12,7 @@ use Rattle.etcs_radio.specs.Splitter.{state_of}
 use Rattle.etcs_radio.specs.declared.message.Message.{Message as RadioMessage}
 use Rattle.etcs_radio.specs.declared.splitter.State.{State}
 use Rattle.etcs_radio.specs.declared.splitter.State.TheVariants.{Failed}
-use Rattle.etcs_form.specs.AnyMessage.{message}
+use Rattle.etcs_json.specs.AnyMessage.{message}
 use Rattle.etcs_form.specs.Refusal.{line_words, refusal_words}
 use Rattle.etcs_form.specs.declared.refusal.LineFault.TheVariants.{Text}
 use Rattle.etcs_form.specs.declared.refusal.Refusal.TheVariants.{Message}

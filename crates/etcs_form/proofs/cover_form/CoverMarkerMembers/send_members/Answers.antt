@@ -1,9 +1,0 @@
-use Rattle.etcs_form.specs.Cover.{cover_marker}
-use Rattle.etcs_form.proofs.SendingLemmas.{then}
-use Rattle.etcs_form.proofs.cover_form.CoverMarkerMembers.send_members.Goals as goal
-
--- the members one after the other
-pub returns : goal.returns
-unfolding cover_marker
-returns c =
-    then _ _ _ _ _ c.in_ok-send_number.ensures c.in_ok-send_key.ensures

@@ -1,8 +1,0 @@
-use Rattle.etcs_form.specs.AnyMessage.{message}
-use Rattle.etcs_form.proofs.RadioRanges.{message_range}
-use Rattle.etcs_form.proofs.RangeLemmas.{own_form}
-use Rattle.etcs_form.proofs.laws.messages_have_forms_of_their_own.Goals as goal
-
--- One form is read as one message.
-pub returns : goal.returns
-returns c = λ m n first second same. own_form message m n (message_range m first) (message_range n second) same

@@ -1,9 +1,0 @@
-use Rattle.etcs_form.specs.Shape.{object}
-use Rattle.etcs_form.specs.Telegrams.{telegram}
-use Rattle.etcs_form.proofs.PacketRanges.{telegram_range}
-use Rattle.etcs_form.proofs.RangeLemmas.{own_form}
-use Rattle.etcs_form.proofs.laws.telegrams_have_forms_of_their_own.Goals as goal
-
--- One form is read as one telegram.
-pub returns : goal.returns
-returns c = λ t u first second same. own_form (object telegram) t u (telegram_range t first) (telegram_range u second) same

@@ -1,7 +1,0 @@
-use Rattle.std.proofs.Common.{take}
-use Rattle.etcs_form.specs.Sending.{Adds, each_tokens}
-use Rattle.etcs_form.proofs.sending.send_items.Given as goal
-
--- the items so far were sent
-abbrev pub invariant-items : goal.invariant-items
-invariant-items g l = Adds (each_tokens g.T.Form.shape.to (take l.item-index l.items)) l.initial.out l.out

@@ -1,9 +1,0 @@
-use Rattle.etcs_form.specs.Transition.{level_order}
-use Rattle.etcs_form.proofs.SendingLemmas.{then}
-use Rattle.etcs_form.proofs.transition_form.LevelOrderMembers.send_members.Goals as goal
-
--- the members one after the other
-pub returns : goal.returns
-unfolding level_order
-returns c =
-    then _ _ _ _ _ c.in_ok-send_key.ensures (then _ _ _ _ _ (rw (c.from.ensures, c.number.ensures) at c.in_ok-send_number.ensures) (rw c.national_system_of-ntc.ensures at c.in_ok-send_key_if.ensures))

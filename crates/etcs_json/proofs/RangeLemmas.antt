@@ -1,0 +1,104 @@
+-- Whatever a layout allows, a form has in range: variables, records after one another, options, lists.
+use Rattle.std.proofs.Common.{◌≡◌, ◌∙◌, ◌==◌, ap, sym, not, ◌<◌, ◌≤◌, ◌^◌, ◌&&◌, ℕ, Bool, true, List, [], ◌∷◌, length, Option, Some, None, refl, arith}
+use Rattle.std.specs.List.{flat_map, list_all}
+use Rattle.std.proofs.lemmas.Bool.{and_from, eq-eqb, le-leb, lt-ltb, true≢false}
+use Rattle.etcs_bits.specs.layout.Combined.{counted_rows, option_rows, pair_rows}
+use Rattle.etcs_bits.specs.layout.Format.{Format}
+use Rattle.etcs_bits.specs.layout.RowLemmas.{allowed_first, allowed_second}
+use Rattle.etcs_bits.specs.layout.Rows.{AreAllowed, IsAllowed, Row, Variable, alone, row}
+use Rattle.etcs_bits.specs.variables.Variables.{ranged}
+use Rattle.etcs_profile.specs.Elements.{elements}
+use Rattle.etcs_profile.specs.Packet.{rest}
+use Rattle.etcs_json.specs.Profiles.{profile}
+use Rattle.etcs_json.specs.Shape.{Shape, list_fits, option_fits}
+use Rattle.etcs_json.specs.Variables.{is_allowed}
+
+-- where a record's rows are allowed, its form is in range
+pub record Keeps {X : Type 0} (rows : X → List Row) (fits : X → Bool) : Type 0 where
+  pub range : (x : X) → AreAllowed (rows x) → fits x ≡ true
+
+-- ---- variables
+
+pub number_range : (x : Variable) (n : ℕ) → IsAllowed (row x n) → is_allowed x n ≡ true
+number_range x n allowed = and_from _ _ (lt-ltb n (2 ^ x.width) allowed.0) allowed.1
+
+pub variable_keeps : (x : Variable) → Keeps (alone x) (is_allowed x)
+unfolding alone
+variable_keeps x = record { range = λ n allowed. number_range x n allowed.0 }
+
+-- a variable whose numbers have names
+pub names_keep : {X : Type 0} (x : Variable) (tag : X → ℕ) → Keeps (λ v. alone x (tag v)) (λ _. true)
+names_keep x tag = record { range = λ v allowed. refl }
+
+-- ---- records made of others
+
+pub both_keep : {A B : Type 0} {rows_a : A → List Row} {rows_b : B → List Row} {fits_a : A → Bool} {fits_b : B → Bool}
+    → Keeps rows_a fits_a → Keeps rows_b fits_b → Keeps (pair_rows rows_a rows_b) (λ p. fits_a p.0 && fits_b p.1)
+both_keep {rows_a = ra} {rows_b = rb} a b = record {
+  range = λ p allowed. and_from _ _ (a.range p.0 (allowed_first (ra p.0) (rb p.1) allowed)) (b.range p.1 (allowed_second (ra p.0) (rb p.1) allowed));
+}
+
+pub parts_keep : {X Y : Type 0} {rows : X → List Row} {fits : X → Bool} (parts : Y → X) → Keeps rows fits → Keeps (λ y. rows (parts y)) (λ y. fits (parts y))
+parts_keep parts x = record { range = λ y allowed. x.range (parts y) allowed }
+
+option_range : {X : Type 0} {rows : X → List Row} {fits : X → Bool} → Keeps rows fits → (o : Option X) → AreAllowed (option_rows rows o) → option_fits fits o ≡ true
+unfolding alone
+option_range x None allowed = refl
+option_range x (Some v) allowed = x.range v allowed.1
+
+pub option_keeps : {X : Type 0} {rows : X → List Row} {fits : X → Bool} → Keeps rows fits → Keeps (option_rows rows) (option_fits fits)
+option_keeps x = record { range = option_range x }
+
+-- ---- lists
+
+pub all_in_range : {X : Type 0} {rows : X → List Row} {fits : X → Bool} → Keeps rows fits → (xs : List X) → AreAllowed (flat_map rows xs) → list_all fits xs ≡ true
+all_in_range x [] allowed = refl
+all_in_range {rows = rows} x (v ∷ vs) allowed =
+    and_from _ _ (x.range v (allowed_first (rows v) (flat_map rows vs) allowed)) (all_in_range x vs (allowed_second (rows v) (flat_map rows vs) allowed))
+
+list_range : {X : Type 0} {rows : X → List Row} {fits : X → Bool} → Keeps rows fits → (xs : List X) → AreAllowed (counted_rows rows xs) → list_fits fits 0 31 xs ≡ true
+unfolding alone
+list_range x xs allowed =
+    let few : length xs ≤ 31 = omega (arith, allowed.0.0) in
+    and_from _ _ (and_from _ _ (le-leb 0 (length xs) (omega arith)) (le-leb (length xs) 31 few)) (all_in_range x xs allowed.1)
+
+pub list_keeps : {X : Type 0} {rows : X → List Row} {fits : X → Bool} → Keeps rows fits → Keeps (counted_rows rows) (list_fits fits 0 31)
+list_keeps x = record { range = list_range x }
+
+-- a first item, and up to 31 others after their count
+pub first_range : {X : Type 0} {rows : X → List Row} {fits : X → Bool} → Keeps rows fits → (v : X) (vs : List X) → AreAllowed (rows v) → AreAllowed (counted_rows rows vs)
+    → list_fits fits 1 32 (v ∷ vs) ≡ true
+unfolding alone
+first_range x v vs first further =
+    let few : length (v ∷ vs) ≤ 32 = omega (arith, further.0.0) in
+    let one : 1 ≤ length (v ∷ vs) = omega arith in
+    and_from _ _ (and_from _ _ (le-leb 1 (length (v ∷ vs)) one) (le-leb (length (v ∷ vs)) 32 few)) (and_from _ _ (x.range v first) (all_in_range x vs further.1))
+
+-- ---- packets of elements
+
+pub profile_keeps : {X : Type 0} (k : ℕ) (name : List ℕ) (layout : Format X) (s : Shape X) → Keeps layout.rows s.fits → Keeps (rest (elements layout)).rows (profile k name layout s).fits
+unfolding alone
+profile_keeps k name layout s x = record {
+  range = λ p allowed.
+      let both = allowed.1.1.1 in
+      let items = first_range x p.1.first p.1.further (allowed_first (layout.rows p.1.first) (counted_rows layout.rows p.1.further) both) (allowed_second (layout.rows p.1.first) (counted_rows layout.rows p.1.further) both) in
+      and_from _ _ (and_from _ _ (eq-eqb k k refl) items) (le-leb _ 8191 (omega (arith, allowed.1.0.0)));
+}
+
+-- ---- values told apart by a number
+
+-- NID_PACKET of a packet in a list: any number but 255, the end mark
+pub nid_range : (n : ℕ) → n < 256 → not (n == 255) ≡ true → is_allowed (ranged 8 254 256) n ≡ true
+nid_range n small is =
+    let other : n ≡ 255 → ⊥ = λ end. true≢false (sym is ∙ ap (λ k. not (k == 255)) end) in
+    let le : n ≤ 254 = omega (arith, other) in
+    and_from _ _ (lt-ltb n 256 small) (rw (le-leb n 254 le) refl)
+
+-- ---- what is read again has a form of its own
+
+pub own_form : {X : Type 0} (s : Shape X) (x y : X) → s.fits x ≡ true → s.fits y ≡ true → s.to x ≡ s.to y → x ≡ y
+own_form s x y first second same =
+    let one = s.again x first in
+    let other = s.again y second in
+    let read : s.of (s.to x) ≡ s.of (s.to y) = ap s.of same in
+    cc

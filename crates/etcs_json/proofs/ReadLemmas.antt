@@ -1,0 +1,138 @@
+-- What is known of a list that was read: how many items it has, and what holds of each.
+use Rattle.std.proofs.Common.{◌≡◌, ◌≤◌, ◌<◌, ◌+◌, ◌&&◌, ℕ, suc, Bool, true, false, List, [], ◌∷◌, length, Option, Some, None, Result, Ok, Err, IfOk, refl, ap, subst, arith}
+use Rattle.std.specs.List.{AllByRecursion}
+use Rattle.std.specs.Prelude.{codes, nat_le, if◌then◌else◌}
+use Rattle.std.proofs.lemmas.Bool.{and_parts}
+use Rattle.std.proofs.lemmas.Bool.Decides.{nat_tests}
+use Rattle.serde_json.specs.Data.{Data, Items}
+use Rattle.serde_json.specs.Find.{as_array, get}
+use Rattle.etcs_json.specs.Fault.{Fault, Range, Step, here, key, place, under}
+use Rattle.etcs_json.specs.Reading.{◌>>=◌, at_key, counted_or, data_list, items_at, key_or, list_of, object_with, with_first}
+use Rattle.etcs_json.specs.Profiles.{difference, speed_element}
+use Rattle.etcs_json.specs.Shape.{Shape, both_of, first_and_rest, key as key_part, list, list_from_one, object}
+use Rattle.etcs_json.specs.Variables.{flag, number, ranges}
+use Rattle.etcs_profile.specs.Built.{IsReason}
+use Rattle.etcs_profile.specs.declared.error.BuildError.{BuildError}
+use Rattle.etcs_profile.specs.declared.error.BuildError.TheVariants as errors
+use Rattle.etcs_profile.specs.declared.speed.Difference.{Difference}
+use Rattle.etcs_profile.specs.declared.speed.SpeedElement.{SpeedElement}
+
+-- each item that can be read has the property
+abbrev EachRead : {A : Type 0} → (A → Type 0) → (Data → Result A Fault) → Type 0
+EachRead {A} P read = (d : Data) → (x : A) → read d ≡ Ok x → P x
+
+one_more : {A : Type 0} (P : A → Type 0) (i n : ℕ) (r : Result A Fault) (rest : Result (List A) Fault) → ((x : A) → r ≡ Ok x → P x)
+    → IfOk rest (λ xs. AllByRecursion P xs × (length xs ≡ n))
+    → IfOk (under (place i) r >>= λ x. with_first x rest) (λ xs. AllByRecursion P xs × (length xs ≡ suc n))
+one_more P i n (Err f) rest has h = tt
+one_more P i n (Ok x) (Err f) has h = tt
+one_more P i n (Ok x) (Ok xs) has h = ((has x refl, h.0), ap suc h.1)
+
+items_read : {A : Type 0} (P : A → Type 0) (read : Data → Result A Fault) → EachRead P read → (i : ℕ) (ds : List Data)
+    → IfOk (items_at read i ds) (λ xs. AllByRecursion P xs × (length xs ≡ length ds))
+items_read P read has i [] = (tt, refl)
+items_read P read has i (d ∷ ds) = one_more P i (length ds) (read d) (items_at read (i + 1) ds) (has d) (items_read P read has (i + 1) ds)
+
+few : {A : Type 0} (P : A → Type 0) (n high : ℕ) (r : Result (List A) Fault) → n ≤ high
+    → IfOk r (λ xs. AllByRecursion P xs × (length xs ≡ n)) → IfOk r (λ xs. AllByRecursion P xs × (length xs ≤ high))
+few P n high (Err f) le h = tt
+few P n high (Ok xs) le h = (h.0, omega (arith, h.1, le))
+
+counted_at : {A : Type 0} (P : A → Type 0) (read : Data → Result A Fault) → EachRead P read → (low high : ℕ) (ds : List Data) (fits : Bool)
+    → (nat_le low (length ds) && nat_le (length ds) high) ≡ fits
+    → IfOk (if fits then items_at read 0 ds else Err (here Range)) (λ xs. AllByRecursion P xs × (length xs ≤ high))
+counted_at P read has low high ds false is = tt
+counted_at P read has low high ds true is =
+    let both = and_parts (nat_le low (length ds)) (nat_le (length ds) high) is in
+    let le : length ds ≤ high = grind (arith, nat_tests, both.1) in
+    few P (length ds) high (items_at read 0 ds) le (items_read P read has 0 ds)
+
+counted_read : {A : Type 0} (P : A → Type 0) (read : Data → Result A Fault) → EachRead P read → (low high : ℕ) (o : Option Items)
+    → IfOk (counted_or read low high o) (λ xs. AllByRecursion P xs × (length xs ≤ high))
+counted_read P read has low high None = tt
+counted_read P read has low high (Some ds) = counted_at P read has low high (data_list ds) _ refl
+
+first_read : {A : Type 0} (P : A → Type 0) (high : ℕ) (r : Result (List A) Fault) → IfOk r (λ xs. AllByRecursion P xs × (length xs ≤ high))
+    → IfOk (r >>= first_and_rest) (λ p. (P p.0 × AllByRecursion P p.1) × (length p.1 < high))
+first_read P high (Err f) h = tt
+first_read P high (Ok []) h = tt
+first_read P high (Ok (x ∷ xs)) h = (h.0, omega (arith, h.1))
+
+under_read : {A : Type 0} (P : A → Type 0) (step : Step) (r : Result A Fault) → IfOk r P → IfOk (under step r) P
+under_read P step (Err f) h = tt
+under_read P step (Ok x) h = h
+
+key_read : {A : Type 0} (P : A → Type 0) (read : Data → Result A Fault) (name : List ℕ) (o : Option Data) → ((d : Data) → IfOk (read d) P) → IfOk (key_or read name o) P
+key_read P read name None has = tt
+key_read P read name (Some d) has = under_read P (key name) (read d) (has d)
+
+one_read : {X : Type 0} (P : X → Type 0) (s : Shape X) (high : ℕ) → EachRead P s.of → (d : Data)
+    → IfOk ((list_from_one high s).of d) (λ p. (P p.0 × AllByRecursion P p.1) × (length p.1 < high))
+unfolding list_of
+one_read P s high has d = first_read P high _ (counted_read P s.of has 1 high (as_array d))
+
+found : {A : Type 0} (P : A → Type 0) (r : Result A Fault) (x : A) → IfOk r P → r ≡ Ok x → P x
+found {A = A} P r x h is = subst (λ (s : Result A Fault). IfOk s P) is h
+
+-- a list of from 1 to `high` items that was read at a key
+pub first_and_read : {X : Type 0} (P : X → Type 0) (s : Shape X) (high : ℕ) (name : List ℕ) (d : Data) (p : X × List X) → ((d : Data) → (x : X) → s.of d ≡ Ok x → P x)
+    → at_key (list_from_one high s).of name d ≡ Ok p → (P p.0 × AllByRecursion P p.1) × (length p.1 < high)
+unfolding at_key
+first_and_read P s high name d p has is =
+    found (λ q. (P q.0 × AllByRecursion P q.1) × (length q.1 < high)) _ p (key_read _ (list_from_one high s).of name (get name d) (one_read P s high has)) is
+
+-- ---- members that were read
+
+after : {A B : Type 0} (P : B → Type 0) (r : Result A Fault) (f : A → Result B Fault) → ((x : A) → IfOk (f x) P) → IfOk (r >>= f) P
+after P (Err e) f h = tt
+after P (Ok x) f h = h x
+
+as_named : {A B : Type 0} (P : B → Type 0) (make : A → B) (r : Result A Fault) → IfOk r (λ x. P (make x)) → IfOk (r >>= λ x. Ok (make x)) P
+as_named P make (Err e) h = tt
+as_named P make (Ok x) h = h
+
+abbrev of_second : {A B : Type 0} → (B → Type 0) → A × B → Type 0
+of_second P p = P p.1
+
+second_at : {A B : Type 0} (P : B → Type 0) (x : A) (r : Result B Fault) → IfOk r P → IfOk {T = A × B} (r >>= λ y. Ok (x, y)) (of_second P)
+second_at P x (Err e) h = tt
+second_at P x (Ok y) h = h
+
+second : {A B : Type 0} (P : B → Type 0) (a : Data → Result A Fault) (b : Data → Result B Fault) (d : Data) → IfOk (b d) P → IfOk {T = A × B} (both_of a b d) (of_second P)
+second P a b d h = after (of_second P) (a d) (λ x. b d >>= λ y. Ok (x, y)) (λ x. second_at P x (b d) h)
+
+short : {A : Type 0} (high : ℕ) (r : Result (List A) Fault) → IfOk r (λ xs. AllByRecursion (λ _. Unit {0}) xs × (length xs ≤ high)) → IfOk r (λ xs. length xs ≤ high)
+short high (Err e) h = tt
+short high (Ok xs) h = h.1
+
+pub short_list : {X : Type 0} (s : Shape X) (name : List ℕ) (low high : ℕ) (d : Data) → IfOk (at_key (list_of s.of low high) name d) (λ xs. length xs ≤ high)
+unfolding at_key list_of
+short_list s name low high d =
+    key_read (λ xs. length xs ≤ high) (list_of s.of low high) name (get name d)
+    (λ e. short high _ (counted_read (λ _. Unit {0}) s.of (λ _ _ _. tt) low high (as_array e)))
+
+abbrev Few : List Difference → Type 0
+Few xs = length xs ≤ 31
+
+-- an element of a speed profile has at most 31 differences
+pub few_differences : (d : Data) (e : SpeedElement) → (object speed_element).of d ≡ Ok e → length e.differences ≤ 31
+unfolding speed_element
+few_differences d e is =
+    let several = key_part (codes "differences") (list 0 31 (object difference)) in
+    let last = short_list (object difference) (codes "differences") 0 31 d in
+    let third = second Few (at_key flag.of (codes "q_front")) several.of d last in
+    let two = second (of_second Few) (at_key (ranges 7 120 127).of (codes "v_static")) (both_of (at_key flag.of (codes "q_front")) several.of) d third in
+    let all = second (of_second (of_second Few)) (at_key (number 15).of (codes "d_static")) (both_of (at_key (ranges 7 120 127).of (codes "v_static")) (both_of (at_key flag.of (codes "q_front")) several.of)) d two in
+    found (λ (x : SpeedElement). length x.differences ≤ 31) _ e
+    (after (λ (x : SpeedElement). length x.differences ≤ 31) (object_with speed_element.part.keys d) (λ u. speed_element.part.of d) (λ u.
+    as_named (λ (x : SpeedElement). length x.differences ≤ 31) _ _ all)) is
+
+-- how many items stand after the first
+pub few_further : {X : Type 0} (s : Shape X) (high : ℕ) (name : List ℕ) (d : Data) (p : X × List X)
+    → at_key (list_from_one high s).of name d ≡ Ok p → length p.1 < high
+few_further s high name d p is = (first_and_read (λ _. Unit {0}) s high name d p (λ _ _ _. tt) is).1
+
+-- a level transition order with so few levels is built
+pub is_built : (e : BuildError) (n : ℕ) → IsReason e (31 < n) ⊥ → n < 32 → ⊥
+is_built errors.TooMany n reason few = omega (arith, reason, few)
+is_built errors.TooLong n reason few = reason.1

@@ -1,0 +1,78 @@
+-- How the pieces of an object or array make its form.
+use Rattle.std.proofs.Common.{◌≡◌, ◌++◌, ◌+◌, ◌<◌, ℕ, List, [], ◌∷◌, length, take, Option, Some, None, refl, ap, sym, ◌∙◌, append_assoc, append-nil, get_or, Ok}
+use Rattle.std.proofs.lemmas.List.{take_more}
+use Rattle.json.specs.Token.{Token, begin_array, begin_object, end_array, end_object, key}
+use Rattle.json.specs.Tree.{items_tokens, members_tokens}
+use Rattle.json.specs.Written.{Written, Writes}
+use Rattle.serde_json.specs.Data.{Data, array, object}
+use Rattle.serde_json.specs.Written.{items_outline, members_outline}
+use Rattle.etcs_json.specs.Entries.{Entry, are_apart, object_of}
+use Rattle.etcs_json.specs.Sending.{Adds, SendsMembers, SendsValue, each_tokens, entries_tokens, entry_tokens, members_of, sorted, tokens_of}
+use Rattle.etcs_json.specs.Shape.{Object, items_of}
+use Rattle.etcs_json.proofs.SortedLemmas.{made_members}
+
+-- tokens, and then others
+pub adds_more : (a b : List Token) (old mid new : Written) → Adds a old mid → Adds b mid new → Adds (a ++ b) old new
+adds_more a b old mid new one two = record {
+  before = two.before ∙ one.before;
+  added = two.added ∙ ap (λ ts. ts ++ b) one.added ∙ append_assoc old.tokens a b;
+}
+
+-- one member, and then the others
+pub then : (e : Entry) (es : List Entry) (old mid new : Written)
+    → SendsMembers (e ∷ []) old mid → SendsMembers es mid new → SendsMembers (e ∷ es) old new
+then e es old mid new one rest =
+    record { sent = rw (append-nil (entry_tokens e.0 e.1)) at (adds_more (entry_tokens e.0 e.1 ++ []) (entries_tokens es) old mid new one.sent rest.sent) }
+
+-- one token that a writer has taken
+pub one_token : {E : Type 0} {u : Unit {0}} (old new : Written) (t : Token) → Writes {E = E} (Ok u) old new t → Adds (t ∷ []) old new
+one_token old new t h = record { before = h.room.0; added = h.ok }
+
+-- ---- arrays
+
+each_snoc : {X : Type 0} (to : X → Data) (xs : List X) (x : X) → each_tokens to (xs ++ x ∷ []) ≡ each_tokens to xs ++ tokens_of (to x)
+each_snoc to [] x = append-nil (tokens_of (to x))
+each_snoc to (y ∷ ys) x = ap (λ ts. tokens_of (to y) ++ ts) (each_snoc to ys x) ∙ sym (append_assoc (tokens_of (to y)) (each_tokens to ys) (tokens_of (to x)))
+
+-- one item more
+pub each_more : {X : Type 0} (to : X → Data) (xs : List X) (i : ℕ) (x : X) (old mid new : Written) → i < length xs → x ≡ get_or xs i x
+    → Adds (each_tokens to (take i xs)) old mid → SendsValue (to x) mid new → Adds (each_tokens to (take (i + 1) xs)) old new
+each_more to xs i x old mid new lt is some one =
+    let longer = take_more xs i x lt ∙ ap (λ y. take i xs ++ y ∷ []) (sym is) in
+    rw (longer, each_snoc to (take i xs) x) (adds_more (each_tokens to (take i xs)) (tokens_of (to x)) old mid new some one)
+
+array_tokens : {X : Type 0} (to : X → Data) (xs : List X) → items_tokens (items_outline (items_of to xs)) ≡ each_tokens to xs ++ end_array ∷ []
+array_tokens to [] = refl
+array_tokens to (x ∷ xs) = ap (λ ts. tokens_of (to x) ++ ts) (array_tokens to xs) ∙ sym (append_assoc (tokens_of (to x)) (each_tokens to xs) (end_array ∷ []))
+
+-- a key and then a list
+pub array_sent : {X : Type 0} (to : X → Data) (name : List ℕ) (xs : List X) (old named begun sent new : Written)
+    → Adds (key name ∷ []) old named → Adds (begin_array ∷ []) named begun → Adds (each_tokens to xs) begun sent → Adds (end_array ∷ []) sent new
+    → SendsMembers ((name, Some (array (items_of to xs))) ∷ []) old new
+array_sent to name xs old named begun sent new one two three four =
+    let all = adds_more _ _ _ _ _ one (adds_more _ _ _ _ _ two (adds_more _ _ _ _ _ three four)) in
+    record { sent = rw (array_tokens to xs, append-nil (each_tokens to xs ++ end_array ∷ [])) all }
+
+-- ---- objects
+
+member_tokens : (k : List ℕ) (o : Option Data) (es : List Entry) → members_tokens (members_outline (members_of es)) ≡ entries_tokens es ++ end_object ∷ []
+    → members_tokens (members_outline (members_of ((k, o) ∷ es))) ≡ entries_tokens ((k, o) ∷ es) ++ end_object ∷ []
+member_tokens k None es rest = rest
+member_tokens k (Some d) es rest = ap (λ ts. key k ∷ (tokens_of d ++ ts)) rest ∙ ap (λ ts. key k ∷ ts) (sym (append_assoc (tokens_of d) (entries_tokens es) (end_object ∷ [])))
+
+object_tokens : (es : List Entry) → members_tokens (members_outline (members_of es)) ≡ entries_tokens es ++ end_object ∷ []
+object_tokens [] = refl
+object_tokens (e ∷ es) = member_tokens e.0 e.1 es (object_tokens es)
+
+-- members in the order in which they are sent, between the two marks
+pub between : (es : List Entry) (old begun sent new : Written)
+    → Adds (begin_object ∷ []) old begun → SendsMembers es begun sent → Adds (end_object ∷ []) sent new → SendsValue (object (members_of es)) old new
+between es old begun sent new one two three =
+    rw (object_tokens es) (adds_more _ _ _ _ _ one (adds_more _ _ _ _ _ two.sent three))
+
+-- the members between the two marks of an object
+pub object_sent : {X : Type 0} (o : Object X) (x : X) (old begun sent new : Written)
+    → Adds (begin_object ∷ []) old begun → SendsMembers (sorted (o.part.to x)) begun sent → Adds (end_object ∷ []) sent new → SendsValue (object_of (o.part.to x)) old new
+object_sent o x old begun sent new one two three =
+    let made = made_members (o.part.to x) (ap are_apart (o.part.has_keys x) ∙ o.apart) in
+    rw made (between (sorted (o.part.to x)) old begun sent new one two three)

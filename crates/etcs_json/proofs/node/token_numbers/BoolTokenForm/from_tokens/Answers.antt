@@ -1,0 +1,13 @@
+use Rattle.std.proofs.Common.{rules}
+use Rattle.etcs_json.specs.Reading.{number_of}
+use Rattle.etcs_json.specs.Shape.{whole}
+use Rattle.etcs_json.proofs.TokenLemmas.{form_record}
+use Rattle.etcs_json.proofs.node.token_numbers.BoolTokenForm.from_tokens.Goals as goal
+
+pub returns-in-0 : goal.returns-in-0
+unfolding number_of
+returns-in-0 c = form_record _ _ _ _ _ (whole c.in_ok-number.number) c.in_ok-number.ensures (search rules)
+
+pub returns-in-1 : goal.returns-in-1
+unfolding number_of
+returns-in-1 c = form_record _ _ _ _ _ (whole c.in_ok-number.number) c.in_ok-number.ensures (search rules)

@@ -1,0 +1,11 @@
+use Rattle.etcs_json.proofs.node.token_report.second_run.Goals as goal
+
+-- the members one after the other
+pub returns : goal.returns
+returns c = record {
+  after_group = _;
+  after_country = _;
+  has_group = c.in_ok-group.ensures;
+  has_country = c.in_ok-country.ensures;
+  has_ntc = c.in_ok-ntc.ensures;
+}

@@ -1,0 +1,13 @@
+use Rattle.etcs_json.specs.Authority.{authority}
+use Rattle.etcs_json.proofs.AuthorityLemmas.{made_authority}
+use Rattle.etcs_json.proofs.Objects.{read_again}
+use Rattle.etcs_json.proofs.PacketRanges.{authority_keeps}
+use Rattle.etcs_json.proofs.packets.authority_form.AuthorityForm.to_form.Goals as goal
+
+-- the object that was built member after member
+pub returns-clause-form : goal.returns-clause-form
+unfolding authority
+returns-clause-form c = made_authority c.args.self.now c.new-members.result.entries c.put_members.new.out c.new-members.ensures.empty c.in_ok-put_members.ensures
+
+pub returns-clause-again : goal.returns-clause-again
+returns-clause-again c = λ bounded. read_again authority c.args.self.now _ (returns-clause-form c) (authority_keeps.range c.args.self.now (c.stay_allowed.ensures tt))

@@ -1,0 +1,11 @@
+use Rattle.etcs_profile.specs.Authority.{permission}
+use Rattle.etcs_profile.specs.Terms.{conditions}
+use Rattle.etcs_json.proofs.AuthorityWidth.{is_authority}
+use Rattle.etcs_json.proofs.packets.terms_form.authority_of.Goals as goal
+
+-- at most 31 sections are neither too many nor too long
+pub unreachable-requires : goal.unreachable-requires
+unreachable-requires c =
+    let t = c.terms.inside in
+    let read = conditions t.end_speed t.end_timeout t.sections.items t.l_endsection t.end.section_timer t.end.end_timer t.end.danger_point t.end.overlap in
+    is_authority _ (permission c.args.dir c.args.scale c.args.main read) c.in-Err.ensures c.terms.invariant

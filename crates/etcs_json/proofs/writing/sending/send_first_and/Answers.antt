@@ -1,0 +1,9 @@
+use Rattle.std.proofs.Common.{◌∷◌}
+use Rattle.etcs_json.proofs.SendingLemmas.{adds_more, array_sent, one_token}
+use Rattle.etcs_json.proofs.writing.sending.send_first_and.Goals as goal
+
+-- the key, and the first item and the further ones between the two marks of a list
+pub returns : goal.returns
+returns g c =
+    array_sent g.T.Form.shape.to c.args.name.now (c.args.first.now ∷ c.args.further.now) _ _ _ _ _ (one_token _ _ _ c.in_ok-key.ensures) (one_token _ _ _ c.in_ok-begin_array.ensures)
+    (adds_more _ _ _ _ _ c.in_ok-send.ensures c.in_ok-send_items.ensures) (one_token _ _ _ c.in_ok-end_array.ensures)

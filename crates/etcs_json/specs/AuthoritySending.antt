@@ -1,0 +1,30 @@
+-- What is sent of a movement authority: its members in the byte order of their keys.
+use Rattle.std.specs.Prelude.{List, [], ◌∷◌, Some, codes}
+use Rattle.serde_json.specs.Data.{array}
+use Rattle.etcs_profile.specs.Authority.{Permission, authority_number}
+use Rattle.etcs_json.specs.Authority.{danger_point, end_timer, overlap, section, section_timer}
+use Rattle.etcs_json.specs.Entries.{Entry}
+use Rattle.etcs_json.specs.Shape.{items_of, object, optional, whole}
+use Rattle.etcs_json.specs.Variables.{direction, scale}
+
+-- the members up to NID_PACKET
+unfoldable pub first_members : Permission → List Entry
+first_members a =
+    (codes "danger_point", optional (object danger_point).to a.terms.danger_point)
+    ∷ (codes "end_speed", Some (whole a.terms.end_speed))
+    ∷ (codes "end_timeout", Some (whole a.terms.end_timeout))
+    ∷ (codes "end_timer", optional (object end_timer).to a.terms.end_timer)
+    ∷ (codes "l_endsection", Some (whole a.terms.l_endsection))
+    ∷ (codes "nid_packet", Some (whole (authority_number a)))
+    ∷ []
+
+-- the members after NID_PACKET; V_MAIN is there in packet 12 alone
+unfoldable pub last_members : Permission → List Entry
+last_members a =
+    (codes "overlap", optional (object overlap).to a.terms.overlap)
+    ∷ (codes "q_dir", Some (direction.to a.dir))
+    ∷ (codes "q_scale", Some (scale.to a.scale))
+    ∷ (codes "section_timer", optional (object section_timer).to a.terms.section_timer)
+    ∷ (codes "sections", Some (array (items_of (object section).to a.terms.sections)))
+    ∷ (codes "v_main", optional whole a.main)
+    ∷ []

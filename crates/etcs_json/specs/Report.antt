@@ -1,0 +1,125 @@
+-- The forms of position reports, train packets 0 and 1 (SUBSET-026, 7.4.3). Each key is named as the
+-- standard names its variable, in small letters. The standard has the identity of a group as one
+-- variable, NID_LRBG or NID_PRVLRBG. Here its country and its number are two keys. Keys are in the order
+-- in which they are looked for.
+use Rattle.std.specs.Prelude.{◌≡◌, ◌==◌, ◌||◌, ℕ, Bool, List, Option, Some, None, codes, if◌then◌else◌, is_some, refl}
+use Rattle.etcs_bits.specs.declared.variables.identity.Identity.{Identity}
+use Rattle.etcs_bits.specs.variables.Variables.{plain}
+use Rattle.etcs_radio.specs.Train3.{train3_names, train3_number, train3_of, train3_variable}
+use Rattle.etcs_radio.specs.declared.integrity.Integrity.{Integrity}
+use Rattle.etcs_radio.specs.declared.integrity.Integrity.TheVariants as lengths
+use Rattle.etcs_radio.specs.declared.train3.Train3.{Train3}
+use Rattle.etcs_json.specs.declared.packets.report_form.Place.{Place}
+use Rattle.etcs_json.specs.declared.packets.report_form.State.{State}
+use Rattle.etcs_json.specs.declared.packets.report_form.WithOne.{WithOne}
+use Rattle.etcs_json.specs.declared.packets.report_form.WithTwo.{WithTwo}
+use Rattle.etcs_json.specs.Choice.{decided}
+use Rattle.etcs_json.specs.Shape.{Object, Part, Shape, fixed, key, named, ◌then◌}
+use Rattle.etcs_json.specs.Transition.{level}
+use Rattle.etcs_json.specs.Variables.{is_allowed, named_numbers, number, scale}
+
+-- the identity of a group, as its country and its number there
+abbrev pub identity : List ℕ → List ℕ → Part Identity
+identity country group =
+    named
+    (λ p. record { country = p.0; group = p.1 })
+    (λ i. (i.country, i.group))
+    (λ _. refl)
+    (key country (number 10) then key group (number 14))
+
+-- Q_DIRLRBG, Q_DLRBG and Q_DIRTRAIN: a direction or a side, as seen from the group
+abbrev pub side : Shape Train3
+side = named_numbers train3_variable train3_number train3_of train3_names
+
+-- ---- whether the train is whole, and its length
+
+-- Q_LENGTH
+abbrev pub length_number : Integrity → ℕ
+length_number lengths.Q0 = 0
+length_number (lengths.Q1 l) = 1
+length_number (lengths.Q2 l) = 2
+length_number lengths.Q3 = 3
+
+-- L_TRAININT: the length that is confirmed
+abbrev pub confirmed : Integrity → Option ℕ
+confirmed lengths.Q0 = None
+confirmed (lengths.Q1 l) = Some l
+confirmed (lengths.Q2 l) = Some l
+confirmed lengths.Q3 = None
+
+-- what has this Q_LENGTH and this L_TRAININT
+abbrev pub integrity_with : ℕ → Option ℕ → Integrity
+integrity_with n None = if n == 0 then lengths.Q0 else lengths.Q3
+integrity_with n (Some l) = if n == 1 then lengths.Q1 l else lengths.Q2 l
+
+-- the numbers of Q_LENGTH at which integrity is confirmed
+abbrev pub is_confirmed : ℕ → Bool
+is_confirmed n = (n == 1) || (n == 2)
+
+pub has_length : (v : Integrity) → is_confirmed (length_number v) ≡ is_some (confirmed v)
+has_length lengths.Q0 = refl
+has_length (lengths.Q1 l) = refl
+has_length (lengths.Q2 l) = refl
+has_length lengths.Q3 = refl
+
+pub integrity_again : (v : Integrity) → integrity_with (length_number v) (confirmed v) ≡ v
+integrity_again lengths.Q0 = refl
+integrity_again (lengths.Q1 l) = refl
+integrity_again (lengths.Q2 l) = refl
+integrity_again lengths.Q3 = refl
+
+-- Q_LENGTH; L_TRAININT is wanted exactly at 1 and 2
+abbrev pub integrity : Part Integrity
+integrity = decided (codes "q_length") (is_allowed (plain 2)) is_confirmed (codes "l_trainint") (number 15) length_number confirmed integrity_with has_length integrity_again
+
+-- ---- the members behind the groups
+
+-- where the train is, as seen from the group
+unfoldable pub place : Part Place
+place =
+    named
+    (λ p. record { distance = p.0; orientation = p.1.0; side = p.1.1.0; doubt_over = p.1.1.1.0; doubt_under = p.1.1.1.1 })
+    (λ s. (s.distance, (s.orientation, (s.side, (s.doubt_over, s.doubt_under)))))
+    (λ _. refl)
+    (key (codes "d_lrbg") (number 15) then key (codes "q_dirlrbg") side then key (codes "q_dlrbg") side
+    then key (codes "l_doubtover") (number 15) then key (codes "l_doubtunder") (number 15))
+
+-- whether the train is whole, how it runs, and in which mode and level
+unfoldable pub state : Part State
+state =
+    named
+    (λ p. record { length = p.0; speed = p.1.0; running = p.1.1.0; mode = p.1.1.1.0; level = p.1.1.1.1 })
+    (λ s. (s.length, (s.speed, (s.running, (s.mode, s.level)))))
+    (λ _. refl)
+    (integrity then key (codes "v_train") (number 7) then key (codes "q_dirtrain") side then key (codes "m_mode") (number 4)
+    then level (codes "m_level"))
+
+-- ---- the packets
+
+-- packet 0
+unfoldable pub with_one : Object WithOne
+unfolding place state
+with_one = record {
+  apart = refl;
+  part =
+      named
+      (λ p. record { scale = p.1.0; lrbg = p.1.1.0; place = p.1.1.1.0; state = p.1.1.1.1 })
+      (λ r. (tt, (r.scale, (r.lrbg, (r.place, r.state)))))
+      (λ _. refl)
+      (fixed (codes "nid_packet") 0 then key (codes "q_scale") scale then identity (codes "nid_c") (codes "nid_bg")
+      then place then state);
+}
+
+-- packet 1: the group before stands behind the group
+unfoldable pub with_two : Object WithTwo
+unfolding place state
+with_two = record {
+  apart = refl;
+  part =
+      named
+      (λ p. record { scale = p.1.0; lrbg = p.1.1.0; previous = p.1.1.1.0; place = p.1.1.1.1.0; state = p.1.1.1.1.1 })
+      (λ r. (tt, (r.scale, (r.lrbg, (r.previous, (r.place, r.state))))))
+      (λ _. refl)
+      (fixed (codes "nid_packet") 1 then key (codes "q_scale") scale then identity (codes "nid_c") (codes "nid_bg")
+      then identity (codes "prv_nid_c") (codes "prv_nid_bg") then place then state);
+}

@@ -1,0 +1,58 @@
+-- The form of a telegram (SUBSET-026, 8.4.2). Each key is named as the standard names its variable, in
+-- small letters. NID_C and NID_BG are the identity of the balise's group. `user_bits` and `packets` are
+-- this project's. Keys are in the order in which they are looked for.
+use Rattle.std.specs.Prelude.{◌≡◌, ℕ, ◌==◌, ◌||◌, Bool, true, codes, if◌then◌else◌, refl}
+use Rattle.etcs_telegram.specs.Record.{Telegram}
+use Rattle.etcs_telegram.specs.Sizes.{user_bits}
+use Rattle.etcs_telegram.specs.declared.header.Header.{Header}
+use Rattle.etcs_telegram.specs.declared.size.Size.{Size}
+use Rattle.etcs_telegram.specs.declared.size.Size.TheVariants.{Short, Long}
+use Rattle.etcs_json.specs.Listed.{listed}
+use Rattle.etcs_json.specs.Report.{identity}
+use Rattle.etcs_json.specs.Shape.{Object, Part, Shape, key, named, names, ◌then◌}
+use Rattle.etcs_json.specs.TrackPackets.{track_packet}
+use Rattle.etcs_json.specs.Variables.{duplicate, flag, number, version}
+
+-- whether a telegram may have so many user bits
+abbrev pub is_size : ℕ → Bool
+is_size n = (n == 210) || (n == 830)
+
+-- the size of a telegram of 210 or 830 user bits
+abbrev pub size_with : ℕ → Size
+size_with n = if n == 210 then Short else Long
+
+pub is_one : (s : Size) → is_size (user_bits s) ≡ true
+is_one Short = refl
+is_one Long = refl
+
+pub size_again : (s : Size) → size_with (user_bits s) ≡ s
+size_again Short = refl
+size_again Long = refl
+
+-- a size, as its number of user bits (SUBSET-036, 4.3)
+abbrev pub size : Shape Size
+size = names is_size user_bits size_with is_one size_again
+
+-- the header
+unfoldable pub header : Part Header
+header =
+    named
+    (λ p. record { version = p.0; position = p.1.0; total = p.1.1.0; dup = p.1.1.1.0; counter = p.1.1.1.1.0; identity = p.1.1.1.1.1.0; linked = p.1.1.1.1.1.1 })
+    (λ h. (h.version, (h.position, (h.total, (h.dup, (h.counter, (h.identity, h.linked)))))))
+    (λ _. refl)
+    (key (codes "m_version") version then key (codes "n_pig") (number 3) then key (codes "n_total") (number 3)
+    then key (codes "m_dup") duplicate then key (codes "m_mcount") (number 8)
+    then identity (codes "nid_c") (codes "nid_bg") then key (codes "q_link") flag)
+
+-- a telegram, with any number of packets: whether they fit its size is not asked here
+unfoldable pub telegram : Object Telegram
+unfolding header
+telegram = record {
+  apart = refl;
+  part =
+      named
+      (λ p. record { size = p.0; header = p.1.0; packets = p.1.1 })
+      (λ t. (t.size, (t.header, t.packets)))
+      (λ _. refl)
+      (key (codes "user_bits") size then header then key (codes "packets") (listed track_packet));
+}

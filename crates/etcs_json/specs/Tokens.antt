@@ -1,0 +1,105 @@
+-- A form read from the tokens of its text, with no value built for it. The keys of each object have to
+-- stand in byte order, as they are written. Any other text is left to the reading of a value.
+use Rattle.std.specs.Prelude.{◌≡◌, ◌≤◌, ◌==◌, ◌&&◌, ℕ, Bool, true, List, [], ◌∷◌, length, Option, Some, None, Result, Ok, Err, codes, option_and_then}
+use Rattle.json.specs.Json.{items, members, value}
+use Rattle.json.specs.Token.{Token}
+use Rattle.serde_json.specs.Data.{Data, Items, Members, array, item, no_items}
+use Rattle.serde_json.specs.Find.{get}
+use Rattle.serde_json.specs.Read.{converted, of_items, of_json, of_members}
+use Rattle.etcs_json.specs.Entries.{Entry, Holds, are_apart, is_among, keys_of, members_onto, object_of}
+use Rattle.etcs_json.specs.Fault.{Fault}
+use Rattle.etcs_json.specs.Reading.{at_key_if, number_of}
+use Rattle.etcs_bits.specs.declared.variables.direction.Dir.{Dir}
+use Rattle.etcs_bits.specs.declared.variables.scale.Scale.{Scale}
+use Rattle.etcs_json.specs.Shape.{Part}
+use Rattle.etcs_json.specs.Variables.{direction, scale}
+
+-- ---- one value
+
+-- what was read, and the tokens that follow
+abbrev pub before : {X : Type 0} → List Token → Result X Fault → Option (X × List Token)
+before rest (Ok x) = Some (x, rest)
+before rest (Err f) = None
+
+-- the first value of the tokens, nested no deeper than `depth`
+abbrev pub first_value : ℕ → List Token → Option (Data × List Token)
+first_value depth tokens = converted of_json (value depth tokens)
+
+-- the record of which the first value of the tokens is the form
+unfoldable pub first_record : {X : Type 0} → (Data → Result X Fault) → ℕ → List Token → Option (X × List Token)
+first_record of depth tokens = option_and_then (λ p. before p.1 (of p.0)) (first_value depth tokens)
+
+-- ---- the members of an object
+
+-- these entries are the first members that the tokens have
+pub record HasMembers (depth : ℕ) (es : List Entry) (old new : List Token) : Type 0 where
+  pub one_by_one : (ms : Members) (turns : ℕ) → length old ≤ turns → (left : ℕ) × (length new ≤ left)
+      × (converted (λ r. of_members r ms) (members (value depth) turns old)
+      ≡ converted (λ r. of_members r (members_onto ms es)) (members (value depth) left new))
+
+-- the first member has this key, and is the form of x
+pub record HasKey {X : Type 0} (of : Data → Result X Fault) (name : List ℕ) (depth : ℕ) (old : List Token) (x : X) (new : List Token) : Type 0 where
+  pub found : Data
+  pub stands : HasMembers depth ((name, Some found) ∷ []) old new
+  pub reads : of found ≡ Ok x
+
+-- the first member has this key if there is a value, and the members begin with another key if there is none
+pub record HasKeyIf {X : Type 0} (of : Data → Result X Fault) (name : List ℕ) (depth : ℕ) (old : List Token) (o : Option X) (new : List Token) : Type 0 where
+  pub found : Option Data
+  pub stands : HasMembers depth ((name, found) ∷ []) old new
+  pub reads : (d : Data) → get name d ≡ found → at_key_if of name d ≡ Ok o
+
+abbrev pub are_among : List (List ℕ) → List (List ℕ) → Bool
+are_among [] keys = true
+are_among (k ∷ ks) keys = is_among k keys && are_among ks keys
+
+-- members, of which x is read
+pub record HasParts {X : Type 0} (part : Part X) (depth : ℕ) (old : List Token) (x : X) (new : List Token) : Type 0 where
+  pub entries : List Entry
+  pub stand : HasMembers depth entries old new
+  pub apart : are_apart (keys_of entries) ≡ true
+  pub among : are_among (keys_of entries) part.keys ≡ true
+  pub reads : (d : Data) → Holds entries d → part.of d ≡ Ok x
+
+-- the members of an object of which x is read
+pub record HasObject {X : Type 0} (of : Data → Result X Fault) (depth : ℕ) (old : List Token) (x : X) (new : List Token) : Type 0 where
+  pub entries : List Entry
+  pub stand : HasMembers depth entries old new
+  pub reads : of (object_of entries) ≡ Ok x
+
+-- the first members are NID_PACKET, which is k, Q_DIR and Q_SCALE
+pub record HasHead (k : ℕ) (depth : ℕ) (old : List Token) (p : Dir × Scale) (new : List Token) : Type 0 where
+  pub after_number : List Token
+  pub after_dir : List Token
+  pub number : HasKey (number_of (λ n. n == k)) (codes "nid_packet") depth old k after_number
+  pub dir : HasKey direction.of (codes "q_dir") depth after_number p.0 after_dir
+  pub scale : HasKey scale.of (codes "q_scale") depth after_dir p.1 new
+
+-- ---- the items of a list
+
+abbrev pub items_onto : List Data → Items → Items
+items_onto [] rest = rest
+items_onto (d ∷ ds) rest = item d (items_onto ds rest)
+
+abbrev pub items_after : List Data → Option (Items × List Token) → Option (Items × List Token)
+items_after ds found = option_and_then (λ p. Some (items_onto ds p.0, p.1)) found
+
+-- each record is read of its form
+abbrev pub AreForms : {X : Type 0} → (Data → Result X Fault) → List Data → List X → Type 0
+AreForms of [] [] = Unit {0}
+AreForms of [] (x ∷ xs) = ⊥
+AreForms of (d ∷ ds) [] = ⊥
+AreForms of (d ∷ ds) (x ∷ xs) = (of d ≡ Ok x) × AreForms of ds xs
+
+-- the first items that the tokens have are the forms of xs
+pub record HasItems {X : Type 0} (of : Data → Result X Fault) (depth : ℕ) (old : List Token) (xs : List X) (new : List Token) : Type 0 where
+  pub found : List Data
+  pub one_by_one : (turns : ℕ) → length old ≤ turns → (left : ℕ) × (length new ≤ left)
+      × (converted of_items (items (value depth) turns old) ≡ items_after found (converted of_items (items (value depth) left new)))
+  pub reads : AreForms of found xs
+
+-- the first value of the tokens is a list, of the forms of xs
+pub record HasList {X : Type 0} (of : Data → Result X Fault) (depth : ℕ) (old : List Token) (xs : List X) (new : List Token) : Type 0 where
+  pub found : List Data
+  pub stands : first_value depth old ≡ Some (array (items_onto found no_items), new)
+  pub reads : AreForms of found xs

@@ -1,0 +1,32 @@
+//! Telegrams, radio messages and packets as JSON values, and JSON values as these.
+//!
+//! [`Form`] is what has a JSON form: `to_form` writes a value, and `of_form` reads one or answers a
+//! [`FormError`], the first fault with the way to it. A [`Record`] is a record whose form is an
+//! object. Each form is stated once, as a `Shape`: what is written, what is read, and that the one
+//! undoes the other (`specs/Shape.antt`). A writer of lines sends a form member by member
+//! ([`InPieces`]). Read `form.rt` and `record.rt` first, with `specs/Shape.antt` and
+//! `specs/Profiles.antt`, then `packets/linking_form.rt`.
+//!
+//! A quick reader builds no JSON value: [`read_quickly`] reads a record from the tokens of its form. It
+//! knows one spelling, and leaves any other to [`Form::of_form`], whose answer its is. Read
+//! `node/token_form.rt` first, with `specs/Tokens.antt`. This crate leaves out the document of a
+//! railway line.
+#![tactic(auto)]
+
+mod error;
+mod form;
+pub mod laws;
+mod messages;
+mod node;
+mod packets;
+mod record;
+mod writing;
+
+pub use error::{FormError, Path, Step};
+pub use form::{Form, InPieces};
+pub use node::known_keys::check_keys;
+pub use node::token_form::TokenForm;
+pub use node::token_members::{pass_begin, pass_end};
+pub use node::token_reading::pass_key;
+pub use node::token_text::read_quickly;
+pub use record::Record;

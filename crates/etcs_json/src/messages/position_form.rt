@@ -1,0 +1,60 @@
+//! The form of message 136, the position report.
+
+use crate::error::FormError;
+use crate::node::packets_form::read_all_at;
+use crate::node::reading::{read_fixed, read_key};
+use crate::record::{Members, Record, is_one_of, stay_allowed};
+use crate::writing::building::{put_key, put_list_at, put_number};
+use crate::writing::sending::{send_key, send_list_at, send_number};
+use etcs_bits::{Memory, are_allowed};
+use etcs_radio::PositionMessage;
+use json::Writer;
+use serde_json::{Map, Value};
+use std::alloc::Global;
+
+impl Record for PositionMessage {
+    ghost use Rattle.etcs_json.specs.Messages.{position};
+    ghost use Rattle.etcs_json.specs.TrainPackets.{train_packet};
+
+    ghost object = { position train_packet };
+}
+
+#[tactic(auto, using(crate::proofs::SendingLemmas::then), unfolding(crate::specs::Messages::position))]
+impl Members for PositionMessage {
+    fn has_key(name: &str) -> bool {
+        is_one_of(name, &["nid_message", "t_train", "nid_engine", "packets"])
+    }
+
+    fn send_members(&self, out: &mut Writer) -> Result<(), Memory> {
+        send_key(out, "nid_engine", &self.engine())?;
+        send_number(out, "nid_message", 136)?;
+        send_list_at(out, "packets", self.packets())?;
+        send_key(out, "t_train", &self.time())?;
+        Ok(())
+    }
+
+    fn put_members(&self, alloc: Global, out: &mut Map<String, Value>) -> Result<(), Memory> {
+        put_number(out, alloc, "nid_message", 136)?;
+        put_key(out, alloc, "t_train", &self.time())?;
+        put_key(out, alloc, "nid_engine", &self.engine())?;
+        put_list_at(out, alloc, "packets", self.packets())?;
+        Ok(())
+    }
+
+    fn of_members(alloc: Global, value: &Value) -> Result<Self, FormError> {
+        read_fixed(alloc, value, "nid_message", 136)?;
+        let time = read_key(alloc, value, "t_train")?;
+        let engine = read_key(alloc, value, "nid_engine")?;
+        let packets = read_all_at(alloc, value, "packets")?;
+        match PositionMessage::new(time, engine, packets) {
+            Ok(message) => Ok(message),
+            Err(_) => Err(FormError::range_at(alloc, "packets")),
+        }
+    }
+
+    fn stay_in_range(&self) {
+        stay_allowed(&self.time());
+        stay_allowed(&self.engine());
+        let _allowed = are_allowed(self.packets());
+    }
+}

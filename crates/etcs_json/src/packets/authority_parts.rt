@@ -1,0 +1,198 @@
+//! The forms of the parts of movement authorities: sections and timers, danger point and overlap.
+
+use crate::error::FormError;
+use crate::node::reading::{read_key, read_key_if};
+use crate::record::{Members, Record, is_one_of, stay_allowed};
+use crate::writing::building::{put_key, put_key_if};
+use crate::writing::sending::{send_key, send_key_if};
+use etcs_bits::Memory;
+use etcs_profile::{DangerPoint, EndTimer, Overlap, Section, SectionTimer};
+use json::Writer;
+use serde_json::{Map, Value};
+use std::alloc::Global;
+
+impl Record for SectionTimer {
+    ghost use Rattle.etcs_json.specs.Authority.{section_timer};
+
+    ghost object = { section_timer };
+}
+
+#[tactic(auto, unfolding(crate::specs::Authority::section_timer))]
+impl Members for SectionTimer {
+    fn has_key(name: &str) -> bool {
+        is_one_of(name, &["t_sectiontimer", "d_sectiontimerstoploc"])
+    }
+
+    fn send_members(&self, out: &mut Writer) -> Result<(), Memory> {
+        send_key(out, "d_sectiontimerstoploc", &self.stop)?;
+        send_key(out, "t_sectiontimer", &self.time)?;
+        Ok(())
+    }
+
+    fn put_members(&self, alloc: Global, out: &mut Map<String, Value>) -> Result<(), Memory> {
+        put_key(out, alloc, "t_sectiontimer", &self.time)?;
+        put_key(out, alloc, "d_sectiontimerstoploc", &self.stop)?;
+        Ok(())
+    }
+
+    fn of_members(alloc: Global, value: &Value) -> Result<Self, FormError> {
+        Ok(SectionTimer {
+            time: read_key(alloc, value, "t_sectiontimer")?,
+            stop: read_key(alloc, value, "d_sectiontimerstoploc")?,
+        })
+    }
+
+    fn stay_in_range(&self) {
+        stay_allowed(self);
+    }
+}
+
+impl Record for Section {
+    ghost use Rattle.etcs_json.specs.Authority.{section};
+
+    ghost object = { section };
+}
+
+#[tactic(auto, unfolding(crate::specs::Authority::section))]
+impl Members for Section {
+    fn has_key(name: &str) -> bool {
+        is_one_of(name, &["l_section", "section_timer"])
+    }
+
+    fn send_members(&self, out: &mut Writer) -> Result<(), Memory> {
+        send_key(out, "l_section", &self.length)?;
+        send_key_if(out, "section_timer", &self.timer)?;
+        Ok(())
+    }
+
+    fn put_members(&self, alloc: Global, out: &mut Map<String, Value>) -> Result<(), Memory> {
+        put_key(out, alloc, "l_section", &self.length)?;
+        put_key_if(out, alloc, "section_timer", &self.timer)?;
+        Ok(())
+    }
+
+    fn of_members(alloc: Global, value: &Value) -> Result<Self, FormError> {
+        Ok(Section {
+            length: read_key(alloc, value, "l_section")?,
+            timer: read_key_if(alloc, value, "section_timer")?,
+        })
+    }
+
+    fn stay_in_range(&self) {
+        stay_allowed(self);
+    }
+}
+
+impl Record for EndTimer {
+    ghost use Rattle.etcs_json.specs.Authority.{end_timer};
+
+    ghost object = { end_timer };
+}
+
+#[tactic(auto, unfolding(crate::specs::Authority::end_timer))]
+impl Members for EndTimer {
+    fn has_key(name: &str) -> bool {
+        is_one_of(name, &["t_endtimer", "d_endtimerstartloc"])
+    }
+
+    fn send_members(&self, out: &mut Writer) -> Result<(), Memory> {
+        send_key(out, "d_endtimerstartloc", &self.start)?;
+        send_key(out, "t_endtimer", &self.time)?;
+        Ok(())
+    }
+
+    fn put_members(&self, alloc: Global, out: &mut Map<String, Value>) -> Result<(), Memory> {
+        put_key(out, alloc, "t_endtimer", &self.time)?;
+        put_key(out, alloc, "d_endtimerstartloc", &self.start)?;
+        Ok(())
+    }
+
+    fn of_members(alloc: Global, value: &Value) -> Result<Self, FormError> {
+        Ok(EndTimer {
+            time: read_key(alloc, value, "t_endtimer")?,
+            start: read_key(alloc, value, "d_endtimerstartloc")?,
+        })
+    }
+
+    fn stay_in_range(&self) {
+        stay_allowed(self);
+    }
+}
+
+impl Record for DangerPoint {
+    ghost use Rattle.etcs_json.specs.Authority.{danger_point};
+
+    ghost object = { danger_point };
+}
+
+#[tactic(auto, unfolding(crate::specs::Authority::danger_point))]
+impl Members for DangerPoint {
+    fn has_key(name: &str) -> bool {
+        is_one_of(name, &["d_dp", "v_releasedp"])
+    }
+
+    fn send_members(&self, out: &mut Writer) -> Result<(), Memory> {
+        send_key(out, "d_dp", &self.distance)?;
+        send_key(out, "v_releasedp", &self.release_speed)?;
+        Ok(())
+    }
+
+    fn put_members(&self, alloc: Global, out: &mut Map<String, Value>) -> Result<(), Memory> {
+        put_key(out, alloc, "d_dp", &self.distance)?;
+        put_key(out, alloc, "v_releasedp", &self.release_speed)?;
+        Ok(())
+    }
+
+    fn of_members(alloc: Global, value: &Value) -> Result<Self, FormError> {
+        Ok(DangerPoint {
+            distance: read_key(alloc, value, "d_dp")?,
+            release_speed: read_key(alloc, value, "v_releasedp")?,
+        })
+    }
+
+    fn stay_in_range(&self) {
+        stay_allowed(self);
+    }
+}
+
+impl Record for Overlap {
+    ghost use Rattle.etcs_json.specs.Authority.{overlap};
+
+    ghost object = { overlap };
+}
+
+#[tactic(auto, unfolding(crate::specs::Authority::overlap))]
+impl Members for Overlap {
+    fn has_key(name: &str) -> bool {
+        is_one_of(name, &["d_startol", "t_ol", "d_ol", "v_releaseol"])
+    }
+
+    fn send_members(&self, out: &mut Writer) -> Result<(), Memory> {
+        send_key(out, "d_ol", &self.length)?;
+        send_key(out, "d_startol", &self.start)?;
+        send_key(out, "t_ol", &self.time)?;
+        send_key(out, "v_releaseol", &self.release_speed)?;
+        Ok(())
+    }
+
+    fn put_members(&self, alloc: Global, out: &mut Map<String, Value>) -> Result<(), Memory> {
+        put_key(out, alloc, "d_startol", &self.start)?;
+        put_key(out, alloc, "t_ol", &self.time)?;
+        put_key(out, alloc, "d_ol", &self.length)?;
+        put_key(out, alloc, "v_releaseol", &self.release_speed)?;
+        Ok(())
+    }
+
+    fn of_members(alloc: Global, value: &Value) -> Result<Self, FormError> {
+        Ok(Overlap {
+            start: read_key(alloc, value, "d_startol")?,
+            time: read_key(alloc, value, "t_ol")?,
+            length: read_key(alloc, value, "d_ol")?,
+            release_speed: read_key(alloc, value, "v_releaseol")?,
+        })
+    }
+
+    fn stay_in_range(&self) {
+        stay_allowed(self);
+    }
+}

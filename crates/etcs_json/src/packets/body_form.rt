@@ -1,0 +1,136 @@
+//! L_PACKET and the body that it counts, in the forms of packets whose layout is not known.
+
+ghost use Rattle.std.specs.Prelude.{◌≡◌, ◌+◌, ◌∷◌, ◌≤◌, ◌<◌, [], codes, length, Some, IfOk, OnOk};
+ghost use Rattle.serde_json.specs.Data.{string};
+ghost use Rattle.serde_json.specs.View.{members_view, view};
+ghost use Rattle.etcs_json.specs.BodyText.{body_of, body_text};
+ghost use Rattle.etcs_json.specs.Entries.{members_onto};
+ghost use Rattle.etcs_json.specs.Fault.{Gives};
+ghost use Rattle.etcs_json.specs.Measured.{is_length, measured, measured_of};
+ghost use Rattle.etcs_json.specs.Reading.{at_key, number_of};
+ghost use Rattle.etcs_json.specs.Sending.{SendsMembers};
+ghost use Rattle.etcs_json.specs.Shape.{whole};
+
+use crate::error::{FormError, Step};
+use crate::packets::body_text::{body_in, send_body, text_of};
+use crate::writing::building::put_number;
+use crate::writing::sending::send_number;
+use etcs_bits::{Bits, Memory};
+use json::Writer;
+use serde_json::{Map, Value, put};
+use std::alloc::Global;
+
+/// Sends the member `l_packet`. `head` is the number of bits before the body.
+pub(crate) fn send_length(out: &mut Writer, head: u32, body: &Bits) -> Result<(), Memory>
+    requires { length body.now ≤ 8170 }
+    ensures { OnOk result (SendsMembers
+        ((codes "l_packet", Some (whole (head + length body.now))) ∷ []) out.old out.new) }
+{
+    send_number(out, "l_packet", u64::from(head) + body.len() as u64)
+}
+
+/// Sends the member `body`.
+pub(crate) fn send_body_at(out: &mut Writer, body: &Bits) -> Result<(), Memory>
+    requires { length body.now ≤ 8170 }
+    ensures { OnOk result (SendsMembers ((codes "body", Some (string (body_text body.now))) ∷ [])
+        out.old out.new) }
+{
+    out.key("body")?;
+    send_body(out, body)
+}
+
+/// Puts the members `l_packet` and `body` into an object. `head` is the number of bits before the
+/// body.
+pub(crate) fn put_measured(
+    out: &mut Map<String, Value>,
+    alloc: Global,
+    head: u32,
+    body: &Bits,
+) -> Result<(), Memory>
+    requires { length body.now ≤ 8170 }
+    ensures { OnOk result (members_view out.new.entries
+        ≡ members_onto (members_view out.old.entries) ((measured head).to body.now)) }
+{
+    put_number(out, alloc, "l_packet", u64::from(head) + body.len() as u64)?;
+    let text = text_of(alloc, body)?;
+    match put(out, alloc, "body", Value::String(text)) {
+        Ok(()) => Ok(()),
+        Err(_) => Err(Memory),
+    }
+}
+
+// Reads L_PACKET, which counts so many bits of the head too.
+#[tactic(auto, unfolding(crate::specs::Reading::number_of))]
+fn length_in(alloc: Global, value: &Value, head: u32) -> Result<u32, FormError>
+    ensures gives { Gives (λ n. n) result (number_of (is_length head) (view value.now)) }
+    ensures least { IfOk result (λ n. head ≤ n) }
+    ensures most { IfOk result (λ n. n < 8192) }
+{
+    match value.as_u64() {
+        None => Err(FormError::kind(alloc)),
+        Some(length) => {
+            if length < 8192 && u64::from(head) <= length {
+                Ok(length as u32)
+            } else {
+                Err(FormError::range(alloc))
+            }
+        }
+    }
+}
+
+// Reads the member `l_packet`.
+#[tactic(auto, using(crate::proofs::Objects::fails_as, crate::proofs::Objects::fails_under), unfolding(crate::specs::Reading::at_key))]
+fn read_length(alloc: Global, value: &Value, head: u32) -> Result<u32, FormError>
+    ensures gives { Gives (λ n. n) result
+        (at_key (number_of (is_length head)) (codes "l_packet") (view value.now)) }
+    ensures least { IfOk result (λ n. head ≤ n) }
+    ensures most { IfOk result (λ n. n < 8192) }
+{
+    match value.get("l_packet") {
+        None => Err(FormError::missing(alloc, "l_packet")),
+        Some(found) => match length_in(alloc, found, head) {
+            Ok(length) => Ok(length),
+            Err(error) => Err(error.under(Step::Key("l_packet"))),
+        },
+    }
+}
+
+// Reads a body of so many bits.
+#[tactic(auto, unfolding(crate::specs::BodyText::body_of))]
+fn read_text(alloc: Global, value: &Value, count: usize) -> Result<Bits, FormError>
+    requires { count ≤ 8170 }
+    ensures gives { Gives (λ b. b) result (body_of count (view value.now)) }
+    ensures len { IfOk result (λ b. length b ≡ count) }
+{
+    match value.as_str() {
+        None => Err(FormError::kind(alloc)),
+        Some(text) => body_in(alloc, text, count),
+    }
+}
+
+// Reads the member `body`.
+#[tactic(auto, using(crate::proofs::Objects::fails_as, crate::proofs::Objects::fails_under), unfolding(crate::specs::Reading::at_key))]
+fn read_body(alloc: Global, value: &Value, count: usize) -> Result<Bits, FormError>
+    requires { count ≤ 8170 }
+    ensures gives { Gives (λ b. b) result (at_key (body_of count) (codes "body") (view value.now)) }
+    ensures len { IfOk result (λ b. length b ≡ count) }
+{
+    match value.get("body") {
+        None => Err(FormError::missing(alloc, "body")),
+        Some(found) => match read_text(alloc, found, count) {
+            Ok(body) => Ok(body),
+            Err(error) => Err(error.under(Step::Key("body"))),
+        },
+    }
+}
+
+/// Reads the members `l_packet` and `body`. `head` is the number of bits before the body, 21 or
+/// more.
+pub(crate) fn read_measured(alloc: Global, value: &Value, head: u32) -> Result<Bits, FormError>
+    requires { 21 ≤ head }
+    ensures gives { Gives (λ b. b) result (measured_of head (view value.now)) }
+    ensures short { IfOk result (λ b. head + length b < 8192) }
+{
+    let length = read_length(alloc, value, head)?;
+    read_body(alloc, value, (length - head) as usize)
+}

@@ -1,0 +1,138 @@
+//! The text of a body: hexadecimal digits, with zeros after the last bit up to a whole byte.
+
+ghost use Rattle.std.specs.Prelude.{◌≡◌, ◌+◌, ◌*◌, ◌<◌, ◌≤◌, ◌∷◌, [], length, take, drop, string_bytes, IfOk, OnOk};
+ghost use Rattle.hex.specs.Hex.{decode_of, encode_lower, IsBytes};
+ghost use Rattle.etcs_bits.specs.bits.Number.{num_of_bits};
+ghost use Rattle.json.specs.Token.{string as string_token};
+ghost use Rattle.etcs_json.specs.BodyText.{are_padded, body_bytes, body_text, bytes_for, decoded_or, filled_up, first_bits};
+ghost use Rattle.etcs_json.specs.Fault.{Gives};
+ghost use Rattle.etcs_json.specs.Sending.{Adds};
+
+use crate::error::FormError;
+use etcs_bits::{BitSlice, Bits, Memory};
+use hex::FromHexError;
+use json::Writer;
+use std::alloc::Global;
+
+// How many bits have little room made for them. A telegram has no longer body.
+const FEW_BITS: usize = 1024;
+
+// The byte that eight bits make, the first of them at this place. Zeros follow the last bit.
+#[inline]
+fn byte_at(bits: &BitSlice<'_>, at: usize) -> u8
+    requires inside { at + 8 ≤ 8 * bytes_for (length bits.now) }
+    requires not_past { at < length bits.now }
+    ensures { result ≡ num_of_bits (take 8 (drop at (filled_up bits.now))) }
+{
+    let left = bits.len() - at;
+    if left >= 8 {
+        return bits.num(at, 8) as u8;
+    }
+    (bits.num(at, left as u32) << (8 - left)) as u8
+}
+
+// The bytes of the bits. The rest of the array carries no information.
+fn bytes_of<const BYTES: usize>(bits: &BitSlice<'_>) -> [u8; BYTES]
+    requires { length bits.now ≤ 8 * BYTES }
+    ensures { take (bytes_for (length bits.now)) result ≡ body_bytes bits.now }
+{
+    let mut bytes = [0; BYTES];
+    'bytes: for i in 0..bits.len().div_ceil(8) {
+        bytes[i] = byte_at(bits, 8 * i);
+    }
+    bytes
+}
+
+// Sends the text, in room for so many bytes and for their digits.
+fn send_in_room<const BYTES: usize, const DIGITS: usize>(
+    out: &mut Writer,
+    bits: &Bits,
+) -> Result<(), Memory>
+    requires bytes { length bits.now ≤ 8 * BYTES }
+    requires digits { (2 * BYTES ≤ DIGITS) × (DIGITS ≤ 2044) }
+    ensures { OnOk result (Adds (string_token (body_text bits.now) ∷ []) out.old out.new) }
+{
+    let bytes: [u8; BYTES] = bytes_of(&bits.slice());
+    let count = bits.len().div_ceil(8);
+    let mut digits = [0; DIGITS];
+    let room = &mut digits[..2 * count];
+    let Ok(()) = hex::encode_to_slice(&bytes[..count], room) else {
+        unreachable!("there is room for two digits a byte")
+    };
+    let Ok(text) = str::from_utf8(room) else {
+        unreachable!("digits are text")
+    };
+    out.string(text)?;
+    Ok(())
+}
+
+/// Sends the text of a body. No packet's body has more than 8,170 bits, which are 1,022 bytes. The
+/// only error is that the writer's buffer can't grow.
+pub(crate) fn send_body(out: &mut Writer, body: &Bits) -> Result<(), Memory>
+    requires { length body.now ≤ 8170 }
+    ensures { OnOk result (Adds (string_token (body_text body.now) ∷ []) out.old out.new) }
+{
+    if body.len() <= FEW_BITS {
+        send_in_room::<128, 256>(out, body)
+    } else {
+        send_in_room::<1022, 2044>(out, body)
+    }
+}
+
+// The lower-case digits of bytes.
+fn digits_of(alloc: Global, bytes: &[u8]) -> Result<String, Memory>
+    ensures text { IfOk result (λ s. string_bytes s ≡ encode_lower bytes.now) }
+    ensures in_range { OnOk result (IsBytes bytes.now) }
+{
+    match hex::encode(alloc, bytes) {
+        Ok(text) => Ok(text),
+        Err(_) => Err(Memory),
+    }
+}
+
+/// The text of a body. The only error is that memory runs out.
+pub(crate) fn text_of(alloc: Global, body: &Bits) -> Result<String, Memory>
+    ensures { IfOk result (λ text. string_bytes text ≡ body_text body.now) }
+{
+    let bytes = body.to_bytes(alloc)?;
+    let text = digits_of(alloc, bytes.as_slice())?;
+    Ok(text)
+}
+
+// Whether the bits after the first `count` are zeros.
+fn is_padded(bytes: &[u8], count: usize) -> bool
+    requires many { count ≤ 8170 }
+    requires whole { length bytes.now ≡ bytes_for count }
+    ensures { result ≡ are_padded count bytes.now }
+{
+    let whole = 8 * bytes.len();
+    let pads = whole - count;
+    pads == 0 || BitSlice::of_bytes(bytes, whole).num(count, pads as u32) == 0
+}
+
+// The first bits of bytes. There are as many bytes as hold the bits, and no other bit is set.
+fn bits_in(alloc: Global, bytes: &[u8], count: usize) -> Result<Bits, FormError>
+    requires { count ≤ 8170 }
+    ensures gives { Gives (λ b. b) result (first_bits count bytes.now) }
+    ensures len { IfOk result (λ b. length b ≡ count) }
+{
+    if bytes.len() == count.div_ceil(8) && is_padded(bytes, count) {
+        let bits = Bits::from_bytes(alloc, bytes, count)?;
+        Ok(bits)
+    } else {
+        Err(FormError::range(alloc))
+    }
+}
+
+/// Reads the text of a body of so many bits.
+pub(crate) fn body_in(alloc: Global, text: &str, count: usize) -> Result<Bits, FormError>
+    requires { count ≤ 8170 }
+    ensures gives { Gives (λ b. b) result (decoded_or count (decode_of text.now)) }
+    ensures len { IfOk result (λ b. length b ≡ count) }
+{
+    match hex::decode(alloc, text) {
+        Ok(bytes) => bits_in(alloc, bytes.as_slice(), count),
+        Err(FromHexError::OutOfMemory) => Err(FormError::Memory),
+        Err(_) => Err(FormError::kind(alloc)),
+    }
+}

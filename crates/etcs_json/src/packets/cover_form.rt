@@ -1,0 +1,47 @@
+//! The form of virtual balise cover markers, packet 0.
+
+use crate::error::FormError;
+use crate::node::reading::{read_fixed, read_key};
+use crate::record::{Members, Record, is_one_of, stay_allowed};
+use crate::writing::building::{put_key, put_number};
+use crate::writing::sending::{send_key, send_number};
+use etcs_bits::Memory;
+use etcs_packet::CoverMarker;
+use json::Writer;
+use serde_json::{Map, Value};
+use std::alloc::Global;
+
+impl Record for CoverMarker {
+    ghost use Rattle.etcs_json.specs.Cover.{cover_marker};
+
+    ghost object = { cover_marker };
+}
+
+#[tactic(auto, using(crate::proofs::SendingLemmas::then), unfolding(crate::specs::Cover::cover_marker))]
+impl Members for CoverMarker {
+    fn has_key(name: &str) -> bool {
+        is_one_of(name, &["nid_packet", "nid_vbcmk"])
+    }
+
+    fn send_members(&self, out: &mut Writer) -> Result<(), Memory> {
+        send_number(out, "nid_packet", 0)?;
+        send_key(out, "nid_vbcmk", &self.marker)?;
+        Ok(())
+    }
+
+    fn put_members(&self, alloc: Global, out: &mut Map<String, Value>) -> Result<(), Memory> {
+        put_number(out, alloc, "nid_packet", 0)?;
+        put_key(out, alloc, "nid_vbcmk", &self.marker)?;
+        Ok(())
+    }
+
+    fn of_members(alloc: Global, value: &Value) -> Result<Self, FormError> {
+        read_fixed(alloc, value, "nid_packet", 0)?;
+        let marker = read_key(alloc, value, "nid_vbcmk")?;
+        Ok(CoverMarker { marker })
+    }
+
+    fn stay_in_range(&self) {
+        stay_allowed(self);
+    }
+}

@@ -1,0 +1,81 @@
+//! The form of gradient profiles, packet 21.
+
+use crate::error::FormError;
+use crate::node::reading::read_key;
+use crate::packets::profile_form::{put_profile, read_profile, send_profile};
+use crate::record::{Members, Record, is_one_of, stay_allowed};
+use crate::writing::building::put_key;
+use crate::writing::sending::send_key;
+use etcs_bits::Memory;
+use etcs_profile::{Gradient, GradientElement};
+use json::Writer;
+use serde_json::{Map, Value};
+use std::alloc::Global;
+
+impl Record for GradientElement {
+    ghost use Rattle.etcs_json.specs.Profiles.{gradient_element};
+
+    ghost object = { gradient_element };
+}
+
+#[tactic(auto, using(crate::proofs::SendingLemmas::then), unfolding(crate::specs::Profiles::gradient_element))]
+impl Members for GradientElement {
+    fn has_key(name: &str) -> bool {
+        is_one_of(name, &["d_gradient", "q_gdir", "g_a"])
+    }
+
+    fn send_members(&self, out: &mut Writer) -> Result<(), Memory> {
+        send_key(out, "d_gradient", &self.distance)?;
+        send_key(out, "g_a", &self.gradient)?;
+        send_key(out, "q_gdir", &self.uphill)?;
+        Ok(())
+    }
+
+    fn put_members(&self, alloc: Global, out: &mut Map<String, Value>) -> Result<(), Memory> {
+        put_key(out, alloc, "d_gradient", &self.distance)?;
+        put_key(out, alloc, "q_gdir", &self.uphill)?;
+        put_key(out, alloc, "g_a", &self.gradient)?;
+        Ok(())
+    }
+
+    fn of_members(alloc: Global, value: &Value) -> Result<Self, FormError> {
+        Ok(GradientElement {
+            distance: read_key(alloc, value, "d_gradient")?,
+            uphill: read_key(alloc, value, "q_gdir")?,
+            gradient: read_key(alloc, value, "g_a")?,
+        })
+    }
+
+    fn stay_in_range(&self) {
+        stay_allowed(self);
+    }
+}
+
+impl Record for Gradient {
+    ghost use Rattle.etcs_json.specs.Profiles.{gradient};
+
+    ghost object = { gradient };
+}
+
+#[tactic(auto, unfolding(crate::specs::Profiles::gradient))]
+impl Members for Gradient {
+    fn has_key(name: &str) -> bool {
+        is_one_of(name, &["nid_packet", "q_dir", "q_scale", "elements"])
+    }
+
+    fn send_members(&self, out: &mut Writer) -> Result<(), Memory> {
+        send_profile(out, "elements", self)
+    }
+
+    fn put_members(&self, alloc: Global, out: &mut Map<String, Value>) -> Result<(), Memory> {
+        put_profile(out, alloc, "elements", self)
+    }
+
+    fn of_members(alloc: Global, value: &Value) -> Result<Self, FormError> {
+        read_profile(alloc, value, "elements")
+    }
+
+    fn stay_in_range(&self) {
+        stay_allowed(self);
+    }
+}

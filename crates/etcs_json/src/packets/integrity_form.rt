@@ -1,0 +1,93 @@
+//! The form of a train's integrity, with the length that is confirmed.
+
+ghost use Rattle.std.specs.Prelude.{◌≡◌};
+ghost use Rattle.serde_json.specs.View.{view};
+ghost use Rattle.etcs_json.specs.Fault.{Gives};
+ghost use Rattle.etcs_json.specs.Report.{confirmed, integrity, length_number as number_of_length};
+
+use crate::error::FormError;
+use crate::form::{Form, InPieces};
+use crate::node::reading::{check_absent, read_key};
+use etcs_bits::{Distance, Memory, Plain};
+use etcs_digits::send_decimal;
+use etcs_radio::{Integrity, Train3};
+use json::Writer;
+use serde_json::Value;
+use std::alloc::Global;
+
+/// The number of Q_LENGTH, 0 to 3.
+pub(crate) fn length_number(integrity: Integrity) -> u64
+    ensures { result ≡ number_of_length integrity }
+{
+    match integrity {
+        Integrity::Q0 => 0,
+        Integrity::Q1(_) => 1,
+        Integrity::Q2(_) => 2,
+        Integrity::Q3 => 3,
+    }
+}
+
+/// The length that is confirmed: L_TRAININT, 15 bits, at Q_LENGTH 1 and 2.
+pub(crate) fn confirmed_length(integrity: Integrity) -> Option<Distance>
+    ensures { result ≡ confirmed integrity }
+{
+    match integrity {
+        Integrity::Q1(length) => Some(length),
+        Integrity::Q2(length) => Some(length),
+        Integrity::Q0 => None,
+        Integrity::Q3 => None,
+    }
+}
+
+/// Reads Q_LENGTH and L_TRAININT. L_TRAININT has to be there at 1 and 2, and nowhere else.
+pub(crate) fn read_integrity(alloc: Global, value: &Value) -> Result<Integrity, FormError>
+    ensures { Gives (λ v. v) result (integrity.of (view value.now)) }
+{
+    let number: Plain<2> = read_key(alloc, value, "q_length")?;
+    if number.number() == 1 {
+        return Ok(Integrity::Q1(read_key(alloc, value, "l_trainint")?));
+    }
+    if number.number() == 2 {
+        return Ok(Integrity::Q2(read_key(alloc, value, "l_trainint")?));
+    }
+    check_absent(alloc, value, "l_trainint")?;
+    if number.number() == 0 {
+        return Ok(Integrity::Q0);
+    }
+    Ok(Integrity::Q3)
+}
+
+#[tactic(auto, unfolding(crate::specs::Reading::number_of))]
+impl Form for Train3 {
+    ghost use Rattle.etcs_json.specs.Report.{side};
+
+    ghost shape = { side };
+
+    ghost builds = { ⊥ };
+
+    ghost asks = { λ _. ⊥ };
+
+    fn to_form(&self, _alloc: Global) -> Result<Value, Memory> {
+        Ok(Value::from(u64::from(self.number())))
+    }
+
+    fn of_form(alloc: Global, value: &Value) -> Result<Self, FormError> {
+        match value.as_u64() {
+            None => Err(FormError::kind(alloc)),
+            Some(number) => match u32::try_from(number) {
+                Err(_) => Err(FormError::range(alloc)),
+                Ok(number) => match Train3::new(number) {
+                    None => Err(FormError::range(alloc)),
+                    Some(side) => Ok(side),
+                },
+            },
+        }
+    }
+}
+
+impl InPieces for Train3 {
+    fn send(&self, out: &mut Writer) -> Result<(), Memory> {
+        send_decimal(out, u64::from(self.number()))?;
+        Ok(())
+    }
+}

@@ -1,0 +1,45 @@
+//! The form of a level, with the national system of level NTC.
+
+ghost use Rattle.std.specs.Prelude.{◌≡◌};
+ghost use Rattle.serde_json.specs.View.{view};
+ghost use Rattle.etcs_json.specs.Fault.{Gives};
+ghost use Rattle.etcs_json.specs.Transition.{level, national_system};
+
+use crate::error::FormError;
+use crate::node::reading::{check_absent, read_key};
+use etcs_bits::{Level, Plain, Ranged};
+use serde_json::Value;
+use std::alloc::Global;
+
+/// The national system of level NTC: NID_NTC, 8 bits.
+pub(crate) fn national_system_of(level: Level) -> Option<Plain<8>>
+    ensures { result ≡ national_system level }
+{
+    match level {
+        Level::Ntc(ntc) => Plain::new(u32::from(ntc)),
+        _ => None,
+    }
+}
+
+/// Reads the members of a level. `name` is the key of its number. NID_NTC has to be there at level
+/// NTC, and nowhere else.
+pub(crate) fn read_level(
+    alloc: Global,
+    value: &Value,
+    name: &'static str,
+) -> Result<Level, FormError>
+    ensures { Gives (λ v. v) result ((level name.now).of (view value.now)) }
+{
+    let number: Ranged<3, 4, 8> = read_key(alloc, value, name)?;
+    if number.number() == 1 {
+        let ntc: Plain<8> = read_key(alloc, value, "nid_ntc")?;
+        return Ok(Level::Ntc(ntc.number() as u8));
+    }
+    check_absent(alloc, value, "nid_ntc")?;
+    match number.number() {
+        0 => Ok(Level::L0),
+        2 => Ok(Level::L1),
+        3 => Ok(Level::L2),
+        _ => Ok(Level::L3),
+    }
+}

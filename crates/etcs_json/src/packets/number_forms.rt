@@ -1,0 +1,250 @@
+//! Variables as whole numbers.
+
+use crate::error::FormError;
+use crate::form::{Form, InPieces};
+use etcs_bits::{Dir, Dup, Memory, Plain, Ranged, Scale, Version};
+use etcs_digits::send_decimal;
+use json::Writer;
+use serde_json::Value;
+use std::alloc::Global;
+
+#[tactic(auto, unfolding(crate::specs::Reading::number_of))]
+impl<const W: u32> Form for Plain<W> {
+    ghost use Rattle.etcs_json.specs.Variables.{number};
+
+    ghost shape = { number W };
+
+    ghost builds = { ⊥ };
+
+    ghost asks = { λ _. ⊥ };
+
+    fn to_form(&self, _alloc: Global) -> Result<Value, Memory> {
+        Ok(Value::from(u64::from(self.number())))
+    }
+
+    fn of_form(alloc: Global, value: &Value) -> Result<Self, FormError> {
+        match value.as_u64() {
+            None => Err(FormError::kind(alloc)),
+            Some(number) => match u32::try_from(number) {
+                Err(_) => Err(FormError::range(alloc)),
+                Ok(number) => match Plain::new(number) {
+                    None => Err(FormError::range(alloc)),
+                    Some(variable) => Ok(variable),
+                },
+            },
+        }
+    }
+}
+
+impl<const W: u32> InPieces for Plain<W> {
+    fn send(&self, out: &mut Writer) -> Result<(), Memory> {
+        send_decimal(out, u64::from(self.number()))?;
+        Ok(())
+    }
+}
+
+#[tactic(auto, unfolding(crate::specs::Reading::number_of))]
+impl<const W: u32, const LAST: u32, const FROM: u32> Form for Ranged<W, LAST, FROM> {
+    ghost use Rattle.etcs_json.specs.Variables.{ranges};
+
+    ghost shape = { ranges W LAST FROM };
+
+    ghost builds = { ⊥ };
+
+    ghost asks = { λ _. ⊥ };
+
+    fn to_form(&self, _alloc: Global) -> Result<Value, Memory> {
+        Ok(Value::from(u64::from(self.number())))
+    }
+
+    fn of_form(alloc: Global, value: &Value) -> Result<Self, FormError> {
+        match value.as_u64() {
+            None => Err(FormError::kind(alloc)),
+            Some(number) => match u32::try_from(number) {
+                Err(_) => Err(FormError::range(alloc)),
+                Ok(number) => match Ranged::new(number) {
+                    None => Err(FormError::range(alloc)),
+                    Some(variable) => Ok(variable),
+                },
+            },
+        }
+    }
+}
+
+impl<const W: u32, const LAST: u32, const FROM: u32> InPieces for Ranged<W, LAST, FROM> {
+    fn send(&self, out: &mut Writer) -> Result<(), Memory> {
+        send_decimal(out, u64::from(self.number()))?;
+        Ok(())
+    }
+}
+
+#[tactic(auto, unfolding(crate::specs::Reading::number_of))]
+impl Form for bool {
+    ghost use Rattle.etcs_json.specs.Variables.{flag};
+
+    ghost shape = { flag };
+
+    ghost builds = { ⊥ };
+
+    ghost asks = { λ _. ⊥ };
+
+    fn to_form(&self, _alloc: Global) -> Result<Value, Memory> {
+        Ok(Value::from(if *self { 1u64 } else { 0u64 }))
+    }
+
+    fn of_form(alloc: Global, value: &Value) -> Result<Self, FormError> {
+        match value.as_u64() {
+            None => Err(FormError::kind(alloc)),
+            Some(0) => Ok(false),
+            Some(1) => Ok(true),
+            Some(_) => Err(FormError::range(alloc)),
+        }
+    }
+}
+
+impl InPieces for bool {
+    fn send(&self, out: &mut Writer) -> Result<(), Memory> {
+        send_decimal(out, if *self { 1u64 } else { 0u64 })?;
+        Ok(())
+    }
+}
+
+#[tactic(auto, unfolding(crate::specs::Reading::number_of))]
+impl Form for Dir {
+    ghost use Rattle.etcs_json.specs.Variables.{direction};
+
+    ghost shape = { direction };
+
+    ghost builds = { ⊥ };
+
+    ghost asks = { λ _. ⊥ };
+
+    fn to_form(&self, _alloc: Global) -> Result<Value, Memory> {
+        Ok(Value::from(u64::from(self.number())))
+    }
+
+    fn of_form(alloc: Global, value: &Value) -> Result<Self, FormError> {
+        match value.as_u64() {
+            None => Err(FormError::kind(alloc)),
+            Some(number) => match u32::try_from(number) {
+                Err(_) => Err(FormError::range(alloc)),
+                Ok(number) => match Dir::new(number) {
+                    None => Err(FormError::range(alloc)),
+                    Some(dir) => Ok(dir),
+                },
+            },
+        }
+    }
+}
+
+impl InPieces for Dir {
+    fn send(&self, out: &mut Writer) -> Result<(), Memory> {
+        send_decimal(out, u64::from(self.number()))?;
+        Ok(())
+    }
+}
+
+#[tactic(auto, unfolding(crate::specs::Reading::number_of))]
+impl Form for Scale {
+    ghost use Rattle.etcs_json.specs.Variables.{scale};
+
+    ghost shape = { scale };
+
+    ghost builds = { ⊥ };
+
+    ghost asks = { λ _. ⊥ };
+
+    fn to_form(&self, _alloc: Global) -> Result<Value, Memory> {
+        Ok(Value::from(u64::from(self.number())))
+    }
+
+    fn of_form(alloc: Global, value: &Value) -> Result<Self, FormError> {
+        match value.as_u64() {
+            None => Err(FormError::kind(alloc)),
+            Some(number) => match u32::try_from(number) {
+                Err(_) => Err(FormError::range(alloc)),
+                Ok(number) => match Scale::new(number) {
+                    None => Err(FormError::range(alloc)),
+                    Some(scale) => Ok(scale),
+                },
+            },
+        }
+    }
+}
+
+impl InPieces for Scale {
+    fn send(&self, out: &mut Writer) -> Result<(), Memory> {
+        send_decimal(out, u64::from(self.number()))?;
+        Ok(())
+    }
+}
+
+#[tactic(auto, unfolding(crate::specs::Reading::number_of))]
+impl Form for Dup {
+    ghost use Rattle.etcs_json.specs.Variables.{duplicate};
+
+    ghost shape = { duplicate };
+
+    ghost builds = { ⊥ };
+
+    ghost asks = { λ _. ⊥ };
+
+    fn to_form(&self, _alloc: Global) -> Result<Value, Memory> {
+        Ok(Value::from(u64::from(self.number())))
+    }
+
+    fn of_form(alloc: Global, value: &Value) -> Result<Self, FormError> {
+        match value.as_u64() {
+            None => Err(FormError::kind(alloc)),
+            Some(number) => match u32::try_from(number) {
+                Err(_) => Err(FormError::range(alloc)),
+                Ok(number) => match Dup::new(number) {
+                    None => Err(FormError::range(alloc)),
+                    Some(dup) => Ok(dup),
+                },
+            },
+        }
+    }
+}
+
+impl InPieces for Dup {
+    fn send(&self, out: &mut Writer) -> Result<(), Memory> {
+        send_decimal(out, u64::from(self.number()))?;
+        Ok(())
+    }
+}
+
+#[tactic(auto, unfolding(crate::specs::Reading::number_of))]
+impl Form for Version {
+    ghost use Rattle.etcs_json.specs.Variables.{version};
+
+    ghost shape = { version };
+
+    ghost builds = { ⊥ };
+
+    ghost asks = { λ _. ⊥ };
+
+    fn to_form(&self, _alloc: Global) -> Result<Value, Memory> {
+        Ok(Value::from(u64::from(self.number())))
+    }
+
+    fn of_form(alloc: Global, value: &Value) -> Result<Self, FormError> {
+        match value.as_u64() {
+            None => Err(FormError::kind(alloc)),
+            Some(number) => match u32::try_from(number) {
+                Err(_) => Err(FormError::range(alloc)),
+                Ok(number) => match Version::new(number) {
+                    None => Err(FormError::range(alloc)),
+                    Some(version) => Ok(version),
+                },
+            },
+        }
+    }
+}
+
+impl InPieces for Version {
+    fn send(&self, out: &mut Writer) -> Result<(), Memory> {
+        send_decimal(out, u64::from(self.number()))?;
+        Ok(())
+    }
+}

@@ -1,0 +1,368 @@
+//! The forms of position reports, train packets 0 and 1.
+
+ghost use Rattle.std.specs.Prelude.{◌≡◌, OnOk};
+ghost use Rattle.serde_json.specs.View.{members_view, view};
+ghost use Rattle.etcs_json.specs.Entries.{members_onto};
+ghost use Rattle.etcs_json.specs.Fault.{Gives};
+ghost use Rattle.etcs_json.specs.Report.{identity, place, state};
+ghost use Rattle.etcs_json.specs.Sending.{SendsMembers};
+ghost use Rattle.etcs_json.specs.ReportRuns.{first_run, previous_run, second_run, third_run};
+
+use crate::error::FormError;
+use crate::node::reading::{read_fixed, read_key};
+use crate::packets::integrity_form::{confirmed_length, length_number, read_integrity};
+use crate::packets::level_form::{national_system_of, read_level};
+use crate::record::{Members, Record, is_one_of};
+use crate::writing::building::{put_key, put_key_if, put_number};
+use crate::writing::sending::{send_key, send_key_if, send_number};
+use etcs_bits::{Country, Distance, GroupNumber, Identity, Level, Memory, Plain, Scale};
+use etcs_radio::{Integrity, Train3};
+use json::Writer;
+use serde_json::{Map, Value};
+use std::alloc::Global;
+
+/// Where a train is, as seen from the group that its report refers to.
+#[derive(Clone, Copy, Debug, PartialEq, Eq)]
+pub(crate) struct Place {
+    /// D_LRBG: from the group to the train's estimated front.
+    pub(crate) distance: Distance,
+    /// Q_DIRLRBG: how the train stands.
+    pub(crate) orientation: Train3,
+    /// Q_DLRBG: on which side of the group the train's front is.
+    pub(crate) side: Train3,
+    /// L_DOUBTOVER: how much nearer to the group the front may be.
+    pub(crate) doubt_over: Distance,
+    /// L_DOUBTUNDER: how much further from the group the front may be.
+    pub(crate) doubt_under: Distance,
+}
+
+/// Whether a train is whole, how it runs, and in which mode and level.
+#[derive(Clone, Copy, Debug, PartialEq, Eq)]
+pub(crate) struct State {
+    /// Q_LENGTH and L_TRAININT: whether the train is whole, and its length.
+    pub(crate) length: Integrity,
+    /// V_TRAIN: the train's speed, in steps of 5 km/h.
+    pub(crate) speed: Plain<7>,
+    /// Q_DIRTRAIN: in which direction the train runs.
+    pub(crate) running: Train3,
+    /// M_MODE: the mode of the equipment on board.
+    pub(crate) mode: Plain<4>,
+    /// M_LEVEL and NID_NTC: the level in which the train runs.
+    pub(crate) level: Level,
+}
+
+/// A report with one group: packet 0.
+#[derive(Clone, Copy, Debug, PartialEq, Eq)]
+pub(crate) struct WithOne {
+    /// Q_SCALE: the unit of distances.
+    pub(crate) scale: Scale,
+    /// NID_LRBG: the group that the report refers to.
+    pub(crate) lrbg: Identity,
+    /// Where the train is.
+    pub(crate) place: Place,
+    /// How it runs.
+    pub(crate) state: State,
+}
+
+/// A report with two groups: packet 1.
+#[derive(Clone, Copy, Debug, PartialEq, Eq)]
+pub(crate) struct WithTwo {
+    /// Q_SCALE: the unit of distances.
+    pub(crate) scale: Scale,
+    /// NID_LRBG: the group that the report refers to.
+    pub(crate) lrbg: Identity,
+    /// NID_PRVLRBG: the group before that one.
+    pub(crate) previous: Identity,
+    /// Where the train is.
+    pub(crate) place: Place,
+    /// How it runs.
+    pub(crate) state: State,
+}
+
+// ---- reading
+
+/// Reads the identity of a group, whose country and number stand at these keys.
+pub(crate) fn read_identity(
+    alloc: Global,
+    value: &Value,
+    country: &'static str,
+    group: &'static str,
+) -> Result<Identity, FormError>
+    ensures { Gives (λ i. i) result ((identity country.now group.now).of (view value.now)) }
+{
+    let country: Country = read_key(alloc, value, country)?;
+    let group: GroupNumber = read_key(alloc, value, group)?;
+    Ok(Identity { country, group })
+}
+
+// Reads the members that say where a train is.
+#[tactic(auto, unfolding(crate::specs::Report::place))]
+fn read_place(alloc: Global, value: &Value) -> Result<Place, FormError>
+    ensures { Gives (λ p. p) result (place.of (view value.now)) }
+{
+    Ok(Place {
+        distance: read_key(alloc, value, "d_lrbg")?,
+        orientation: read_key(alloc, value, "q_dirlrbg")?,
+        side: read_key(alloc, value, "q_dlrbg")?,
+        doubt_over: read_key(alloc, value, "l_doubtover")?,
+        doubt_under: read_key(alloc, value, "l_doubtunder")?,
+    })
+}
+
+// Reads the members of a train's state.
+#[tactic(auto, unfolding(crate::specs::Report::state))]
+fn read_state(alloc: Global, value: &Value) -> Result<State, FormError>
+    ensures { Gives (λ s. s) result (state.of (view value.now)) }
+{
+    Ok(State {
+        length: read_integrity(alloc, value)?,
+        speed: read_key(alloc, value, "v_train")?,
+        running: read_key(alloc, value, "q_dirtrain")?,
+        mode: read_key(alloc, value, "m_mode")?,
+        level: read_level(alloc, value, "m_level")?,
+    })
+}
+
+// ---- building
+
+/// Puts the identity of a group into an object, at these keys.
+pub(crate) fn put_identity(
+    out: &mut Map<String, Value>,
+    alloc: Global,
+    country: &str,
+    group: &str,
+    lrbg: &Identity,
+) -> Result<(), Memory>
+    ensures { OnOk result (members_view out.new.entries
+        ≡ members_onto (members_view out.old.entries) ((identity country.now group.now).to lrbg.now)) }
+{
+    put_key(out, alloc, country, &lrbg.country)?;
+    put_key(out, alloc, group, &lrbg.group)
+}
+
+// Puts the members that say where a train is into an object.
+#[tactic(auto, unfolding(crate::specs::Report::place))]
+fn put_place(out: &mut Map<String, Value>, alloc: Global, train: &Place) -> Result<(), Memory>
+    ensures { OnOk result (members_view out.new.entries
+        ≡ members_onto (members_view out.old.entries) (place.to train.now)) }
+{
+    put_key(out, alloc, "d_lrbg", &train.distance)?;
+    put_key(out, alloc, "q_dirlrbg", &train.orientation)?;
+    put_key(out, alloc, "q_dlrbg", &train.side)?;
+    put_key(out, alloc, "l_doubtover", &train.doubt_over)?;
+    put_key(out, alloc, "l_doubtunder", &train.doubt_under)?;
+    Ok(())
+}
+
+// Puts the members of a train's state into an object.
+#[tactic(auto, unfolding(crate::specs::Report::state))]
+fn put_state(out: &mut Map<String, Value>, alloc: Global, train: &State) -> Result<(), Memory>
+    ensures { OnOk result (members_view out.new.entries
+        ≡ members_onto (members_view out.old.entries) (state.to train.now)) }
+{
+    put_number(out, alloc, "q_length", length_number(train.length))?;
+    put_key_if(out, alloc, "l_trainint", &confirmed_length(train.length))?;
+    put_key(out, alloc, "v_train", &train.speed)?;
+    put_key(out, alloc, "q_dirtrain", &train.running)?;
+    put_key(out, alloc, "m_mode", &train.mode)?;
+    put_number(out, alloc, "m_level", u64::from(train.level.number()))?;
+    put_key_if(out, alloc, "nid_ntc", &national_system_of(train.level))?;
+    Ok(())
+}
+
+// ---- sending
+// The text of an object has its members in the byte order of their keys. So the members of a report
+// are sent in three runs, and those of the group before stand between the second and the third.
+
+// Sends the members of the first run: distances and lengths, the level's number and the mode.
+fn send_first_run(out: &mut Writer, place: &Place, state: &State) -> Result<(), Memory>
+    ensures { OnOk result (SendsMembers (first_run place.now state.now) out.old out.new) }
+{
+    send_key(out, "d_lrbg", &place.distance)?;
+    send_key(out, "l_doubtover", &place.doubt_over)?;
+    send_key(out, "l_doubtunder", &place.doubt_under)?;
+    send_key_if(out, "l_trainint", &confirmed_length(state.length))?;
+    send_number(out, "m_level", u64::from(state.level.number()))?;
+    send_key(out, "m_mode", &state.mode)?;
+    Ok(())
+}
+
+// Sends the members of the second run: the group, the national system, and the packet's number.
+fn send_second_run(
+    out: &mut Writer,
+    packet: u64,
+    lrbg: &Identity,
+    state: &State,
+) -> Result<(), Memory>
+    ensures { OnOk result (SendsMembers (second_run packet lrbg.now state.now) out.old out.new) }
+{
+    send_key(out, "nid_bg", &lrbg.group)?;
+    send_key(out, "nid_c", &lrbg.country)?;
+    send_key_if(out, "nid_ntc", &national_system_of(state.level))?;
+    send_number(out, "nid_packet", packet)?;
+    Ok(())
+}
+
+// Sends the members of the group before.
+fn send_previous(out: &mut Writer, previous: &Identity) -> Result<(), Memory>
+    ensures { OnOk result (SendsMembers (previous_run previous.now) out.old out.new) }
+{
+    send_key(out, "prv_nid_bg", &previous.group)?;
+    send_key(out, "prv_nid_c", &previous.country)?;
+    Ok(())
+}
+
+// Sends the members of the third run: the qualifiers, and the speed.
+fn send_third_run(
+    out: &mut Writer,
+    scale: &Scale,
+    place: &Place,
+    state: &State,
+) -> Result<(), Memory>
+    ensures { OnOk result (SendsMembers (third_run scale.now place.now state.now) out.old out.new) }
+{
+    send_key(out, "q_dirlrbg", &place.orientation)?;
+    send_key(out, "q_dirtrain", &state.running)?;
+    send_key(out, "q_dlrbg", &place.side)?;
+    send_number(out, "q_length", length_number(state.length))?;
+    send_key(out, "q_scale", scale)?;
+    send_key(out, "v_train", &state.speed)?;
+    Ok(())
+}
+
+impl Record for WithOne {
+    ghost use Rattle.etcs_json.specs.Report.{with_one};
+    ghost use Rattle.std.specs.Prelude.{◌≡◌, true};
+
+    ghost object = { with_one };
+
+    // A report says that it is in range, and its parts follow it.
+    ghost bounded = { λ p. with_one.part.fits p ≡ true };
+}
+
+#[tactic(auto, unfolding(crate::specs::Report::with_one))]
+impl Members for WithOne {
+    #[tactic(auto, unfolding(crate::specs::Report::with_one, crate::specs::Report::place, crate::specs::Report::state))]
+    fn has_key(name: &str) -> bool {
+        is_one_of(
+            name,
+            &[
+                "nid_packet",
+                "q_scale",
+                "nid_c",
+                "nid_bg",
+                "d_lrbg",
+                "q_dirlrbg",
+                "q_dlrbg",
+                "l_doubtover",
+                "l_doubtunder",
+                "q_length",
+                "l_trainint",
+                "v_train",
+                "q_dirtrain",
+                "m_mode",
+                "m_level",
+                "nid_ntc",
+            ],
+        )
+    }
+
+    fn send_members(&self, out: &mut Writer) -> Result<(), Memory> {
+        send_first_run(out, &self.place, &self.state)?;
+        send_second_run(out, 0, &self.lrbg, &self.state)?;
+        send_third_run(out, &self.scale, &self.place, &self.state)?;
+        Ok(())
+    }
+
+    fn put_members(&self, alloc: Global, out: &mut Map<String, Value>) -> Result<(), Memory> {
+        put_number(out, alloc, "nid_packet", 0)?;
+        put_key(out, alloc, "q_scale", &self.scale)?;
+        put_identity(out, alloc, "nid_c", "nid_bg", &self.lrbg)?;
+        put_place(out, alloc, &self.place)?;
+        put_state(out, alloc, &self.state)?;
+        Ok(())
+    }
+
+    fn of_members(alloc: Global, value: &Value) -> Result<Self, FormError> {
+        read_fixed(alloc, value, "nid_packet", 0)?;
+        Ok(WithOne {
+            scale: read_key(alloc, value, "q_scale")?,
+            lrbg: read_identity(alloc, value, "nid_c", "nid_bg")?,
+            place: read_place(alloc, value)?,
+            state: read_state(alloc, value)?,
+        })
+    }
+
+    fn stay_in_range(&self) {}
+}
+
+impl Record for WithTwo {
+    ghost use Rattle.etcs_json.specs.Report.{with_two};
+    ghost use Rattle.std.specs.Prelude.{◌≡◌, true};
+
+    ghost object = { with_two };
+
+    // A report says that it is in range, and its parts follow it.
+    ghost bounded = { λ p. with_two.part.fits p ≡ true };
+}
+
+#[tactic(auto, unfolding(crate::specs::Report::with_two))]
+impl Members for WithTwo {
+    #[tactic(auto, unfolding(crate::specs::Report::with_two, crate::specs::Report::place, crate::specs::Report::state))]
+    fn has_key(name: &str) -> bool {
+        is_one_of(
+            name,
+            &[
+                "nid_packet",
+                "q_scale",
+                "nid_c",
+                "nid_bg",
+                "prv_nid_c",
+                "prv_nid_bg",
+                "d_lrbg",
+                "q_dirlrbg",
+                "q_dlrbg",
+                "l_doubtover",
+                "l_doubtunder",
+                "q_length",
+                "l_trainint",
+                "v_train",
+                "q_dirtrain",
+                "m_mode",
+                "m_level",
+                "nid_ntc",
+            ],
+        )
+    }
+
+    fn send_members(&self, out: &mut Writer) -> Result<(), Memory> {
+        send_first_run(out, &self.place, &self.state)?;
+        send_second_run(out, 1, &self.lrbg, &self.state)?;
+        send_previous(out, &self.previous)?;
+        send_third_run(out, &self.scale, &self.place, &self.state)?;
+        Ok(())
+    }
+
+    fn put_members(&self, alloc: Global, out: &mut Map<String, Value>) -> Result<(), Memory> {
+        put_number(out, alloc, "nid_packet", 1)?;
+        put_key(out, alloc, "q_scale", &self.scale)?;
+        put_identity(out, alloc, "nid_c", "nid_bg", &self.lrbg)?;
+        put_identity(out, alloc, "prv_nid_c", "prv_nid_bg", &self.previous)?;
+        put_place(out, alloc, &self.place)?;
+        put_state(out, alloc, &self.state)?;
+        Ok(())
+    }
+
+    fn of_members(alloc: Global, value: &Value) -> Result<Self, FormError> {
+        read_fixed(alloc, value, "nid_packet", 1)?;
+        Ok(WithTwo {
+            scale: read_key(alloc, value, "q_scale")?,
+            lrbg: read_identity(alloc, value, "nid_c", "nid_bg")?,
+            previous: read_identity(alloc, value, "prv_nid_c", "prv_nid_bg")?,
+            place: read_place(alloc, value)?,
+            state: read_state(alloc, value)?,
+        })
+    }
+
+    fn stay_in_range(&self) {}
+}

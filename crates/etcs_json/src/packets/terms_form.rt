@@ -1,0 +1,153 @@
+//! The members that both movement authorities have after their head.
+
+ghost use Rattle.std.specs.Prelude.{◌≡◌, ◌<◌, codes, length, IfOk, OnOk};
+ghost use Rattle.serde_json.specs.View.{members_view, view};
+ghost use Rattle.etcs_profile.specs.Authority.{permission};
+ghost use Rattle.etcs_json.specs.Authority.{end_parts, section, terms};
+ghost use Rattle.etcs_json.specs.Entries.{members_onto};
+ghost use Rattle.etcs_json.specs.Fault.{Gives};
+ghost use Rattle.etcs_json.specs.Reading.{at_key, list_of};
+ghost use Rattle.etcs_json.specs.Shape.{object};
+
+use crate::error::FormError;
+use crate::node::reading::{read_key, read_key_if, read_list_at};
+use crate::writing::building::{put_key, put_key_if, put_list_at};
+use etcs_bits::{Dir, Distance, Memory, Scale, Speed, Time};
+use etcs_profile::{Authority, DangerPoint, EndTimer, Overlap, Section, SectionTimer};
+use serde_json::{Map, Value};
+use std::alloc::Global;
+use std::marker::Model;
+
+// What follows the end section, as far as it is there.
+#[derive(Clone, Copy)]
+struct EndParts {
+    section_timer: Option<SectionTimer>,
+    end_timer: Option<EndTimer>,
+    danger_point: Option<DangerPoint>,
+    overlap: Option<Overlap>,
+}
+
+/// The conditions of a movement authority, as they are read.
+#[derive(Drop)]
+pub(crate) struct Terms {
+    end_speed: Speed,
+    end_timeout: Time,
+    sections: Vec<Section>,
+    l_endsection: Distance,
+    end: EndParts,
+}
+
+impl Model for Terms {
+    ghost use Rattle.std.specs.Prelude.{◌<◌, length};
+    ghost use Rattle.etcs_profile.specs.Terms.{Conditions, conditions};
+
+    ghost Value = { Conditions };
+
+    ghost view = { λ t. conditions t.end_speed t.end_timeout t.sections.items t.l_endsection
+        t.end.section_timer t.end.end_timer t.end.danger_point t.end.overlap };
+
+    ghost invariant = { λ t. length t.sections.items < 32 };
+}
+
+// Puts what follows the end section into an object.
+#[tactic(auto, unfolding(crate::specs::Authority::end_parts))]
+fn put_end_parts(
+    out: &mut Map<String, Value>,
+    alloc: Global,
+    authority: &Authority,
+) -> Result<(), Memory>
+    ensures { OnOk result (members_view out.new.entries ≡ members_onto (members_view out.old.entries)
+        (end_parts.to (
+          authority.now.terms.section_timer,
+          (
+            authority.now.terms.end_timer,
+            (authority.now.terms.danger_point, authority.now.terms.overlap),
+          ),
+        ))) }
+{
+    put_key_if(out, alloc, "section_timer", &authority.section_timer())?;
+    put_key_if(out, alloc, "end_timer", &authority.end_timer())?;
+    put_key_if(out, alloc, "danger_point", &authority.danger_point())?;
+    put_key_if(out, alloc, "overlap", &authority.overlap())?;
+    Ok(())
+}
+
+/// Puts the conditions into an object.
+#[tactic(auto, unfolding(crate::specs::Authority::terms))]
+pub(crate) fn put_terms(
+    out: &mut Map<String, Value>,
+    alloc: Global,
+    authority: &Authority,
+) -> Result<(), Memory>
+    ensures { OnOk result (members_view out.new.entries
+        ≡ members_onto (members_view out.old.entries) (terms.to authority.now.terms)) }
+{
+    put_key(out, alloc, "end_speed", &authority.end_speed())?;
+    put_key(out, alloc, "end_timeout", &authority.end_timeout())?;
+    put_list_at(out, alloc, "sections", authority.sections())?;
+    put_key(out, alloc, "l_endsection", &authority.l_endsection())?;
+    put_end_parts(out, alloc, authority)
+}
+
+// Reads what follows the end section.
+#[tactic(auto, unfolding(crate::specs::Authority::end_parts))]
+fn read_end_parts(alloc: Global, value: &Value) -> Result<EndParts, FormError>
+    ensures { Gives (λ e. (e.section_timer, (e.end_timer, (e.danger_point, e.overlap)))) result
+        (end_parts.of (view value.now)) }
+{
+    Ok(EndParts {
+        section_timer: read_key_if(alloc, value, "section_timer")?,
+        end_timer: read_key_if(alloc, value, "end_timer")?,
+        danger_point: read_key_if(alloc, value, "danger_point")?,
+        overlap: read_key_if(alloc, value, "overlap")?,
+    })
+}
+
+// Reads the sections before the end section, of which there are at most 31.
+#[tactic(auto, using(crate::proofs::AuthorityLemmas::few_sections))]
+fn read_sections(alloc: Global, value: &Value) -> Result<Vec<Section>, FormError>
+    ensures gives { Gives (λ v. v.items) result
+        (at_key (list_of (object section).of 0 31) (codes "sections") (view value.now)) }
+    ensures few { IfOk result (λ v. length v.items < 32) }
+{
+    read_list_at(alloc, value, "sections", 0, 31)
+}
+
+/// Reads the conditions.
+#[tactic(auto, unfolding(crate::specs::Authority::terms))]
+pub(crate) fn read_terms(alloc: Global, value: &Value) -> Result<Terms, FormError>
+    ensures { Gives (λ t. t) result (terms.of (view value.now)) }
+{
+    Ok(Terms {
+        end_speed: read_key(alloc, value, "end_speed")?,
+        end_timeout: read_key(alloc, value, "end_timeout")?,
+        sections: read_sections(alloc, value)?,
+        l_endsection: read_key(alloc, value, "l_endsection")?,
+        end: read_end_parts(alloc, value)?,
+    })
+}
+
+/// The movement authority with these conditions: packet 12 if there is a `main` speed, else packet
+/// 15. It is never too long.
+#[tactic(auto)]
+pub(crate) fn authority_of(dir: Dir, scale: Scale, main: Option<Speed>, terms: Terms) -> Authority
+    ensures { result ≡ permission dir scale main terms }
+{
+    let built = Authority::new(
+        dir,
+        scale,
+        main,
+        terms.end_speed,
+        terms.end_timeout,
+        terms.sections,
+        terms.l_endsection,
+        terms.end.section_timer,
+        terms.end.end_timer,
+        terms.end.danger_point,
+        terms.end.overlap,
+    );
+    match built {
+        Ok(authority) => authority,
+        Err(_) => unreachable!("31 sections are not too many"),
+    }
+}

@@ -1,0 +1,66 @@
+//! The form of a packet from track to train, whose number decides it.
+
+use crate::error::FormError;
+use crate::form::{Form, InPieces};
+use crate::node::reading::read_first;
+use crate::packets::authority_form::{read_with_main, read_without_main};
+use crate::record::stay_allowed;
+use etcs_bits::{Memory, Ranged};
+use etcs_packet::TrackPacket;
+use json::Writer;
+use serde_json::Value;
+use std::alloc::Global;
+
+#[tactic(auto, unfolding(crate::specs::Authority::authority))]
+impl Form for TrackPacket {
+    ghost use Rattle.std.specs.Prelude.{IsOk};
+    ghost use Rattle.etcs_json.specs.Chosen.{any_object};
+    ghost use Rattle.etcs_json.specs.TrackPackets.{track_packet};
+
+    ghost shape = { track_packet };
+
+    ghost asks = { λ d. IsOk (any_object d) };
+
+    fn to_form(&self, alloc: Global) -> Result<Value, Memory> {
+        // For the proof alone: what is written is read again.
+        stay_allowed(self);
+        match self {
+            TrackPacket::Cover(packet) => packet.to_form(alloc),
+            TrackPacket::Linking(packet) => packet.to_form(alloc),
+            TrackPacket::Authority(packet) => packet.to_form(alloc),
+            TrackPacket::Gradient(packet) => packet.to_form(alloc),
+            TrackPacket::Speed(packet) => packet.to_form(alloc),
+            TrackPacket::Transition(packet) => packet.to_form(alloc),
+            TrackPacket::Raw(packet) => packet.to_form(alloc),
+        }
+    }
+
+    fn of_form(alloc: Global, value: &Value) -> Result<Self, FormError> {
+        let number: Ranged<8, 254, 256> = read_first(alloc, value, "nid_packet")?;
+        match number.number() {
+            0 => Ok(TrackPacket::Cover(Form::of_form(alloc, value)?)),
+            5 => Ok(TrackPacket::Linking(Form::of_form(alloc, value)?)),
+            12 => Ok(TrackPacket::Authority(read_with_main(alloc, value)?)),
+            15 => Ok(TrackPacket::Authority(read_without_main(alloc, value)?)),
+            21 => Ok(TrackPacket::Gradient(Form::of_form(alloc, value)?)),
+            27 => Ok(TrackPacket::Speed(Form::of_form(alloc, value)?)),
+            41 => Ok(TrackPacket::Transition(Form::of_form(alloc, value)?)),
+            _ => Ok(TrackPacket::Raw(Form::of_form(alloc, value)?)),
+        }
+    }
+}
+
+#[tactic(auto, unfolding(crate::specs::Authority::authority))]
+impl InPieces for TrackPacket {
+    fn send(&self, out: &mut Writer) -> Result<(), Memory> {
+        match self {
+            TrackPacket::Cover(packet) => packet.send(out),
+            TrackPacket::Linking(packet) => packet.send(out),
+            TrackPacket::Authority(packet) => packet.send(out),
+            TrackPacket::Gradient(packet) => packet.send(out),
+            TrackPacket::Speed(packet) => packet.send(out),
+            TrackPacket::Transition(packet) => packet.send(out),
+            TrackPacket::Raw(packet) => packet.send(out),
+        }
+    }
+}

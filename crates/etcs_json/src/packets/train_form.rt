@@ -1,0 +1,49 @@
+//! The form of a packet from train to track, whose number decides it.
+
+use crate::error::FormError;
+use crate::form::{Form, InPieces};
+use crate::node::reading::read_first;
+use crate::packets::reports_form::{read_one, read_two};
+use crate::record::stay_allowed;
+use etcs_bits::{Memory, Ranged};
+use etcs_radio::TrainPacket;
+use json::Writer;
+use serde_json::Value;
+use std::alloc::Global;
+
+impl Form for TrainPacket {
+    ghost use Rattle.std.specs.Prelude.{IsOk};
+    ghost use Rattle.etcs_json.specs.Chosen.{any_object};
+    ghost use Rattle.etcs_json.specs.TrainPackets.{train_packet};
+
+    ghost shape = { train_packet };
+
+    ghost asks = { λ d. IsOk (any_object d) };
+
+    fn to_form(&self, alloc: Global) -> Result<Value, Memory> {
+        // For the proof alone: what is written is read again.
+        stay_allowed(self);
+        match self {
+            TrainPacket::Report(report) => report.to_form(alloc),
+            TrainPacket::Raw(packet) => packet.to_form(alloc),
+        }
+    }
+
+    fn of_form(alloc: Global, value: &Value) -> Result<Self, FormError> {
+        let number: Ranged<8, 254, 256> = read_first(alloc, value, "nid_packet")?;
+        match number.number() {
+            0 => Ok(TrainPacket::Report(read_one(alloc, value)?)),
+            1 => Ok(TrainPacket::Report(read_two(alloc, value)?)),
+            _ => Ok(TrainPacket::Raw(Form::of_form(alloc, value)?)),
+        }
+    }
+}
+
+impl InPieces for TrainPacket {
+    fn send(&self, out: &mut Writer) -> Result<(), Memory> {
+        match self {
+            TrainPacket::Report(report) => report.send(out),
+            TrainPacket::Raw(packet) => packet.send(out),
+        }
+    }
+}
