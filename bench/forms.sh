@@ -6,11 +6,10 @@
 # for the fields. `encode` has to write the telegrams, `encode --radio` the messages, `decode` the JSON lines
 # of the telegrams, and `decode --radio` those of the messages, which it reads a message a line, and then
 # cut into lines of 127 bytes. Beside them a `serde_json::Value` is made of each of the same lines, by the
-# program of bench/json, which is proved and built first. So is the program of bench/forms, which counts the
-# lines that `encode` reads from their tokens. The first failure ends the run with status 1. The rates are by
-# processor time, which the load of the machine changes less than the time elapsed. bench/instructions.sh
-# counts the instructions of the same inputs. 50,000 of each take 270 MB of the temporary folder, which TMPDIR
-# names.
+# program of bench/json, which is proved and built first. The first failure ends the run with status 1. The
+# rates are by processor time, which the load of the machine changes less than the time elapsed.
+# bench/instructions.sh counts the instructions of the same inputs. 50,000 of each take 270 MB of the temporary
+# folder, which TMPDIR names.
 #
 # BALISECHECK names another program to measure.
 set -euo pipefail
@@ -39,18 +38,14 @@ values() {
 
 build json serde_json
 json=$built
-build forms etcs_json etcs_radio etcs_telegram json
-forms=$built
 make_lines "$count"
 machine
 heading 'telegrams of 830 bits filled with packets'
 compare 'encode' "$room/telegrams.json" "$room/telegrams" encode
 values "$room/telegrams.json"
-"$forms" <"$room/telegrams.json"
 compare 'decode' "$room/telegrams" "$room/telegrams.json" decode
 heading 'radio messages of 80 bytes on average'
 compare 'encode --radio' "$room/messages.json" "$room/messages" encode --radio
 values "$room/messages.json"
-"$forms" messages <"$room/messages.json"
 compare 'decode --radio' "$room/messages" "$room/messages.json" decode --radio
 compare 'decode --radio, cut' "$room/cut" "$room/messages.json" decode --radio

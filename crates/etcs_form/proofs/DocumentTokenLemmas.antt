@@ -9,7 +9,7 @@ use Rattle.json.specs.Token.{Token}
 use Rattle.serde_json.specs.Data.{Data, array, no_items, no_members, object, string}
 use Rattle.serde_json.specs.Find.{as_array}
 use Rattle.serde_json.specs.Read.{converted, of_json, of_members}
-use Rattle.etcs_json.proofs.TokenLemmas.{converted-object, form_record, item_more, key_stands, list_stands, no_items_yet, record_shorter, same_list}
+use Rattle.etcs_form.proofs.TokenLemmas.{converted-object, form_record, item_more, key_stands, list_stands, no_items_yet, record_shorter, same_list}
 use Rattle.etcs_form.specs.Document.{◌then◌, as_balise, as_item, aspect_at, aspects_of, balises_of, controlled_at, each_from, group_at, has_count, in_aspect, in_group, list_of_aspects, message_at, only_aspect, telegram_at, telegrams_of, values_of, values_or}
 use Rattle.etcs_form.specs.DocumentFault.{DocumentFault}
 use Rattle.etcs_form.specs.DocumentTokens.{AreBalises, AreEach, AreFirst, HasGroup, IsAspect, IsAspects, IsBalises, IsFirst, IsGroup, IsList, IsMessage, IsOnlyAspect, IsTelegram}
@@ -18,7 +18,7 @@ use Rattle.etcs_json.specs.Fault.{Fault, key as key_step, under}
 use Rattle.etcs_json.specs.Reading.{at_key, object_with}
 use Rattle.etcs_group.specs.Controlled.{IsControlled}
 use Rattle.etcs_group.specs.Places.{At}
-use Rattle.etcs_json.specs.Tokens.{AreForms, HasMembers, first_record, first_value, items_onto}
+use Rattle.etcs_form.specs.Tokens.{AreForms, HasMembers, first_record, first_value, items_onto}
 use Rattle.etcs_radio.specs.TextMeaning.{message_of_text}
 use Rattle.etcs_radio.specs.declared.message.Message.{Message}
 use Rattle.etcs_telegram.specs.Record.{Telegram}

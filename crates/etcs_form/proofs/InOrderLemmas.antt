@@ -9,13 +9,13 @@ use Rattle.serde_json.specs.Read.{of_json}
 use Rattle.etcs_check.specs.LineChecker.{HasChecked, Kept, TakesGroups, TakesMessages}
 use Rattle.etcs_form.proofs.DocumentLemmas.{is_json}
 use Rattle.etcs_form.proofs.DocumentTokenLemmas.{each_read, first_more, list_taken, list_values, none_first, object_stands}
-use Rattle.etcs_json.proofs.TokenLemmas.{converted_some, key_stands, then_stand}
+use Rattle.etcs_form.proofs.TokenLemmas.{converted_some, key_stands, then_stand}
 use Rattle.etcs_form.specs.Document.{◌then◌, each_from, group_at, groups_of, in_form, json_of, line_of, line_of_text, message_at, messages_of}
 use Rattle.etcs_form.specs.DocumentTokens.{AreFirst, AreTaken, HasLine, IsChecked, IsFirst, IsGroup, IsList, IsMessage}
 use Rattle.etcs_json.specs.Entries.{object_of}
 use Rattle.etcs_json.specs.Fault.{key as key_step, under}
 use Rattle.etcs_json.specs.Reading.{at_key, object_with}
-use Rattle.etcs_json.specs.Tokens.{HasMembers, first_value}
+use Rattle.etcs_form.specs.Tokens.{HasMembers, first_value}
 use Rattle.etcs_form.specs.Verdict.{Counted, counted, counted_of_text, judged}
 use Rattle.etcs_radio.specs.declared.message.Message.{Message}
 use Rattle.etcs_telegram.specs.Record.{Telegram}

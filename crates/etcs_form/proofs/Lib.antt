@@ -1,3 +1,4 @@
+pub mod TokenLemmas
 pub mod DocumentTokenLemmas
 pub mod InOrderLemmas
 pub mod ResultLemmas

@@ -1,3 +1,4 @@
+pub mod Tokens
 pub mod Refusal
 pub mod DocumentFault
 pub mod Document

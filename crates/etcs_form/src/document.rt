@@ -36,7 +36,7 @@ fn read_json(alloc: Global, bytes: &[u8]) -> Result<Value, LineError>
 fn read_document(alloc: Global, value: &Value) -> Result<Line, LineError>
     ensures { Gives (λ l. (l.groups.items, l.messages.items)) result (line_of (view value.now)) }
 {
-    check_keys(alloc, value, &["groups", "messages"])?;
+    check_keys(alloc, &value, &["groups", "messages"])?;
     let groups = read_groups(alloc, value)?;
     let messages = read_messages(alloc, value)?;
     Ok(Line { groups, messages })

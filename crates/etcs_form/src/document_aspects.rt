@@ -125,7 +125,7 @@ pub(crate) fn read_counted(
 pub(crate) fn balises_in<'a>(alloc: Global, value: &'a Value) -> Result<&'a [Value], FormError>
     ensures { GivesForm (λ vs. map view vs.now) result (balises_of (view value.now)) }
 {
-    check_keys(alloc, value, &["balises"])?;
+    check_keys(alloc, &value, &["balises"])?;
     values_at(alloc, value, "balises")
 }
 

@@ -59,7 +59,7 @@ fn read_aspects(alloc: Global, group: usize, values: &[Value]) -> Result<Control
 fn aspects_in<'a>(alloc: Global, value: &'a Value) -> Result<&'a [Value], FormError>
     ensures { GivesForm (λ vs. map view vs.now) result (list_of_aspects (view value.now)) }
 {
-    check_keys(alloc, value, &["aspects"])?;
+    check_keys(alloc, &value, &["aspects"])?;
     values_at(alloc, value, "aspects")
 }
 

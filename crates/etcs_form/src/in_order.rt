@@ -14,9 +14,8 @@ ghost use Rattle.etcs_telegram.specs.Record.{Telegram};
 
 use crate::judging::check_text;
 use crate::line_error::LineError;
-use crate::token_groups::{group, message, pass_list};
+use crate::token_groups::{group, message, pass_begin, pass_end, pass_key, pass_list};
 use etcs_check::{Finding, LineChecker};
-use etcs_json::{pass_begin, pass_end, pass_key};
 use json::{Reader, Scratch};
 use std::alloc::Global;
 

@@ -23,7 +23,9 @@ mod token_groups;
 mod verdict;
 
 pub use document::read_line;
-pub use etcs_json::{Form, FormError, InPieces, Record, Step, TokenForm, read_quickly};
+pub use etcs_json::{
+    Form, FormError, InPieces, JsonError, JsonText, Node, Record, Step, TapeItems, TapeNode,
+};
 pub use in_order::{Checked, check_in_order};
 pub use judging::check_text;
 pub use line_error::LineError;

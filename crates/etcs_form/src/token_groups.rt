@@ -1,17 +1,40 @@
 //! The groups and the messages of a document, read from tokens.
 
-ghost use Rattle.std.specs.Prelude.{◌≡◌, ◌∷◌, List, Some, IfSome, IsTrue};
-ghost use Rattle.json.specs.Json.{after_end_array};
-ghost use Rattle.json.specs.Token.{Token as JsonToken, begin_array, string as string_token};
+ghost use Rattle.std.specs.Prelude.{◌≡◌, ◌∷◌, List, Some, None, IfSome, IsTrue};
+ghost use Rattle.json.specs.Json.{after_end_array, read_key};
+ghost use Rattle.json.specs.Token.{Token as JsonToken, begin_array, begin_object, string as string_token};
 ghost use Rattle.etcs_form.specs.DocumentTokens.{AreFirst, HasGroup, IsAspect, IsAspects, IsBalises, IsFirst, IsGroup, IsMessage, IsOnlyAspect, IsTelegram};
 
 use crate::document_groups::alone;
 use etcs_group::{Controlled, Group};
-use etcs_json::{pass_begin, pass_end, pass_key};
 use etcs_radio::Message;
 use etcs_telegram::Telegram;
 use json::{Reader, Token};
 use std::alloc::Global;
+
+/// Passes the mark at which an object begins.
+pub(crate) fn pass_begin(reader: &mut Reader<'_>) -> bool
+    ensures { IsTrue result → reader.old ≡ begin_object ∷ reader.new }
+{
+    matches!(reader.next(), Some(Token::BeginObject))
+}
+
+/// Passes the mark at which an object ends.
+pub(crate) fn pass_end(reader: &mut Reader<'_>) -> bool
+    ensures { IsTrue result → read_key reader.old ≡ Some (None, reader.new) }
+{
+    matches!(reader.next_key(), Ok(None))
+}
+
+/// Passes this key.
+pub(crate) fn pass_key(reader: &mut Reader<'_>, name: &str) -> bool
+    ensures { IsTrue result → read_key reader.old ≡ Some (Some name.now, reader.new) }
+{
+    match reader.next_key() {
+        Ok(Some(found)) => found == name,
+        _ => false,
+    }
+}
 
 // Reads a text.
 fn text<'a>(reader: &mut Reader<'a>) -> Option<&'a str>

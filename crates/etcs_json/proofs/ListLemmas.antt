@@ -1,36 +1,48 @@
--- A list: what it is read as, for items of any kind.
-use Rattle.std.proofs.Common.{◌≡◌, ◌∙◌, ◌&&◌, ℕ, suc, true, false, List, [], ◌∷◌, length, map, Some, Result, Ok, Err, refl, ap, sym, subst, ◌++◌, ◌+◌, ◌<◌, take, get_or}
-use Rattle.std.specs.Prelude.{nat_le}
-use Rattle.std.proofs.lemmas.List.{take_more}
+-- A list: what it is read as, for items of any kind, and how it is built.
+use Rattle.std.proofs.Common.{◌≡◌, ◌∙◌, ◌+◌, ◌<◌, ℕ, Bool, false, List, [], ◌∷◌, ◌++◌, length, take, get_or, Some, None, Result, Ok, Err, option_map, refl, ap, sym, subst, append_assoc, append-nil}
+use Rattle.std.specs.Prelude.{if◌then◌else◌}
+use Rattle.std.proofs.lemmas.List.{length-append, take_more}
 use Rattle.serde_json.specs.Data.{Data, Items, item, no_items}
 use Rattle.serde_json.specs.Find.{as_array}
 use Rattle.serde_json.specs.View.{view, items_view}
-use Rattle.etcs_json.specs.Shape.{items_of}
 use Rattle.serde_json.specs.declared.value.Value.{Value}
-use Rattle.etcs_json.specs.Fault.{Range}
-use Rattle.etcs_json.specs.Fault.{Fault, Gives, here}
+use Rattle.etcs_json.specs.Fault.{Fails, Fault, Gives, IsDeeper, Kind, Range, here, place, under}
+use Rattle.etcs_json.specs.Listed.{all_of, items_or}
+use Rattle.etcs_json.specs.Reading.{◌>>=◌, counted_or, data_list, items_at, list_of, with_first}
+use Rattle.etcs_json.specs.Shape.{items_of}
 use Rattle.etcs_json.specs.declared.error.FormError.{FormError}
-use Rattle.etcs_json.specs.Reading.{data_list, items_at, list_of, counted_or}
+use Rattle.etcs_json.specs.node.Nodes.{counts_between}
+use Rattle.etcs_json.proofs.Objects.{fails_same, fails_under, none_mapped}
+use Rattle.etcs_json.proofs.TapeLemmas.{or_this, some_mapped}
 
-data_items : (vs : List Value) → data_list (items_view vs) ≡ map view vs
-data_items [] = refl
-data_items (v ∷ vs) = ap (λ r. view v ∷ r) (data_items vs)
+-- ---- the items of a list, as a node has them
 
-count_items : (vs : List Value) → length (data_list (items_view vs)) ≡ length vs
-count_items [] = refl
-count_items (v ∷ vs) = ap suc (count_items vs)
-
-pub list_found : {A : Type 0} → (read : Data → Result A Fault) (low high : ℕ) (d : Data) (vs : List Value) → Some (items_view vs) ≡ as_array d
-    → (nat_le low (length vs) && nat_le (length vs) high) ≡ true → list_of read low high d ≡ items_at read 0 (map view vs)
+pub list_none : {A B : Type 0} (f : Items → B) (read : Data → Result A Fault) (low high : ℕ) (d : Data) → None ≡ option_map f (as_array d) → list_of read low high d ≡ Err (here Kind)
 unfolding list_of
-list_found read low high d vs array fits =
-    ap (counted_or read low high) (sym array) ∙ rw (count_items vs, fits) (ap (items_at read 0) (data_items vs))
+list_none f read low high d e = ap (counted_or read low high) (none_mapped f (as_array d) e)
 
-pub list_misfits : {A : Type 0} → (read : Data → Result A Fault) (low high : ℕ) (d : Data) (vs : List Value) → Some (items_view vs) ≡ as_array d
-    → (nat_le low (length vs) && nat_le (length vs) high) ≡ false → list_of read low high d ≡ Err (here Range)
+pub list_counted : {A : Type 0} (read : Data → Result A Fault) (low high : ℕ) (d : Data) (fits : Bool) → Some fits ≡ option_map (λ ds. counts_between low high (data_list ds)) (as_array d)
+    → (rest : List Data) → Some rest ≡ option_map data_list (as_array d) → list_of read low high d ≡ if fits then items_at read 0 rest else Err (here Range)
 unfolding list_of
-list_misfits read low high d vs array fits =
-    ap (counted_or read low high) (sym array) ∙ rw (count_items vs, fits) refl
+list_counted read low high d fits e rest f =
+    let m = some_mapped (λ ds. counts_between low high (data_list ds)) fits (as_array d) (sym e) in
+    let k = some_mapped data_list rest (as_array d) (sym f) in
+    let same : m.0 ≡ k.0 = ap (or_this m.0) (sym m.1 ∙ k.1) in
+    ap (counted_or read low high) m.1
+    ∙ ap (λ b. if b then items_at read 0 (data_list m.0) else Err (here Range)) m.2
+    ∙ ap (λ ds. if fits then items_at read 0 ds else Err (here Range)) (ap data_list same ∙ k.2)
+
+pub list_misfits : {A : Type 0} (read : Data → Result A Fault) (low high : ℕ) (d : Data) → Some false ≡ option_map (λ ds. counts_between low high (data_list ds)) (as_array d)
+    → list_of read low high d ≡ Err (here Range)
+unfolding list_of
+list_misfits read low high d e =
+    let m = some_mapped (λ ds. counts_between low high (data_list ds)) false (as_array d) (sym e) in
+    ap (counted_or read low high) m.1 ∙ ap (λ b. if b then items_at read 0 (data_list m.0) else Err (here Range)) m.2
+
+-- a list of any number of items
+pub all_found : {A : Type 0} (read : Data → Result A Fault) (d : Data) (rest : List Data) → Some rest ≡ option_map data_list (as_array d) → all_of read d ≡ items_at read 0 rest
+unfolding all_of
+all_found read d rest e = let k = some_mapped data_list rest (as_array d) (sym e) in ap (items_or read) k.1 ∙ ap (items_at read 0) k.2
 
 pub gives_equal : {X Y : Type 0} (view : X → Y) (result : Result X FormError) (r s : Result Y Fault) → Gives view result r → s ≡ r → Gives view result s
 gives_equal view result r s h e = subst (Gives view result) (sym e) h
@@ -55,7 +67,40 @@ built_more to xs i x vs v ws lt is so_far one pushed =
     ap items_view pushed ∙ items_view-push vs v _ (to x) so_far one ∙ sym (items_of-push to (take i xs) x)
     ∙ ap (items_of to) (ap (λ y. take i xs ++ y ∷ []) is ∙ sym (take_more xs i x lt))
 
+-- ---- one item after the other
+
 -- what was found, and then what is read
 abbrev pub with_front : {A : Type 0} → List A → Result (List A) Fault → Result (List A) Fault
 with_front front (Ok xs) = Ok (front ++ xs)
 with_front front (Err f) = Err f
+
+front_empty : {A : Type 0} (r : Result (List A) Fault) → with_front [] r ≡ r
+front_empty (Ok xs) = refl
+front_empty (Err f) = refl
+
+pub front_none : {A : Type 0} (read : Data → Result A Fault) (ds : List Data) (xs : List A) → xs ≡ [] → with_front xs (items_at read (length xs) ds) ≡ items_at read 0 ds
+front_none read ds xs none = ap (λ ys. with_front ys (items_at read (length ys) ds)) none ∙ front_empty (items_at read 0 ds)
+
+front_push : {A : Type 0} (xs : List A) (x : A) (r : Result (List A) Fault) → with_front (xs ++ x ∷ []) r ≡ with_front xs (with_first x r)
+front_push xs x (Err f) = refl
+front_push xs x (Ok ys) = ap Ok (append_assoc xs (x ∷ []) ys)
+
+pub item_read : {A : Type 0} (read : Data → Result A Fault) (xs ys : List A) (old new : List Data) (d : Data) (x : A) (all : Result (List A) Fault) → old ≡ d ∷ new → read d ≡ Ok x → ys ≡ xs ++ x ∷ []
+    → with_front xs (items_at read (length xs) old) ≡ all → with_front ys (items_at read (length ys) new) ≡ all
+item_read read xs ys old new d x all is e pushed so_far =
+    ap (λ zs. with_front zs (items_at read (length zs) new)) pushed
+    ∙ ap (λ n. with_front (xs ++ x ∷ []) (items_at read n new)) (length-append xs (x ∷ []))
+    ∙ front_push xs x (items_at read (length xs + 1) new)
+    ∙ sym (ap (λ r. with_front xs (under (place (length xs)) r >>= λ y. with_first y (items_at read (length xs + 1) new))) e)
+    ∙ sym (ap (λ ds. with_front xs (items_at read (length xs) ds)) is) ∙ so_far
+
+pub item_fails : {A : Type 0} (read : Data → Result A Fault) (xs : List A) (old new : List Data) (d : Data) (all : Result (List A) Fault) (inner outer : FormError) → old ≡ d ∷ new
+    → with_front xs (items_at read (length xs) old) ≡ all → IsDeeper (place (length xs)) inner outer → Fails inner (read d) → Fails outer all
+item_fails read xs old new d all inner outer is so_far deep fails =
+    let step = place (length xs) in
+    fails_same outer (under step (read d)) all (fails_under step inner outer (read d) (under step (read d)) deep fails refl)
+    (λ f e. sym so_far ∙ ap (λ ds. with_front xs (items_at read (length xs) ds)) is ∙ ap (λ r. with_front xs (r >>= λ y. with_first y (items_at read (length xs + 1) new))) e)
+
+pub all_read : {A : Type 0} (read : Data → Result A Fault) (xs : List A) (rest : List Data) (all : Result (List A) Fault) → rest ≡ []
+    → with_front xs (items_at read (length xs) rest) ≡ all → all ≡ Ok xs
+all_read read xs rest all none so_far = sym so_far ∙ ap (λ ds. with_front xs (items_at read (length xs) ds)) none ∙ ap Ok (append-nil xs)

@@ -1,15 +1,18 @@
 -- Faults as the code finds them, and objects as it makes them.
-use Rattle.std.proofs.Common.{◌≡◌, ◌∙◌, ℕ, List, [], true, false, Option, Some, None, Result, Ok, Err, IfOk, IfSome, IsErrAnd, String, Global, BTreeMap, ap, sym, refl}
+use Rattle.std.proofs.Common.{◌≡◌, ◌∙◌, ℕ, Bool, List, [], true, Option, Some, None, Result, Ok, Err, IfOk, IfSome, IsErrAnd, String, Global, BTreeMap, option_map, ap, sym, refl, subst}
+use Rattle.std.specs.Prelude.{if◌then◌else◌}
 use Rattle.serde_json.specs.View.{members_view, view}
 use Rattle.serde_json.specs.declared.value.Value.{Value, Object as ValueObject}
 use Rattle.serde_json.proofs.Views.{view-Object}
-use Rattle.serde_json.specs.Data.{Data, Members, object}
-use Rattle.serde_json.specs.Find.{as_object}
+use Rattle.serde_json.specs.Data.{Data, object}
+use Rattle.serde_json.specs.Find.{as_object, get}
 use Rattle.etcs_json.specs.Shape.{Object, Shape}
 use Rattle.etcs_json.specs.Entries.{are_known, members_onto, object_of}
-use Rattle.etcs_json.specs.Fault.{Fault, Fails, Gives, IsAround, IsDeeper, IsFault, Kind, Step, Unknown, fault_of, here, under}
-use Rattle.etcs_json.specs.Reading.{object_with, known_or}
+use Rattle.etcs_json.specs.Chosen.{any_object, object_or}
+use Rattle.etcs_json.specs.Fault.{Fault, Fails, Gives, IsAround, IsDeeper, IsFault, IsUnder, Kind, Step, Unknown, fault_of, here, key, under}
+use Rattle.etcs_json.specs.Reading.{◌>>=◌, at_key, key_or, known_or, member_at, object_with}
 use Rattle.etcs_json.specs.declared.error.FormError.{FormError}
+use Rattle.etcs_json.proofs.TapeLemmas.{some_mapped}
 
 fails_at : {Y : Type 0} (o : Option Fault) (f : Fault) (r : Result Y Fault) → IfSome o (λ g. g ≡ f) → r ≡ Err f → IfSome o (λ g. r ≡ Err g)
 fails_at None f r is read = tt
@@ -31,17 +34,27 @@ fails_under step inner outer r s deep fails is = under_at step (fault_of inner) 
 
 -- ---- the keys of an object
 
-pub not_object : (keys : List (List ℕ)) (d : Data) (e : FormError) → as_object d ≡ None → IsFault e (here Kind) → Fails e (object_with keys d)
-unfolding object_with
-not_object keys d e none h = fails_as e (here Kind) (object_with keys d) h (ap (known_or keys) none)
+pub none_mapped : {A B : Type 0} (f : A → B) (o : Option A) → None ≡ option_map f o → o ≡ None
+none_mapped f None e = refl
+none_mapped f (Some a) e = absurd (cc)
 
-pub known_keys : (keys : List (List ℕ)) (d : Data) (ms : Members) → as_object d ≡ Some ms → are_known keys ms ≡ true → object_with keys d ≡ Ok tt
+pub keys_none : (keys : List (List ℕ)) (d : Data) → None ≡ option_map (are_known keys) (as_object d) → object_with keys d ≡ Err (here Kind)
 unfolding object_with
-known_keys keys d ms is known = ap (known_or keys) is ∙ rw known refl
+keys_none keys d e = ap (known_or keys) (none_mapped (are_known keys) (as_object d) e)
 
-pub other_key : (keys : List (List ℕ)) (d : Data) (ms : Members) (e : FormError) → as_object d ≡ Some ms → are_known keys ms ≡ false → IsFault e (here Unknown) → Fails e (object_with keys d)
+pub keys_known : (keys : List (List ℕ)) (d : Data) (known : Bool) → Some known ≡ option_map (are_known keys) (as_object d) → object_with keys d ≡ if known then Ok tt else Err (here Unknown)
 unfolding object_with
-other_key keys d ms e is known h = fails_as e (here Unknown) (object_with keys d) h (ap (known_or keys) is ∙ rw known refl)
+keys_known keys d known e =
+    let found = some_mapped (are_known keys) known (as_object d) (sym e) in
+    ap (known_or keys) found.1 ∙ ap (λ b. if b then Ok tt else Err (here Unknown)) found.2
+
+pub no_object : (keys : List (List ℕ)) (d : Data) → None ≡ option_map (are_known keys) (as_object d) → any_object d ≡ Err (here Kind)
+unfolding any_object
+no_object keys d e = ap object_or (none_mapped (are_known keys) (as_object d) e)
+
+pub some_object : (keys : List (List ℕ)) (d : Data) (known : Bool) → Some known ≡ option_map (are_known keys) (as_object d) → any_object d ≡ Ok tt
+unfolding any_object
+some_object keys d known e = ap object_or (some_mapped (are_known keys) known (as_object d) (sym e)).1
 
 -- the object that is built member after member is the one of the form
 pub made_object : {X : Type 0} (o : Object X) (x : X) (old : List (String Global × Value)) (m : BTreeMap (String Global) Value) → old ≡ []
@@ -71,3 +84,49 @@ read_again s x d is fits = ap s.of is ∙ s.again x fits
 pub written_again : {X E : Type 0} → (s : Shape X) (x : X) (result : Result Value E) → s.fits x ≡ true → IfOk result (λ v. view v ≡ s.to x) → IfOk result (λ v. Unit {0} → s.of (view v) ≡ Ok x)
 written_again s x (Ok v) fits is = λ _. read_again s x (view v) is fits
 written_again s x (Err e) fits is = tt
+
+-- ---- a member, and what is read of it
+
+abbrev data_or : Data → Result Data Fault → Data
+data_or d (Ok e) = e
+data_or d (Err f) = d
+
+abbrev fault_or : {A : Type 0} → Fault → Result A Fault → Fault
+fault_or f (Ok a) = f
+fault_or f (Err g) = g
+
+missing_at : {A : Type 0} (read : Data → Result A Fault) (name : List ℕ) (o : Option Data) (f : Fault) → key_or (λ e. Ok e) name o ≡ Err f → key_or read name o ≡ Err f
+missing_at read name None f e = ap (λ r. Err (fault_or f r)) e
+missing_at read name (Some d) f e = absurd (cc)
+
+found_at : {A : Type 0} (read : Data → Result A Fault) (name : List ℕ) (o : Option Data) (d : Data) → key_or (λ e. Ok e) name o ≡ Ok d → key_or read name o ≡ under (key name) (read d)
+found_at read name None d e = absurd (cc)
+found_at read name (Some c) d e = ap (λ x. under (key name) (read x)) (ap (data_or d) e)
+
+-- what has to be there is missing
+pub member_missing : {X Y : Type 0} (view : X → Y) (result : Result X FormError) (e : FormError) (read : Data → Result Y Fault) (name : List ℕ) (d : Data)
+    → IsErrAnd result (λ y. y ≡ e) → Fails e (member_at name d) → Gives view result (at_key read name d)
+unfolding at_key
+member_missing view result e read name d passed fails = fails_up view result e (member_at name d) (at_key read name d) passed fails (missing_at read name (get name d))
+
+under_is : {X Y : Type 0} (view : X → Y) (step : Step) (inner outer : Result X FormError) (r s : Result Y Fault) → Gives view inner r → IsUnder step inner outer → s ≡ under step r → Gives view outer s
+under_is view step (Ok x) outer r s gives is e = subst (λ o. Gives view o s) (sym is) (e ∙ ap (under step) gives)
+under_is view step (Err inner) (Ok x) r s gives is e = absurd is
+under_is view step (Err inner) (Err outer) r s gives is e = fails_under step inner outer r s is gives e
+
+-- the member is there, and is read
+pub member_read : {X Y : Type 0} (view : X → Y) (inner outer : Result X FormError) (read : Data → Result Y Fault) (name : List ℕ) (d found : Data)
+    → member_at name d ≡ Ok found → Gives view inner (read found) → IsUnder (key name) inner outer → Gives view outer (at_key read name d)
+unfolding at_key
+member_read view inner outer read name d found is gives around = under_is view (key name) inner outer (read found) (at_key read name d) gives around (found_at read name (get name d) found is)
+
+-- a member that is looked at alone
+pub gives_unit : {Y : Type 0} (view : Unit {0} → Y) (result : Result (Unit {0}) FormError) (r : Result Y Fault) → Gives view result r → Gives (λ u. u) result (r >>= λ _. Ok tt)
+gives_unit view (Ok u) r gives = ap (λ s. s >>= λ _. Ok tt) gives
+gives_unit view (Err e) r fails = fails_same e r (r >>= λ _. Ok tt) fails (λ f is. ap (λ s. s >>= λ _. Ok tt) is)
+
+-- what holds of the value that was read
+pub under_keeps : {X : Type 0} (P : X → Type 0) (step : Step) (inner outer : Result X FormError) → IfOk inner P → IsUnder step inner outer → IfOk outer P
+under_keeps P step (Ok x) outer holds is = subst (λ o. IfOk o P) (sym is) holds
+under_keeps P step (Err inner) (Ok x) holds is = absurd is
+under_keeps P step (Err inner) (Err outer) holds is = tt

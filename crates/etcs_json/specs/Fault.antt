@@ -1,5 +1,5 @@
 -- What is wrong with a value that is the form of no record, and where.
-use Rattle.std.specs.Prelude.{◌≡◌, ℕ, List, [], ◌∷◌, map, Option, Some, None, Result, Ok, Err, IfSome}
+use Rattle.std.specs.Prelude.{◌≡◌, ℕ, List, [], ◌∷◌, map, Option, Some, None, Result, Ok, Err, IfSome, IsErrAnd}
 use Rattle.etcs_json.specs.declared.error.Step.{Step as CodeStep}
 use Rattle.etcs_json.specs.declared.error.Step.TheVariants as code
 use Rattle.etcs_json.specs.declared.error.FormError.{FormError}
@@ -88,3 +88,8 @@ IsAround step f (Some g) = f ≡ deeper step g
 -- the same fault as the value around has it, unless memory ran out
 abbrev pub IsDeeper : Step → FormError → FormError → Type 0
 IsDeeper step inner outer = IfSome (fault_of outer) (λ f. IsAround step f (fault_of inner))
+
+-- what a call returned, as the value around has it: the same value, or the same fault
+abbrev pub IsUnder : {X : Type 0} → Step → Result X FormError → Result X FormError → Type 0
+IsUnder step (Ok x) outer = outer ≡ Ok x
+IsUnder step (Err inner) outer = IsErrAnd outer (λ e. IsDeeper step inner e)

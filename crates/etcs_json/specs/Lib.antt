@@ -3,9 +3,9 @@ pub mod Path
 pub mod Entries
 pub mod EntryLemmas
 pub mod Reading
+pub mod node
 pub mod Shape
 pub mod Sending
-pub mod Tokens
 pub mod Variables
 pub mod Profiles
 pub mod Choice
@@ -29,6 +29,4 @@ pub mod Reports
 pub mod TrainPackets
 pub mod Telegrams
 pub mod AnyMessage
-pub mod AuthorityTokens
 pub mod Laws
-pub mod ReportTokens

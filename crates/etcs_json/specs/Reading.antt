@@ -62,6 +62,10 @@ key_or read name (Some d) = under (key name) (read d)
 unfoldable pub at_key : {A : Type 0} → (Data → Result A Fault) → List ℕ → Data → Result A Fault
 at_key read name d = key_or read name (get name d)
 
+-- the member that has to be there
+abbrev pub member_at : List ℕ → Data → Result Data Fault
+member_at name d = at_key (λ e. Ok e) name d
+
 abbrev pub as_some : {A : Type 0} → Result A Fault → Result (Option A) Fault
 as_some (Ok x) = Ok (Some x)
 as_some (Err f) = Err f

@@ -8,6 +8,7 @@ ghost use Rattle.etcs_json.specs.Sending.{SendsValue};
 ghost use Rattle.etcs_json.specs.Shape.{Shape};
 
 use crate::error::FormError;
+use crate::node::Node;
 use etcs_bits::Memory;
 use json::Writer;
 use serde_json::Value;
@@ -41,13 +42,24 @@ pub trait Form: Drop {
         // Making a form that builds nothing never reports that memory ran out.
         ensures memory { OnErr result builds };
 
+    /// Reads a form through a node, whatever holds the JSON value. The answer is that of
+    /// [`Form::of_form`].
+    fn of_node<N: Node>(alloc: Global, node: &N) -> Result<Self, FormError>
+        ensures gives { Gives (λ x. x) result (shape.of (N.shows node.now)) }
+
+        // Where no memory is asked for, the answer is never that it ran out.
+        ensures memory { IfMemory result (asks (N.shows node.now)) };
+
     /// Reads a form. The error is its first fault, in the order in which the form is read, with the
     /// way to it. After an error nothing is returned of what was read.
     fn of_form(alloc: Global, value: &Value) -> Result<Self, FormError>
         ensures gives { Gives (λ x. x) result (shape.of (view value.now)) }
 
         // Where no memory is asked for, the answer is never that it ran out.
-        ensures memory { IfMemory result (asks (view value.now)) };
+        ensures memory { IfMemory result (asks (view value.now)) }
+    {
+        Self::of_node(alloc, &value)
+    }
 }
 
 /// A value whose form can be sent piece by piece, so that no value is built for it.

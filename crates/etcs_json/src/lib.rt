@@ -7,10 +7,9 @@
 //! ([`InPieces`]). Read `form.rt` and `record.rt` first, with `specs/Shape.antt` and
 //! `specs/Profiles.antt`, then `packets/linking_form.rt`.
 //!
-//! A quick reader builds no JSON value: [`read_quickly`] reads a record from the tokens of its form. It
-//! knows one spelling, and leaves any other to [`Form::of_form`], whose answer its is. Read
-//! `node/token_form.rt` first, with `specs/Tokens.antt`. This crate leaves out the document of a
-//! railway line.
+//! A form is read through a [`Node`], whatever holds the JSON value: a `serde_json::Value`, or the tape
+//! of tokens that [`JsonText::read`] makes of a text in less time. This crate leaves out the document
+//! of a railway line.
 #![tactic(auto)]
 
 mod error;
@@ -24,9 +23,8 @@ mod writing;
 
 pub use error::{FormError, Path, Step};
 pub use form::{Form, InPieces};
+pub use node::Node;
+pub use node::json_text::{JsonError, JsonText};
 pub use node::known_keys::check_keys;
-pub use node::token_form::TokenForm;
-pub use node::token_members::{pass_begin, pass_end};
-pub use node::token_reading::pass_key;
-pub use node::token_text::read_quickly;
+pub use node::tape_node::{TapeItems, TapeNode};
 pub use record::Record;

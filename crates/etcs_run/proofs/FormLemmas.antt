@@ -1,6 +1,6 @@
 -- How the words of a refusal are those of what was read.
-use Rattle.std.proofs.Common.{◌≡◌, ◌≢◌, ◌↔◌, ◌++◌, ◌∙◌, ◌<◌, ◌≤◌, ℕ, Bool, true, false, List, codes, Option, Some, None, Result, Ok, Err, refl, sym, ap, if◌then◌else◌, nat_lt}
-use Rattle.std.specs.Prelude.{IfSome, IsErrOf, IsUtf8}
+use Rattle.std.proofs.Common.{◌≡◌, ◌≢◌, ◌↔◌, ◌++◌, ◌∙◌, ◌<◌, ◌≤◌, ℕ, Bool, true, false, List, codes, Some, None, Result, Ok, Err, refl, sym, ap, subst, if◌then◌else◌, nat_lt}
+use Rattle.std.specs.Prelude.{IsErrOf, IsUtf8}
 use Rattle.std.specs.Str.{is_utf8}
 use Rattle.std.proofs.lemmas.Bool.{le-ltb, lt-ltb, ltb-false, ltb-true}
 use Rattle.std.proofs.lemmas.Str.{IsUtf8-from_is_utf8, is_utf8-from_IsUtf8}
@@ -25,7 +25,9 @@ use Rattle.etcs_telegram.specs.declared.error.TextError.{TextError}
 use Rattle.etcs_telegram.specs.declared.error.TextError.TheVariants as texts
 use Rattle.etcs_run.specs.FormLines.{◌then◌, message_line, or_fault, or_no_json, record_in, telegram_line, text_unless, value_in}
 use Rattle.etcs_run.specs.HexText.{message_text, telegram_text}
+use Rattle.etcs_run.specs.LineMeaning.{Gives}
 use Rattle.etcs_run.specs.TelegramLines.{IsEarly, line_for}
+use Rattle.etcs_run.specs.declared.line_meaning.Unwritten.{Unwritten}
 use Rattle.etcs_run.proofs.HexTextLemmas.{canonical_message, canonical_telegram}
 
 -- a text that is refused, unless memory ran out, has this reason
@@ -68,19 +70,10 @@ value_read line d utf8 is =
     ap (λ (b : Bool). if b then or_no_json (read line) else Err (line_words Json)) (is_utf8-from_IsUtf8 line utf8)
     ∙ ap or_no_json is
 
--- the bytes are UTF-8, they are read, and what is read is the form of a record
-record_read : {X : Type 0} (shape : Shape X) (line : List ℕ) (d : Data) (x : X) → IsUtf8 line → read line ≡ Some d
-    → shape.of d ≡ Ok x → record_in shape line ≡ Ok x
-record_read shape line d x utf8 is form =
-    ap (λ value. value then λ e. or_fault (shape.of e)) (value_read line d utf8 is) ∙ ap or_fault form
-
--- what was read from the tokens of the line's text is the record of the line
-pub tokens_read : {X : Type 0} (shape : Shape X) (line text : List ℕ) (result : Option X) → text ≡ line → IsUtf8 line
-    → IfSome result (λ x. (d : Data) × (read text ≡ Some d) × (shape.of d ≡ Ok x))
-    → IfSome result (λ x. record_in shape line ≡ Ok x)
-tokens_read shape line text (Some x) same utf8 found =
-    record_read shape line found.0 x utf8 (ap read (sym same) ∙ found.1) found.2
-tokens_read shape line text None same utf8 found = tt
+-- the line's record is that of the value that the text is
+pub text_read : {X : Type 0} (shape : Shape X) (line text : List ℕ) (d found : Data) → text ≡ line → IsUtf8 line → read text ≡ Some d → found ≡ d → record_in shape line ≡ or_fault (shape.of found)
+text_read shape line text d found same utf8 is shown =
+    ap (λ value. value then λ e. or_fault (shape.of e)) (value_read line d utf8 (ap read (sym same) ∙ is)) ∙ ap (λ e. or_fault (shape.of e)) (sym shown)
 
 no_value_by : (line : List ℕ) (b : Bool) → is_utf8 line ≡ b → (IsUtf8 line → read line ≡ None)
     → (if b then or_no_json (read line) else Err (line_words Json)) ≡ Err (line_words Json)
@@ -91,6 +84,14 @@ no_value_by line false utf8 none = refl
 pub no_value : (line : List ℕ) → (IsUtf8 line → read line ≡ None) → value_in line ≡ Err (line_words Json)
 unfolding value_in
 no_value line none = no_value_by line (is_utf8 line) refl none
+
+-- so the line has no record
+pub no_record : {X : Type 0} (shape : Shape X) (line : List ℕ) → (IsUtf8 line → read line ≡ None) → record_in shape line ≡ Err (line_words Json)
+no_record shape line none = ap (λ value. value then λ e. or_fault (shape.of e)) (no_value line none)
+
+-- what means the same is given
+pub gives_same : {X Y : Type 0} (view : X → Y) (result : Result X Unwritten) (m n : Result Y (List ℕ)) → Gives view result m → n ≡ m → Gives view result n
+gives_same view result m n gives e = subst (Gives view result) (sym e) gives
 
 -- ---- the line of a record
 

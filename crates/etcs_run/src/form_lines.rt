@@ -1,15 +1,14 @@
 //! `EncodingTelegrams` and `EncodingMessages`: a line of JSON, the form of a telegram or of a radio
-//! message, becomes a line of hexadecimal text. A line in the spelling of `decode` is read from its
-//! tokens. Any other is read by a JSON value, which alone tells why a line is refused.
+//! message, becomes a line of hexadecimal text. Each line is read once, into a tape of its tokens.
 
-ghost use Rattle.std.specs.Prelude.{◌≡◌, ◌++◌, [], codes, Ok, IfOk, IfSome};
+ghost use Rattle.std.specs.Prelude.{◌≡◌, ◌++◌, [], codes, IfOk};
 ghost use Rattle.serde_json.specs.View.{view};
 ghost use Rattle.etcs_run.specs.FormLines.{message_line, or_fault, record_in, telegram_line, value_in};
 ghost use Rattle.etcs_run.specs.LineMeaning.{Gives};
 
 use crate::line_meaning::{LineMeaning, Unwritten};
 use etcs_bits::Memory;
-use etcs_form::{Form, FormError, LineFault, TokenForm, read_quickly};
+use etcs_form::{Form, FormError, JsonError, JsonText, LineFault, Node};
 use etcs_radio::Message;
 use etcs_telegram::Telegram;
 use json::Scratch;
@@ -31,10 +30,10 @@ fn value_of(alloc: Global, line: &[u8]) -> Result<Value, Unwritten>
 }
 
 // The record of which a JSON value is the form.
-fn record_of<T: Form>(alloc: Global, value: &Value) -> Result<T, Unwritten>
-    ensures { Gives (λ x. x) result (or_fault (T.shape.of (view value.now))) }
+fn record_of<T: Form, N: Node>(alloc: Global, node: &N) -> Result<T, Unwritten>
+    ensures { Gives (λ x. x) result (or_fault (T.shape.of (N.shows node.now))) }
 {
-    match T::of_form(alloc, value) {
+    match T::of_node(alloc, node) {
         Ok(record) => Ok(record),
         Err(why) => match why {
             FormError::Memory => Err(Unwritten::Memory),
@@ -43,29 +42,31 @@ fn record_of<T: Form>(alloc: Global, value: &Value) -> Result<T, Unwritten>
     }
 }
 
-// The record of which a line is the form, if its tokens suffice to tell.
-fn record_of_tokens<T: TokenForm>(alloc: Global, scratch: &mut Scratch, line: &[u8]) -> Option<T>
-    ensures { IfSome result (λ x. record_in T.shape line.now ≡ Ok x) }
+// The record of which a line is the form, where the line is too long for a tape.
+fn record_of_value<T: Form>(alloc: Global, line: &[u8]) -> Result<T, Unwritten>
+    ensures { Gives (λ x. x) result (record_in T.shape line.now) }
 {
-    match str::from_utf8(line) {
-        Ok(text) => read_quickly(alloc, scratch, text),
-        Err(_) => None,
-    }
+    let value = value_of(alloc, line)?;
+    record_of(alloc, &&value)
 }
 
 // The record of which a line is the form.
-fn record_in_line<T: TokenForm>(
+fn record_in_line<T: Form>(
     alloc: Global,
     scratch: &mut Scratch,
     line: &[u8],
 ) -> Result<T, Unwritten>
     ensures { Gives (λ x. x) result (record_in T.shape line.now) }
 {
-    if let Some(record) = record_of_tokens(alloc, scratch, line) {
-        return Ok(record);
+    let Ok(text) = str::from_utf8(line) else {
+        return Err(Unwritten::Refused(LineFault::Json));
+    };
+    match JsonText::read(text, scratch, Vec::new(alloc)) {
+        Ok(json) => record_of(alloc, &json.root()),
+        Err(JsonError::NotJson) => Err(Unwritten::Refused(LineFault::Json)),
+        Err(JsonError::Memory) => Err(Unwritten::Memory),
+        Err(JsonError::TooLong) => record_of_value(alloc, line),
     }
-    let value = value_of(alloc, line)?;
-    record_of(alloc, &value)
 }
 
 // The digits with the end of the line, in the room of an earlier line.
@@ -107,7 +108,7 @@ fn message_text(alloc: Global, room: Vec<u8>, message: &Message) -> Result<Vec<u
 /// such form, or the form of a telegram with more bits than its size is refused.
 #[derive(Drop)]
 pub struct EncodingTelegrams {
-    // Room for the keys and texts of a line.
+    // Room for the strings of a line.
     scratch: Scratch,
 }
 
@@ -136,7 +137,7 @@ impl LineMeaning for EncodingTelegrams {
 /// JSON, no such form, or the form of a message of more than 1,023 bytes is refused.
 #[derive(Drop)]
 pub struct EncodingMessages {
-    // Room for the keys and texts of a line.
+    // Room for the strings of a line.
     scratch: Scratch,
 }
 

@@ -2,10 +2,14 @@
 //! take, but for lists and for what is told.
 
 use crate::halt::Halt;
+use etcs_form::{FormError, InPieces, JsonError, JsonText};
 use etcs_group::{Controlled, Group, assemble};
 use etcs_packet::Run;
 use etcs_telegram::{Telegram, from_hex};
+use json::{Scratch, Writer};
+use serde_json::Value;
 use std::alloc::Global;
+use std::test::Fail;
 
 /// The first digits of telegrams of one group, after which all bits are ones: a balise alone, and the two of a pair
 /// with counters 255, 7 and 8.
@@ -103,5 +107,39 @@ pub fn message(alloc: Global, run: Run, read: &[&Telegram]) -> Result<String, Ha
             Ok(text)
         }
         Err(why) => Ok(why.to_string(alloc)?),
+    }
+}
+
+// What was read of a form: the text that is sent of the record, or the fault.
+fn told<T: InPieces>(alloc: Global, read: Result<T, FormError>) -> Result<String, Fail> {
+    let record = match read {
+        Ok(record) => record,
+        Err(fault) => return Ok(format!(in alloc; "{fault}")?),
+    };
+    let mut out = Writer::new(Vec::new(alloc));
+    record.send(&mut out)?;
+    match String::from_utf8(out.into_inner()) {
+        Ok(text) => Ok(text),
+        Err(_) => Err("no text was sent".into()),
+    }
+}
+
+/// What the tape of a text is read as: the text that is sent of the record, the fault of the form, or that the text is
+/// no JSON. A JSON value of the text is read as the same.
+pub fn read_of_tape<T: InPieces>(alloc: Global, text: &str) -> Result<String, Fail> {
+    let mut scratch = Scratch::new(alloc);
+    let of_tape = match JsonText::read(text, &mut scratch, Vec::new(alloc)) {
+        Ok(json) => told(alloc, T::of_node(alloc, &json.root()))?,
+        Err(JsonError::NotJson) => String::from_str(alloc, "no JSON")?,
+        Err(JsonError::Memory) | Err(JsonError::TooLong) => return Err("no tape".into()),
+    };
+    let of_value = match Value::from_str(alloc, text) {
+        Ok(value) => told(alloc, T::of_form(alloc, &value))?,
+        Err(_) => String::from_str(alloc, "no JSON")?,
+    };
+    if of_tape.as_str() == of_value.as_str() {
+        Ok(of_tape)
+    } else {
+        Err("a value is read as something else".into())
     }
 }

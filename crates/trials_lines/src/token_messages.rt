@@ -1,10 +1,7 @@
-//! Messages read from the tokens of their texts: what is read so is the record that a value gives, and
-//! what is not is left to a value.
+//! Messages read from the tapes of their texts, as from a JSON value.
 
-use etcs_form::{Form, InPieces, read_quickly};
+use crate::shared::read_of_tape;
 use etcs_radio::Message;
-use json::{Scratch, Writer};
-use serde_json::Value;
 use std::alloc::Global;
 use std::test::Fail;
 
@@ -51,64 +48,31 @@ fn position_with(alloc: Global, packets: &str) -> Result<String, Fail> {
     )?)
 }
 
-// The message that is read from the tokens of a text.
-fn quickly(alloc: Global, text: &str) -> Option<Message> {
-    let mut scratch = Scratch::new(alloc);
-    read_quickly(alloc, &mut scratch, text)
-}
-
-// The message whose form is a value.
-fn of_value(alloc: Global, value: &Value) -> Result<Message, Fail> {
-    match Message::of_form(alloc, value) {
-        Ok(message) => Ok(message),
-        Err(_) => Err("no message".into()),
-    }
-}
-
-// The text that is sent of a message.
-fn sent(alloc: Global, message: &Message) -> Result<String, Fail> {
-    let mut out = Writer::new(Vec::new(alloc));
-    message.send(&mut out)?;
-    match String::from_utf8(out.into_inner()) {
-        Ok(text) => Ok(text),
-        Err(_) => Err("no text was sent".into()),
-    }
-}
-
-// The text that is sent of the message that is read from the tokens of a text. It is sent of the message
-// that a value gives too.
-fn sent_again(alloc: Global, text: &str) -> Result<String, Fail> {
-    let message = of_value(alloc, &Value::from_str(alloc, text)?)?;
-    let Some(read) = quickly(alloc, text) else {
-        return Err("left to a value".into());
-    };
-    let again = sent(alloc, &read)?;
-    if again.as_str() == sent(alloc, &message)?.as_str() {
-        Ok(again)
-    } else {
-        Err("another message was read".into())
-    }
-}
-
 #[test]
-fn a_movement_authority_is_read_from_tokens(rt: HostRuntime) -> Result<(), Fail> {
+fn a_movement_authority_is_read_as_it_is_written(rt: HostRuntime) -> Result<(), Fail> {
     let alloc = rt.alloc();
     let raw = "{\"body\":\"a0\",\"l_packet\":26,\"nid_packet\":254,\"q_dir\":0}";
     let both = format!(in alloc; "{raw},{AUTHORITY}")?;
     for packets in [AUTHORITY, both.as_str()] {
         let text = movement_with(alloc, packets)?;
-        assert_eq!(rt; sent_again(alloc, text.as_str())?.as_str(), text.as_str());
+        assert_eq!(rt;
+            read_of_tape::<Message>(alloc, text.as_str())?.as_str(),
+            text.as_str()
+        );
     }
     Ok(())
 }
 
 #[test]
-fn each_position_report_is_read_from_tokens(rt: HostRuntime) -> Result<(), Fail> {
+fn each_position_report_is_read_as_it_is_written(rt: HostRuntime) -> Result<(), Fail> {
     let alloc = rt.alloc();
     for report in REPORTS {
         let packets = format!(in alloc; "{RAW_PACKETS},{report}")?;
         let text = position_with(alloc, packets.as_str())?;
-        assert_eq!(rt; sent_again(alloc, text.as_str())?.as_str(), text.as_str());
+        assert_eq!(rt;
+            read_of_tape::<Message>(alloc, text.as_str())?.as_str(),
+            text.as_str()
+        );
     }
     Ok(())
 }
@@ -122,7 +86,7 @@ fn report_with(alloc: Global, members: &str, length: u32) -> Result<String, Fail
 }
 
 #[test]
-fn reports_that_are_no_forms_are_left_to_a_value(rt: HostRuntime) -> Result<(), Fail> {
+fn the_fault_of_a_report_is_told_with_the_way_to_it(rt: HostRuntime) -> Result<(), Fail> {
     let alloc = rt.alloc();
     let one = "\"m_level\":3,\"m_mode\":1,\"nid_bg\":1,\"nid_c\":1,\"nid_packet\":0";
     let two = "\"m_level\":3,\"m_mode\":1,\"nid_bg\":1,\"nid_c\":1,\"nid_packet\":1";
@@ -132,20 +96,23 @@ fn reports_that_are_no_forms_are_left_to_a_value(rt: HostRuntime) -> Result<(), 
     let level = "\"m_level\":5,\"m_mode\":1,\"nid_bg\":1,\"nid_c\":1,\"nid_packet\":0";
     let report = report_with(alloc, one, 0)?;
     let text = position_with(alloc, report.as_str())?;
-    assert_eq!(rt; sent_again(alloc, text.as_str())?.as_str(), text.as_str());
-    for (members, length) in [
-        (one, 1),
-        (one, 4),
-        (two, 0),
-        (ntc, 0),
-        (system, 0),
-        (level, 0),
+    assert_eq!(rt;
+        read_of_tape::<Message>(alloc, text.as_str())?.as_str(),
+        text.as_str()
+    );
+    for (members, length, fault) in [
+        (one, 1, "form missing key at /packets/0/l_trainint"),
+        (one, 4, "form range at /packets/0/q_length"),
+        (two, 0, "form missing key at /packets/0/prv_nid_c"),
+        (ntc, 0, "form missing key at /packets/0/nid_ntc"),
+        (system, 0, "form range at /packets/0/nid_ntc"),
+        (level, 0, "form range at /packets/0/m_level"),
     ] {
         let report = report_with(alloc, members, length)?;
         let text = position_with(alloc, report.as_str())?;
         assert_eq!(rt;
-            quickly(alloc, text.as_str()).is_some(),
-            false,
+            read_of_tape::<Message>(alloc, text.as_str())?.as_str(),
+            fault,
             "{members} {length}"
         );
     }
@@ -153,22 +120,42 @@ fn reports_that_are_no_forms_are_left_to_a_value(rt: HostRuntime) -> Result<(), 
 }
 
 #[test]
-fn messages_that_are_no_forms_are_left_to_a_value(rt: HostRuntime) -> Result<(), Fail> {
+fn the_fault_of_a_message_is_told(rt: HostRuntime) -> Result<(), Fail> {
     let alloc = rt.alloc();
-    for text in ["", "{}", "[]", "{\"nid_message\":3}"] {
-        assert_eq!(rt; quickly(alloc, text).is_some(), false, "{text}");
+    for (text, fault) in [
+        ("", "no JSON"),
+        ("{}", "form missing key at /nid_message"),
+        ("[]", "form kind at /"),
+        ("{\"nid_message\":3}", "form missing key at /t_train"),
+    ] {
+        assert_eq!(rt;
+            read_of_tape::<Message>(alloc, text)?.as_str(),
+            fault,
+            "{text}"
+        );
     }
     for packets in ["", "{\"nid_packet\":0,\"nid_vbcmk\":63}"] {
         let text = movement_with(alloc, packets)?;
-        assert_eq!(rt; quickly(alloc, text.as_str()).is_some(), false, "{packets}");
+        assert_eq!(rt;
+            read_of_tape::<Message>(alloc, text.as_str())?.as_str(),
+            "form range at /packets",
+            "{packets}"
+        );
     }
-    for packets in [
-        "",
-        RAW_PACKETS,
-        "{\"body\":\"a5\",\"l_packet\":29,\"nid_packet\":0}",
+    for (packets, fault) in [
+        ("", "form range at /packets"),
+        (RAW_PACKETS, "form range at /packets"),
+        (
+            "{\"body\":\"a5\",\"l_packet\":29,\"nid_packet\":0}",
+            "form unknown key at /packets/0",
+        ),
     ] {
         let text = position_with(alloc, packets)?;
-        assert_eq!(rt; quickly(alloc, text.as_str()).is_some(), false, "{packets}");
+        assert_eq!(rt;
+            read_of_tape::<Message>(alloc, text.as_str())?.as_str(),
+            fault,
+            "{packets}"
+        );
     }
     Ok(())
 }

@@ -1,10 +1,7 @@
-//! Telegrams read from the tokens of their texts: what is read so is the record that a value gives, and
-//! what is not is left to a value.
+//! Telegrams read from the tapes of their texts, as from a JSON value.
 
-use etcs_form::{Form, InPieces, read_quickly};
+use crate::shared::read_of_tape;
 use etcs_telegram::Telegram;
-use json::{Scratch, Writer};
-use serde_json::Value;
 use std::alloc::Global;
 use std::test::Fail;
 
@@ -51,59 +48,26 @@ fn telegram_with(alloc: Global, packets: &str) -> Result<String, Fail> {
     )?)
 }
 
-// The telegram that is read from the tokens of a text.
-fn quickly(alloc: Global, text: &str) -> Option<Telegram> {
-    let mut scratch = Scratch::new(alloc);
-    read_quickly(alloc, &mut scratch, text)
-}
-
-// The telegram whose form is a value.
-fn of_value(alloc: Global, value: &Value) -> Result<Telegram, Fail> {
-    match Telegram::of_form(alloc, value) {
-        Ok(telegram) => Ok(telegram),
-        Err(_) => Err("no telegram".into()),
-    }
-}
-
-// The text that is sent of a telegram.
-fn sent(alloc: Global, telegram: &Telegram) -> Result<String, Fail> {
-    let mut out = Writer::new(Vec::new(alloc));
-    telegram.send(&mut out)?;
-    match String::from_utf8(out.into_inner()) {
-        Ok(text) => Ok(text),
-        Err(_) => Err("no text was sent".into()),
-    }
-}
-
-// The text that is sent of the telegram that is read from the tokens of a text. It is sent of the
-// telegram that a value gives too.
-fn sent_again(alloc: Global, text: &str) -> Result<String, Fail> {
-    let telegram = of_value(alloc, &Value::from_str(alloc, text)?)?;
-    let Some(read) = quickly(alloc, text) else {
-        return Err("left to a value".into());
-    };
-    let again = sent(alloc, &read)?;
-    if again.as_str() == sent(alloc, &telegram)?.as_str() {
-        Ok(again)
-    } else {
-        Err("another telegram was read".into())
-    }
-}
-
 #[test]
-fn each_packet_as_it_is_written_is_read_from_tokens(rt: HostRuntime) -> Result<(), Fail> {
+fn each_packet_is_read_as_it_is_written(rt: HostRuntime) -> Result<(), Fail> {
     let alloc = rt.alloc();
     let text = telegram_with(alloc, "")?;
-    assert_eq!(rt; sent_again(alloc, text.as_str())?.as_str(), text.as_str());
+    assert_eq!(rt;
+        read_of_tape::<Telegram>(alloc, text.as_str())?.as_str(),
+        text.as_str()
+    );
     for packet in PACKETS {
         let text = telegram_with(alloc, packet)?;
-        assert_eq!(rt; sent_again(alloc, text.as_str())?.as_str(), text.as_str());
+        assert_eq!(rt;
+            read_of_tape::<Telegram>(alloc, text.as_str())?.as_str(),
+            text.as_str()
+        );
     }
     Ok(())
 }
 
 #[test]
-fn all_packets_together_are_read_from_tokens(rt: HostRuntime) -> Result<(), Fail> {
+fn all_packets_together_are_read(rt: HostRuntime) -> Result<(), Fail> {
     let alloc = rt.alloc();
     let mut packets = String::new(alloc);
     for packet in PACKETS {
@@ -113,50 +77,104 @@ fn all_packets_together_are_read_from_tokens(rt: HostRuntime) -> Result<(), Fail
         packets.push_str(packet)?;
     }
     let text = telegram_with(alloc, packets.as_str())?;
-    assert_eq!(rt; sent_again(alloc, text.as_str())?.as_str(), text.as_str());
+    assert_eq!(rt;
+        read_of_tape::<Telegram>(alloc, text.as_str())?.as_str(),
+        text.as_str()
+    );
     Ok(())
 }
 
-/// Packets that are no forms, or are written in another way.
-const OTHER_PACKETS: [&str; 16] = [
-    "1",
-    "{}",
-    "[]",
-    "{\"nid_vbcmk\":63,\"nid_packet\":0}",
-    "{\"nid_packet\":0,\"nid_vbcmk\":63,\"x\":1}",
-    "{\"nid_packet\":0,\"nid_vbcmk\":63}}",
-    "{\"nid_packet\":0,\"nid_vbcmk\":64}",
-    "{\"nid_packet\":0,\"nid_vbcmk\":-1}",
-    "{\"nid_packet\":5,\"nid_vbcmk\":63}",
-    "{\"elements\":[],\"nid_packet\":21,\"q_dir\":2,\"q_scale\":2}",
-    "{\"body\":\"a0\",\"l_packet\":26,\"nid_packet\":5,\"q_dir\":0}",
-    "{\"body\":\"a0\",\"l_packet\":22,\"nid_packet\":1,\"q_dir\":0}",
-    "{\"body\":\"a0\",\"l_packet\":25,\"nid_packet\":1,\"q_dir\":0}",
-    "{\"end_speed\":0,\"end_timeout\":1,\"l_endsection\":1,\"nid_packet\":12,\"q_dir\":0,\
+/// Packets that are no forms, and what is told of each.
+const NO_FORMS: [(&str, &str); 16] = [
+    ("1", "form kind at /packets/0"),
+    ("{}", "form missing key at /packets/0/nid_packet"),
+    ("[]", "form kind at /packets/0"),
+    (
+        "{\"nid_packet\":0,\"nid_vbcmk\":63,\"x\":1}",
+        "form unknown key at /packets/0",
+    ),
+    ("{\"nid_packet\":0,\"nid_vbcmk\":63}}", "no JSON"),
+    ("{\"nid_packet\":0,\"nid_vbcmk\":1e999}", "no JSON"),
+    (
+        "{\"nid_packet\":0,\"nid_vbcmk\":64}",
+        "form range at /packets/0/nid_vbcmk",
+    ),
+    (
+        "{\"nid_packet\":0,\"nid_vbcmk\":-1}",
+        "form kind at /packets/0/nid_vbcmk",
+    ),
+    (
+        "{\"nid_packet\":5,\"nid_vbcmk\":63}",
+        "form unknown key at /packets/0",
+    ),
+    (
+        "{\"elements\":[],\"nid_packet\":21,\"q_dir\":2,\"q_scale\":2}",
+        "form range at /packets/0/elements",
+    ),
+    (
+        "{\"body\":\"a0\",\"l_packet\":26,\"nid_packet\":5,\"q_dir\":0}",
+        "form unknown key at /packets/0",
+    ),
+    (
+        "{\"body\":\"a0\",\"l_packet\":22,\"nid_packet\":1,\"q_dir\":0}",
+        "form range at /packets/0/l_packet",
+    ),
+    (
+        "{\"body\":\"a0\",\"l_packet\":25,\"nid_packet\":1,\"q_dir\":0}",
+        "form range at /packets/0/body",
+    ),
+    (
+        "{\"end_speed\":0,\"end_timeout\":1,\"l_endsection\":1,\"nid_packet\":12,\"q_dir\":0,\
 \"q_scale\":2,\"sections\":[]}",
-    "{\"end_speed\":0,\"end_timeout\":1,\"l_endsection\":1,\"nid_packet\":15,\"q_dir\":0,\
+        "form missing key at /packets/0/v_main",
+    ),
+    (
+        "{\"end_speed\":0,\"end_timeout\":1,\"l_endsection\":1,\"nid_packet\":15,\"q_dir\":0,\
 \"q_scale\":2,\"sections\":[],\"v_main\":1}",
-    "{\"d_leveltr\":0,\"nid_packet\":41,\"q_dir\":1,\"q_scale\":1,\"transitions\":[\
+        "form unknown key at /packets/0",
+    ),
+    (
+        "{\"d_leveltr\":0,\"nid_packet\":41,\"q_dir\":1,\"q_scale\":1,\"transitions\":[\
 {\"l_ackleveltr\":0,\"m_leveltr\":2,\"nid_ntc\":8}]}",
+        "form range at /packets/0/transitions/0/nid_ntc",
+    ),
 ];
 
 #[test]
-fn a_text_written_in_another_way_is_left_to_a_value(rt: HostRuntime) -> Result<(), Fail> {
+fn a_fault_is_told_with_the_way_to_it(rt: HostRuntime) -> Result<(), Fail> {
     let alloc = rt.alloc();
-    assert_eq!(rt; quickly(alloc, "").is_some(), false);
-    assert_eq!(rt; quickly(alloc, "{}").is_some(), false);
-    for packet in OTHER_PACKETS {
+    assert_eq!(rt; read_of_tape::<Telegram>(alloc, "")?.as_str(), "no JSON");
+    assert_eq!(rt;
+        read_of_tape::<Telegram>(alloc, "{}")?.as_str(),
+        "form missing key at /user_bits"
+    );
+    for (packet, fault) in NO_FORMS {
         let text = telegram_with(alloc, packet)?;
-        assert_eq!(rt; quickly(alloc, text.as_str()).is_some(), false, "{packet}");
+        assert_eq!(rt;
+            read_of_tape::<Telegram>(alloc, text.as_str())?.as_str(),
+            fault,
+            "{packet}"
+        );
     }
     Ok(())
 }
 
 #[test]
-fn blanks_are_passed(rt: HostRuntime) -> Result<(), Fail> {
+fn a_packet_may_be_written_in_another_way(rt: HostRuntime) -> Result<(), Fail> {
     let alloc = rt.alloc();
-    let blank = telegram_with(alloc, " { \"nid_packet\" : 0, \"nid_vbcmk\" : 63 } ")?;
     let text = telegram_with(alloc, "{\"nid_packet\":0,\"nid_vbcmk\":63}")?;
-    assert_eq!(rt; sent_again(alloc, blank.as_str())?.as_str(), text.as_str());
+    for packet in [
+        " { \"nid_packet\" : 0, \"nid_vbcmk\" : 63 } ",
+        "{\"nid_vbcmk\":63,\"nid_packet\":0}",
+        "{\"nid_vbcmk\":64,\"nid_packet\":0,\"nid_vbcmk\":63}",
+        "{\"nid_packet\":0,\"\\u006eid_vbcmk\":63}",
+    ] {
+        let other = telegram_with(alloc, packet)?;
+        assert_eq!(rt;
+            read_of_tape::<Telegram>(alloc, other.as_str())?.as_str(),
+            text.as_str(),
+            "{packet}"
+        );
+    }
     Ok(())
 }

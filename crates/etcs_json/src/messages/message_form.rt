@@ -1,15 +1,15 @@
 //! The form of a radio message, whose number decides it.
 
 ghost use Rattle.std.specs.Prelude.{codes, IsOk};
-ghost use Rattle.serde_json.specs.View.{view};
 ghost use Rattle.etcs_json.specs.AnyMessage.{is_message};
 ghost use Rattle.etcs_json.specs.Chosen.{any_object, first_at};
 ghost use Rattle.etcs_json.specs.Fault.{Gives, IfMemory};
 ghost use Rattle.etcs_json.specs.Reading.{at_key, number_of};
 
-use crate::error::{FormError, Step};
+use crate::error::FormError;
 use crate::form::{Form, InPieces};
-use crate::node::reading::check_object;
+use crate::node::Node;
+use crate::node::reading::{check_object, member, under};
 use crate::record::Members;
 use etcs_bits::Memory;
 use etcs_radio::Message;
@@ -19,10 +19,10 @@ use std::alloc::Global;
 
 // Reads the number of a message: 3 or 136.
 #[tactic(auto, unfolding(crate::specs::Reading::number_of))]
-fn number_in(alloc: Global, value: &Value) -> Result<u64, FormError>
-    ensures { Gives (λ n. n) result (number_of is_message (view value.now)) }
+fn number_in<N: Node>(alloc: Global, node: &N) -> Result<u64, FormError>
+    ensures { Gives (λ n. n) result (number_of is_message (N.shows node.now)) }
 {
-    match value.as_u64() {
+    match node.number() {
         None => Err(FormError::kind(alloc)),
         Some(number) => {
             if number == 3 || number == 136 {
@@ -35,28 +35,23 @@ fn number_in(alloc: Global, value: &Value) -> Result<u64, FormError>
 }
 
 // Reads the member `nid_message`.
-#[tactic(auto, using(crate::proofs::Objects::fails_as, crate::proofs::Objects::fails_under), unfolding(crate::specs::Reading::at_key))]
-fn read_number(alloc: Global, value: &Value) -> Result<u64, FormError>
+#[tactic(auto, using(crate::proofs::Objects::member_read))]
+fn read_number<N: Node>(alloc: Global, node: &N) -> Result<u64, FormError>
     ensures { Gives (λ n. n) result
-        (at_key (number_of is_message) (codes "nid_message") (view value.now)) }
+        (at_key (number_of is_message) (codes "nid_message") (N.shows node.now)) }
 {
-    match value.get("nid_message") {
-        None => Err(FormError::missing(alloc, "nid_message")),
-        Some(found) => match number_in(alloc, found) {
-            Ok(number) => Ok(number),
-            Err(error) => Err(error.under(Step::Key("nid_message"))),
-        },
-    }
+    let found = member(alloc, node, "nid_message")?;
+    under("nid_message", number_in(alloc, &found))
 }
 
 // Reads the number before the other keys are looked at.
-fn read_first_number(alloc: Global, value: &Value) -> Result<u64, FormError>
+fn read_first_number<N: Node>(alloc: Global, node: &N) -> Result<u64, FormError>
     ensures first { Gives (λ n. n) result
-        (first_at (number_of is_message) (codes "nid_message") (view value.now)) }
-    ensures memory { IfMemory result (IsOk (any_object (view value.now))) }
+        (first_at (number_of is_message) (codes "nid_message") (N.shows node.now)) }
+    ensures memory { IfMemory result (IsOk (any_object (N.shows node.now))) }
 {
-    check_object(alloc, value)?;
-    read_number(alloc, value)
+    check_object(alloc, node)?;
+    read_number(alloc, node)
 }
 
 impl Form for Message {
@@ -80,12 +75,12 @@ impl Form for Message {
         }
     }
 
-    fn of_form(alloc: Global, value: &Value) -> Result<Self, FormError> {
-        let number = read_first_number(alloc, value)?;
+    fn of_node<N: Node>(alloc: Global, node: &N) -> Result<Self, FormError> {
+        let number = read_first_number(alloc, node)?;
         if number == 3 {
-            Ok(Message::Movement(Form::of_form(alloc, value)?))
+            Ok(Message::Movement(Form::of_node(alloc, node)?))
         } else {
-            Ok(Message::Position(Form::of_form(alloc, value)?))
+            Ok(Message::Position(Form::of_node(alloc, node)?))
         }
     }
 }

@@ -1,10 +1,11 @@
 //! The form of message 3, the movement authority.
 
 use crate::error::FormError;
+use crate::node::Node;
 use crate::node::packets_form::read_all_at;
 use crate::node::reading::{read_fixed, read_key};
 use crate::packets::report_form::{put_identity, read_identity};
-use crate::record::{Members, Record, is_one_of, stay_allowed};
+use crate::record::{Members, Record, stay_allowed};
 use crate::writing::building::{put_key, put_list_at, put_number};
 use crate::writing::sending::{send_key, send_list_at, send_number};
 use etcs_bits::{Memory, are_allowed};
@@ -22,18 +23,15 @@ impl Record for MovementMessage {
 
 #[tactic(auto, unfolding(crate::specs::Messages::movement))]
 impl Members for MovementMessage {
-    fn has_key(name: &str) -> bool {
-        is_one_of(
-            name,
-            &[
-                "nid_message",
-                "t_train",
-                "m_ack",
-                "nid_c",
-                "nid_bg",
-                "packets",
-            ],
-        )
+    fn keys() -> &'static [&'static str] {
+        &[
+            "nid_message",
+            "t_train",
+            "m_ack",
+            "nid_c",
+            "nid_bg",
+            "packets",
+        ]
     }
 
     fn send_members(&self, out: &mut Writer) -> Result<(), Memory> {
@@ -56,12 +54,12 @@ impl Members for MovementMessage {
         Ok(())
     }
 
-    fn of_members(alloc: Global, value: &Value) -> Result<Self, FormError> {
-        read_fixed(alloc, value, "nid_message", 3)?;
-        let time = read_key(alloc, value, "t_train")?;
-        let ack = read_key(alloc, value, "m_ack")?;
-        let lrbg = read_identity(alloc, value, "nid_c", "nid_bg")?;
-        let packets = read_all_at(alloc, value, "packets")?;
+    fn of_members<N: Node>(alloc: Global, node: &N) -> Result<Self, FormError> {
+        read_fixed(alloc, node, "nid_message", 3)?;
+        let time = read_key(alloc, node, "t_train")?;
+        let ack = read_key(alloc, node, "m_ack")?;
+        let lrbg = read_identity(alloc, node, "nid_c", "nid_bg")?;
+        let packets = read_all_at(alloc, node, "packets")?;
         match MovementMessage::new(time, ack, lrbg, packets) {
             Ok(message) => Ok(message),
             Err(_) => Err(FormError::range_at(alloc, "packets")),

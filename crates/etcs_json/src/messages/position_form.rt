@@ -1,9 +1,10 @@
 //! The form of message 136, the position report.
 
 use crate::error::FormError;
+use crate::node::Node;
 use crate::node::packets_form::read_all_at;
 use crate::node::reading::{read_fixed, read_key};
-use crate::record::{Members, Record, is_one_of, stay_allowed};
+use crate::record::{Members, Record, stay_allowed};
 use crate::writing::building::{put_key, put_list_at, put_number};
 use crate::writing::sending::{send_key, send_list_at, send_number};
 use etcs_bits::{Memory, are_allowed};
@@ -21,8 +22,8 @@ impl Record for PositionMessage {
 
 #[tactic(auto, using(crate::proofs::SendingLemmas::then), unfolding(crate::specs::Messages::position))]
 impl Members for PositionMessage {
-    fn has_key(name: &str) -> bool {
-        is_one_of(name, &["nid_message", "t_train", "nid_engine", "packets"])
+    fn keys() -> &'static [&'static str] {
+        &["nid_message", "t_train", "nid_engine", "packets"]
     }
 
     fn send_members(&self, out: &mut Writer) -> Result<(), Memory> {
@@ -41,11 +42,11 @@ impl Members for PositionMessage {
         Ok(())
     }
 
-    fn of_members(alloc: Global, value: &Value) -> Result<Self, FormError> {
-        read_fixed(alloc, value, "nid_message", 136)?;
-        let time = read_key(alloc, value, "t_train")?;
-        let engine = read_key(alloc, value, "nid_engine")?;
-        let packets = read_all_at(alloc, value, "packets")?;
+    fn of_members<N: Node>(alloc: Global, node: &N) -> Result<Self, FormError> {
+        read_fixed(alloc, node, "nid_message", 136)?;
+        let time = read_key(alloc, node, "t_train")?;
+        let engine = read_key(alloc, node, "nid_engine")?;
+        let packets = read_all_at(alloc, node, "packets")?;
         match PositionMessage::new(time, engine, packets) {
             Ok(message) => Ok(message),
             Err(_) => Err(FormError::range_at(alloc, "packets")),

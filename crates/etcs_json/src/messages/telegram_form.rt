@@ -1,7 +1,7 @@
 //! The form of a telegram.
 
 ghost use Rattle.std.specs.Prelude.{◌≡◌, OnOk};
-ghost use Rattle.serde_json.specs.View.{members_view, view};
+ghost use Rattle.serde_json.specs.View.{members_view};
 ghost use Rattle.etcs_telegram.specs.Sizes.{user_bits};
 ghost use Rattle.etcs_json.specs.Entries.{members_onto};
 ghost use Rattle.etcs_json.specs.Fault.{Gives};
@@ -9,10 +9,11 @@ ghost use Rattle.etcs_json.specs.Telegrams.{header};
 
 use crate::error::FormError;
 use crate::form::{Form, InPieces};
+use crate::node::Node;
 use crate::node::packets_form::read_all_at;
 use crate::node::reading::read_key;
 use crate::packets::report_form::{put_identity, read_identity};
-use crate::record::{Members, Record, is_one_of, stay_allowed};
+use crate::record::{Members, Record, stay_allowed};
 use crate::writing::building::{put_key, put_list_at};
 use crate::writing::sending::{send_key, send_list_at};
 use etcs_bits::{Memory, are_allowed};
@@ -46,8 +47,8 @@ impl Form for Size {
         Ok(Value::from(user_bit_count(*self)))
     }
 
-    fn of_form(alloc: Global, value: &Value) -> Result<Self, FormError> {
-        match value.as_u64() {
+    fn of_node<N: Node>(alloc: Global, node: &N) -> Result<Self, FormError> {
+        match node.number() {
             None => Err(FormError::kind(alloc)),
             Some(210) => Ok(Size::Short),
             Some(830) => Ok(Size::Long),
@@ -81,17 +82,17 @@ fn put_header(out: &mut Map<String, Value>, alloc: Global, head: &Header) -> Res
 
 // Reads the header's members.
 #[tactic(auto, unfolding(crate::specs::Telegrams::header))]
-fn read_header(alloc: Global, value: &Value) -> Result<Header, FormError>
-    ensures { Gives (λ h. h) result (header.of (view value.now)) }
+fn read_header<N: Node>(alloc: Global, node: &N) -> Result<Header, FormError>
+    ensures { Gives (λ h. h) result (header.of (N.shows node.now)) }
 {
     Ok(Header {
-        version: read_key(alloc, value, "m_version")?,
-        position: read_key(alloc, value, "n_pig")?,
-        total: read_key(alloc, value, "n_total")?,
-        dup: read_key(alloc, value, "m_dup")?,
-        counter: read_key(alloc, value, "m_mcount")?,
-        identity: read_identity(alloc, value, "nid_c", "nid_bg")?,
-        linked: read_key(alloc, value, "q_link")?,
+        version: read_key(alloc, node, "m_version")?,
+        position: read_key(alloc, node, "n_pig")?,
+        total: read_key(alloc, node, "n_total")?,
+        dup: read_key(alloc, node, "m_dup")?,
+        counter: read_key(alloc, node, "m_mcount")?,
+        identity: read_identity(alloc, node, "nid_c", "nid_bg")?,
+        linked: read_key(alloc, node, "q_link")?,
     })
 }
 
@@ -104,22 +105,19 @@ impl Record for Telegram {
 #[tactic(auto, unfolding(crate::specs::Telegrams::telegram))]
 impl Members for Telegram {
     #[tactic(auto, unfolding(crate::specs::Telegrams::telegram, crate::specs::Telegrams::header))]
-    fn has_key(name: &str) -> bool {
-        is_one_of(
-            name,
-            &[
-                "user_bits",
-                "m_version",
-                "n_pig",
-                "n_total",
-                "m_dup",
-                "m_mcount",
-                "nid_c",
-                "nid_bg",
-                "q_link",
-                "packets",
-            ],
-        )
+    fn keys() -> &'static [&'static str] {
+        &[
+            "user_bits",
+            "m_version",
+            "n_pig",
+            "n_total",
+            "m_dup",
+            "m_mcount",
+            "nid_c",
+            "nid_bg",
+            "q_link",
+            "packets",
+        ]
     }
 
     fn send_members(&self, out: &mut Writer) -> Result<(), Memory> {
@@ -144,10 +142,10 @@ impl Members for Telegram {
         Ok(())
     }
 
-    fn of_members(alloc: Global, value: &Value) -> Result<Self, FormError> {
-        let size = read_key(alloc, value, "user_bits")?;
-        let header = read_header(alloc, value)?;
-        let packets = read_all_at(alloc, value, "packets")?;
+    fn of_members<N: Node>(alloc: Global, node: &N) -> Result<Self, FormError> {
+        let size = read_key(alloc, node, "user_bits")?;
+        let header = read_header(alloc, node)?;
+        let packets = read_all_at(alloc, node, "packets")?;
         Ok(Telegram {
             size,
             header,

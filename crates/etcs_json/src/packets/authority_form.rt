@@ -1,7 +1,7 @@
 //! The forms of movement authorities, packets 12 and 15.
 
 ghost use Rattle.std.specs.Prelude.{◌≡◌, OnOk};
-ghost use Rattle.serde_json.specs.View.{members_view, view};
+ghost use Rattle.serde_json.specs.View.{members_view};
 ghost use Rattle.etcs_profile.specs.Authority.{authority_number, numbered_of};
 ghost use Rattle.etcs_json.specs.Authority.{authority_members, with_main, with_main_of, without_main, without_main_of};
 ghost use Rattle.etcs_json.specs.AuthoritySending.{first_members, last_members};
@@ -12,6 +12,7 @@ ghost use Rattle.etcs_json.specs.Sending.{SendsMembers};
 
 use crate::error::FormError;
 use crate::form::{Form, InPieces};
+use crate::node::Node;
 use crate::node::known_keys::check_keys;
 use crate::node::reading::{read_first, read_key};
 use crate::packets::head_form::{put_head, read_head};
@@ -86,12 +87,12 @@ fn put_members(
 
 // Refuses what is no object, and an object with a key that packet 12 does not have.
 #[tactic(auto, unfolding(crate::specs::Authority::with_main, crate::specs::Authority::terms, crate::specs::Authority::end_parts))]
-fn check_keys_with_main(alloc: Global, value: &Value) -> Result<(), FormError>
-    ensures { Gives (λ u. u) result (object_with with_main.part.keys (view value.now)) }
+fn check_keys_with_main<N: Node>(alloc: Global, node: &N) -> Result<(), FormError>
+    ensures { Gives (λ u. u) result (object_with with_main.part.keys (N.shows node.now)) }
 {
     check_keys(
         alloc,
-        value,
+        node,
         &[
             "nid_packet",
             "q_dir",
@@ -111,12 +112,12 @@ fn check_keys_with_main(alloc: Global, value: &Value) -> Result<(), FormError>
 
 // Refuses what is no object, and an object with a key that packet 15 does not have.
 #[tactic(auto, unfolding(crate::specs::Authority::without_main, crate::specs::Authority::terms, crate::specs::Authority::end_parts))]
-fn check_keys_without_main(alloc: Global, value: &Value) -> Result<(), FormError>
-    ensures { Gives (λ u. u) result (object_with without_main.part.keys (view value.now)) }
+fn check_keys_without_main<N: Node>(alloc: Global, node: &N) -> Result<(), FormError>
+    ensures { Gives (λ u. u) result (object_with without_main.part.keys (N.shows node.now)) }
 {
     check_keys(
         alloc,
-        value,
+        node,
         &[
             "nid_packet",
             "q_dir",
@@ -135,24 +136,24 @@ fn check_keys_without_main(alloc: Global, value: &Value) -> Result<(), FormError
 
 /// Reads the form of packet 12.
 #[tactic(auto, unfolding(crate::specs::Authority::with_main))]
-pub(crate) fn read_with_main(alloc: Global, value: &Value) -> Result<Authority, FormError>
-    ensures { Gives (λ a. a) result (with_main_of (view value.now)) }
+pub(crate) fn read_with_main<N: Node>(alloc: Global, node: &N) -> Result<Authority, FormError>
+    ensures { Gives (λ a. a) result (with_main_of (N.shows node.now)) }
 {
-    check_keys_with_main(alloc, value)?;
-    let (dir, scale) = read_head(alloc, value, 12)?;
-    let main = read_key(alloc, value, "v_main")?;
-    let terms = read_terms(alloc, value)?;
+    check_keys_with_main(alloc, node)?;
+    let (dir, scale) = read_head(alloc, node, 12)?;
+    let main = read_key(alloc, node, "v_main")?;
+    let terms = read_terms(alloc, node)?;
     Ok(authority_of(dir, scale, Some(main), terms))
 }
 
 /// Reads the form of packet 15.
 #[tactic(auto, unfolding(crate::specs::Authority::without_main))]
-pub(crate) fn read_without_main(alloc: Global, value: &Value) -> Result<Authority, FormError>
-    ensures { Gives (λ a. a) result (without_main_of (view value.now)) }
+pub(crate) fn read_without_main<N: Node>(alloc: Global, node: &N) -> Result<Authority, FormError>
+    ensures { Gives (λ a. a) result (without_main_of (N.shows node.now)) }
 {
-    check_keys_without_main(alloc, value)?;
-    let (dir, scale) = read_head(alloc, value, 15)?;
-    let terms = read_terms(alloc, value)?;
+    check_keys_without_main(alloc, node)?;
+    let (dir, scale) = read_head(alloc, node, 15)?;
+    let terms = read_terms(alloc, node)?;
     Ok(authority_of(dir, scale, None, terms))
 }
 
@@ -174,11 +175,11 @@ impl Form for Authority {
         Ok(Value::Object(members))
     }
 
-    fn of_form(alloc: Global, value: &Value) -> Result<Self, FormError> {
-        let number: Ranged<8, 254, 256> = read_first(alloc, value, "nid_packet")?;
+    fn of_node<N: Node>(alloc: Global, node: &N) -> Result<Self, FormError> {
+        let number: Ranged<8, 254, 256> = read_first(alloc, node, "nid_packet")?;
         match number.number() {
-            12 => read_with_main(alloc, value),
-            15 => read_without_main(alloc, value),
+            12 => read_with_main(alloc, node),
+            15 => read_without_main(alloc, node),
             _ => Err(FormError::range_at(alloc, "nid_packet")),
         }
     }

@@ -1,8 +1,9 @@
 //! The forms of the parts of movement authorities: sections and timers, danger point and overlap.
 
 use crate::error::FormError;
+use crate::node::Node;
 use crate::node::reading::{read_key, read_key_if};
-use crate::record::{Members, Record, is_one_of, stay_allowed};
+use crate::record::{Members, Record, stay_allowed};
 use crate::writing::building::{put_key, put_key_if};
 use crate::writing::sending::{send_key, send_key_if};
 use etcs_bits::Memory;
@@ -19,8 +20,8 @@ impl Record for SectionTimer {
 
 #[tactic(auto, unfolding(crate::specs::Authority::section_timer))]
 impl Members for SectionTimer {
-    fn has_key(name: &str) -> bool {
-        is_one_of(name, &["t_sectiontimer", "d_sectiontimerstoploc"])
+    fn keys() -> &'static [&'static str] {
+        &["t_sectiontimer", "d_sectiontimerstoploc"]
     }
 
     fn send_members(&self, out: &mut Writer) -> Result<(), Memory> {
@@ -35,10 +36,10 @@ impl Members for SectionTimer {
         Ok(())
     }
 
-    fn of_members(alloc: Global, value: &Value) -> Result<Self, FormError> {
+    fn of_members<N: Node>(alloc: Global, node: &N) -> Result<Self, FormError> {
         Ok(SectionTimer {
-            time: read_key(alloc, value, "t_sectiontimer")?,
-            stop: read_key(alloc, value, "d_sectiontimerstoploc")?,
+            time: read_key(alloc, node, "t_sectiontimer")?,
+            stop: read_key(alloc, node, "d_sectiontimerstoploc")?,
         })
     }
 
@@ -55,8 +56,8 @@ impl Record for Section {
 
 #[tactic(auto, unfolding(crate::specs::Authority::section))]
 impl Members for Section {
-    fn has_key(name: &str) -> bool {
-        is_one_of(name, &["l_section", "section_timer"])
+    fn keys() -> &'static [&'static str] {
+        &["l_section", "section_timer"]
     }
 
     fn send_members(&self, out: &mut Writer) -> Result<(), Memory> {
@@ -71,10 +72,10 @@ impl Members for Section {
         Ok(())
     }
 
-    fn of_members(alloc: Global, value: &Value) -> Result<Self, FormError> {
+    fn of_members<N: Node>(alloc: Global, node: &N) -> Result<Self, FormError> {
         Ok(Section {
-            length: read_key(alloc, value, "l_section")?,
-            timer: read_key_if(alloc, value, "section_timer")?,
+            length: read_key(alloc, node, "l_section")?,
+            timer: read_key_if(alloc, node, "section_timer")?,
         })
     }
 
@@ -91,8 +92,8 @@ impl Record for EndTimer {
 
 #[tactic(auto, unfolding(crate::specs::Authority::end_timer))]
 impl Members for EndTimer {
-    fn has_key(name: &str) -> bool {
-        is_one_of(name, &["t_endtimer", "d_endtimerstartloc"])
+    fn keys() -> &'static [&'static str] {
+        &["t_endtimer", "d_endtimerstartloc"]
     }
 
     fn send_members(&self, out: &mut Writer) -> Result<(), Memory> {
@@ -107,10 +108,10 @@ impl Members for EndTimer {
         Ok(())
     }
 
-    fn of_members(alloc: Global, value: &Value) -> Result<Self, FormError> {
+    fn of_members<N: Node>(alloc: Global, node: &N) -> Result<Self, FormError> {
         Ok(EndTimer {
-            time: read_key(alloc, value, "t_endtimer")?,
-            start: read_key(alloc, value, "d_endtimerstartloc")?,
+            time: read_key(alloc, node, "t_endtimer")?,
+            start: read_key(alloc, node, "d_endtimerstartloc")?,
         })
     }
 
@@ -127,8 +128,8 @@ impl Record for DangerPoint {
 
 #[tactic(auto, unfolding(crate::specs::Authority::danger_point))]
 impl Members for DangerPoint {
-    fn has_key(name: &str) -> bool {
-        is_one_of(name, &["d_dp", "v_releasedp"])
+    fn keys() -> &'static [&'static str] {
+        &["d_dp", "v_releasedp"]
     }
 
     fn send_members(&self, out: &mut Writer) -> Result<(), Memory> {
@@ -143,10 +144,10 @@ impl Members for DangerPoint {
         Ok(())
     }
 
-    fn of_members(alloc: Global, value: &Value) -> Result<Self, FormError> {
+    fn of_members<N: Node>(alloc: Global, node: &N) -> Result<Self, FormError> {
         Ok(DangerPoint {
-            distance: read_key(alloc, value, "d_dp")?,
-            release_speed: read_key(alloc, value, "v_releasedp")?,
+            distance: read_key(alloc, node, "d_dp")?,
+            release_speed: read_key(alloc, node, "v_releasedp")?,
         })
     }
 
@@ -163,8 +164,8 @@ impl Record for Overlap {
 
 #[tactic(auto, unfolding(crate::specs::Authority::overlap))]
 impl Members for Overlap {
-    fn has_key(name: &str) -> bool {
-        is_one_of(name, &["d_startol", "t_ol", "d_ol", "v_releaseol"])
+    fn keys() -> &'static [&'static str] {
+        &["d_startol", "t_ol", "d_ol", "v_releaseol"]
     }
 
     fn send_members(&self, out: &mut Writer) -> Result<(), Memory> {
@@ -183,12 +184,12 @@ impl Members for Overlap {
         Ok(())
     }
 
-    fn of_members(alloc: Global, value: &Value) -> Result<Self, FormError> {
+    fn of_members<N: Node>(alloc: Global, node: &N) -> Result<Self, FormError> {
         Ok(Overlap {
-            start: read_key(alloc, value, "d_startol")?,
-            time: read_key(alloc, value, "t_ol")?,
-            length: read_key(alloc, value, "d_ol")?,
-            release_speed: read_key(alloc, value, "v_releaseol")?,
+            start: read_key(alloc, node, "d_startol")?,
+            time: read_key(alloc, node, "t_ol")?,
+            length: read_key(alloc, node, "d_ol")?,
+            release_speed: read_key(alloc, node, "v_releaseol")?,
         })
     }
 

@@ -2,7 +2,7 @@
 
 ghost use Rattle.std.specs.Prelude.{◌≡◌, ◌+◌, ◌∷◌, ◌≤◌, ◌<◌, [], codes, length, Some, IfOk, OnOk};
 ghost use Rattle.serde_json.specs.Data.{string};
-ghost use Rattle.serde_json.specs.View.{members_view, view};
+ghost use Rattle.serde_json.specs.View.{members_view};
 ghost use Rattle.etcs_json.specs.BodyText.{body_of, body_text};
 ghost use Rattle.etcs_json.specs.Entries.{members_onto};
 ghost use Rattle.etcs_json.specs.Fault.{Gives};
@@ -11,7 +11,9 @@ ghost use Rattle.etcs_json.specs.Reading.{at_key, number_of};
 ghost use Rattle.etcs_json.specs.Sending.{SendsMembers};
 ghost use Rattle.etcs_json.specs.Shape.{whole};
 
-use crate::error::{FormError, Step};
+use crate::error::FormError;
+use crate::node::Node;
+use crate::node::reading::{member, under};
 use crate::packets::body_text::{body_in, send_body, text_of};
 use crate::writing::building::put_number;
 use crate::writing::sending::send_number;
@@ -61,12 +63,12 @@ pub(crate) fn put_measured(
 
 // Reads L_PACKET, which counts so many bits of the head too.
 #[tactic(auto, unfolding(crate::specs::Reading::number_of))]
-fn length_in(alloc: Global, value: &Value, head: u32) -> Result<u32, FormError>
-    ensures gives { Gives (λ n. n) result (number_of (is_length head) (view value.now)) }
+fn length_in<N: Node>(alloc: Global, node: &N, head: u32) -> Result<u32, FormError>
+    ensures gives { Gives (λ n. n) result (number_of (is_length head) (N.shows node.now)) }
     ensures least { IfOk result (λ n. head ≤ n) }
     ensures most { IfOk result (λ n. n < 8192) }
 {
-    match value.as_u64() {
+    match node.number() {
         None => Err(FormError::kind(alloc)),
         Some(length) => {
             if length < 8192 && u64::from(head) <= length {
@@ -79,58 +81,48 @@ fn length_in(alloc: Global, value: &Value, head: u32) -> Result<u32, FormError>
 }
 
 // Reads the member `l_packet`.
-#[tactic(auto, using(crate::proofs::Objects::fails_as, crate::proofs::Objects::fails_under), unfolding(crate::specs::Reading::at_key))]
-fn read_length(alloc: Global, value: &Value, head: u32) -> Result<u32, FormError>
+#[tactic(auto, using(crate::proofs::Objects::member_read, crate::proofs::Objects::under_keeps))]
+fn read_length<N: Node>(alloc: Global, node: &N, head: u32) -> Result<u32, FormError>
     ensures gives { Gives (λ n. n) result
-        (at_key (number_of (is_length head)) (codes "l_packet") (view value.now)) }
+        (at_key (number_of (is_length head)) (codes "l_packet") (N.shows node.now)) }
     ensures least { IfOk result (λ n. head ≤ n) }
     ensures most { IfOk result (λ n. n < 8192) }
 {
-    match value.get("l_packet") {
-        None => Err(FormError::missing(alloc, "l_packet")),
-        Some(found) => match length_in(alloc, found, head) {
-            Ok(length) => Ok(length),
-            Err(error) => Err(error.under(Step::Key("l_packet"))),
-        },
-    }
+    let found = member(alloc, node, "l_packet")?;
+    under("l_packet", length_in(alloc, &found, head))
 }
 
 // Reads a body of so many bits.
 #[tactic(auto, unfolding(crate::specs::BodyText::body_of))]
-fn read_text(alloc: Global, value: &Value, count: usize) -> Result<Bits, FormError>
+fn read_text<N: Node>(alloc: Global, node: &N, count: usize) -> Result<Bits, FormError>
     requires { count ≤ 8170 }
-    ensures gives { Gives (λ b. b) result (body_of count (view value.now)) }
+    ensures gives { Gives (λ b. b) result (body_of count (N.shows node.now)) }
     ensures len { IfOk result (λ b. length b ≡ count) }
 {
-    match value.as_str() {
+    match node.text() {
         None => Err(FormError::kind(alloc)),
         Some(text) => body_in(alloc, text, count),
     }
 }
 
 // Reads the member `body`.
-#[tactic(auto, using(crate::proofs::Objects::fails_as, crate::proofs::Objects::fails_under), unfolding(crate::specs::Reading::at_key))]
-fn read_body(alloc: Global, value: &Value, count: usize) -> Result<Bits, FormError>
+#[tactic(auto, using(crate::proofs::Objects::member_read, crate::proofs::Objects::under_keeps))]
+fn read_body<N: Node>(alloc: Global, node: &N, count: usize) -> Result<Bits, FormError>
     requires { count ≤ 8170 }
-    ensures gives { Gives (λ b. b) result (at_key (body_of count) (codes "body") (view value.now)) }
+    ensures gives { Gives (λ b. b) result (at_key (body_of count) (codes "body") (N.shows node.now)) }
     ensures len { IfOk result (λ b. length b ≡ count) }
 {
-    match value.get("body") {
-        None => Err(FormError::missing(alloc, "body")),
-        Some(found) => match read_text(alloc, found, count) {
-            Ok(body) => Ok(body),
-            Err(error) => Err(error.under(Step::Key("body"))),
-        },
-    }
+    let found = member(alloc, node, "body")?;
+    under("body", read_text(alloc, &found, count))
 }
 
 /// Reads the members `l_packet` and `body`. `head` is the number of bits before the body, 21 or
 /// more.
-pub(crate) fn read_measured(alloc: Global, value: &Value, head: u32) -> Result<Bits, FormError>
+pub(crate) fn read_measured<N: Node>(alloc: Global, node: &N, head: u32) -> Result<Bits, FormError>
     requires { 21 ≤ head }
-    ensures gives { Gives (λ b. b) result (measured_of head (view value.now)) }
+    ensures gives { Gives (λ b. b) result (measured_of head (N.shows node.now)) }
     ensures short { IfOk result (λ b. head + length b < 8192) }
 {
-    let length = read_length(alloc, value, head)?;
-    read_body(alloc, value, (length - head) as usize)
+    let length = read_length(alloc, node, head)?;
+    read_body(alloc, node, (length - head) as usize)
 }

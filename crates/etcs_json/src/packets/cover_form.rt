@@ -1,8 +1,9 @@
 //! The form of virtual balise cover markers, packet 0.
 
 use crate::error::FormError;
+use crate::node::Node;
 use crate::node::reading::{read_fixed, read_key};
-use crate::record::{Members, Record, is_one_of, stay_allowed};
+use crate::record::{Members, Record, stay_allowed};
 use crate::writing::building::{put_key, put_number};
 use crate::writing::sending::{send_key, send_number};
 use etcs_bits::Memory;
@@ -19,8 +20,8 @@ impl Record for CoverMarker {
 
 #[tactic(auto, using(crate::proofs::SendingLemmas::then), unfolding(crate::specs::Cover::cover_marker))]
 impl Members for CoverMarker {
-    fn has_key(name: &str) -> bool {
-        is_one_of(name, &["nid_packet", "nid_vbcmk"])
+    fn keys() -> &'static [&'static str] {
+        &["nid_packet", "nid_vbcmk"]
     }
 
     fn send_members(&self, out: &mut Writer) -> Result<(), Memory> {
@@ -35,9 +36,9 @@ impl Members for CoverMarker {
         Ok(())
     }
 
-    fn of_members(alloc: Global, value: &Value) -> Result<Self, FormError> {
-        read_fixed(alloc, value, "nid_packet", 0)?;
-        let marker = read_key(alloc, value, "nid_vbcmk")?;
+    fn of_members<N: Node>(alloc: Global, node: &N) -> Result<Self, FormError> {
+        read_fixed(alloc, node, "nid_packet", 0)?;
+        let marker = read_key(alloc, node, "nid_vbcmk")?;
         Ok(CoverMarker { marker })
     }
 

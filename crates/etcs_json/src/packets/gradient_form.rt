@@ -1,9 +1,10 @@
 //! The form of gradient profiles, packet 21.
 
 use crate::error::FormError;
+use crate::node::Node;
 use crate::node::reading::read_key;
 use crate::packets::profile_form::{put_profile, read_profile, send_profile};
-use crate::record::{Members, Record, is_one_of, stay_allowed};
+use crate::record::{Members, Record, stay_allowed};
 use crate::writing::building::put_key;
 use crate::writing::sending::send_key;
 use etcs_bits::Memory;
@@ -20,8 +21,8 @@ impl Record for GradientElement {
 
 #[tactic(auto, using(crate::proofs::SendingLemmas::then), unfolding(crate::specs::Profiles::gradient_element))]
 impl Members for GradientElement {
-    fn has_key(name: &str) -> bool {
-        is_one_of(name, &["d_gradient", "q_gdir", "g_a"])
+    fn keys() -> &'static [&'static str] {
+        &["d_gradient", "q_gdir", "g_a"]
     }
 
     fn send_members(&self, out: &mut Writer) -> Result<(), Memory> {
@@ -38,11 +39,11 @@ impl Members for GradientElement {
         Ok(())
     }
 
-    fn of_members(alloc: Global, value: &Value) -> Result<Self, FormError> {
+    fn of_members<N: Node>(alloc: Global, node: &N) -> Result<Self, FormError> {
         Ok(GradientElement {
-            distance: read_key(alloc, value, "d_gradient")?,
-            uphill: read_key(alloc, value, "q_gdir")?,
-            gradient: read_key(alloc, value, "g_a")?,
+            distance: read_key(alloc, node, "d_gradient")?,
+            uphill: read_key(alloc, node, "q_gdir")?,
+            gradient: read_key(alloc, node, "g_a")?,
         })
     }
 
@@ -59,8 +60,8 @@ impl Record for Gradient {
 
 #[tactic(auto, unfolding(crate::specs::Profiles::gradient))]
 impl Members for Gradient {
-    fn has_key(name: &str) -> bool {
-        is_one_of(name, &["nid_packet", "q_dir", "q_scale", "elements"])
+    fn keys() -> &'static [&'static str] {
+        &["nid_packet", "q_dir", "q_scale", "elements"]
     }
 
     fn send_members(&self, out: &mut Writer) -> Result<(), Memory> {
@@ -71,8 +72,8 @@ impl Members for Gradient {
         put_profile(out, alloc, "elements", self)
     }
 
-    fn of_members(alloc: Global, value: &Value) -> Result<Self, FormError> {
-        read_profile(alloc, value, "elements")
+    fn of_members<N: Node>(alloc: Global, node: &N) -> Result<Self, FormError> {
+        read_profile(alloc, node, "elements")
     }
 
     fn stay_in_range(&self) {

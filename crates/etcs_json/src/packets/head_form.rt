@@ -1,12 +1,13 @@
 //! What packets that measure distances begin with.
 
 ghost use Rattle.std.specs.Prelude.{◌≡◌, OnOk};
-ghost use Rattle.serde_json.specs.View.{members_view, view};
+ghost use Rattle.serde_json.specs.View.{members_view};
 ghost use Rattle.etcs_json.specs.Entries.{members_onto};
 ghost use Rattle.etcs_json.specs.Fault.{Gives};
 ghost use Rattle.etcs_json.specs.Head.{head};
 
 use crate::error::FormError;
+use crate::node::Node;
 use crate::node::reading::{read_fixed, read_key};
 use crate::writing::building::{put_key, put_number};
 use etcs_bits::{Dir, Memory, Scale};
@@ -31,15 +32,15 @@ pub(crate) fn put_head(
 }
 
 /// Reads NID_PACKET, which has to be `number`, Q_DIR and Q_SCALE.
-pub(crate) fn read_head(
+pub(crate) fn read_head<N: Node>(
     alloc: Global,
-    value: &Value,
+    node: &N,
     number: u64,
 ) -> Result<(Dir, Scale), FormError>
-    ensures { Gives (λ p. p) result ((head number).of (view value.now)) }
+    ensures { Gives (λ p. p) result ((head number).of (N.shows node.now)) }
 {
-    read_fixed(alloc, value, "nid_packet", number)?;
-    let dir = read_key(alloc, value, "q_dir")?;
-    let scale = read_key(alloc, value, "q_scale")?;
+    read_fixed(alloc, node, "nid_packet", number)?;
+    let dir = read_key(alloc, node, "q_dir")?;
+    let scale = read_key(alloc, node, "q_scale")?;
     Ok((dir, scale))
 }

@@ -1,12 +1,12 @@
 //! The form of a train's integrity, with the length that is confirmed.
 
 ghost use Rattle.std.specs.Prelude.{◌≡◌};
-ghost use Rattle.serde_json.specs.View.{view};
 ghost use Rattle.etcs_json.specs.Fault.{Gives};
 ghost use Rattle.etcs_json.specs.Report.{confirmed, integrity, length_number as number_of_length};
 
 use crate::error::FormError;
 use crate::form::{Form, InPieces};
+use crate::node::Node;
 use crate::node::reading::{check_absent, read_key};
 use etcs_bits::{Distance, Memory, Plain};
 use etcs_digits::send_decimal;
@@ -40,17 +40,17 @@ pub(crate) fn confirmed_length(integrity: Integrity) -> Option<Distance>
 }
 
 /// Reads Q_LENGTH and L_TRAININT. L_TRAININT has to be there at 1 and 2, and nowhere else.
-pub(crate) fn read_integrity(alloc: Global, value: &Value) -> Result<Integrity, FormError>
-    ensures { Gives (λ v. v) result (integrity.of (view value.now)) }
+pub(crate) fn read_integrity<N: Node>(alloc: Global, node: &N) -> Result<Integrity, FormError>
+    ensures { Gives (λ v. v) result (integrity.of (N.shows node.now)) }
 {
-    let number: Plain<2> = read_key(alloc, value, "q_length")?;
+    let number: Plain<2> = read_key(alloc, node, "q_length")?;
     if number.number() == 1 {
-        return Ok(Integrity::Q1(read_key(alloc, value, "l_trainint")?));
+        return Ok(Integrity::Q1(read_key(alloc, node, "l_trainint")?));
     }
     if number.number() == 2 {
-        return Ok(Integrity::Q2(read_key(alloc, value, "l_trainint")?));
+        return Ok(Integrity::Q2(read_key(alloc, node, "l_trainint")?));
     }
-    check_absent(alloc, value, "l_trainint")?;
+    check_absent(alloc, node, "l_trainint")?;
     if number.number() == 0 {
         return Ok(Integrity::Q0);
     }
@@ -71,8 +71,8 @@ impl Form for Train3 {
         Ok(Value::from(u64::from(self.number())))
     }
 
-    fn of_form(alloc: Global, value: &Value) -> Result<Self, FormError> {
-        match value.as_u64() {
+    fn of_node<N: Node>(alloc: Global, node: &N) -> Result<Self, FormError> {
+        match node.number() {
             None => Err(FormError::kind(alloc)),
             Some(number) => match u32::try_from(number) {
                 Err(_) => Err(FormError::range(alloc)),

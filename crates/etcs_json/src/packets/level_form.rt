@@ -1,14 +1,13 @@
 //! The form of a level, with the national system of level NTC.
 
 ghost use Rattle.std.specs.Prelude.{◌≡◌};
-ghost use Rattle.serde_json.specs.View.{view};
 ghost use Rattle.etcs_json.specs.Fault.{Gives};
 ghost use Rattle.etcs_json.specs.Transition.{level, national_system};
 
 use crate::error::FormError;
+use crate::node::Node;
 use crate::node::reading::{check_absent, read_key};
 use etcs_bits::{Level, Plain, Ranged};
-use serde_json::Value;
 use std::alloc::Global;
 
 /// The national system of level NTC: NID_NTC, 8 bits.
@@ -23,19 +22,19 @@ pub(crate) fn national_system_of(level: Level) -> Option<Plain<8>>
 
 /// Reads the members of a level. `name` is the key of its number. NID_NTC has to be there at level
 /// NTC, and nowhere else.
-pub(crate) fn read_level(
+pub(crate) fn read_level<N: Node>(
     alloc: Global,
-    value: &Value,
+    node: &N,
     name: &'static str,
 ) -> Result<Level, FormError>
-    ensures { Gives (λ v. v) result ((level name.now).of (view value.now)) }
+    ensures { Gives (λ v. v) result ((level name.now).of (N.shows node.now)) }
 {
-    let number: Ranged<3, 4, 8> = read_key(alloc, value, name)?;
+    let number: Ranged<3, 4, 8> = read_key(alloc, node, name)?;
     if number.number() == 1 {
-        let ntc: Plain<8> = read_key(alloc, value, "nid_ntc")?;
+        let ntc: Plain<8> = read_key(alloc, node, "nid_ntc")?;
         return Ok(Level::Ntc(ntc.number() as u8));
     }
-    check_absent(alloc, value, "nid_ntc")?;
+    check_absent(alloc, node, "nid_ntc")?;
     match number.number() {
         0 => Ok(Level::L0),
         2 => Ok(Level::L1),

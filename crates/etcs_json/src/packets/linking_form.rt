@@ -1,9 +1,10 @@
 //! The form of linking, packet 5.
 
 use crate::error::FormError;
+use crate::node::Node;
 use crate::node::reading::{read_key, read_key_if};
 use crate::packets::profile_form::{put_profile, read_profile, send_profile};
-use crate::record::{Members, Record, is_one_of, stay_allowed};
+use crate::record::{Members, Record, stay_allowed};
 use crate::writing::building::{put_key, put_key_if};
 use crate::writing::sending::{send_key, send_key_if};
 use etcs_bits::Memory;
@@ -20,18 +21,15 @@ impl Record for Link {
 
 #[tactic(auto, using(crate::proofs::SendingLemmas::then), unfolding(crate::specs::Profiles::link))]
 impl Members for Link {
-    fn has_key(name: &str) -> bool {
-        is_one_of(
-            name,
-            &[
-                "d_link",
-                "nid_c",
-                "nid_bg",
-                "q_linkorientation",
-                "q_linkreaction",
-                "q_locacc",
-            ],
-        )
+    fn keys() -> &'static [&'static str] {
+        &[
+            "d_link",
+            "nid_c",
+            "nid_bg",
+            "q_linkorientation",
+            "q_linkreaction",
+            "q_locacc",
+        ]
     }
 
     fn send_members(&self, out: &mut Writer) -> Result<(), Memory> {
@@ -54,14 +52,14 @@ impl Members for Link {
         Ok(())
     }
 
-    fn of_members(alloc: Global, value: &Value) -> Result<Self, FormError> {
+    fn of_members<N: Node>(alloc: Global, node: &N) -> Result<Self, FormError> {
         Ok(Link {
-            distance: read_key(alloc, value, "d_link")?,
-            country: read_key_if(alloc, value, "nid_c")?,
-            group: read_key(alloc, value, "nid_bg")?,
-            nominal: read_key(alloc, value, "q_linkorientation")?,
-            reaction: read_key(alloc, value, "q_linkreaction")?,
-            accuracy: read_key(alloc, value, "q_locacc")?,
+            distance: read_key(alloc, node, "d_link")?,
+            country: read_key_if(alloc, node, "nid_c")?,
+            group: read_key(alloc, node, "nid_bg")?,
+            nominal: read_key(alloc, node, "q_linkorientation")?,
+            reaction: read_key(alloc, node, "q_linkreaction")?,
+            accuracy: read_key(alloc, node, "q_locacc")?,
         })
     }
 
@@ -78,8 +76,8 @@ impl Record for Linking {
 
 #[tactic(auto, unfolding(crate::specs::Profiles::linking))]
 impl Members for Linking {
-    fn has_key(name: &str) -> bool {
-        is_one_of(name, &["nid_packet", "q_dir", "q_scale", "links"])
+    fn keys() -> &'static [&'static str] {
+        &["nid_packet", "q_dir", "q_scale", "links"]
     }
 
     fn send_members(&self, out: &mut Writer) -> Result<(), Memory> {
@@ -90,8 +88,8 @@ impl Members for Linking {
         put_profile(out, alloc, "links", self)
     }
 
-    fn of_members(alloc: Global, value: &Value) -> Result<Self, FormError> {
-        read_profile(alloc, value, "links")
+    fn of_members<N: Node>(alloc: Global, node: &N) -> Result<Self, FormError> {
+        read_profile(alloc, node, "links")
     }
 
     fn stay_in_range(&self) {

@@ -2,6 +2,7 @@
 
 use crate::error::FormError;
 use crate::form::{Form, InPieces};
+use crate::node::Node;
 use etcs_bits::{Dir, Dup, Memory, Plain, Ranged, Scale, Version};
 use etcs_digits::send_decimal;
 use json::Writer;
@@ -22,8 +23,8 @@ impl<const W: u32> Form for Plain<W> {
         Ok(Value::from(u64::from(self.number())))
     }
 
-    fn of_form(alloc: Global, value: &Value) -> Result<Self, FormError> {
-        match value.as_u64() {
+    fn of_node<N: Node>(alloc: Global, node: &N) -> Result<Self, FormError> {
+        match node.number() {
             None => Err(FormError::kind(alloc)),
             Some(number) => match u32::try_from(number) {
                 Err(_) => Err(FormError::range(alloc)),
@@ -57,8 +58,8 @@ impl<const W: u32, const LAST: u32, const FROM: u32> Form for Ranged<W, LAST, FR
         Ok(Value::from(u64::from(self.number())))
     }
 
-    fn of_form(alloc: Global, value: &Value) -> Result<Self, FormError> {
-        match value.as_u64() {
+    fn of_node<N: Node>(alloc: Global, node: &N) -> Result<Self, FormError> {
+        match node.number() {
             None => Err(FormError::kind(alloc)),
             Some(number) => match u32::try_from(number) {
                 Err(_) => Err(FormError::range(alloc)),
@@ -92,8 +93,8 @@ impl Form for bool {
         Ok(Value::from(if *self { 1u64 } else { 0u64 }))
     }
 
-    fn of_form(alloc: Global, value: &Value) -> Result<Self, FormError> {
-        match value.as_u64() {
+    fn of_node<N: Node>(alloc: Global, node: &N) -> Result<Self, FormError> {
+        match node.number() {
             None => Err(FormError::kind(alloc)),
             Some(0) => Ok(false),
             Some(1) => Ok(true),
@@ -123,8 +124,8 @@ impl Form for Dir {
         Ok(Value::from(u64::from(self.number())))
     }
 
-    fn of_form(alloc: Global, value: &Value) -> Result<Self, FormError> {
-        match value.as_u64() {
+    fn of_node<N: Node>(alloc: Global, node: &N) -> Result<Self, FormError> {
+        match node.number() {
             None => Err(FormError::kind(alloc)),
             Some(number) => match u32::try_from(number) {
                 Err(_) => Err(FormError::range(alloc)),
@@ -158,8 +159,8 @@ impl Form for Scale {
         Ok(Value::from(u64::from(self.number())))
     }
 
-    fn of_form(alloc: Global, value: &Value) -> Result<Self, FormError> {
-        match value.as_u64() {
+    fn of_node<N: Node>(alloc: Global, node: &N) -> Result<Self, FormError> {
+        match node.number() {
             None => Err(FormError::kind(alloc)),
             Some(number) => match u32::try_from(number) {
                 Err(_) => Err(FormError::range(alloc)),
@@ -193,8 +194,8 @@ impl Form for Dup {
         Ok(Value::from(u64::from(self.number())))
     }
 
-    fn of_form(alloc: Global, value: &Value) -> Result<Self, FormError> {
-        match value.as_u64() {
+    fn of_node<N: Node>(alloc: Global, node: &N) -> Result<Self, FormError> {
+        match node.number() {
             None => Err(FormError::kind(alloc)),
             Some(number) => match u32::try_from(number) {
                 Err(_) => Err(FormError::range(alloc)),
@@ -228,8 +229,8 @@ impl Form for Version {
         Ok(Value::from(u64::from(self.number())))
     }
 
-    fn of_form(alloc: Global, value: &Value) -> Result<Self, FormError> {
-        match value.as_u64() {
+    fn of_node<N: Node>(alloc: Global, node: &N) -> Result<Self, FormError> {
+        match node.number() {
             None => Err(FormError::kind(alloc)),
             Some(number) => match u32::try_from(number) {
                 Err(_) => Err(FormError::range(alloc)),

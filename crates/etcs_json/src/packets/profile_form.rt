@@ -5,7 +5,7 @@ ghost use Rattle.std.specs.List.{AllByRecursion};
 ghost use Rattle.etcs_bits.specs.layout.Rows.{width};
 ghost use Rattle.etcs_profile.specs.Elements.{elements, profile as profile_of};
 ghost use Rattle.serde_json.specs.Data.{Data, array};
-ghost use Rattle.serde_json.specs.View.{members_view, view};
+ghost use Rattle.serde_json.specs.View.{members_view};
 ghost use Rattle.etcs_json.specs.Entries.{members_onto};
 ghost use Rattle.etcs_json.specs.Fault.{Gives};
 ghost use Rattle.etcs_json.specs.Profiles.{profile};
@@ -15,6 +15,7 @@ ghost use Rattle.etcs_json.specs.Variables.{direction, scale};
 
 use crate::error::FormError;
 use crate::form::{Form, InPieces};
+use crate::node::Node;
 use crate::node::reading::{read_first_and_at, read_fixed, read_key};
 use crate::writing::building::{put_first_and, put_key, put_number};
 use crate::writing::sending::{send_first_and, send_key, send_number};
@@ -83,17 +84,17 @@ fn packet_of<const N: u32, T: Form + Layout>(
 }
 
 /// Reads the members of a packet of elements.
-pub(crate) fn read_profile<const N: u32, T: Form + Layout>(
+pub(crate) fn read_profile<const K: u32, T: Form + Layout, N: Node>(
     alloc: Global,
-    value: &Value,
+    node: &N,
     name: &'static str,
-) -> Result<Packet<N, Elements<T>>, FormError>
+) -> Result<Packet<K, Elements<T>>, FormError>
     requires { (d : Data) → (x : T) → T.shape.of d ≡ Ok x → T.fit x }
-    ensures { Gives (λ p. p) result ((profile N name.now T.format T.shape).of (view value.now)) }
+    ensures { Gives (λ p. p) result ((profile K name.now T.format T.shape).of (N.shows node.now)) }
 {
-    read_fixed(alloc, value, "nid_packet", u64::from(N))?;
-    let dir = read_key(alloc, value, "q_dir")?;
-    let scale = read_key(alloc, value, "q_scale")?;
-    let (first, further) = read_first_and_at(alloc, value, name, 32)?;
+    read_fixed(alloc, node, "nid_packet", u64::from(K))?;
+    let dir = read_key(alloc, node, "q_dir")?;
+    let scale = read_key(alloc, node, "q_scale")?;
+    let (first, further) = read_first_and_at(alloc, node, name, 32)?;
     packet_of(alloc, dir, scale, first, further)
 }

@@ -1,15 +1,16 @@
 //! The form of packets from train to track whose layout is not known. Their bodies are kept as bits.
 
 ghost use Rattle.std.specs.Prelude.{◌≡◌, codes, true, IfOk};
-ghost use Rattle.serde_json.specs.View.{view};
 ghost use Rattle.etcs_radio.specs.TrainNumbers.{is_other, nid_raw};
 ghost use Rattle.etcs_json.specs.Fault.{Gives};
 ghost use Rattle.etcs_json.specs.Reading.{at_key, number_of};
 ghost use Rattle.etcs_json.specs.Variables.{is_allowed};
 
-use crate::error::{FormError, Step};
+use crate::error::FormError;
+use crate::node::Node;
+use crate::node::reading::{member, under};
 use crate::packets::body_form::{put_measured, read_measured, send_body_at, send_length};
-use crate::record::{Members, Record, is_one_of};
+use crate::record::{Members, Record};
 use crate::writing::building::put_number;
 use crate::writing::sending::send_number;
 use etcs_bits::Memory;
@@ -23,11 +24,11 @@ const HEAD_BITS: u32 = 21;
 
 // Reads the number of a packet that is neither a position report nor the end mark.
 #[tactic(auto, unfolding(crate::specs::Reading::number_of))]
-fn number_in(alloc: Global, value: &Value) -> Result<u8, FormError>
-    ensures gives { Gives (λ n. n) result (number_of (is_allowed nid_raw) (view value.now)) }
+fn number_in<N: Node>(alloc: Global, node: &N) -> Result<u8, FormError>
+    ensures gives { Gives (λ n. n) result (number_of (is_allowed nid_raw) (N.shows node.now)) }
     ensures other { IfOk result (λ n. is_other n ≡ true) }
 {
-    match value.as_u64() {
+    match node.number() {
         None => Err(FormError::kind(alloc)),
         Some(number) => {
             let is_known = matches!(number, 0 | 1 | 255);
@@ -41,19 +42,14 @@ fn number_in(alloc: Global, value: &Value) -> Result<u8, FormError>
 }
 
 // Reads the member `nid_packet`.
-#[tactic(auto, using(crate::proofs::Objects::fails_as, crate::proofs::Objects::fails_under), unfolding(crate::specs::Reading::at_key))]
-fn read_number(alloc: Global, value: &Value) -> Result<u8, FormError>
+#[tactic(auto, using(crate::proofs::Objects::member_read, crate::proofs::Objects::under_keeps))]
+fn read_number<N: Node>(alloc: Global, node: &N) -> Result<u8, FormError>
     ensures gives { Gives (λ n. n) result
-        (at_key (number_of (is_allowed nid_raw)) (codes "nid_packet") (view value.now)) }
+        (at_key (number_of (is_allowed nid_raw)) (codes "nid_packet") (N.shows node.now)) }
     ensures other { IfOk result (λ n. is_other n ≡ true) }
 {
-    match value.get("nid_packet") {
-        None => Err(FormError::missing(alloc, "nid_packet")),
-        Some(found) => match number_in(alloc, found) {
-            Ok(number) => Ok(number),
-            Err(error) => Err(error.under(Step::Key("nid_packet"))),
-        },
-    }
+    let found = member(alloc, node, "nid_packet")?;
+    under("nid_packet", number_in(alloc, &found))
 }
 
 impl Record for RawTrainPacket {
@@ -64,8 +60,8 @@ impl Record for RawTrainPacket {
 
 #[tactic(auto, using(crate::proofs::SendingLemmas::then), unfolding(crate::specs::RawTrain::raw_train_packet))]
 impl Members for RawTrainPacket {
-    fn has_key(name: &str) -> bool {
-        is_one_of(name, &["nid_packet", "l_packet", "body"])
+    fn keys() -> &'static [&'static str] {
+        &["nid_packet", "l_packet", "body"]
     }
 
     fn send_members(&self, out: &mut Writer) -> Result<(), Memory> {
@@ -81,9 +77,9 @@ impl Members for RawTrainPacket {
         Ok(())
     }
 
-    fn of_members(alloc: Global, value: &Value) -> Result<Self, FormError> {
-        let number = read_number(alloc, value)?;
-        let body = read_measured(alloc, value, HEAD_BITS)?;
+    fn of_members<N: Node>(alloc: Global, node: &N) -> Result<Self, FormError> {
+        let number = read_number(alloc, node)?;
+        let body = read_measured(alloc, node, HEAD_BITS)?;
         match RawTrainPacket::new(number, body) {
             Ok(packet) => Ok(packet),
             Err(_) => unreachable!("the number and the length were read"),

@@ -1,7 +1,7 @@
 //! The forms of position reports, train packets 0 and 1.
 
 ghost use Rattle.std.specs.Prelude.{◌≡◌, OnOk};
-ghost use Rattle.serde_json.specs.View.{members_view, view};
+ghost use Rattle.serde_json.specs.View.{members_view};
 ghost use Rattle.etcs_json.specs.Entries.{members_onto};
 ghost use Rattle.etcs_json.specs.Fault.{Gives};
 ghost use Rattle.etcs_json.specs.Report.{identity, place, state};
@@ -9,10 +9,11 @@ ghost use Rattle.etcs_json.specs.Sending.{SendsMembers};
 ghost use Rattle.etcs_json.specs.ReportRuns.{first_run, previous_run, second_run, third_run};
 
 use crate::error::FormError;
+use crate::node::Node;
 use crate::node::reading::{read_fixed, read_key};
 use crate::packets::integrity_form::{confirmed_length, length_number, read_integrity};
 use crate::packets::level_form::{national_system_of, read_level};
-use crate::record::{Members, Record, is_one_of};
+use crate::record::{Members, Record};
 use crate::writing::building::{put_key, put_key_if, put_number};
 use crate::writing::sending::{send_key, send_key_if, send_number};
 use etcs_bits::{Country, Distance, GroupNumber, Identity, Level, Memory, Plain, Scale};
@@ -82,44 +83,44 @@ pub(crate) struct WithTwo {
 // ---- reading
 
 /// Reads the identity of a group, whose country and number stand at these keys.
-pub(crate) fn read_identity(
+pub(crate) fn read_identity<N: Node>(
     alloc: Global,
-    value: &Value,
+    node: &N,
     country: &'static str,
     group: &'static str,
 ) -> Result<Identity, FormError>
-    ensures { Gives (λ i. i) result ((identity country.now group.now).of (view value.now)) }
+    ensures { Gives (λ i. i) result ((identity country.now group.now).of (N.shows node.now)) }
 {
-    let country: Country = read_key(alloc, value, country)?;
-    let group: GroupNumber = read_key(alloc, value, group)?;
+    let country: Country = read_key(alloc, node, country)?;
+    let group: GroupNumber = read_key(alloc, node, group)?;
     Ok(Identity { country, group })
 }
 
 // Reads the members that say where a train is.
 #[tactic(auto, unfolding(crate::specs::Report::place))]
-fn read_place(alloc: Global, value: &Value) -> Result<Place, FormError>
-    ensures { Gives (λ p. p) result (place.of (view value.now)) }
+fn read_place<N: Node>(alloc: Global, node: &N) -> Result<Place, FormError>
+    ensures { Gives (λ p. p) result (place.of (N.shows node.now)) }
 {
     Ok(Place {
-        distance: read_key(alloc, value, "d_lrbg")?,
-        orientation: read_key(alloc, value, "q_dirlrbg")?,
-        side: read_key(alloc, value, "q_dlrbg")?,
-        doubt_over: read_key(alloc, value, "l_doubtover")?,
-        doubt_under: read_key(alloc, value, "l_doubtunder")?,
+        distance: read_key(alloc, node, "d_lrbg")?,
+        orientation: read_key(alloc, node, "q_dirlrbg")?,
+        side: read_key(alloc, node, "q_dlrbg")?,
+        doubt_over: read_key(alloc, node, "l_doubtover")?,
+        doubt_under: read_key(alloc, node, "l_doubtunder")?,
     })
 }
 
 // Reads the members of a train's state.
 #[tactic(auto, unfolding(crate::specs::Report::state))]
-fn read_state(alloc: Global, value: &Value) -> Result<State, FormError>
-    ensures { Gives (λ s. s) result (state.of (view value.now)) }
+fn read_state<N: Node>(alloc: Global, node: &N) -> Result<State, FormError>
+    ensures { Gives (λ s. s) result (state.of (N.shows node.now)) }
 {
     Ok(State {
-        length: read_integrity(alloc, value)?,
-        speed: read_key(alloc, value, "v_train")?,
-        running: read_key(alloc, value, "q_dirtrain")?,
-        mode: read_key(alloc, value, "m_mode")?,
-        level: read_level(alloc, value, "m_level")?,
+        length: read_integrity(alloc, node)?,
+        speed: read_key(alloc, node, "v_train")?,
+        running: read_key(alloc, node, "q_dirtrain")?,
+        mode: read_key(alloc, node, "m_mode")?,
+        level: read_level(alloc, node, "m_level")?,
     })
 }
 
@@ -243,28 +244,25 @@ impl Record for WithOne {
 #[tactic(auto, unfolding(crate::specs::Report::with_one))]
 impl Members for WithOne {
     #[tactic(auto, unfolding(crate::specs::Report::with_one, crate::specs::Report::place, crate::specs::Report::state))]
-    fn has_key(name: &str) -> bool {
-        is_one_of(
-            name,
-            &[
-                "nid_packet",
-                "q_scale",
-                "nid_c",
-                "nid_bg",
-                "d_lrbg",
-                "q_dirlrbg",
-                "q_dlrbg",
-                "l_doubtover",
-                "l_doubtunder",
-                "q_length",
-                "l_trainint",
-                "v_train",
-                "q_dirtrain",
-                "m_mode",
-                "m_level",
-                "nid_ntc",
-            ],
-        )
+    fn keys() -> &'static [&'static str] {
+        &[
+            "nid_packet",
+            "q_scale",
+            "nid_c",
+            "nid_bg",
+            "d_lrbg",
+            "q_dirlrbg",
+            "q_dlrbg",
+            "l_doubtover",
+            "l_doubtunder",
+            "q_length",
+            "l_trainint",
+            "v_train",
+            "q_dirtrain",
+            "m_mode",
+            "m_level",
+            "nid_ntc",
+        ]
     }
 
     fn send_members(&self, out: &mut Writer) -> Result<(), Memory> {
@@ -283,13 +281,13 @@ impl Members for WithOne {
         Ok(())
     }
 
-    fn of_members(alloc: Global, value: &Value) -> Result<Self, FormError> {
-        read_fixed(alloc, value, "nid_packet", 0)?;
+    fn of_members<N: Node>(alloc: Global, node: &N) -> Result<Self, FormError> {
+        read_fixed(alloc, node, "nid_packet", 0)?;
         Ok(WithOne {
-            scale: read_key(alloc, value, "q_scale")?,
-            lrbg: read_identity(alloc, value, "nid_c", "nid_bg")?,
-            place: read_place(alloc, value)?,
-            state: read_state(alloc, value)?,
+            scale: read_key(alloc, node, "q_scale")?,
+            lrbg: read_identity(alloc, node, "nid_c", "nid_bg")?,
+            place: read_place(alloc, node)?,
+            state: read_state(alloc, node)?,
         })
     }
 
@@ -309,30 +307,27 @@ impl Record for WithTwo {
 #[tactic(auto, unfolding(crate::specs::Report::with_two))]
 impl Members for WithTwo {
     #[tactic(auto, unfolding(crate::specs::Report::with_two, crate::specs::Report::place, crate::specs::Report::state))]
-    fn has_key(name: &str) -> bool {
-        is_one_of(
-            name,
-            &[
-                "nid_packet",
-                "q_scale",
-                "nid_c",
-                "nid_bg",
-                "prv_nid_c",
-                "prv_nid_bg",
-                "d_lrbg",
-                "q_dirlrbg",
-                "q_dlrbg",
-                "l_doubtover",
-                "l_doubtunder",
-                "q_length",
-                "l_trainint",
-                "v_train",
-                "q_dirtrain",
-                "m_mode",
-                "m_level",
-                "nid_ntc",
-            ],
-        )
+    fn keys() -> &'static [&'static str] {
+        &[
+            "nid_packet",
+            "q_scale",
+            "nid_c",
+            "nid_bg",
+            "prv_nid_c",
+            "prv_nid_bg",
+            "d_lrbg",
+            "q_dirlrbg",
+            "q_dlrbg",
+            "l_doubtover",
+            "l_doubtunder",
+            "q_length",
+            "l_trainint",
+            "v_train",
+            "q_dirtrain",
+            "m_mode",
+            "m_level",
+            "nid_ntc",
+        ]
     }
 
     fn send_members(&self, out: &mut Writer) -> Result<(), Memory> {
@@ -353,14 +348,14 @@ impl Members for WithTwo {
         Ok(())
     }
 
-    fn of_members(alloc: Global, value: &Value) -> Result<Self, FormError> {
-        read_fixed(alloc, value, "nid_packet", 1)?;
+    fn of_members<N: Node>(alloc: Global, node: &N) -> Result<Self, FormError> {
+        read_fixed(alloc, node, "nid_packet", 1)?;
         Ok(WithTwo {
-            scale: read_key(alloc, value, "q_scale")?,
-            lrbg: read_identity(alloc, value, "nid_c", "nid_bg")?,
-            previous: read_identity(alloc, value, "prv_nid_c", "prv_nid_bg")?,
-            place: read_place(alloc, value)?,
-            state: read_state(alloc, value)?,
+            scale: read_key(alloc, node, "q_scale")?,
+            lrbg: read_identity(alloc, node, "nid_c", "nid_bg")?,
+            previous: read_identity(alloc, node, "prv_nid_c", "prv_nid_bg")?,
+            place: read_place(alloc, node)?,
+            state: read_state(alloc, node)?,
         })
     }
 

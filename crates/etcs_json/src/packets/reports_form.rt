@@ -1,12 +1,12 @@
 //! The form of a position report, whose number tells whether it has the group before.
 
 ghost use Rattle.std.specs.Prelude.{◌≡◌};
-ghost use Rattle.serde_json.specs.View.{view};
 ghost use Rattle.etcs_json.specs.Fault.{Gives};
 ghost use Rattle.etcs_json.specs.Reports.{one_of, place_of, read_one as what_is_one, read_two as what_is_two, report_of, state_of, two_of};
 
 use crate::error::FormError;
 use crate::form::{Form, InPieces};
+use crate::node::Node;
 use crate::node::reading::read_first;
 use crate::packets::report_form::{Place, State, WithOne, WithTwo};
 use crate::record::stay_allowed;
@@ -95,10 +95,10 @@ fn with_two(report: &Report, previous: Identity) -> WithTwo
 }
 
 /// Reads packet 0.
-pub(crate) fn read_one(alloc: Global, value: &Value) -> Result<Report, FormError>
-    ensures { Gives (λ r. r) result (what_is_one (view value.now)) }
+pub(crate) fn read_one<N: Node>(alloc: Global, node: &N) -> Result<Report, FormError>
+    ensures { Gives (λ r. r) result (what_is_one (N.shows node.now)) }
 {
-    let packet: WithOne = Form::of_form(alloc, value)?;
+    let packet: WithOne = Form::of_node(alloc, node)?;
     Ok(report_with(
         None,
         packet.scale,
@@ -109,10 +109,10 @@ pub(crate) fn read_one(alloc: Global, value: &Value) -> Result<Report, FormError
 }
 
 /// Reads packet 1.
-pub(crate) fn read_two(alloc: Global, value: &Value) -> Result<Report, FormError>
-    ensures { Gives (λ r. r) result (what_is_two (view value.now)) }
+pub(crate) fn read_two<N: Node>(alloc: Global, node: &N) -> Result<Report, FormError>
+    ensures { Gives (λ r. r) result (what_is_two (N.shows node.now)) }
 {
-    let packet: WithTwo = Form::of_form(alloc, value)?;
+    let packet: WithTwo = Form::of_node(alloc, node)?;
     let previous = Some(packet.previous);
     Ok(report_with(
         previous,
@@ -141,11 +141,11 @@ impl Form for Report {
         }
     }
 
-    fn of_form(alloc: Global, value: &Value) -> Result<Self, FormError> {
-        let number: Plain<1> = read_first(alloc, value, "nid_packet")?;
+    fn of_node<N: Node>(alloc: Global, node: &N) -> Result<Self, FormError> {
+        let number: Plain<1> = read_first(alloc, node, "nid_packet")?;
         match number.number() {
-            0 => read_one(alloc, value),
-            _ => read_two(alloc, value),
+            0 => read_one(alloc, node),
+            _ => read_two(alloc, node),
         }
     }
 }

@@ -1,9 +1,10 @@
 //! The form of static speed profiles, packet 27.
 
 use crate::error::FormError;
+use crate::node::Node;
 use crate::node::reading::{read_items_at, read_key};
 use crate::packets::profile_form::{put_profile, read_profile, send_profile};
-use crate::record::{Members, Record, is_one_of, stay_allowed};
+use crate::record::{Members, Record, stay_allowed};
 use crate::writing::building::{put_key, put_list_at};
 use crate::writing::sending::{send_key, send_list_at};
 use etcs_bits::Memory;
@@ -20,8 +21,8 @@ impl Record for Difference {
 
 #[tactic(auto, using(crate::proofs::SendingLemmas::then), unfolding(crate::specs::Profiles::difference))]
 impl Members for Difference {
-    fn has_key(name: &str) -> bool {
-        is_one_of(name, &["q_diff", "nc", "v_diff"])
+    fn keys() -> &'static [&'static str] {
+        &["q_diff", "nc", "v_diff"]
     }
 
     fn send_members(&self, out: &mut Writer) -> Result<(), Memory> {
@@ -38,11 +39,11 @@ impl Members for Difference {
         Ok(())
     }
 
-    fn of_members(alloc: Global, value: &Value) -> Result<Self, FormError> {
+    fn of_members<N: Node>(alloc: Global, node: &N) -> Result<Self, FormError> {
         Ok(Difference {
-            kind: read_key(alloc, value, "q_diff")?,
-            category: read_key(alloc, value, "nc")?,
-            speed: read_key(alloc, value, "v_diff")?,
+            kind: read_key(alloc, node, "q_diff")?,
+            category: read_key(alloc, node, "nc")?,
+            speed: read_key(alloc, node, "v_diff")?,
         })
     }
 
@@ -63,8 +64,8 @@ impl Record for SpeedElement {
 
 #[tactic(auto, using(crate::proofs::SendingLemmas::then), unfolding(crate::specs::Profiles::speed_element))]
 impl Members for SpeedElement {
-    fn has_key(name: &str) -> bool {
-        is_one_of(name, &["d_static", "v_static", "q_front", "differences"])
+    fn keys() -> &'static [&'static str] {
+        &["d_static", "v_static", "q_front", "differences"]
     }
 
     fn send_members(&self, out: &mut Writer) -> Result<(), Memory> {
@@ -83,12 +84,12 @@ impl Members for SpeedElement {
         Ok(())
     }
 
-    fn of_members(alloc: Global, value: &Value) -> Result<Self, FormError> {
+    fn of_members<N: Node>(alloc: Global, node: &N) -> Result<Self, FormError> {
         Ok(SpeedElement {
-            distance: read_key(alloc, value, "d_static")?,
-            speed: read_key(alloc, value, "v_static")?,
-            front: read_key(alloc, value, "q_front")?,
-            differences: read_items_at(alloc, value, "differences")?,
+            distance: read_key(alloc, node, "d_static")?,
+            speed: read_key(alloc, node, "v_static")?,
+            front: read_key(alloc, node, "q_front")?,
+            differences: read_items_at(alloc, node, "differences")?,
         })
     }
 
@@ -105,8 +106,8 @@ impl Record for SpeedProfile {
 
 #[tactic(auto, using(crate::proofs::ReadLemmas::few_differences), unfolding(crate::specs::Profiles::speed_profile))]
 impl Members for SpeedProfile {
-    fn has_key(name: &str) -> bool {
-        is_one_of(name, &["nid_packet", "q_dir", "q_scale", "elements"])
+    fn keys() -> &'static [&'static str] {
+        &["nid_packet", "q_dir", "q_scale", "elements"]
     }
 
     fn send_members(&self, out: &mut Writer) -> Result<(), Memory> {
@@ -117,8 +118,8 @@ impl Members for SpeedProfile {
         put_profile(out, alloc, "elements", self)
     }
 
-    fn of_members(alloc: Global, value: &Value) -> Result<Self, FormError> {
-        read_profile(alloc, value, "elements")
+    fn of_members<N: Node>(alloc: Global, node: &N) -> Result<Self, FormError> {
+        read_profile(alloc, node, "elements")
     }
 
     fn stay_in_range(&self) {

@@ -10,6 +10,7 @@ ghost use Rattle.etcs_json.specs.Reading.{at_key, list_of};
 ghost use Rattle.etcs_json.specs.Shape.{object};
 
 use crate::error::FormError;
+use crate::node::Node;
 use crate::node::reading::{read_key, read_key_if, read_list_at};
 use crate::writing::building::{put_key, put_key_if, put_list_at};
 use etcs_bits::{Dir, Distance, Memory, Scale, Speed, Time};
@@ -91,39 +92,39 @@ pub(crate) fn put_terms(
 
 // Reads what follows the end section.
 #[tactic(auto, unfolding(crate::specs::Authority::end_parts))]
-fn read_end_parts(alloc: Global, value: &Value) -> Result<EndParts, FormError>
+fn read_end_parts<N: Node>(alloc: Global, node: &N) -> Result<EndParts, FormError>
     ensures { Gives (λ e. (e.section_timer, (e.end_timer, (e.danger_point, e.overlap)))) result
-        (end_parts.of (view value.now)) }
+        (end_parts.of (N.shows node.now)) }
 {
     Ok(EndParts {
-        section_timer: read_key_if(alloc, value, "section_timer")?,
-        end_timer: read_key_if(alloc, value, "end_timer")?,
-        danger_point: read_key_if(alloc, value, "danger_point")?,
-        overlap: read_key_if(alloc, value, "overlap")?,
+        section_timer: read_key_if(alloc, node, "section_timer")?,
+        end_timer: read_key_if(alloc, node, "end_timer")?,
+        danger_point: read_key_if(alloc, node, "danger_point")?,
+        overlap: read_key_if(alloc, node, "overlap")?,
     })
 }
 
 // Reads the sections before the end section, of which there are at most 31.
 #[tactic(auto, using(crate::proofs::AuthorityLemmas::few_sections))]
-fn read_sections(alloc: Global, value: &Value) -> Result<Vec<Section>, FormError>
+fn read_sections<N: Node>(alloc: Global, node: &N) -> Result<Vec<Section>, FormError>
     ensures gives { Gives (λ v. v.items) result
-        (at_key (list_of (object section).of 0 31) (codes "sections") (view value.now)) }
+        (at_key (list_of (object section).of 0 31) (codes "sections") (N.shows node.now)) }
     ensures few { IfOk result (λ v. length v.items < 32) }
 {
-    read_list_at(alloc, value, "sections", 0, 31)
+    read_list_at(alloc, node, "sections", 0, 31)
 }
 
 /// Reads the conditions.
 #[tactic(auto, unfolding(crate::specs::Authority::terms))]
-pub(crate) fn read_terms(alloc: Global, value: &Value) -> Result<Terms, FormError>
-    ensures { Gives (λ t. t) result (terms.of (view value.now)) }
+pub(crate) fn read_terms<N: Node>(alloc: Global, node: &N) -> Result<Terms, FormError>
+    ensures { Gives (λ t. t) result (terms.of (N.shows node.now)) }
 {
     Ok(Terms {
-        end_speed: read_key(alloc, value, "end_speed")?,
-        end_timeout: read_key(alloc, value, "end_timeout")?,
-        sections: read_sections(alloc, value)?,
-        l_endsection: read_key(alloc, value, "l_endsection")?,
-        end: read_end_parts(alloc, value)?,
+        end_speed: read_key(alloc, node, "end_speed")?,
+        end_timeout: read_key(alloc, node, "end_timeout")?,
+        sections: read_sections(alloc, node)?,
+        l_endsection: read_key(alloc, node, "l_endsection")?,
+        end: read_end_parts(alloc, node)?,
     })
 }
 

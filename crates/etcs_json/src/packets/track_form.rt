@@ -2,6 +2,7 @@
 
 use crate::error::FormError;
 use crate::form::{Form, InPieces};
+use crate::node::Node;
 use crate::node::reading::read_first;
 use crate::packets::authority_form::{read_with_main, read_without_main};
 use crate::record::stay_allowed;
@@ -35,17 +36,17 @@ impl Form for TrackPacket {
         }
     }
 
-    fn of_form(alloc: Global, value: &Value) -> Result<Self, FormError> {
-        let number: Ranged<8, 254, 256> = read_first(alloc, value, "nid_packet")?;
+    fn of_node<N: Node>(alloc: Global, node: &N) -> Result<Self, FormError> {
+        let number: Ranged<8, 254, 256> = read_first(alloc, node, "nid_packet")?;
         match number.number() {
-            0 => Ok(TrackPacket::Cover(Form::of_form(alloc, value)?)),
-            5 => Ok(TrackPacket::Linking(Form::of_form(alloc, value)?)),
-            12 => Ok(TrackPacket::Authority(read_with_main(alloc, value)?)),
-            15 => Ok(TrackPacket::Authority(read_without_main(alloc, value)?)),
-            21 => Ok(TrackPacket::Gradient(Form::of_form(alloc, value)?)),
-            27 => Ok(TrackPacket::Speed(Form::of_form(alloc, value)?)),
-            41 => Ok(TrackPacket::Transition(Form::of_form(alloc, value)?)),
-            _ => Ok(TrackPacket::Raw(Form::of_form(alloc, value)?)),
+            0 => Ok(TrackPacket::Cover(Form::of_node(alloc, node)?)),
+            5 => Ok(TrackPacket::Linking(Form::of_node(alloc, node)?)),
+            12 => Ok(TrackPacket::Authority(read_with_main(alloc, node)?)),
+            15 => Ok(TrackPacket::Authority(read_without_main(alloc, node)?)),
+            21 => Ok(TrackPacket::Gradient(Form::of_node(alloc, node)?)),
+            27 => Ok(TrackPacket::Speed(Form::of_node(alloc, node)?)),
+            41 => Ok(TrackPacket::Transition(Form::of_node(alloc, node)?)),
+            _ => Ok(TrackPacket::Raw(Form::of_node(alloc, node)?)),
         }
     }
 }

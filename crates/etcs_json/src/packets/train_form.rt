@@ -2,6 +2,7 @@
 
 use crate::error::FormError;
 use crate::form::{Form, InPieces};
+use crate::node::Node;
 use crate::node::reading::read_first;
 use crate::packets::reports_form::{read_one, read_two};
 use crate::record::stay_allowed;
@@ -29,12 +30,12 @@ impl Form for TrainPacket {
         }
     }
 
-    fn of_form(alloc: Global, value: &Value) -> Result<Self, FormError> {
-        let number: Ranged<8, 254, 256> = read_first(alloc, value, "nid_packet")?;
+    fn of_node<N: Node>(alloc: Global, node: &N) -> Result<Self, FormError> {
+        let number: Ranged<8, 254, 256> = read_first(alloc, node, "nid_packet")?;
         match number.number() {
-            0 => Ok(TrainPacket::Report(read_one(alloc, value)?)),
-            1 => Ok(TrainPacket::Report(read_two(alloc, value)?)),
-            _ => Ok(TrainPacket::Raw(Form::of_form(alloc, value)?)),
+            0 => Ok(TrainPacket::Report(read_one(alloc, node)?)),
+            1 => Ok(TrainPacket::Report(read_two(alloc, node)?)),
+            _ => Ok(TrainPacket::Raw(Form::of_node(alloc, node)?)),
         }
     }
 }

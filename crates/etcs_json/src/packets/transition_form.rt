@@ -1,9 +1,10 @@
 //! The form of level transition orders, packet 41.
 
 use crate::error::FormError;
+use crate::node::Node;
 use crate::node::reading::{read_first_and_at, read_fixed, read_key};
 use crate::packets::level_form::{national_system_of, read_level};
-use crate::record::{Members, Record, is_one_of, stay_allowed};
+use crate::record::{Members, Record, stay_allowed};
 use crate::writing::building::{put_first_and, put_key, put_key_if, put_number};
 use crate::writing::sending::{send_first_and, send_key, send_key_if, send_number};
 use etcs_bits::Memory;
@@ -20,8 +21,8 @@ impl Record for LevelOrder {
 
 #[tactic(auto, using(crate::proofs::SendingLemmas::then), unfolding(crate::specs::Transition::level_order))]
 impl Members for LevelOrder {
-    fn has_key(name: &str) -> bool {
-        is_one_of(name, &["m_leveltr", "nid_ntc", "l_ackleveltr"])
+    fn keys() -> &'static [&'static str] {
+        &["m_leveltr", "nid_ntc", "l_ackleveltr"]
     }
 
     fn send_members(&self, out: &mut Writer) -> Result<(), Memory> {
@@ -40,10 +41,10 @@ impl Members for LevelOrder {
         Ok(())
     }
 
-    fn of_members(alloc: Global, value: &Value) -> Result<Self, FormError> {
+    fn of_members<N: Node>(alloc: Global, node: &N) -> Result<Self, FormError> {
         Ok(LevelOrder {
-            level: read_level(alloc, value, "m_leveltr")?,
-            acknowledge: read_key(alloc, value, "l_ackleveltr")?,
+            level: read_level(alloc, node, "m_leveltr")?,
+            acknowledge: read_key(alloc, node, "l_ackleveltr")?,
         })
     }
 
@@ -60,11 +61,8 @@ impl Record for Transition {
 
 #[tactic(auto, using(crate::proofs::SendingLemmas::then), unfolding(crate::specs::Transition::transition))]
 impl Members for Transition {
-    fn has_key(name: &str) -> bool {
-        is_one_of(
-            name,
-            &["nid_packet", "q_dir", "q_scale", "d_leveltr", "transitions"],
-        )
+    fn keys() -> &'static [&'static str] {
+        &["nid_packet", "q_dir", "q_scale", "d_leveltr", "transitions"]
     }
 
     fn send_members(&self, out: &mut Writer) -> Result<(), Memory> {
@@ -85,12 +83,12 @@ impl Members for Transition {
         Ok(())
     }
 
-    fn of_members(alloc: Global, value: &Value) -> Result<Self, FormError> {
-        read_fixed(alloc, value, "nid_packet", 41)?;
-        let dir = read_key(alloc, value, "q_dir")?;
-        let scale = read_key(alloc, value, "q_scale")?;
-        let d_leveltr = read_key(alloc, value, "d_leveltr")?;
-        let (first, further) = read_first_and_at(alloc, value, "transitions", 32)?;
+    fn of_members<N: Node>(alloc: Global, node: &N) -> Result<Self, FormError> {
+        read_fixed(alloc, node, "nid_packet", 41)?;
+        let dir = read_key(alloc, node, "q_dir")?;
+        let scale = read_key(alloc, node, "q_scale")?;
+        let d_leveltr = read_key(alloc, node, "d_leveltr")?;
+        let (first, further) = read_first_and_at(alloc, node, "transitions", 32)?;
         match Transition::new(dir, scale, d_leveltr, first, further) {
             Ok(packet) => Ok(packet),
             Err(_) => Err(FormError::range(alloc)),

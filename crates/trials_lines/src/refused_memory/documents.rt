@@ -1,11 +1,11 @@
 //! Documents of lines, and forms of records: they are answered as ever, or memory ran out.
 
-use super::{Answer, expect_answers, unless_cut};
+use super::{Answer, expect_answers};
 use crate::halt::Halt;
 use crate::shared::MESSAGE_FORM;
 use etcs_form::{
-    Form, InPieces, LineError, LineFault, Refusal, TokenForm, check_in_order, check_text,
-    read_line, read_quickly, refusal_text, report, report_counts,
+    Form, InPieces, JsonError, JsonText, LineError, LineFault, Refusal, check_in_order, check_text,
+    read_line, refusal_text, report, report_counts,
 };
 use etcs_radio::Message;
 use etcs_telegram::{Telegram, TextError};
@@ -77,23 +77,32 @@ fn value_of(alloc: Global, text: &str) -> Result<Value, Halt> {
     Value::from_str(alloc, text).map_err(|_| Halt::Memory)
 }
 
-// The form of a record: read as a value and from its tokens, written as a value and in pieces.
-fn form<T: InPieces + TokenForm>(alloc: Global, form: &str) -> Answer {
+// Whether the record of a tape is sent as the text that the tape was made of.
+fn tape<T: InPieces>(alloc: Global, form: &str) -> Answer {
+    let mut scratch = Scratch::new(alloc);
+    let json = match JsonText::read(form, &mut scratch, Vec::new(alloc)) {
+        Ok(json) => json,
+        Err(JsonError::Memory) => return Err(Halt::Memory),
+        Err(_) => return Ok(false),
+    };
+    let record = T::of_node(alloc, &json.root())?;
+    let mut out = Writer::new(Vec::new(alloc));
+    record.send(&mut out)?;
+    Ok(out.into_inner().as_slice() == form.as_bytes())
+}
+
+// The form of a record: read as a value, written as a value and in pieces.
+fn form<T: InPieces>(alloc: Global, form: &str) -> Answer {
     let record = T::of_form(alloc, &value_of(alloc, form)?)?;
     let value = record.to_form(alloc)?;
     let mut out = Writer::new(Vec::new(alloc));
     record.send(&mut out)?;
     let sent = out.into_inner();
     let text = value.to_string(alloc).map_err(|_| Halt::Memory)?;
-    let mut scratch = Scratch::new(alloc);
-    let quick: Option<T> = read_quickly(alloc, &mut scratch, form);
-    if text.as_str() != form || sent.as_slice() != form.as_bytes() {
-        return Ok(false);
-    }
-    unless_cut(quick.is_some())
+    Ok(text.as_str() == form && sent.as_slice() == form.as_bytes())
 }
 
-pub fn answers(alloc: Global) -> [Answer; 8] {
+pub fn answers(alloc: Global) -> [Answer; 10] {
     [
         checked(alloc),
         told(alloc),
@@ -102,7 +111,9 @@ pub fn answers(alloc: Global) -> [Answer; 8] {
         unread(alloc),
         refusal(alloc),
         form::<Telegram>(alloc, TELEGRAM_FORM),
+        tape::<Telegram>(alloc, TELEGRAM_FORM),
         form::<Message>(alloc, MESSAGE_FORM),
+        tape::<Message>(alloc, MESSAGE_FORM),
     ]
 }
 

@@ -1,7 +1,7 @@
 use Rattle.std.proofs.Common.{rules, ap, ◌∙◌}
 use Rattle.json.specs.Lex.{tokens}
 use Rattle.etcs_form.proofs.InOrderLemmas.{text_taken}
-use Rattle.etcs_json.proofs.TokenLemmas.{if_some}
+use Rattle.etcs_form.proofs.TokenLemmas.{if_some}
 use Rattle.etcs_form.proofs.in_order.quick_check.Goals as goal
 
 -- nothing follows the document, and all of it was handed to the checker

@@ -1,6 +1,6 @@
 use Rattle.std.proofs.Common.{rules}
 use Rattle.etcs_form.proofs.DocumentTokenLemmas.{aspects_member, only_member}
-use Rattle.etcs_json.proofs.TokenLemmas.{if_some}
+use Rattle.etcs_form.proofs.TokenLemmas.{if_some}
 use Rattle.etcs_form.proofs.token_groups.group_member.Goals as goal
 
 pub returns-then-eq : goal.returns-then-eq

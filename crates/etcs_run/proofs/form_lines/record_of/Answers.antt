@@ -1,8 +1,7 @@
-use Rattle.serde_json.specs.View.{view}
 use Rattle.etcs_run.proofs.FormLemmas.{form_refused}
 use Rattle.etcs_run.proofs.form_lines.record_of.Goals as goal
 
 -- the form's first fault, in words
 pub returns-in_default : goal.returns-in_default
 returns-in_default g c =
-    form_refused c.in-Err.why (g.T.Form.shape.of (view c.args.value.now)) c.in_default.not-Memory c.in-Err.ensures.gives
+    form_refused c.in-Err.why (g.T.Form.shape.of (g.N.Node.shows c.args.node.now)) c.in_default.not-Memory c.in-Err.ensures.gives

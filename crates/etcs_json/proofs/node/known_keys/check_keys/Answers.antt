@@ -1,12 +1,12 @@
-use Rattle.std.proofs.Common.{◌∙◌, sym}
-use Rattle.etcs_json.proofs.Objects.{not_object, other_key, known_keys}
+use Rattle.std.proofs.Common.{map, true, false}
+use Rattle.etcs_json.proofs.Objects.{fails_as, keys_known, keys_none}
 use Rattle.etcs_json.proofs.node.known_keys.check_keys.Goals as goal
 
-pub returns-in-None-clause-gives : goal.returns-in-None-clause-gives
-returns-in-None-clause-gives c = not_object _ _ _ (sym c.in-None.ensures) c.kind.ensures.fault
+pub returns-in-None-clause-keys : goal.returns-in-None-clause-keys
+returns-in-None-clause-keys g c = fails_as _ _ _ c.kind.ensures.fault (keys_none _ _ c.in-None.ensures)
 
-pub returns-then-all_among-clause-gives : goal.returns-then-all_among-clause-gives
-returns-then-all_among-clause-gives c = known_keys _ _ _ (sym c.in-Some.ensures) (sym c.all_among.ensures ∙ c.if-all_among.true)
+pub returns-then-known-clause-keys : goal.returns-then-known-clause-keys
+returns-then-known-clause-keys g c = keys_known (map (λ l. l.now) c.args.keys.now) _ true (rw c.if-known.true at c.in-Some.ensures)
 
-pub returns-else-all_among-clause-gives : goal.returns-else-all_among-clause-gives
-returns-else-all_among-clause-gives c = other_key _ _ _ _ (sym c.in-Some.ensures) (sym c.all_among.ensures ∙ c.if-all_among.false) c.unknown.ensures.fault
+pub returns-else-known-clause-keys : goal.returns-else-known-clause-keys
+returns-else-known-clause-keys g c = fails_as _ _ _ c.unknown.ensures.fault (keys_known _ _ false (rw c.if-known.false at c.in-Some.ensures))

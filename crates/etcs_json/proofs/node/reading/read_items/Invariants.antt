@@ -1,8 +1,12 @@
-use Rattle.std.proofs.Common.{◌≡◌, drop, map}
-use Rattle.serde_json.specs.View.{view}
+use Rattle.std.proofs.Common.{◌≡◌, length}
 use Rattle.etcs_json.specs.Reading.{items_at}
 use Rattle.etcs_json.proofs.ListLemmas.{with_front}
 use Rattle.etcs_json.proofs.node.reading.read_items.Given as goal
 
-abbrev pub invariant-loop-i : goal.invariant-loop-i
-invariant-loop-i g l = with_front l.found.items (items_at g.T.Form.shape.of l.i (map view (drop l.i l.values))) ≡ items_at g.T.Form.shape.of 0 (map view l.values)
+-- the items so far are read
+abbrev pub invariant-items : goal.invariant-items
+invariant-items g l =
+    with_front l.found.items (items_at g.T.Form.shape.of (length l.found.items) (g.N.Node.rest l.items)) ≡ items_at g.T.Form.shape.of 0 (g.N.Node.rest l.fn.items)
+
+abbrev pub decreases-items : goal.decreases-items
+decreases-items g l = length (g.N.Node.rest l.items)

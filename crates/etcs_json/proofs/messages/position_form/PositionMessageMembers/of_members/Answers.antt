@@ -1,5 +1,4 @@
 use Rattle.std.proofs.Common.{Ok, ap, refl, sym}
-use Rattle.serde_json.specs.View.{view}
 use Rattle.etcs_radio.specs.Required.{has_report}
 use Rattle.etcs_json.specs.Messages.{position}
 use Rattle.etcs_json.specs.TrainPackets.{train_packet}
@@ -11,21 +10,21 @@ use Rattle.etcs_json.proofs.messages.position_form.PositionMessageMembers.of_mem
 
 pub returns-in_err-packets : goal.returns-in_err-packets
 unfolding position
-returns-in_err-packets c = fails_up (λ x. x) _ _ _ _ c.from_residual-in_err-packets.ensures.1 c.in_err-packets.ensures (λ f is.
-    rw (c.in_ok-read_fixed.ensures, c.in_ok-time.ensures, c.in_ok-engine.ensures, packets_fault train_packet has_report (view c.args.value.now) f is) refl)
+returns-in_err-packets g c = fails_up (λ x. x) _ _ _ _ c.from_residual-in_err-packets.ensures.1 c.in_err-packets.ensures (λ f is.
+    rw (c.in_ok-read_fixed.ensures, c.in_ok-time.ensures, c.in_ok-engine.ensures, packets_fault train_packet has_report (g.N.Node.shows c.args.node.now) f is) refl)
 
 -- a report is among the packets
 
 pub returns-in-Ok : goal.returns-in-Ok
 unfolding position
-returns-in-Ok c =
-    let read = packets_read train_packet has_report (view c.args.value.now) _ c.in_ok-packets.ensures (c.in-Ok.ensures.made.0 refl) in
+returns-in-Ok g c =
+    let read = packets_read train_packet has_report (g.N.Node.shows c.args.node.now) _ c.in_ok-packets.ensures (c.in-Ok.ensures.made.0 refl) in
     rw (c.in_ok-read_fixed.ensures, c.in_ok-time.ensures, c.in_ok-engine.ensures, read) (ap Ok (sym c.in-Ok.ensures.ok))
 
 -- no report is among them
 
 pub returns : goal.returns
 unfolding position
-returns c =
-    let refused = packets_refused train_packet has_report (view c.args.value.now) _ c.in_ok-packets.ensures c.in-Err.ensures.made.1 in
+returns g c =
+    let refused = packets_refused train_packet has_report (g.N.Node.shows c.args.node.now) _ c.in_ok-packets.ensures c.in-Err.ensures.made.1 in
     fails_as _ _ _ c.range_at.ensures (rw (c.in_ok-read_fixed.ensures, c.in_ok-time.ensures, c.in_ok-engine.ensures, refused) refl)

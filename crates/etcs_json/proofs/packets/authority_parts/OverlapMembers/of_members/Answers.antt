@@ -7,10 +7,10 @@ use Rattle.etcs_json.proofs.packets.authority_parts.OverlapMembers.of_members.Go
 
 pub returns-in_err-read_key-4 : goal.returns-in_err-read_key-4
 unfolding overlap
-returns-in_err-read_key-4 c = fails_up (λ x. x) _ _ _ _ c.from_residual-in_err-read_key-4.ensures.1 c.in_err-read_key-4.ensures (λ f is.
+returns-in_err-read_key-4 g c = fails_up (λ x. x) _ _ _ _ c.from_residual-in_err-read_key-4.ensures.1 c.in_err-read_key-4.ensures (λ f is.
     rw (c.in_ok-read_key.ensures, c.in_ok-read_key-2.ensures, c.in_ok-read_key-3.ensures, is) refl)
 
 pub returns : goal.returns
 unfolding overlap
-returns c =
+returns g c =
     rw (c.in_ok-read_key.ensures, c.in_ok-read_key-2.ensures, c.in_ok-read_key-3.ensures, c.in_ok-read_key-4.ensures) refl

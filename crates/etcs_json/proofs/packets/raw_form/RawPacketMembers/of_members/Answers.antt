@@ -6,6 +6,6 @@ use Rattle.etcs_json.proofs.packets.raw_form.RawPacketMembers.of_members.Goals a
 -- the packet is that of the parts that were read
 pub returns : goal.returns
 unfolding raw_packet
-returns c =
+returns g c =
     let is = c.in-Ok.ensures.ok in
     rw (c.in_ok-number.ensures.gives, c.in_ok-dir.ensures, c.in_ok-body.ensures.gives) (ap Ok (raw_made c.in-Ok.packet _ _ _ is.0 is.1.0 is.1.1))

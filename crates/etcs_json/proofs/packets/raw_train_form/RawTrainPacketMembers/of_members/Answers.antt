@@ -6,6 +6,6 @@ use Rattle.etcs_json.proofs.packets.raw_train_form.RawTrainPacketMembers.of_memb
 -- the packet is that of the parts that were read
 pub returns : goal.returns
 unfolding raw_train_packet
-returns c =
+returns g c =
     let is = c.in-Ok.ensures.ok in
     rw (c.in_ok-number.ensures.gives, c.in_ok-body.ensures.gives) (ap Ok (raw_train_made c.in-Ok.packet _ _ is.0 is.1))

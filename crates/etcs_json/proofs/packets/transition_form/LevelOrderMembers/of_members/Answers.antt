@@ -7,8 +7,8 @@ use Rattle.etcs_json.proofs.packets.transition_form.LevelOrderMembers.of_members
 
 pub returns-in_err-read_key : goal.returns-in_err-read_key
 unfolding level_order
-returns-in_err-read_key c = fails_up (λ x. x) _ _ _ _ c.from_residual-in_err-read_key.ensures.1 c.in_err-read_key.ensures (λ f is. rw (c.in_ok-read_level.ensures, is) refl)
+returns-in_err-read_key g c = fails_up (λ x. x) _ _ _ _ c.from_residual-in_err-read_key.ensures.1 c.in_err-read_key.ensures (λ f is. rw (c.in_ok-read_level.ensures, is) refl)
 
 pub returns : goal.returns
 unfolding level_order
-returns c = rw (c.in_ok-read_level.ensures, c.in_ok-read_key.ensures) refl
+returns g c = rw (c.in_ok-read_level.ensures, c.in_ok-read_key.ensures) refl

@@ -1,6 +1,5 @@
 use Rattle.std.proofs.Common.{refl}
 use Rattle.std.specs.Prelude.{codes}
-use Rattle.serde_json.specs.View.{view}
 use Rattle.etcs_json.specs.Shape.{object}
 use Rattle.etcs_json.specs.Transition.{level_order, transition}
 use Rattle.etcs_json.proofs.Objects.{fails_up}
@@ -11,15 +10,15 @@ use Rattle.etcs_json.proofs.packets.transition_form.TransitionMembers.of_members
 
 pub returns-in_err-d_leveltr : goal.returns-in_err-d_leveltr
 unfolding transition
-returns-in_err-d_leveltr c = fails_up (λ x. x) _ _ _ _ c.from_residual-in_err-d_leveltr.ensures.1 c.in_err-d_leveltr.ensures (λ f is.
+returns-in_err-d_leveltr g c = fails_up (λ x. x) _ _ _ _ c.from_residual-in_err-d_leveltr.ensures.1 c.in_err-d_leveltr.ensures (λ f is.
     rw (c.in_ok-read_fixed.ensures, c.in_ok-dir.ensures, c.in_ok-scale.ensures, is) refl)
 
 pub returns-in_err-first : goal.returns-in_err-first
 unfolding transition
-returns-in_err-first c = fails_up (λ x. x) _ _ _ _ c.from_residual-in_err-first.ensures.1 c.in_err-first.ensures (λ f is.
+returns-in_err-first g c = fails_up (λ x. x) _ _ _ _ c.from_residual-in_err-first.ensures.1 c.in_err-first.ensures (λ f is.
     rw (c.in_ok-read_fixed.ensures, c.in_ok-dir.ensures, c.in_ok-scale.ensures, c.in_ok-d_leveltr.ensures, is) refl)
 
 -- the list is no longer than it may be
 pub returns-in-Err : goal.returns-in-Err
-returns-in-Err c =
-    absurd (is_built _ _ c.in-Err.ensures (few_further (object level_order) 32 (codes "transitions") (view c.args.value.now) _ c.in_ok-first.ensures))
+returns-in-Err g c =
+    absurd (is_built _ _ c.in-Err.ensures (few_further (object level_order) 32 (codes "transitions") (g.N.Node.shows c.args.node.now) _ c.in_ok-first.ensures))

@@ -1,0 +1,35 @@
+//! Which keys an object may have.
+
+ghost use Rattle.std.specs.Prelude.{◌≡◌, map};
+ghost use Rattle.std.specs.List.{list_any};
+ghost use Rattle.std.specs.Str.{bytes_eq};
+ghost use Rattle.serde_json.specs.View.{members_view};
+ghost use Rattle.etcs_json.specs.Entries.{are_known, is_among};
+
+use serde_json::{Map, Value};
+
+// Whether a key is one of these.
+fn is_one_of(name: &str, keys: &[&str]) -> bool
+    ensures { result ≡ list_any (λ l. bytes_eq name.now l.now) keys.now }
+{
+    keys.iter().any(|key| name == *key)
+}
+
+/// Whether a key is one of these.
+pub(crate) fn is_key(name: &str, keys: &[&str]) -> bool
+    ensures { result ≡ is_among name.now (map (λ l. l.now) keys.now) }
+{
+    is_one_of(name, keys)
+}
+
+/// Whether each key of an object is one of these.
+pub(crate) fn all_among(members: &Map<String, Value>, keys: &[&str]) -> bool
+    ensures { result ≡ are_known (map (λ l. l.now) keys.now) (members_view members.now.entries) }
+{
+    for name in members.keys() {
+        if !is_key(name.as_str(), keys) {
+            return false;
+        }
+    }
+    true
+}

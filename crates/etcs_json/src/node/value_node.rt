@@ -1,0 +1,55 @@
+//! JSON values of `serde_json` that are looked at.
+
+use crate::node::Node;
+use crate::node::keys::all_among;
+use serde_json::Value;
+
+impl<'v> Node for &'v Value {
+    ghost use Rattle.std.specs.Prelude.{map};
+    ghost use Rattle.serde_json.specs.View.{view};
+
+    type Items = &'v [Value];
+
+    ghost shows = { λ v. view v.now };
+
+    ghost rest = { λ vs. map view vs.now };
+
+    fn number(&self) -> Option<u64> {
+        self.as_u64()
+    }
+
+    fn text(&self) -> Option<&str> {
+        self.as_str()
+    }
+
+    fn member(&self, name: &str) -> Option<&'v Value> {
+        let value: &'v Value = *self;
+        value.get(name)
+    }
+
+    fn has_only(&self, keys: &[&str]) -> Option<bool> {
+        match self.as_object() {
+            None => None,
+            Some(members) => Some(all_among(members, keys)),
+        }
+    }
+
+    #[tactic(auto, using(crate::proofs::AnyList::data_items))]
+    fn items(&self) -> Option<&'v [Value]> {
+        let value: &'v Value = *self;
+        match value.as_array() {
+            None => None,
+            Some(items) => Some(items.as_slice()),
+        }
+    }
+
+    fn next_item(items: &mut &'v [Value]) -> Option<&'v Value> {
+        match items.split_first() {
+            None => None,
+            Some((first, more)) => {
+                *items = more;
+                Some(first)
+            }
+        }
+    }
+}
