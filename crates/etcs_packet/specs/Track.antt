@@ -140,6 +140,11 @@ own_rows (packets.Raw p) = raw_packet.rows p
 abbrev pub track_number : TrackPacket → ℕ
 track_number p = track_numbered.number (parts_of p)
 
+-- a packet whose layout is known
+abbrev pub IsKnown : TrackPacket → Type 0
+IsKnown (packets.Raw p) = ⊥
+IsKnown p = Unit {0}
+
 -- whether a packet is for trains that run in this direction; packet 0 is for all and has no Q_DIR
 abbrev pub holds : Run → TrackPacket → Bool
 holds run (packets.Cover p) = true

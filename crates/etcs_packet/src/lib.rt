@@ -20,11 +20,13 @@
 mod cover;
 pub mod laws;
 mod list;
+mod number;
 mod packets;
 mod raw;
 mod run;
 mod stop;
 mod track;
+mod track_layout;
 mod view;
 mod whole;
 

@@ -1,19 +1,16 @@
 //! The packets from track to train.
 
-ghost use Rattle.std.specs.Prelude.{◌≡◌, ◌==◌, ◌<◌, true, min, not, IfOk, IsOk};
-ghost use Rattle.etcs_bits.specs.layout.Reading.{field_at, rows_at};
+ghost use Rattle.std.specs.Prelude.{◌≡◌, ◌==◌, true, min, not, IfOk, IsOk};
+ghost use Rattle.etcs_bits.specs.layout.Reading.{rows_at};
 ghost use Rattle.etcs_bits.specs.layout.Results.{Gives, IfMemory, Puts};
 ghost use Rattle.etcs_bits.specs.layout.Rows.{AreAllowed, join, width};
 ghost use Rattle.etcs_packet.specs.RunningDirection.{is_for_run};
-ghost use Rattle.etcs_packet.specs.PacketNumbers.{is_known, nid_track};
+ghost use Rattle.etcs_packet.specs.PacketNumbers.{is_known};
 
 use crate::cover::CoverMarker;
 use crate::raw::RawPacket;
 use crate::run::Run;
-use crate::view::PacketView;
-use etcs_bits::{
-    Bits, Cursor, DecodeError, Dir, Fault, FaultKind, Layout, Memory, Plain, Same, refused,
-};
+use etcs_bits::{Bits, Cursor, DecodeError, Dir, Layout, Memory, Plain, Same};
 use etcs_profile::{Authority, Gradient, Linking, Packet, SpeedProfile, Transition};
 use std::alloc::Global;
 
@@ -34,28 +31,6 @@ pub enum TrackPacket {
     Transition(Transition),
     /// Any other packet. Its body is kept as bits.
     Raw(RawPacket),
-}
-
-/// NID_PACKET of the packet at the cursor, which no end mark is.
-#[inline]
-pub(crate) fn scan_number(cur: &mut Cursor<'_>) -> Result<u64, DecodeError>
-    ensures gives { Gives (λ n. n) result (field_at nid_track cur.old) cur.new }
-    ensures number { IfOk result (λ n. (n < 256) × (not (n == 255) ≡ true)) }
-
-    // Looking at the number takes no memory.
-    ensures memory { IfMemory result ⊥ }
-{
-    let at = cur.at();
-    match cur.take(8) {
-        Ok(255) => Err(refused(at, cur, FaultKind::Spare)),
-        Ok(number) => Ok(number),
-        // No end mark fits in the bits that are left.
-        Err(_) => Err(DecodeError::Fault(Fault {
-            at,
-            end: at,
-            why: FaultKind::NoEnd,
-        })),
-    }
 }
 
 // Appends the spelling of a packet whose type keeps it in range.
@@ -117,8 +92,8 @@ impl TrackPacket {
 impl TrackPacket {
     ghost use Rattle.etcs_packet.specs.Track.{own_rows};
 
-    // The types of the packets keep their numbers in range.
-    fn is_sound(&self) -> bool
+    /// Whether the packet is allowed. The types of the packets keep their numbers in range.
+    pub(crate) fn is_sound(&self) -> bool
         ensures allowed { AreAllowed (own_rows self.now) }
         ensures always { result ≡ true }
     {
@@ -133,8 +108,8 @@ impl TrackPacket {
         }
     }
 
-    // How many bits the packet has.
-    fn own_width(&self) -> u64
+    /// How many bits the packet has.
+    pub(crate) fn own_width(&self) -> u64
         ensures { result ≡ min (width (own_rows self.now)) u64.MAX }
     {
         match self {
@@ -148,8 +123,8 @@ impl TrackPacket {
         }
     }
 
-    // Appends the spelling of the packet.
-    fn put_own(&self, out: &mut Bits) -> Result<(), Memory>
+    /// Appends the spelling of the packet.
+    pub(crate) fn put_own(&self, out: &mut Bits) -> Result<(), Memory>
         ensures { Puts (join (own_rows self.now)) result out.old out.new }
     {
         match self {
@@ -167,9 +142,7 @@ impl TrackPacket {
 impl TrackPacket {
     ghost use Rattle.etcs_bits.specs.layout.Choice.{chosen_at, numbered_rows};
     ghost use Rattle.etcs_bits.specs.variables.VariableFormats.{q_dir};
-    ghost use Rattle.etcs_packet.specs.Track.{parts_of, track_numbered};
-    ghost use Rattle.etcs_packet.specs.View.{view_of};
-    ghost use Rattle.etcs_packet.specs.declared.view.PacketView.TheVariants as views;
+    ghost use Rattle.etcs_packet.specs.Track.{IsKnown, parts_of, track_numbered};
 
     /// Reads what follows the number of a packet whose layout is known. After an error the cursor
     /// may stand anywhere.
@@ -182,7 +155,7 @@ impl TrackPacket {
         requires { is_known number ≡ true }
         ensures gives { Gives (λ p. numbered_rows track_numbered (parts_of p)) result
             (chosen_at track_numbered number cur.old) cur.new }
-        ensures known { IfOk result (λ p. view_of p ≡ views.Known p) }
+        ensures known { IfOk result IsKnown }
 
         // Packet 0 has no list, and reading it takes no memory.
         ensures memory { IfMemory result (not (number == 0) ≡ true) }
@@ -201,31 +174,6 @@ impl TrackPacket {
             // No other known number is left.
             _ => TrackPacket::Transition(Packet::scan_rest(alloc, cur)?),
         })
-    }
-}
-
-impl Layout for TrackPacket {
-    ghost use Rattle.etcs_packet.specs.Track.{track_packet};
-
-    ghost format = { track_packet };
-
-    ghost grows = { Unit {0} };
-
-    fn is_allowed(&self) -> bool {
-        self.is_sound()
-    }
-
-    fn width(&self) -> u64 {
-        self.own_width()
-    }
-
-    fn put(&self, out: &mut Bits) -> Result<(), Memory> {
-        self.put_own(out)
-    }
-
-    fn scan(alloc: Global, cur: &mut Cursor<'_>) -> Result<Self, DecodeError> {
-        let view = PacketView::scan(alloc, cur)?;
-        Ok(view.into_packet(alloc)?)
     }
 }
 

@@ -3,8 +3,9 @@
 ghost use Rattle.std.specs.Prelude.{◌≡◌, true, IfOk, IsOk};
 ghost use Rattle.etcs_bits.specs.layout.Results.{IfMemory};
 
+use crate::number::scan_number;
 use crate::raw::{RawPacket, is_raw};
-use crate::track::{TrackPacket, scan_number};
+use crate::track::TrackPacket;
 use etcs_bits::{BitSlice, Cursor, DecodeError, Dir, Memory};
 use std::alloc::Global;
 

@@ -3,14 +3,21 @@ use Rattle.std.proofs.lemmas.Result.{err_from_is_err_and}
 use Rattle.etcs_bits.specs.layout.Rows.{alone}
 use Rattle.etcs_bits.specs.layout.Reading.{rows_at}
 use Rattle.etcs_bits.proofs.SumLemmas.{rest_read, chosen_read}
+use Rattle.etcs_packet.specs.declared.track.TrackPacket.{TrackPacket}
 use Rattle.etcs_packet.specs.declared.track.TrackPacket.TheVariants as packets
+use Rattle.etcs_packet.specs.declared.view.PacketView.TheVariants as views
 use Rattle.etcs_packet.specs.PacketNumbers.{is_other, nid_track}
 use Rattle.etcs_packet.specs.FoundRaw.{raw}
 use Rattle.etcs_packet.specs.Raw.{raw_rest}
-use Rattle.etcs_packet.specs.Track.{track_numbered}
+use Rattle.etcs_packet.specs.Track.{IsKnown, track_numbered}
+use Rattle.etcs_packet.specs.View.{view_of}
 use Rattle.etcs_packet.proofs.RawLemmas.{kept_of}
 use Rattle.etcs_packet.proofs.TrackLemmas.{field_forward, other_next}
 use Rattle.etcs_packet.proofs.view.PacketView.scan.Goals as goal
+
+known_view : (p : TrackPacket) → IsKnown p → view_of p ≡ views.Known p
+known_view (packets.Raw r) known = absurd known
+known_view p known = refl
 
 -- the packet has the number, the direction and the body that were read
 pub returns-then-is_raw-clause-gives : goal.returns-then-is_raw-clause-gives
@@ -30,7 +37,7 @@ unfolding alone
 returns-clause-gives c =
     let n = c.in_ok-number.number in
     let p = c.in_ok-scan_known.field-0 in
-    (p, c.in_ok-scan_known.ensures.known, chosen_read nid_track track_numbered track_numbered.next n c.args.cur.now c.scan_number.new.cur _ _ c.in_ok-number.ensures.gives refl c.in_ok-scan_known.ensures.gives)
+    (p, known_view p c.in_ok-scan_known.ensures.known, chosen_read nid_track track_numbered track_numbered.next n c.args.cur.now c.scan_number.new.cur _ _ c.in_ok-number.ensures.gives refl c.in_ok-scan_known.ensures.gives)
 
 -- Q_DIR comes after the number
 pub returns-in_err-scan_known-clause-direction : goal.returns-in_err-scan_known-clause-direction
