@@ -1,4 +1,5 @@
--- The lines that tell why an input is refused. The words are this project's.
+-- The lines that tell why an input is refused. The words are this project's. Want of memory is no reason
+-- to refuse an input, and has no words.
 use Rattle.std.specs.Prelude.{◌++◌, ℕ, List, [], codes, decimal, map, Option, Some, None}
 use Rattle.etcs_bits.specs.layout.FaultWords.{fault_words}
 use Rattle.etcs_telegram.specs.declared.error.TextError.{TextError}
@@ -21,7 +22,6 @@ use Rattle.etcs_form.specs.declared.refusal.Refusal.TheVariants as refusals
 
 -- ---- why a text is no telegram
 
--- want of memory is no reason
 abbrev pub text_words : TextError → List ℕ
 text_words texts.Memory = []
 text_words texts.NotHex = codes "not hexadecimal"
@@ -29,7 +29,7 @@ text_words texts.WrongSize = codes "wrong size"
 text_words texts.PadBits = codes "pad bits set"
 text_words (texts.Fault fault) = fault_words fault
 
--- the same for a radio message
+-- why a text is no radio message
 abbrev pub radio_words : RadioTextError → List ℕ
 radio_words radio.Memory = []
 radio_words radio.NotHex = codes "not hexadecimal"
@@ -48,7 +48,7 @@ reason_words Range = codes "range"
 abbrev pub fault_told : Fault → List ℕ
 fault_told f = codes "form " ++ (reason_words f.reason ++ (codes " at " ++ path_words f.path))
 
--- the same of these words and this path
+-- a form's refusal, by the words of the reason and the path
 abbrev pub form_fault : List ℕ → List CodeStep → List ℕ
 form_fault reason path = codes "form " ++ (reason ++ (codes " at " ++ path_words (map step_of path)))
 
@@ -57,7 +57,6 @@ abbrev pub told_if : Option Fault → List ℕ
 told_if None = []
 told_if (Some f) = fault_told f
 
--- want of memory is no reason
 abbrev pub form_words : FormError → List ℕ
 form_words e = told_if (fault_of e)
 
@@ -77,7 +76,7 @@ stream_words streams.BelowThree = codes "length below 3"
 stream_words streams.CutOff = codes "cut off"
 
 -- Why bytes are no document of a line: a group, an aspect, a balise and a message are told by their
--- places. Want of memory is no reason.
+-- places.
 unfoldable pub document_words : LineError → List ℕ
 document_words documents.Memory = []
 document_words documents.NotJson = codes "not JSON"
@@ -97,35 +96,3 @@ refusal_words refusals.Usage = codes "refused: usage is balisecheck check, decod
 refusal_words (refusals.Line n why) = codes "refused: line " ++ (decimal n ++ (codes ": " ++ (line_words why ++ codes "\n")))
 refusal_words (refusals.Message n why) = codes "refused: message " ++ (decimal n ++ (codes ": " ++ (stream_words why ++ codes "\n")))
 refusal_words (refusals.Document why) = codes "refused: " ++ (document_words why ++ codes "\n")
-
--- ---- what is told: each reason but want of memory
-
-abbrev pub IsTextTold : TextError → Type 0
-IsTextTold texts.Memory = ⊥
-IsTextTold _ = Unit {0}
-
-abbrev pub IsRadioTextTold : RadioTextError → Type 0
-IsRadioTextTold radio.Memory = ⊥
-IsRadioTextTold _ = Unit {0}
-
-abbrev pub IsFormTold : FormError → Type 0
-IsFormTold forms.Memory = ⊥
-IsFormTold _ = Unit {0}
-
-abbrev pub IsLineTold : LineFault → Type 0
-IsLineTold (lines.Text why) = IsTextTold why
-IsLineTold (lines.Form why) = IsFormTold why
-IsLineTold _ = Unit {0}
-
-abbrev pub IsDocumentTold : LineError → Type 0
-IsDocumentTold documents.Memory = ⊥
-IsDocumentTold (documents.Form why) = IsFormTold why
-IsDocumentTold (documents.Telegram g b why) = IsTextTold why
-IsDocumentTold (documents.Message m why) = IsRadioTextTold why
-IsDocumentTold (documents.AspectTelegram g a b why) = IsTextTold why
-IsDocumentTold _ = Unit {0}
-
-abbrev pub IsTold : Refusal → Type 0
-IsTold (refusals.Line n why) = IsLineTold why
-IsTold (refusals.Document why) = IsDocumentTold why
-IsTold _ = Unit {0}

@@ -1,7 +1,7 @@
 //! `Refusal`: why an input is refused, and the line that tells it.
 
 ghost use Rattle.std.specs.Prelude.{◌≡◌, string_bytes, IfOk};
-ghost use Rattle.etcs_form.specs.Refusal.{IsDocumentTold, IsFormTold, IsLineTold, IsRadioTextTold, IsTextTold, IsTold, document_words, form_fault, form_words, line_words, radio_words, refusal_words, stream_words, text_words};
+ghost use Rattle.etcs_form.specs.Refusal.{document_words, form_fault, form_words, line_words, radio_words, refusal_words, stream_words, text_words};
 
 use crate::line_error::LineError;
 use etcs_bits::{Fault, Memory};
@@ -49,11 +49,10 @@ pub enum Refusal {
 
 // Why a text is no telegram, in words.
 fn text_reason(alloc: Global, why: &TextError) -> Result<String, AllocError>
-    requires { IsTextTold why.now }
     ensures { IfOk result (λ s. string_bytes s ≡ text_words why.now) }
 {
     match why {
-        TextError::Memory => unreachable!("want of memory is no reason"),
+        TextError::Memory => Ok(String::new(alloc)),
         TextError::NotHex => format!(in alloc; "not hexadecimal"),
         TextError::WrongSize => format!(in alloc; "wrong size"),
         TextError::PadBits => format!(in alloc; "pad bits set"),
@@ -63,11 +62,10 @@ fn text_reason(alloc: Global, why: &TextError) -> Result<String, AllocError>
 
 // Why a text is no radio message, in words.
 fn radio_reason(alloc: Global, why: &RadioTextError) -> Result<String, AllocError>
-    requires { IsRadioTextTold why.now }
     ensures { IfOk result (λ s. string_bytes s ≡ radio_words why.now) }
 {
     match why {
-        RadioTextError::Memory => unreachable!("want of memory is no reason"),
+        RadioTextError::Memory => Ok(String::new(alloc)),
         RadioTextError::NotHex => format!(in alloc; "not hexadecimal"),
         RadioTextError::Fault(fault) => format!(in alloc; "{fault}"),
     }
@@ -83,11 +81,10 @@ fn form_text(alloc: Global, reason: &str, path: &[Step]) -> Result<String, Alloc
 
 // Why a JSON value is no form, in words.
 fn form_reason(alloc: Global, why: &FormError) -> Result<String, AllocError>
-    requires { IsFormTold why.now }
     ensures { IfOk result (λ s. string_bytes s ≡ form_words why.now) }
 {
     match why {
-        FormError::Memory => unreachable!("want of memory is no reason"),
+        FormError::Memory => Ok(String::new(alloc)),
         FormError::Missing(path) => form_text(alloc, "missing key", path.as_slice()),
         FormError::Unknown(path) => form_text(alloc, "unknown key", path.as_slice()),
         FormError::Kind(path) => form_text(alloc, "kind", path.as_slice()),
@@ -98,7 +95,6 @@ fn form_reason(alloc: Global, why: &FormError) -> Result<String, AllocError>
 // Why a line is refused, in words.
 #[tactic(auto, unfolding(crate::specs::Refusal::line_words))]
 fn line_reason(alloc: Global, why: &LineFault) -> Result<String, AllocError>
-    requires { IsLineTold why.now }
     ensures { IfOk result (λ s. string_bytes s ≡ line_words why.now) }
 {
     match why {
@@ -124,11 +120,10 @@ fn stream_reason(alloc: Global, why: &StreamFault) -> Result<String, AllocError>
 // Why bytes are not the document of a line, in words.
 #[tactic(auto, unfolding(crate::specs::Refusal::document_words))]
 fn document_reason(alloc: Global, why: &LineError) -> Result<String, AllocError>
-    requires { IsDocumentTold why.now }
     ensures { IfOk result (λ s. string_bytes s ≡ document_words why.now) }
 {
     match why {
-        LineError::Memory => unreachable!("want of memory is no reason"),
+        LineError::Memory => Ok(String::new(alloc)),
         LineError::NotJson => format!(in alloc; "not JSON"),
         LineError::Form(why) => form_reason(alloc, why),
         LineError::Count(group) => format!(in alloc; "group {group}: count"),
@@ -148,11 +143,10 @@ fn document_reason(alloc: Global, why: &LineError) -> Result<String, AllocError>
     }
 }
 
-/// The line that tells a refusal, with its `\n`. Want of memory is no reason to refuse an input. The
-/// only error is that memory runs out; then no text is returned.
+/// The line that tells a refusal, with its `\n`. Want of memory is no reason to refuse an input, and has
+/// no words. The only error is that memory runs out; then no text is returned.
 #[tactic(auto, unfolding(crate::specs::Refusal::refusal_words))]
 pub fn refusal_text(alloc: Global, refusal: &Refusal) -> Result<String, Memory>
-    requires { IsTold refusal.now }
     ensures { IfOk result (λ s. string_bytes s ≡ refusal_words refusal.now) }
 {
     let line = match refusal {

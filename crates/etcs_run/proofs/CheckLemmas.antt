@@ -1,7 +1,7 @@
 -- How the refusal of a document is that of its fault.
 use Rattle.std.proofs.Common.{◌≡◌, ◌≢◌, ◌∙◌, ℕ, List, Result, Ok, Err, IfOk, refl, sym, ap}
 use Rattle.etcs_form.specs.DocumentFault.{DocumentFault, Fails}
-use Rattle.etcs_form.specs.Refusal.{IsDocumentTold, document_words, refusal_words}
+use Rattle.etcs_form.specs.Refusal.{document_words, refusal_words}
 use Rattle.etcs_form.specs.Verdict.{Counted, counted_of_text}
 use Rattle.etcs_json.specs.declared.error.FormError.TheVariants as forms
 use Rattle.etcs_form.specs.declared.line_error.LineError.{LineError}
@@ -13,30 +13,30 @@ use Rattle.etcs_run.specs.Output.{Output}
 
 -- a document that is refused, unless memory ran out, has this fault, in the same words
 pub document_refused : (why : LineError) (reading : Result Counted DocumentFault) → why ≢ errors.Memory → Fails why reading
-    → IsDocumentTold why × (checked reading ≡ refused_as why)
+    → checked reading ≡ refused_as why
 unfolding refusal_words document_words
 document_refused errors.Memory reading other fails = absurd (other refl)
-document_refused errors.NotJson reading other fails = (tt, ap checked fails)
+document_refused errors.NotJson reading other fails = ap checked fails
 document_refused (errors.Form forms.Memory) reading other fails = absurd fails
-document_refused (errors.Form (forms.Missing path)) reading other fails = (tt, ap checked fails)
-document_refused (errors.Form (forms.Unknown path)) reading other fails = (tt, ap checked fails)
-document_refused (errors.Form (forms.Kind path)) reading other fails = (tt, ap checked fails)
-document_refused (errors.Form (forms.Range path)) reading other fails = (tt, ap checked fails)
-document_refused (errors.Count g) reading other fails = (tt, ap checked fails)
+document_refused (errors.Form (forms.Missing path)) reading other fails = ap checked fails
+document_refused (errors.Form (forms.Unknown path)) reading other fails = ap checked fails
+document_refused (errors.Form (forms.Kind path)) reading other fails = ap checked fails
+document_refused (errors.Form (forms.Range path)) reading other fails = ap checked fails
+document_refused (errors.Count g) reading other fails = ap checked fails
 document_refused (errors.Telegram g b texts.Memory) reading other fails = absurd fails
-document_refused (errors.Telegram g b texts.NotHex) reading other fails = (tt, ap checked fails)
-document_refused (errors.Telegram g b texts.WrongSize) reading other fails = (tt, ap checked fails)
-document_refused (errors.Telegram g b texts.PadBits) reading other fails = (tt, ap checked fails)
-document_refused (errors.Telegram g b (texts.Fault f)) reading other fails = (tt, ap checked fails)
-document_refused (errors.Aspects g) reading other fails = (tt, ap checked fails)
+document_refused (errors.Telegram g b texts.NotHex) reading other fails = ap checked fails
+document_refused (errors.Telegram g b texts.WrongSize) reading other fails = ap checked fails
+document_refused (errors.Telegram g b texts.PadBits) reading other fails = ap checked fails
+document_refused (errors.Telegram g b (texts.Fault f)) reading other fails = ap checked fails
+document_refused (errors.Aspects g) reading other fails = ap checked fails
 document_refused (errors.AspectTelegram g a b texts.Memory) reading other fails = absurd fails
-document_refused (errors.AspectTelegram g a b texts.NotHex) reading other fails = (tt, ap checked fails)
-document_refused (errors.AspectTelegram g a b texts.WrongSize) reading other fails = (tt, ap checked fails)
-document_refused (errors.AspectTelegram g a b texts.PadBits) reading other fails = (tt, ap checked fails)
-document_refused (errors.AspectTelegram g a b (texts.Fault f)) reading other fails = (tt, ap checked fails)
+document_refused (errors.AspectTelegram g a b texts.NotHex) reading other fails = ap checked fails
+document_refused (errors.AspectTelegram g a b texts.WrongSize) reading other fails = ap checked fails
+document_refused (errors.AspectTelegram g a b texts.PadBits) reading other fails = ap checked fails
+document_refused (errors.AspectTelegram g a b (texts.Fault f)) reading other fails = ap checked fails
 document_refused (errors.Message m radio.Memory) reading other fails = absurd fails
-document_refused (errors.Message m radio.NotHex) reading other fails = (tt, ap checked fails)
-document_refused (errors.Message m (radio.Fault f)) reading other fails = (tt, ap checked fails)
+document_refused (errors.Message m radio.NotHex) reading other fails = ap checked fails
+document_refused (errors.Message m (radio.Fault f)) reading other fails = ap checked fails
 
 -- a line that was read is reported on
 pub is_reported : (document : List ℕ) {line : Counted} → counted_of_text document ≡ Ok line
@@ -48,7 +48,7 @@ is_reported document is = sym (ap checked is)
 pub is_refused : (why : LineError) (document : List ℕ) → why ≢ errors.Memory
     → Fails why (counted_of_text document) → refused_as why ≡ check_output document
 unfolding check_output
-is_refused why document other fails = sym (document_refused why (counted_of_text document) other fails).1
+is_refused why document other fails = sym (document_refused why (counted_of_text document) other fails)
 
 -- what was made is an output, and so it is an equal one
 pub made_as : {X E : Type 0} (result : Result X E) (view : X → Output) {output other : Output}

@@ -13,7 +13,7 @@ use Rattle.etcs_radio.specs.Text.{IsCanonicalText as IsMessageText}
 use Rattle.etcs_radio.proofs.EncodeLemmas.{encoding_message, never_too_big}
 use Rattle.etcs_json.specs.Fault.{Fault, Fails}
 use Rattle.etcs_json.specs.Shape.{Shape}
-use Rattle.etcs_form.specs.Refusal.{IsLineTold, line_words}
+use Rattle.etcs_form.specs.Refusal.{line_words}
 use Rattle.etcs_json.specs.declared.error.FormError.{FormError}
 use Rattle.etcs_json.specs.declared.error.FormError.TheVariants as forms
 use Rattle.etcs_form.specs.declared.refusal.LineFault.TheVariants.{Form, Json, Text, TooBig}
@@ -32,12 +32,12 @@ use Rattle.etcs_run.proofs.HexTextLemmas.{canonical_message, canonical_telegram}
 
 -- a text that is refused, unless memory ran out, has this reason
 pub text_refused : (why : TextError) (meaning : Result Telegram TextError) → why ≢ texts.Memory → TextFails why meaning
-    → IsLineTold (Text why) × (line_for meaning ≡ Err (line_words (Text why)))
+    → line_for meaning ≡ Err (line_words (Text why))
 text_refused texts.Memory meaning other fails = absurd (other refl)
-text_refused texts.NotHex meaning other fails = (tt, ap line_for fails)
-text_refused texts.WrongSize meaning other fails = (tt, ap line_for fails)
-text_refused texts.PadBits meaning other fails = (tt, ap line_for fails)
-text_refused (texts.Fault f) meaning other fails = (tt, ap line_for fails)
+text_refused texts.NotHex meaning other fails = ap line_for fails
+text_refused texts.WrongSize meaning other fails = ap line_for fails
+text_refused texts.PadBits meaning other fails = ap line_for fails
+text_refused (texts.Fault f) meaning other fails = ap line_for fails
 
 -- a reason that is found before any packet is read is the one that is answered
 pub refused_early : (result : Result Telegram TextError) (text : List ℕ) (why : TextError) → IsEarly why text
@@ -53,13 +53,13 @@ refused_early result text (texts.Fault f) early not_hex wrong_size pad_bits head
 
 -- a form that is refused, unless memory ran out, has this fault, in the same words
 pub form_refused : {X : Type 0} (why : FormError) (read : Result X Fault) → why ≢ forms.Memory → Fails why read
-    → IsLineTold (Form why) × (or_fault read ≡ Err (line_words (Form why)))
+    → or_fault read ≡ Err (line_words (Form why))
 unfolding line_words
 form_refused forms.Memory read other fails = absurd (other refl)
-form_refused (forms.Missing path) read other fails = (tt, ap or_fault fails)
-form_refused (forms.Unknown path) read other fails = (tt, ap or_fault fails)
-form_refused (forms.Kind path) read other fails = (tt, ap or_fault fails)
-form_refused (forms.Range path) read other fails = (tt, ap or_fault fails)
+form_refused (forms.Missing path) read other fails = ap or_fault fails
+form_refused (forms.Unknown path) read other fails = ap or_fault fails
+form_refused (forms.Kind path) read other fails = ap or_fault fails
+form_refused (forms.Range path) read other fails = ap or_fault fails
 
 -- ---- the JSON value of a line
 

@@ -1,7 +1,7 @@
 -- What a line of the input means to a command: the text that is written for it, or the reason why it
 -- is refused, in words.
 use Rattle.std.specs.Prelude.{◌≡◌, ◌++◌, ℕ, List, codes, decimal, Result, Ok, Err}
-use Rattle.etcs_form.specs.Refusal.{IsLineTold, line_words}
+use Rattle.etcs_form.specs.Refusal.{line_words}
 use Rattle.etcs_run.specs.declared.line_meaning.Unwritten.{Unwritten}
 use Rattle.etcs_run.specs.declared.line_meaning.Unwritten.TheVariants.{Memory, Refused}
 
@@ -18,4 +18,4 @@ refusal_of number words = codes "refused: line " ++ (decimal number ++ (codes ":
 abbrev pub Gives : {X Y : Type 0} → (X → Y) → Result X Unwritten → Result Y (List ℕ) → Type 0
 Gives view (Ok x) meaning = meaning ≡ Ok (view x)
 Gives view (Err Memory) meaning = Unit {0}
-Gives view (Err (Refused why)) meaning = IsLineTold why × (meaning ≡ Err (line_words why))
+Gives view (Err (Refused why)) meaning = meaning ≡ Err (line_words why)

@@ -2,7 +2,6 @@
 
 ghost use Rattle.std.specs.Prelude.{◌≡◌, string_bytes, IfOk, OnErr, OnOk};
 ghost use Rattle.std.specs.Io.KnownBytes.{IsAtEnd};
-ghost use Rattle.etcs_form.specs.Refusal.{IsDocumentTold};
 ghost use Rattle.etcs_run.specs.Checking.{check_output, refused_as, reported, status_for};
 ghost use Rattle.etcs_run.specs.Counted.{CanCount, CountsNone, CountsOne, inner_of};
 ghost use Rattle.etcs_run.specs.Ran.{CountsOneDevice, EndsFlushed, Runs};
@@ -42,7 +41,6 @@ fn report_on(alloc: Global, checked: &Checked) -> Result<(String, Status), Memor
 
 // The refusal of a document, and the status.
 fn refuse(alloc: Global, why: LineError) -> Result<(String, Status), Memory>
-    requires { IsDocumentTold why }
     ensures { IfOk result (λ a. (string_bytes a.0, a.1) ≡ refused_as why) }
 {
     let text = refusal_text(alloc, &Refusal::Document(why))?;

@@ -1,7 +1,7 @@
 //! `EachLine`: a command that answers each line by what the line means.
 
 ghost use Rattle.std.specs.Prelude.{◌≡◌, [], Err, IfOk, string_bytes};
-ghost use Rattle.etcs_form.specs.Refusal.{IsLineTold, line_words};
+ghost use Rattle.etcs_form.specs.Refusal.{line_words};
 ghost use Rattle.etcs_run.specs.Counted.{CanCount, FlushesNone, inner_of};
 ghost use Rattle.etcs_run.specs.LineMeaning.{refusal_of};
 ghost use Rattle.etcs_run.specs.LineReading.{CountsDevice};
@@ -33,11 +33,9 @@ pub(crate) fn trim(line: &[u8]) -> &[u8]
     }
 }
 
-// The refusal of the line with this number, with its `\n`. Lines count from 1. Want of memory is no
-// reason to refuse a line.
+// The refusal of the line with this number, with its `\n`. Lines count from 1.
 #[tactic(auto, unfolding(crate::specs::LineMeaning::refusal_of, etcs_form::specs::Refusal::refusal_words))]
 fn refusal(alloc: Global, number: u64, why: LineFault) -> Result<String, Memory>
-    requires { IsLineTold why }
     ensures { IfOk result (λ s. string_bytes s ≡ refusal_of number (line_words why)) }
 {
     refusal_text(alloc, &Refusal::Line(number, why))
@@ -50,8 +48,7 @@ pub(crate) fn refuse_line<W: Write>(
     why: LineFault,
     writer: &mut Counted<W>,
 ) -> Result<Turn, RunError>
-    requires told { IsLineTold why }
-    requires writes { CanCount writer.old }
+    requires { CanCount writer.old }
     ensures turns { Turns (W.contents (inner_of writer.old)) (W.contents (inner_of writer.new))
         (answered number (Err (line_words why))) result }
     ensures counts { CountsDevice result writer.old writer.new }

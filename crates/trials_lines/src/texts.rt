@@ -1,7 +1,5 @@
 //! The texts of errors of forms and documents. A refusal tells these in the same words.
 
-ghost use Rattle.etcs_form.specs.Refusal.{IsDocumentTold};
-
 use crate::halt::Halt;
 use etcs_bits::{Fault, FaultKind};
 use etcs_form::{FormError, LineError, Refusal, Step, refusal_text};
@@ -17,9 +15,7 @@ fn says<E: Display>(alloc: Global, error: &E, text: &str) -> Result<bool, AllocE
 }
 
 // Whether the error is printed as this text, and a document with it is refused in these words.
-fn tells(alloc: Global, error: LineError, text: &str) -> Result<bool, Halt>
-    requires { IsDocumentTold error }
-{
+fn tells(alloc: Global, error: LineError, text: &str) -> Result<bool, Halt> {
     let is_said = says(alloc, &error, text)?;
     let line = format!(in alloc; "refused: {text}\n")?;
     let told = refusal_text(alloc, &Refusal::Document(error))?;

@@ -8,4 +8,4 @@ returns-in-Ok c = message_written c.args.message.now _ _ c.in-Ok.ensures.ok (sea
 
 -- the message has more bits than 1,023 bytes have
 pub returns : goal.returns
-returns c = (tt, message_too_big c.args.message.now (c.to_hex.ensures.too_big.0 (search rules)))
+returns c = message_too_big c.args.message.now (c.to_hex.ensures.too_big.0 (search rules))

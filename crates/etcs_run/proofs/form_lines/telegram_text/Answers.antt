@@ -8,4 +8,4 @@ returns-in-Ok c = telegram_written c.args.telegram.now _ _ c.in-Ok.ensures.ok (s
 
 -- the telegram has more bits than its size
 pub returns : goal.returns
-returns c = (tt, telegram_too_big c.args.telegram.now (c.to_hex.ensures.too_big.0 (search rules)))
+returns c = telegram_too_big c.args.telegram.now (c.to_hex.ensures.too_big.0 (search rules))

@@ -8,7 +8,5 @@ returns-in-Ok c = value_read c.args.line.now (view c.in-Ok.value) c.in-Ok.ensure
 
 -- memory did not run out, so they are none
 pub returns-in_default : goal.returns-in_default
-returns-in_default c = (
-  tt,
-  no_value c.args.line.now (c.in-Err.ensures.err (λ memory. c.in_default.not-Memory (c.classify.ensures.memory.1 memory))),
-)
+returns-in_default c =
+    no_value c.args.line.now (c.in-Err.ensures.err (λ memory. c.in_default.not-Memory (c.classify.ensures.memory.1 memory)))
