@@ -1,11 +1,11 @@
 -- A text's tokens, read as a value a step at a time.
-use Rattle.std.proofs.Common.{◌≡◌, ℕ, ◌+◌, ◌-◌, ◌<◌, ◌≤◌, List, [], ◌∷◌, ◌++◌, length, Option, Some, None, Result, Ok, Err, option_map, option_and_then, refl, ap, ◌∙◌, arith}
+use Rattle.std.proofs.Common.{◌≡◌, ℕ, ◌-◌, ◌<◌, ◌≤◌, List, [], ◌∷◌, ◌++◌, length, Option, Some, None, Result, Ok, Err, option_map, option_and_then, refl, ap, ◌∙◌, arith}
 use Rattle.std.specs.Prelude.{IfSome}
 use Rattle.json.proofs.Grammar.{items_end, items_more, left, members_more, read_key-shorter, skip_value-shorter, value-begin_array}
 use Rattle.json.specs.Json as json
 use Rattle.json.specs.Json.{after_end_array, items, parse_map, read_key, value}
 use Rattle.json.specs.Token.{Token}
-use Rattle.serde_json.specs.Data.{Data, Items, Members, array, item, member, no_items, no_members, object, put}
+use Rattle.serde_json.specs.Data.{Data, Items, Members, array, item, no_items, no_members, object, put}
 use Rattle.serde_json.specs.Read.{converted, of_items, of_json, of_members}
 use Rattle.etcs_json.specs.Entries.{Entry, put_or}
 use Rattle.etcs_json.specs.Fault.{Fault}

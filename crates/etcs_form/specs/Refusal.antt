@@ -10,7 +10,6 @@ use Rattle.etcs_json.specs.Fault.{Fault, Reason, Missing, Unknown, Kind, Range, 
 use Rattle.etcs_json.specs.Path.{path_words}
 use Rattle.etcs_json.specs.declared.error.Step.{Step as CodeStep}
 use Rattle.etcs_json.specs.declared.error.FormError.{FormError}
-use Rattle.etcs_json.specs.declared.error.FormError.TheVariants as forms
 use Rattle.etcs_form.specs.declared.line_error.LineError.{LineError}
 use Rattle.etcs_form.specs.declared.line_error.LineError.TheVariants as documents
 use Rattle.etcs_form.specs.declared.refusal.LineFault.{LineFault}

@@ -1,6 +1,5 @@
-use Rattle.std.proofs.Common.{◌≡◌, Err, ℕ, List, subst}
+use Rattle.std.proofs.Common.{◌≡◌, Err, subst}
 use Rattle.etcs_telegram.specs.TextMeaning.{telegram_of_text}
-use Rattle.etcs_telegram.specs.declared.error.TextError.{TextError}
 use Rattle.etcs_telegram.specs.declared.error.TextError.TheVariants as texts
 use Rattle.etcs_run.specs.TelegramLines.{IsEarly, decoded_of}
 use Rattle.etcs_run.proofs.FormLemmas.{refused_early, text_refused}
