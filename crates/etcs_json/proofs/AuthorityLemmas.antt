@@ -1,6 +1,6 @@
 -- The members of a movement authority: in the order in which they are sent, in the order of the form's
 -- keys, and how many sections are read.
-use Rattle.std.proofs.Common.{◌≡◌, ◌∙◌, ◌++◌, ◌<◌, ◌≤◌, ◌⊎◌, ℕ, true, List, [], ◌∷◌, length, Option, Some, None, Result, Ok, IfOk, inl, inr, refl, sym, ap, subst, arith}
+use Rattle.std.proofs.Common.{◌≡◌, ◌∙◌, ◌++◌, ◌<◌, ◌≤◌, ◌⊎◌, ℕ, true, List, length, Option, Some, None, Result, Ok, IfOk, inl, inr, refl, sym, ap, subst, arith}
 use Rattle.std.specs.Prelude.{codes}
 use Rattle.serde_json.specs.Data.{Data, Members, no_members, object as object_data}
 use Rattle.etcs_profile.specs.declared.section.Section.{Section}

@@ -12,7 +12,7 @@ use crate::form::{Form, InPieces};
 use crate::node::Node;
 use crate::node::known_keys::check_keys;
 use crate::writing::Sink;
-use crate::writing::building::Building;
+use crate::writing::building::NewObject;
 use etcs_bits::{Layout, Memory};
 use json::Writer;
 use serde_json::Value;
@@ -64,7 +64,7 @@ impl<T: Members> Form for T {
     fn to_form(&self, alloc: Global) -> Result<Value, Memory> {
         // For the proof alone: what is written is read again.
         self.stay_in_range();
-        let mut out = Building::new(alloc);
+        let mut out = NewObject::new(alloc);
         self.send_members(&mut out)?;
         Ok(out.into_value())
     }

@@ -16,7 +16,7 @@ use crate::packets::head_form::read_head;
 use crate::packets::terms_form::{authority_of, read_terms};
 use crate::record::stay_allowed;
 use crate::writing::Sink;
-use crate::writing::building::Building;
+use crate::writing::building::NewObject;
 use etcs_bits::{Memory, Ranged};
 use etcs_profile::Authority;
 use json::Writer;
@@ -146,7 +146,7 @@ impl Form for Authority {
     fn to_form(&self, alloc: Global) -> Result<Value, Memory> {
         // For the proof alone: what is written is read again.
         stay_allowed(self);
-        let mut out = Building::new(alloc);
+        let mut out = NewObject::new(alloc);
         send_first(&mut out, self)?;
         send_last(&mut out, self)?;
         Ok(out.into_value())

@@ -13,17 +13,17 @@ use std::alloc::Global;
 
 /// An object that is made in memory, member by member.
 #[derive(Drop)]
-pub(crate) struct Building {
+pub(crate) struct NewObject {
     alloc: Global,
     members: Map<String, Value>,
 }
 
-impl Building {
+impl NewObject {
     /// An object with no member.
-    pub(crate) fn new(alloc: Global) -> Building
+    pub(crate) fn new(alloc: Global) -> NewObject
         ensures { members_view result.members.entries ≡ no_members }
     {
-        Building {
+        NewObject {
             alloc,
             members: Map::new(alloc),
         }
@@ -33,7 +33,7 @@ impl Building {
     pub(crate) fn into_value(self) -> Value
         ensures { view result ≡ object (members_view self.members.entries) }
     {
-        let Building { members, .. } = self;
+        let NewObject { members, .. } = self;
         Value::Object(members)
     }
 
@@ -63,7 +63,7 @@ fn build_items<T: Form>(alloc: Global, items: &[T]) -> Result<Vec<Value>, Memory
     Ok(values)
 }
 
-impl Sink for Building {
+impl Sink for NewObject {
     ghost use Rattle.etcs_json.specs.Entries.{members_onto};
     ghost use Rattle.etcs_json.specs.SinkLaws.{onto_then};
     ghost use Rattle.std.specs.Prelude.{refl};

@@ -1,4 +1,4 @@
-use Rattle.std.proofs.Common.{true, false}
+use Rattle.std.proofs.Common.{true}
 use Rattle.etcs_json.proofs.ListLemmas.{gives_equal, list_counted, list_misfits, list_none}
 use Rattle.etcs_json.proofs.Objects.{fails_as}
 use Rattle.etcs_json.proofs.node.reading.read_list.Goals as goal
