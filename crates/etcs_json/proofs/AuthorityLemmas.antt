@@ -12,7 +12,7 @@ use Rattle.etcs_json.specs.Fault.{Fault}
 use Rattle.etcs_json.specs.Reading.{at_key, list_of}
 use Rattle.etcs_json.specs.Shape.{object}
 use Rattle.etcs_json.specs.Sending.{members_of, sorted}
-use Rattle.etcs_json.specs.SinkLaws.{onto_then}
+use Rattle.etcs_json.specs.SinkLemmas.{onto_then}
 use Rattle.etcs_json.proofs.ReadLemmas.{short_list}
 use Rattle.etcs_json.proofs.SortedLemmas.{made_members}
 

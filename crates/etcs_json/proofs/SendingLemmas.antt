@@ -9,7 +9,7 @@ use Rattle.serde_json.specs.Written.{items_outline, members_outline}
 use Rattle.etcs_json.specs.Entries.{Entry, are_apart, object_of}
 use Rattle.etcs_json.specs.Sending.{Adds, SendsMembers, SendsValue, each_tokens, entries_tokens, members_of, sorted, tokens_of}
 use Rattle.etcs_json.specs.Shape.{Object, items_of}
-use Rattle.etcs_json.specs.SinkLaws.{adds_more}
+use Rattle.etcs_json.specs.SinkLemmas.{adds_more}
 use Rattle.etcs_json.proofs.SortedLemmas.{made_members}
 
 -- one token that a writer has taken

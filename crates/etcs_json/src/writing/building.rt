@@ -65,7 +65,7 @@ fn build_items<T: Form>(alloc: Global, items: &[T]) -> Result<Vec<Value>, Memory
 
 impl Sink for NewObject {
     ghost use Rattle.etcs_json.specs.Entries.{members_onto};
-    ghost use Rattle.etcs_json.specs.SinkLaws.{onto_then};
+    ghost use Rattle.etcs_json.specs.SinkLemmas.{onto_then};
     ghost use Rattle.std.specs.Prelude.{refl};
 
     ghost takes = { λ es old new.

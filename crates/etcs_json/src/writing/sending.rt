@@ -20,7 +20,7 @@ fn send_items<T: InPieces>(out: &mut Writer, items: &[T]) -> Result<(), Memory>
 }
 
 impl Sink for Writer {
-    ghost use Rattle.etcs_json.specs.SinkLaws.{sent_none, sent_then};
+    ghost use Rattle.etcs_json.specs.SinkLemmas.{sent_none, sent_then};
 
     ghost takes = { SendsMembers };
 

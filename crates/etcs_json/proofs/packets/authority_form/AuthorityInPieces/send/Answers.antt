@@ -1,7 +1,7 @@
 use Rattle.std.proofs.Common.{◌++◌}
 use Rattle.etcs_json.specs.Authority.{authority}
 use Rattle.etcs_json.specs.AuthoritySending.{first_members, last_members}
-use Rattle.etcs_json.specs.SinkLaws.{sent_then}
+use Rattle.etcs_json.specs.SinkLemmas.{sent_then}
 use Rattle.etcs_json.proofs.AuthorityLemmas.{same_members}
 use Rattle.etcs_json.proofs.SendingLemmas.{between, one_token}
 use Rattle.etcs_json.proofs.packets.authority_form.AuthorityInPieces.send.Goals as goal
