@@ -1,24 +1,19 @@
 -- The members of a movement authority: in the order in which they are sent, in the order of the form's
 -- keys, and how many sections are read.
-use Rattle.std.proofs.Common.{◌≡◌, ◌∙◌, ◌++◌, ◌<◌, ◌≤◌, ◌⊎◌, ℕ, true, List, [], ◌∷◌, length, Option, Some, None, Result, Ok, IfOk, String, Global, BTreeMap, inl, inr, refl, sym, ap, subst, append_assoc, arith}
+use Rattle.std.proofs.Common.{◌≡◌, ◌∙◌, ◌++◌, ◌<◌, ◌≤◌, ◌⊎◌, ℕ, true, List, length, Option, Some, None, Result, Ok, IfOk, inl, inr, refl, sym, ap, subst, arith}
 use Rattle.std.specs.Prelude.{codes}
-use Rattle.json.specs.Written.{Written}
 use Rattle.serde_json.specs.Data.{Data, Members, no_members, object as object_data}
-use Rattle.serde_json.specs.View.{members_view, view}
-use Rattle.serde_json.specs.declared.value.Value.{Value, Object as ValueObject}
-use Rattle.serde_json.proofs.Views.{view-Object}
 use Rattle.etcs_profile.specs.declared.section.Section.{Section}
-use Rattle.etcs_profile.specs.Authority.{Permission, WithMain, WithoutMain, authority_number, numbered_by, numbered_of, permission}
+use Rattle.etcs_profile.specs.Authority.{Permission, WithMain, WithoutMain, numbered_by, numbered_of, permission}
 use Rattle.etcs_json.specs.Authority.{authority_members, end_parts, section, terms, with_main, without_main}
 use Rattle.etcs_json.specs.AuthoritySending.{first_members, last_members}
-use Rattle.etcs_json.specs.Entries.{Entry, are_apart, keys_of, members_onto, object_of, put_or}
+use Rattle.etcs_json.specs.Entries.{are_apart, keys_of, members_onto, object_of}
 use Rattle.etcs_json.specs.Fault.{Fault}
-use Rattle.etcs_json.specs.Head.{head}
 use Rattle.etcs_json.specs.Reading.{at_key, list_of}
-use Rattle.etcs_json.specs.Shape.{object, optional, whole}
-use Rattle.etcs_json.specs.Sending.{SendsMembers, entries_tokens, entry_tokens, members_of, sorted}
+use Rattle.etcs_json.specs.Shape.{object}
+use Rattle.etcs_json.specs.Sending.{members_of, sorted}
+use Rattle.etcs_json.specs.SinkLemmas.{onto_then}
 use Rattle.etcs_json.proofs.ReadLemmas.{short_list}
-use Rattle.etcs_json.proofs.SendingLemmas.{adds_more}
 use Rattle.etcs_json.proofs.SortedLemmas.{made_members}
 
 -- ---- the orders of members
@@ -39,36 +34,17 @@ apart_members (inr p) = ap are_apart (without_main.part.has_keys p) ∙ without_
 pub same_members : (a : Permission) → members_of (first_members a ++ last_members a) ≡ members_onto no_members (authority_members (numbered_of a))
 same_members a = same_by a.main a ∙ sym (made_members (authority_members (numbered_of a)) (apart_members (numbered_of a)))
 
-put_by : (main : Option ℕ) (a : Permission) (ms : Members)
-    → members_onto (put_or (codes "v_main") (optional whole main) (members_onto ms ((head (authority_number (permission a.dir a.scale main a.terms))).to (a.dir, a.scale)))) (terms.to a.terms)
-    ≡ members_onto ms (authority_members (numbered_by main a))
-unfolding with_main without_main
-put_by None a ms = refl
-put_by (Some v) a ms = refl
+-- both runs are in the byte order of their keys
+onto_both : (a : Permission) → members_onto no_members (first_members a ++ last_members a) ≡ members_of (first_members a ++ last_members a)
+unfolding first_members last_members
+onto_both a = made_members (first_members a ++ last_members a) refl
 
--- the head, V_MAIN if it is there, and the conditions are the members of the form
-pub put_members : (a : Permission) (ms : Members)
-    → members_onto (put_or (codes "v_main") (optional whole a.main) (members_onto ms ((head (authority_number a)).to (a.dir, a.scale)))) (terms.to a.terms)
-    ≡ members_onto ms (authority_members (numbered_of a))
-put_members a ms = put_by a.main a ms
-
--- the object that is built member after member
-pub made_authority : (a : Permission) (old : List (String Global × Value)) (m : BTreeMap (String Global) Value) → old ≡ []
-    → members_view m.entries ≡ members_onto (members_view old) (authority_members (numbered_of a)) → view (ValueObject m) ≡ object_of (authority_members (numbered_of a))
-made_authority a old m none made =
-    let es = authority_members (numbered_of a) in
-    view-Object m ∙ ap object_data (made ∙ ap (λ ms. members_onto ms es) (ap members_view none))
-
--- ---- what is sent
-
-tokens_both : (es fs : List Entry) → entries_tokens (es ++ fs) ≡ entries_tokens es ++ entries_tokens fs
-tokens_both [] fs = refl
-tokens_both (e ∷ es) fs = ap (λ ts. entry_tokens e.0 e.1 ++ ts) (tokens_both es fs) ∙ sym (append_assoc (entry_tokens e.0 e.1) (entries_tokens es) (entries_tokens fs))
-
--- some members, and then others
-pub sent_both : (es fs : List Entry) (old mid new : Written) → SendsMembers es old mid → SendsMembers fs mid new → SendsMembers (es ++ fs) old new
-sent_both es fs old mid new one two =
-    record { sent = rw (tokens_both es fs) (adds_more (entries_tokens es) (entries_tokens fs) old mid new one.sent two.sent) }
+-- an empty object that has taken both runs
+pub made_authority : (a : Permission) (old mid new : Members) (d : Data) → old ≡ no_members → mid ≡ members_onto old (first_members a) → new ≡ members_onto mid (last_members a) → d ≡ object_data new
+    → d ≡ object_of (authority_members (numbered_of a))
+made_authority a old mid new d none one two is =
+    let es = first_members a ++ last_members a in
+    is ∙ ap object_data (onto_then (first_members a) (last_members a) old mid new one two ∙ ap (λ ms. members_onto ms es) none ∙ onto_both a ∙ same_members a)
 
 -- ---- what is read
 

@@ -1,14 +1,13 @@
 -- Bytes of bits, filled up with zeros.
-use Rattle.std.proofs.Common.{◌≡◌, ℕ, zero, suc, ◌+◌, ◌-◌, ◌*◌, ◌^◌, ◌<◌, ◌≤◌, Bool, false, List, [], ◌∷◌, ◌++◌, length, take, drop, replicate, set, refl, sym, ap, ap₂, ◌∙◌, arith, add-one}
+use Rattle.std.proofs.Common.{◌≡◌, ℕ, zero, suc, ◌+◌, ◌-◌, ◌*◌, ◌^◌, ◌<◌, ◌≤◌, Bool, false, List, [], ◌∷◌, ◌++◌, length, take, drop, replicate, set, refl, sym, ap, ◌∙◌, arith, add-one}
 use Rattle.std.proofs.Math.Seq.{take-append-add}
 use Rattle.std.proofs.lemmas.Nat.{pow_pos}
-use Rattle.std.proofs.lemmas.List.{take_all, take-append-le, drop-append-le, take-replicate, drop-drop, drop_at, take_at, take_more_set, length-append, length-replicate, length-drop, length-take-le}
-use Rattle.hex.specs.Hex.{IsBytes}
-use Rattle.etcs_bits.specs.bits.Number.{bits_of_bytes, num, num_of_bits}
-use Rattle.etcs_bits.proofs.NumberLemmas.{length-bits_of_bytes, length-num, num_of_bits-append, num_of_bits-lt, num_of_bits-small}
+use Rattle.std.proofs.lemmas.List.{take_all, take-append-le, drop-append-le, take-replicate, drop-drop, take_more_set, length-drop, length-take-le}
+use Rattle.etcs_bits.specs.bits.Number.{num, num_of_bits}
+use Rattle.etcs_bits.proofs.NumberLemmas.{length-num, num_of_bits-append, num_of_bits-lt, num_of_bits-small}
 use Rattle.etcs_bits.proofs.ViewLemmas.{zeros_are}
 use Rattle.etcs_json.specs.BodyLemmas.{filled_length}
-use Rattle.etcs_json.specs.BodyText.{body_bytes, bytes_for, bytes_in, filled_up}
+use Rattle.etcs_json.specs.BodyText.{bytes_for, bytes_in, filled_up}
 
 -- eight of the bits
 pub whole_byte : (bits : List Bool) (at : ℕ) → at + 8 ≤ length bits → take 8 (drop at bits) ≡ take 8 (drop at (filled_up bits))
@@ -61,24 +60,3 @@ bytes_more bytes n bits byte low is so_far =
     ∙ ap (λ b. bytes_in n bits ++ b ∷ []) is
     ∙ sym (bytes_next n bits)
     ∙ ap (λ k. bytes_in k bits) (sym (add-one n))
-
--- ---- the bytes of a body
-
--- bytes, from their bits
-pub bytes_again : (bytes : List ℕ) → IsBytes bytes → bytes_in (length bytes) (bits_of_bytes bytes) ≡ bytes
-unfolding bytes_in bits_of_bytes
-bytes_again [] small = refl
-bytes_again (b ∷ bs) small =
-    let eight = length-num 8 b in
-    let byte : num_of_bits (take 8 (num 8 b ++ bits_of_bytes bs)) ≡ b = ap num_of_bits (take_at (num 8 b) (bits_of_bytes bs) 8 eight) ∙ num_of_bits-small 8 b (small 0) in
-    let rest : bytes_in (length bs) (drop 8 (num 8 b ++ bits_of_bytes bs)) ≡ bs = ap (bytes_in (length bs)) (drop_at (num 8 b) (bits_of_bytes bs) 8 eight) ∙ bytes_again bs (λ i. small (suc i)) in
-    ap₂ (λ x y. x ∷ y) byte rest
-
--- bytes that hold a body and then zeros are the body's
-pub bytes_are : (body : List Bool) (bytes : List ℕ) → IsBytes bytes → bits_of_bytes bytes ≡ body ++ replicate (8 * length bytes - length body) false
-    → 8 * length bytes < length body + 8 → bytes ≡ body_bytes body
-bytes_are body bytes small holds few =
-    let whole : 8 * length bytes ≡ length body + (8 * length bytes - length body) = sym (length-bits_of_bytes bytes) ∙ ap length holds ∙ rw (length-append, length-replicate) refl in
-    let count : length bytes ≡ bytes_for (length body) = omega (arith, few, whole) in
-    let filled : bits_of_bytes bytes ≡ filled_up body = holds ∙ ap (λ n. body ++ replicate (8 * n - length body) false) count in
-    sym (bytes_again bytes small) ∙ ap₂ bytes_in count filled

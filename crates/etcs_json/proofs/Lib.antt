@@ -16,7 +16,6 @@ pub mod AuthorityWidth
 pub mod BodyTextLemmas
 pub mod RawLemmas
 pub mod PathLemmas
-pub mod RunLemmas
 pub mod AnyList
 pub mod RangeLemmas
 pub mod TrackRanges

@@ -1,17 +1,18 @@
 -- Faults as the code finds them, and objects as it makes them.
-use Rattle.std.proofs.Common.{◌≡◌, ◌∙◌, ℕ, Bool, List, [], true, Option, Some, None, Result, Ok, Err, IfOk, IfSome, IsErrAnd, String, Global, BTreeMap, option_map, ap, sym, refl, subst}
+use Rattle.std.proofs.Common.{◌≡◌, ◌∙◌, ℕ, Bool, List, true, Option, Some, None, Result, Ok, Err, IfOk, IfSome, IsErrAnd, option_map, ap, sym, refl, subst}
 use Rattle.std.specs.Prelude.{if◌then◌else◌}
-use Rattle.serde_json.specs.View.{members_view, view}
-use Rattle.serde_json.specs.declared.value.Value.{Value, Object as ValueObject}
-use Rattle.serde_json.proofs.Views.{view-Object}
-use Rattle.serde_json.specs.Data.{Data, object}
+use Rattle.serde_json.specs.View.{view}
+use Rattle.serde_json.specs.declared.value.Value.{Value}
+use Rattle.serde_json.specs.Data.{Data, Members, no_members, object}
 use Rattle.serde_json.specs.Find.{as_object, get}
 use Rattle.etcs_json.specs.Shape.{Object, Shape}
-use Rattle.etcs_json.specs.Entries.{are_known, members_onto, object_of}
+use Rattle.etcs_json.specs.Entries.{are_apart, are_known, members_onto, object_of}
 use Rattle.etcs_json.specs.Chosen.{any_object, object_or}
 use Rattle.etcs_json.specs.Fault.{Fault, Fails, Gives, IsAround, IsDeeper, IsFault, IsUnder, Kind, Step, Unknown, fault_of, here, key, under}
 use Rattle.etcs_json.specs.Reading.{◌>>=◌, at_key, key_or, known_or, member_at, object_with}
+use Rattle.etcs_json.specs.Sending.{sorted}
 use Rattle.etcs_json.specs.declared.error.FormError.{FormError}
+use Rattle.etcs_json.proofs.SortedLemmas.{onto_sorted}
 use Rattle.etcs_json.proofs.TapeLemmas.{some_mapped}
 
 fails_at : {Y : Type 0} (o : Option Fault) (f : Fault) (r : Result Y Fault) → IfSome o (λ g. g ≡ f) → r ≡ Err f → IfSome o (λ g. r ≡ Err g)
@@ -56,11 +57,12 @@ pub some_object : (keys : List (List ℕ)) (d : Data) (known : Bool) → Some kn
 unfolding any_object
 some_object keys d known e = ap object_or (some_mapped (are_known keys) known (as_object d) (sym e)).1
 
--- the object that is built member after member is the one of the form
-pub made_object : {X : Type 0} (o : Object X) (x : X) (old : List (String Global × Value)) (m : BTreeMap (String Global) Value) → old ≡ []
-    → members_view m.entries ≡ members_onto (members_view old) (o.part.to x) → view (ValueObject m) ≡ object_of (o.part.to x)
-made_object o x old m none made =
-    view-Object m ∙ ap object (made ∙ ap (λ ms. members_onto ms (o.part.to x)) (ap members_view none))
+-- an empty object that has taken the members is the one of the form
+pub made_object : {X : Type 0} (o : Object X) (x : X) (old new : Members) (d : Data) → old ≡ no_members → new ≡ members_onto old (sorted (o.part.to x)) → d ≡ object new
+    → d ≡ object_of (o.part.to x)
+made_object o x old new d none made is =
+    let apart = ap are_apart (o.part.has_keys x) ∙ o.apart in
+    is ∙ ap object (made ∙ ap (λ ms. members_onto ms (sorted (o.part.to x))) none ∙ onto_sorted (o.part.to x) apart)
 
 same_at : {X Y : Type 0} (o : Option Fault) (r : Result X Fault) (s : Result Y Fault) → IfSome o (λ f. r ≡ Err f) → ((f : Fault) → r ≡ Err f → s ≡ Err f) → IfSome o (λ f. s ≡ Err f)
 same_at None r s fails same = tt

@@ -7,22 +7,10 @@ use Rattle.json.specs.Written.{Written, Writes}
 use Rattle.serde_json.specs.Data.{Data, array, object}
 use Rattle.serde_json.specs.Written.{items_outline, members_outline}
 use Rattle.etcs_json.specs.Entries.{Entry, are_apart, object_of}
-use Rattle.etcs_json.specs.Sending.{Adds, SendsMembers, SendsValue, each_tokens, entries_tokens, entry_tokens, members_of, sorted, tokens_of}
+use Rattle.etcs_json.specs.Sending.{Adds, SendsMembers, SendsValue, each_tokens, entries_tokens, members_of, sorted, tokens_of}
 use Rattle.etcs_json.specs.Shape.{Object, items_of}
+use Rattle.etcs_json.specs.SinkLemmas.{adds_more}
 use Rattle.etcs_json.proofs.SortedLemmas.{made_members}
-
--- tokens, and then others
-pub adds_more : (a b : List Token) (old mid new : Written) → Adds a old mid → Adds b mid new → Adds (a ++ b) old new
-adds_more a b old mid new one two = record {
-  before = two.before ∙ one.before;
-  added = two.added ∙ ap (λ ts. ts ++ b) one.added ∙ append_assoc old.tokens a b;
-}
-
--- one member, and then the others
-pub then : (e : Entry) (es : List Entry) (old mid new : Written)
-    → SendsMembers (e ∷ []) old mid → SendsMembers es mid new → SendsMembers (e ∷ es) old new
-then e es old mid new one rest =
-    record { sent = rw (append-nil (entry_tokens e.0 e.1)) at (adds_more (entry_tokens e.0 e.1 ++ []) (entries_tokens es) old mid new one.sent rest.sent) }
 
 -- one token that a writer has taken
 pub one_token : {E : Type 0} {u : Unit {0}} (old new : Written) (t : Token) → Writes {E = E} (Ok u) old new t → Adds (t ∷ []) old new

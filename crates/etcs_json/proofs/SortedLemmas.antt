@@ -1,5 +1,5 @@
 -- The object of some entries has its members in the byte order of their keys.
-use Rattle.std.proofs.Common.{◌≡◌, ◌∙◌, ℕ, true, false, List, [], ◌∷◌, Option, Some, None, Ordering, Less, Equal, Greater, is_eq, nat_cmp, bytes_eq, refl, sym, ap}
+use Rattle.std.proofs.Common.{◌≡◌, ◌∙◌, ◌++◌, ℕ, true, false, List, [], ◌∷◌, Option, Some, None, Ordering, Less, Equal, Greater, is_eq, nat_cmp, bytes_eq, refl, sym, ap, subst, append_assoc, append-nil}
 use Rattle.std.proofs.lemmas.Bool.{and_parts, or_parts, or_from, true≢false}
 use Rattle.std.proofs.lemmas.Cmp.{nat_list_cmp_total}
 use Rattle.std.proofs.lemmas.Map.Text.{is_eq-slice_cmp}
@@ -138,3 +138,41 @@ onto_members done (e ∷ es) up apart new =
 pub made_members : (es : List Entry) → are_apart (keys_of es) ≡ true → members_onto no_members es ≡ members_of (sorted es)
 unfolding IsAscending
 made_members es apart = onto_members [] es tt apart (new_at_first es)
+
+-- ---- entries that are in order
+
+ascending_onto : (done es : List Entry) → IsAscending done → are_apart (keys_of es) ≡ true → AreNew es done → IsAscending (onto done es)
+unfolding AreNew
+ascending_onto done [] up apart new = up
+ascending_onto done (e ∷ es) up apart new =
+    let both = and_parts _ _ apart in
+    ascending_onto (insert e done) es (ascending_insert e done up new.0) both.1 (still_new e es done (not_true _ both.0) new.1)
+
+above_in : (l : List ℕ) (done : List Entry) (f : Entry) (fs : List Entry) → IsAbove l (done ++ f ∷ fs) → slice_cmp nat_cmp l f.0 ≡ Less
+unfolding IsAbove
+above_in l [] f fs above = above.0
+above_in l (e ∷ done) f fs above = above_in l done f fs above.1
+
+put_alone : (k : List ℕ) (o : Option Data) → put_or k o no_members ≡ member_or k o no_members
+put_alone k None = refl
+put_alone k (Some d) = refl
+
+put_last_at : (k : List ℕ) (o : Option Data) (l : List ℕ) (p : Option Data) (ms ns : Members) → slice_cmp nat_cmp l k ≡ Less → put_or k o ms ≡ ns → put_or k o (member_or l p ms) ≡ member_or l p ns
+put_last_at k None l p ms ns less rest = ap (member_or l p) rest
+put_last_at k (Some d) l p ms ns less rest = put_later k l d p ms ns (nat_list_cmp_total.antisymm k l ∙ ap ordering_reverse less) rest
+
+put_last : (done : List Entry) (f : Entry) (fs : List Entry) → IsAscending (done ++ f ∷ fs) → put_or f.0 f.1 (members_of done) ≡ members_of (done ++ f ∷ [])
+unfolding IsAscending
+put_last [] f fs up = put_alone f.0 f.1
+put_last (e ∷ done) f fs up = put_last_at f.0 f.1 e.0 e.1 (members_of done) _ (above_in e.0 done f fs up.0) (put_last done f fs up.1)
+
+onto_last : (done fs : List Entry) → IsAscending (done ++ fs) → members_onto (members_of done) fs ≡ members_of (done ++ fs)
+onto_last done [] up = ap members_of (sym (append-nil done))
+onto_last done (f ∷ fs) up =
+    let same : (done ++ f ∷ []) ++ fs ≡ done ++ f ∷ fs = append_assoc done (f ∷ []) fs in
+    ap (λ ms. members_onto ms fs) (put_last done f fs up) ∙ onto_last (done ++ f ∷ []) fs (subst IsAscending (sym same) up) ∙ ap members_of same
+
+-- they make the same object in their order
+pub onto_sorted : (es : List Entry) → are_apart (keys_of es) ≡ true → members_onto no_members (sorted es) ≡ members_onto no_members es
+unfolding IsAscending
+onto_sorted es apart = onto_last [] (sorted es) (ascending_onto [] es tt apart (new_at_first es)) ∙ sym (made_members es apart)

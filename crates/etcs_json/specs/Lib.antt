@@ -6,6 +6,7 @@ pub mod Reading
 pub mod node
 pub mod Shape
 pub mod Sending
+pub mod SinkLemmas
 pub mod Variables
 pub mod Profiles
 pub mod Choice

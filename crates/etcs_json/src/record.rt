@@ -2,20 +2,20 @@
 
 ghost use Rattle.std.specs.Prelude.{◌≡◌, true, map, IsOk, OnOk};
 ghost use Rattle.etcs_bits.specs.layout.Rows.{AreAllowed};
-ghost use Rattle.serde_json.specs.View.{members_view};
-ghost use Rattle.etcs_json.specs.Entries.{members_onto};
 ghost use Rattle.etcs_json.specs.Fault.{Gives};
 ghost use Rattle.etcs_json.specs.Reading.{object_with};
 ghost use Rattle.etcs_json.specs.Shape.{Object, object as shape_of};
-ghost use Rattle.etcs_json.specs.Sending.{SendsMembers, sorted};
+ghost use Rattle.etcs_json.specs.Sending.{sorted};
 
 use crate::error::FormError;
 use crate::form::{Form, InPieces};
 use crate::node::Node;
 use crate::node::known_keys::check_keys;
+use crate::writing::Sink;
+use crate::writing::building::NewObject;
 use etcs_bits::{Layout, Memory};
 use json::Writer;
-use serde_json::{Map, Value};
+use serde_json::Value;
 use std::alloc::Global;
 
 /// A record whose form is an object.
@@ -28,20 +28,15 @@ pub trait Record: Drop {
     ghost bounded: { Self → Type 0 } = { λ _. Unit {0} };
 }
 
-/// How the members of a record are sent, put into an object and read.
+/// How the members of a record are sent and read.
 pub(crate) trait Members: Record {
     /// Its keys, in the order in which they are looked for.
     fn keys() -> &'static [&'static str]
         ensures { map (λ l. l.now) result.now ≡ Self.object.part.keys };
 
     /// Sends the members in the byte order of their keys.
-    fn send_members(&self, out: &mut Writer) -> Result<(), Memory>
-        ensures { OnOk result (SendsMembers (sorted (Self.object.part.to self.now)) out.old out.new) };
-
-    /// Puts the members into an object, in the order in which they are looked for.
-    fn put_members(&self, alloc: Global, out: &mut Map<String, Value>) -> Result<(), Memory>
-        ensures { OnOk result (members_view out.new.entries
-            ≡ members_onto (members_view out.old.entries) (Self.object.part.to self.now)) };
+    fn send_members<S: Sink>(&self, out: &mut S) -> Result<(), Memory>
+        ensures { OnOk result (S.takes (sorted (Self.object.part.to self.now)) out.old out.new) };
 
     /// Reads the members of an object that has no other keys.
     fn of_members<N: Node>(alloc: Global, node: &N) -> Result<Self, FormError>
@@ -69,9 +64,9 @@ impl<T: Members> Form for T {
     fn to_form(&self, alloc: Global) -> Result<Value, Memory> {
         // For the proof alone: what is written is read again.
         self.stay_in_range();
-        let mut members = Map::new(alloc);
-        self.put_members(alloc, &mut members)?;
-        Ok(Value::Object(members))
+        let mut out = NewObject::new(alloc);
+        self.send_members(&mut out)?;
+        Ok(out.into_value())
     }
 
     fn of_node<N: Node>(alloc: Global, node: &N) -> Result<Self, FormError> {

@@ -4,14 +4,11 @@ use crate::error::FormError;
 use crate::node::Node;
 use crate::node::packets_form::read_all_at;
 use crate::node::reading::{read_fixed, read_key};
-use crate::packets::report_form::{put_identity, read_identity};
+use crate::packets::report_form::read_identity;
 use crate::record::{Members, Record, stay_allowed};
-use crate::writing::building::{put_key, put_list_at, put_number};
-use crate::writing::sending::{send_key, send_list_at, send_number};
+use crate::writing::Sink;
 use etcs_bits::{Memory, are_allowed};
 use etcs_radio::MovementMessage;
-use json::Writer;
-use serde_json::{Map, Value};
 use std::alloc::Global;
 
 impl Record for MovementMessage {
@@ -34,23 +31,14 @@ impl Members for MovementMessage {
         ]
     }
 
-    fn send_members(&self, out: &mut Writer) -> Result<(), Memory> {
+    fn send_members<S: Sink>(&self, out: &mut S) -> Result<(), Memory> {
         let lrbg = self.lrbg();
-        send_key(out, "m_ack", &self.ack())?;
-        send_key(out, "nid_bg", &lrbg.group)?;
-        send_key(out, "nid_c", &lrbg.country)?;
-        send_number(out, "nid_message", 3)?;
-        send_list_at(out, "packets", self.packets())?;
-        send_key(out, "t_train", &self.time())?;
-        Ok(())
-    }
-
-    fn put_members(&self, alloc: Global, out: &mut Map<String, Value>) -> Result<(), Memory> {
-        put_number(out, alloc, "nid_message", 3)?;
-        put_key(out, alloc, "t_train", &self.time())?;
-        put_key(out, alloc, "m_ack", &self.ack())?;
-        put_identity(out, alloc, "nid_c", "nid_bg", &self.lrbg())?;
-        put_list_at(out, alloc, "packets", self.packets())?;
+        out.send_key("m_ack", &self.ack())?;
+        out.send_key("nid_bg", &lrbg.group)?;
+        out.send_key("nid_c", &lrbg.country)?;
+        out.send_number("nid_message", 3)?;
+        out.send_list_at("packets", self.packets())?;
+        out.send_key("t_train", &self.time())?;
         Ok(())
     }
 

@@ -5,12 +5,9 @@ use crate::node::Node;
 use crate::node::packets_form::read_all_at;
 use crate::node::reading::{read_fixed, read_key};
 use crate::record::{Members, Record, stay_allowed};
-use crate::writing::building::{put_key, put_list_at, put_number};
-use crate::writing::sending::{send_key, send_list_at, send_number};
+use crate::writing::Sink;
 use etcs_bits::{Memory, are_allowed};
 use etcs_radio::PositionMessage;
-use json::Writer;
-use serde_json::{Map, Value};
 use std::alloc::Global;
 
 impl Record for PositionMessage {
@@ -20,25 +17,17 @@ impl Record for PositionMessage {
     ghost object = { position train_packet };
 }
 
-#[tactic(auto, using(crate::proofs::SendingLemmas::then), unfolding(crate::specs::Messages::position))]
+#[tactic(auto, unfolding(crate::specs::Messages::position))]
 impl Members for PositionMessage {
     fn keys() -> &'static [&'static str] {
         &["nid_message", "t_train", "nid_engine", "packets"]
     }
 
-    fn send_members(&self, out: &mut Writer) -> Result<(), Memory> {
-        send_key(out, "nid_engine", &self.engine())?;
-        send_number(out, "nid_message", 136)?;
-        send_list_at(out, "packets", self.packets())?;
-        send_key(out, "t_train", &self.time())?;
-        Ok(())
-    }
-
-    fn put_members(&self, alloc: Global, out: &mut Map<String, Value>) -> Result<(), Memory> {
-        put_number(out, alloc, "nid_message", 136)?;
-        put_key(out, alloc, "t_train", &self.time())?;
-        put_key(out, alloc, "nid_engine", &self.engine())?;
-        put_list_at(out, alloc, "packets", self.packets())?;
+    fn send_members<S: Sink>(&self, out: &mut S) -> Result<(), Memory> {
+        out.send_key("nid_engine", &self.engine())?;
+        out.send_number("nid_message", 136)?;
+        out.send_list_at("packets", self.packets())?;
+        out.send_key("t_train", &self.time())?;
         Ok(())
     }
 

@@ -1,9 +1,7 @@
 //! The form of a telegram.
 
-ghost use Rattle.std.specs.Prelude.{◌≡◌, OnOk};
-ghost use Rattle.serde_json.specs.View.{members_view};
+ghost use Rattle.std.specs.Prelude.{◌≡◌};
 ghost use Rattle.etcs_telegram.specs.Sizes.{user_bits};
-ghost use Rattle.etcs_json.specs.Entries.{members_onto};
 ghost use Rattle.etcs_json.specs.Fault.{Gives};
 ghost use Rattle.etcs_json.specs.Telegrams.{header};
 
@@ -12,15 +10,14 @@ use crate::form::{Form, InPieces};
 use crate::node::Node;
 use crate::node::packets_form::read_all_at;
 use crate::node::reading::read_key;
-use crate::packets::report_form::{put_identity, read_identity};
+use crate::packets::report_form::read_identity;
 use crate::record::{Members, Record, stay_allowed};
-use crate::writing::building::{put_key, put_list_at};
-use crate::writing::sending::{send_key, send_list_at};
+use crate::writing::Sink;
 use etcs_bits::{Memory, are_allowed};
 use etcs_digits::send_decimal;
 use etcs_telegram::{Header, Size, Telegram};
 use json::Writer;
-use serde_json::{Map, Value};
+use serde_json::Value;
 use std::alloc::Global;
 
 // How many user bits a telegram of this size has.
@@ -64,22 +61,6 @@ impl InPieces for Size {
     }
 }
 
-// Puts the header's members into an object, in the order in which they are looked for.
-#[tactic(auto, unfolding(crate::specs::Telegrams::header))]
-fn put_header(out: &mut Map<String, Value>, alloc: Global, head: &Header) -> Result<(), Memory>
-    ensures { OnOk result (members_view out.new.entries
-        ≡ members_onto (members_view out.old.entries) (header.to head.now)) }
-{
-    put_key(out, alloc, "m_version", &head.version)?;
-    put_key(out, alloc, "n_pig", &head.position)?;
-    put_key(out, alloc, "n_total", &head.total)?;
-    put_key(out, alloc, "m_dup", &head.dup)?;
-    put_key(out, alloc, "m_mcount", &head.counter)?;
-    put_identity(out, alloc, "nid_c", "nid_bg", &head.identity)?;
-    put_key(out, alloc, "q_link", &head.linked)?;
-    Ok(())
-}
-
 // Reads the header's members.
 #[tactic(auto, unfolding(crate::specs::Telegrams::header))]
 fn read_header<N: Node>(alloc: Global, node: &N) -> Result<Header, FormError>
@@ -120,25 +101,18 @@ impl Members for Telegram {
         ]
     }
 
-    fn send_members(&self, out: &mut Writer) -> Result<(), Memory> {
+    fn send_members<S: Sink>(&self, out: &mut S) -> Result<(), Memory> {
         let header = &self.header;
-        send_key(out, "m_dup", &header.dup)?;
-        send_key(out, "m_mcount", &header.counter)?;
-        send_key(out, "m_version", &header.version)?;
-        send_key(out, "n_pig", &header.position)?;
-        send_key(out, "n_total", &header.total)?;
-        send_key(out, "nid_bg", &header.identity.group)?;
-        send_key(out, "nid_c", &header.identity.country)?;
-        send_list_at(out, "packets", self.packets.as_slice())?;
-        send_key(out, "q_link", &header.linked)?;
-        send_key(out, "user_bits", &self.size)?;
-        Ok(())
-    }
-
-    fn put_members(&self, alloc: Global, out: &mut Map<String, Value>) -> Result<(), Memory> {
-        put_key(out, alloc, "user_bits", &self.size)?;
-        put_header(out, alloc, &self.header)?;
-        put_list_at(out, alloc, "packets", self.packets.as_slice())?;
+        out.send_key("m_dup", &header.dup)?;
+        out.send_key("m_mcount", &header.counter)?;
+        out.send_key("m_version", &header.version)?;
+        out.send_key("n_pig", &header.position)?;
+        out.send_key("n_total", &header.total)?;
+        out.send_key("nid_bg", &header.identity.group)?;
+        out.send_key("nid_c", &header.identity.country)?;
+        out.send_list_at("packets", self.packets.as_slice())?;
+        out.send_key("q_link", &header.linked)?;
+        out.send_key("user_bits", &self.size)?;
         Ok(())
     }
 

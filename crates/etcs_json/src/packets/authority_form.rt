@@ -1,29 +1,26 @@
 //! The forms of movement authorities, packets 12 and 15.
 
 ghost use Rattle.std.specs.Prelude.{◌≡◌, OnOk};
-ghost use Rattle.serde_json.specs.View.{members_view};
-ghost use Rattle.etcs_profile.specs.Authority.{authority_number, numbered_of};
-ghost use Rattle.etcs_json.specs.Authority.{authority_members, with_main, with_main_of, without_main, without_main_of};
+ghost use Rattle.etcs_profile.specs.Authority.{authority_number};
+ghost use Rattle.etcs_json.specs.Authority.{with_main, with_main_of, without_main, without_main_of};
 ghost use Rattle.etcs_json.specs.AuthoritySending.{first_members, last_members};
-ghost use Rattle.etcs_json.specs.Entries.{members_onto};
 ghost use Rattle.etcs_json.specs.Fault.{Gives};
 ghost use Rattle.etcs_json.specs.Reading.{object_with};
-ghost use Rattle.etcs_json.specs.Sending.{SendsMembers};
 
 use crate::error::FormError;
 use crate::form::{Form, InPieces};
 use crate::node::Node;
 use crate::node::known_keys::check_keys;
 use crate::node::reading::{read_first, read_key};
-use crate::packets::head_form::{put_head, read_head};
-use crate::packets::terms_form::{authority_of, put_terms, read_terms};
+use crate::packets::head_form::read_head;
+use crate::packets::terms_form::{authority_of, read_terms};
 use crate::record::stay_allowed;
-use crate::writing::building::put_key_if;
-use crate::writing::sending::{send_key, send_key_if, send_list_at, send_number};
+use crate::writing::Sink;
+use crate::writing::building::NewObject;
 use etcs_bits::{Memory, Ranged};
 use etcs_profile::Authority;
 use json::Writer;
-use serde_json::{Map, Value};
+use serde_json::Value;
 use std::alloc::Global;
 
 // NID_PACKET: 12 if the authority has V_MAIN, else 15.
@@ -38,51 +35,30 @@ fn packet_number(authority: &Authority) -> u64
 
 // Sends the members up to NID_PACKET, in the byte order of their keys.
 #[tactic(auto, unfolding(crate::specs::AuthoritySending::first_members))]
-fn send_first(out: &mut Writer, authority: &Authority) -> Result<(), Memory>
-    ensures { OnOk result (SendsMembers (first_members authority.now) out.old out.new) }
+fn send_first<S: Sink>(out: &mut S, authority: &Authority) -> Result<(), Memory>
+    ensures { OnOk result (S.takes (first_members authority.now) out.old out.new) }
 {
-    send_key_if(out, "danger_point", &authority.danger_point())?;
-    send_key(out, "end_speed", &authority.end_speed())?;
-    send_key(out, "end_timeout", &authority.end_timeout())?;
-    send_key_if(out, "end_timer", &authority.end_timer())?;
-    send_key(out, "l_endsection", &authority.l_endsection())?;
-    send_number(out, "nid_packet", packet_number(authority))?;
+    out.send_key_if("danger_point", &authority.danger_point())?;
+    out.send_key("end_speed", &authority.end_speed())?;
+    out.send_key("end_timeout", &authority.end_timeout())?;
+    out.send_key_if("end_timer", &authority.end_timer())?;
+    out.send_key("l_endsection", &authority.l_endsection())?;
+    out.send_number("nid_packet", packet_number(authority))?;
     Ok(())
 }
 
 // Sends the members after NID_PACKET.
 #[tactic(auto, unfolding(crate::specs::AuthoritySending::last_members))]
-fn send_last(out: &mut Writer, authority: &Authority) -> Result<(), Memory>
-    ensures { OnOk result (SendsMembers (last_members authority.now) out.old out.new) }
+fn send_last<S: Sink>(out: &mut S, authority: &Authority) -> Result<(), Memory>
+    ensures { OnOk result (S.takes (last_members authority.now) out.old out.new) }
 {
-    send_key_if(out, "overlap", &authority.overlap())?;
-    send_key(out, "q_dir", &authority.dir())?;
-    send_key(out, "q_scale", &authority.scale())?;
-    send_key_if(out, "section_timer", &authority.section_timer())?;
-    send_list_at(out, "sections", authority.sections())?;
-    send_key_if(out, "v_main", &authority.main())?;
+    out.send_key_if("overlap", &authority.overlap())?;
+    out.send_key("q_dir", &authority.dir())?;
+    out.send_key("q_scale", &authority.scale())?;
+    out.send_key_if("section_timer", &authority.section_timer())?;
+    out.send_list_at("sections", authority.sections())?;
+    out.send_key_if("v_main", &authority.main())?;
     Ok(())
-}
-
-// Puts the members into an object, in the order in which they are looked for.
-#[tactic(auto, using(crate::proofs::AuthorityLemmas::put_members))]
-fn put_members(
-    out: &mut Map<String, Value>,
-    alloc: Global,
-    authority: &Authority,
-) -> Result<(), Memory>
-    ensures { OnOk result (members_view out.new.entries ≡ members_onto (members_view out.old.entries)
-        (authority_members (numbered_of authority.now))) }
-{
-    put_head(
-        out,
-        alloc,
-        packet_number(authority),
-        authority.dir(),
-        authority.scale(),
-    )?;
-    put_key_if(out, alloc, "v_main", &authority.main())?;
-    put_terms(out, alloc, authority)
 }
 
 // Refuses what is no object, and an object with a key that packet 12 does not have.
@@ -170,9 +146,10 @@ impl Form for Authority {
     fn to_form(&self, alloc: Global) -> Result<Value, Memory> {
         // For the proof alone: what is written is read again.
         stay_allowed(self);
-        let mut members = Map::new(alloc);
-        put_members(&mut members, alloc, self)?;
-        Ok(Value::Object(members))
+        let mut out = NewObject::new(alloc);
+        send_first(&mut out, self)?;
+        send_last(&mut out, self)?;
+        Ok(out.into_value())
     }
 
     fn of_node<N: Node>(alloc: Global, node: &N) -> Result<Self, FormError> {

@@ -4,12 +4,9 @@ use crate::error::FormError;
 use crate::node::Node;
 use crate::node::reading::{read_key, read_key_if};
 use crate::record::{Members, Record, stay_allowed};
-use crate::writing::building::{put_key, put_key_if};
-use crate::writing::sending::{send_key, send_key_if};
+use crate::writing::Sink;
 use etcs_bits::Memory;
 use etcs_profile::{DangerPoint, EndTimer, Overlap, Section, SectionTimer};
-use json::Writer;
-use serde_json::{Map, Value};
 use std::alloc::Global;
 
 impl Record for SectionTimer {
@@ -24,15 +21,9 @@ impl Members for SectionTimer {
         &["t_sectiontimer", "d_sectiontimerstoploc"]
     }
 
-    fn send_members(&self, out: &mut Writer) -> Result<(), Memory> {
-        send_key(out, "d_sectiontimerstoploc", &self.stop)?;
-        send_key(out, "t_sectiontimer", &self.time)?;
-        Ok(())
-    }
-
-    fn put_members(&self, alloc: Global, out: &mut Map<String, Value>) -> Result<(), Memory> {
-        put_key(out, alloc, "t_sectiontimer", &self.time)?;
-        put_key(out, alloc, "d_sectiontimerstoploc", &self.stop)?;
+    fn send_members<S: Sink>(&self, out: &mut S) -> Result<(), Memory> {
+        out.send_key("d_sectiontimerstoploc", &self.stop)?;
+        out.send_key("t_sectiontimer", &self.time)?;
         Ok(())
     }
 
@@ -60,15 +51,9 @@ impl Members for Section {
         &["l_section", "section_timer"]
     }
 
-    fn send_members(&self, out: &mut Writer) -> Result<(), Memory> {
-        send_key(out, "l_section", &self.length)?;
-        send_key_if(out, "section_timer", &self.timer)?;
-        Ok(())
-    }
-
-    fn put_members(&self, alloc: Global, out: &mut Map<String, Value>) -> Result<(), Memory> {
-        put_key(out, alloc, "l_section", &self.length)?;
-        put_key_if(out, alloc, "section_timer", &self.timer)?;
+    fn send_members<S: Sink>(&self, out: &mut S) -> Result<(), Memory> {
+        out.send_key("l_section", &self.length)?;
+        out.send_key_if("section_timer", &self.timer)?;
         Ok(())
     }
 
@@ -96,15 +81,9 @@ impl Members for EndTimer {
         &["t_endtimer", "d_endtimerstartloc"]
     }
 
-    fn send_members(&self, out: &mut Writer) -> Result<(), Memory> {
-        send_key(out, "d_endtimerstartloc", &self.start)?;
-        send_key(out, "t_endtimer", &self.time)?;
-        Ok(())
-    }
-
-    fn put_members(&self, alloc: Global, out: &mut Map<String, Value>) -> Result<(), Memory> {
-        put_key(out, alloc, "t_endtimer", &self.time)?;
-        put_key(out, alloc, "d_endtimerstartloc", &self.start)?;
+    fn send_members<S: Sink>(&self, out: &mut S) -> Result<(), Memory> {
+        out.send_key("d_endtimerstartloc", &self.start)?;
+        out.send_key("t_endtimer", &self.time)?;
         Ok(())
     }
 
@@ -132,15 +111,9 @@ impl Members for DangerPoint {
         &["d_dp", "v_releasedp"]
     }
 
-    fn send_members(&self, out: &mut Writer) -> Result<(), Memory> {
-        send_key(out, "d_dp", &self.distance)?;
-        send_key(out, "v_releasedp", &self.release_speed)?;
-        Ok(())
-    }
-
-    fn put_members(&self, alloc: Global, out: &mut Map<String, Value>) -> Result<(), Memory> {
-        put_key(out, alloc, "d_dp", &self.distance)?;
-        put_key(out, alloc, "v_releasedp", &self.release_speed)?;
+    fn send_members<S: Sink>(&self, out: &mut S) -> Result<(), Memory> {
+        out.send_key("d_dp", &self.distance)?;
+        out.send_key("v_releasedp", &self.release_speed)?;
         Ok(())
     }
 
@@ -168,19 +141,11 @@ impl Members for Overlap {
         &["d_startol", "t_ol", "d_ol", "v_releaseol"]
     }
 
-    fn send_members(&self, out: &mut Writer) -> Result<(), Memory> {
-        send_key(out, "d_ol", &self.length)?;
-        send_key(out, "d_startol", &self.start)?;
-        send_key(out, "t_ol", &self.time)?;
-        send_key(out, "v_releaseol", &self.release_speed)?;
-        Ok(())
-    }
-
-    fn put_members(&self, alloc: Global, out: &mut Map<String, Value>) -> Result<(), Memory> {
-        put_key(out, alloc, "d_startol", &self.start)?;
-        put_key(out, alloc, "t_ol", &self.time)?;
-        put_key(out, alloc, "d_ol", &self.length)?;
-        put_key(out, alloc, "v_releaseol", &self.release_speed)?;
+    fn send_members<S: Sink>(&self, out: &mut S) -> Result<(), Memory> {
+        out.send_key("d_ol", &self.length)?;
+        out.send_key("d_startol", &self.start)?;
+        out.send_key("t_ol", &self.time)?;
+        out.send_key("v_releaseol", &self.release_speed)?;
         Ok(())
     }
 

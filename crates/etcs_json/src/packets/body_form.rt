@@ -1,64 +1,27 @@
 //! L_PACKET and the body that it counts, in the forms of packets whose layout is not known.
 
 ghost use Rattle.std.specs.Prelude.{◌≡◌, ◌+◌, ◌∷◌, ◌≤◌, ◌<◌, [], codes, length, Some, IfOk, OnOk};
-ghost use Rattle.serde_json.specs.Data.{string};
-ghost use Rattle.serde_json.specs.View.{members_view};
-ghost use Rattle.etcs_json.specs.BodyText.{body_of, body_text};
-ghost use Rattle.etcs_json.specs.Entries.{members_onto};
+ghost use Rattle.etcs_json.specs.BodyText.{body_of};
 ghost use Rattle.etcs_json.specs.Fault.{Gives};
-ghost use Rattle.etcs_json.specs.Measured.{is_length, measured, measured_of};
+ghost use Rattle.etcs_json.specs.Measured.{is_length, measured_of};
 ghost use Rattle.etcs_json.specs.Reading.{at_key, number_of};
-ghost use Rattle.etcs_json.specs.Sending.{SendsMembers};
 ghost use Rattle.etcs_json.specs.Shape.{whole};
 
 use crate::error::FormError;
 use crate::node::Node;
 use crate::node::reading::{member, under};
-use crate::packets::body_text::{body_in, send_body, text_of};
-use crate::writing::building::put_number;
-use crate::writing::sending::send_number;
+use crate::packets::body_text::body_in;
+use crate::writing::Sink;
 use etcs_bits::{Bits, Memory};
-use json::Writer;
-use serde_json::{Map, Value, put};
 use std::alloc::Global;
 
 /// Sends the member `l_packet`. `head` is the number of bits before the body.
-pub(crate) fn send_length(out: &mut Writer, head: u32, body: &Bits) -> Result<(), Memory>
+pub(crate) fn send_length<S: Sink>(out: &mut S, head: u32, body: &Bits) -> Result<(), Memory>
     requires { length body.now ≤ 8170 }
-    ensures { OnOk result (SendsMembers
+    ensures { OnOk result (S.takes
         ((codes "l_packet", Some (whole (head + length body.now))) ∷ []) out.old out.new) }
 {
-    send_number(out, "l_packet", u64::from(head) + body.len() as u64)
-}
-
-/// Sends the member `body`.
-pub(crate) fn send_body_at(out: &mut Writer, body: &Bits) -> Result<(), Memory>
-    requires { length body.now ≤ 8170 }
-    ensures { OnOk result (SendsMembers ((codes "body", Some (string (body_text body.now))) ∷ [])
-        out.old out.new) }
-{
-    out.key("body")?;
-    send_body(out, body)
-}
-
-/// Puts the members `l_packet` and `body` into an object. `head` is the number of bits before the
-/// body.
-pub(crate) fn put_measured(
-    out: &mut Map<String, Value>,
-    alloc: Global,
-    head: u32,
-    body: &Bits,
-) -> Result<(), Memory>
-    requires { length body.now ≤ 8170 }
-    ensures { OnOk result (members_view out.new.entries
-        ≡ members_onto (members_view out.old.entries) ((measured head).to body.now)) }
-{
-    put_number(out, alloc, "l_packet", u64::from(head) + body.len() as u64)?;
-    let text = text_of(alloc, body)?;
-    match put(out, alloc, "body", Value::String(text)) {
-        Ok(()) => Ok(()),
-        Err(_) => Err(Memory),
-    }
+    out.send_number("l_packet", u64::from(head) + body.len() as u64)
 }
 
 // Reads L_PACKET, which counts so many bits of the head too.

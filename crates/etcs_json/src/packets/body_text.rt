@@ -1,17 +1,16 @@
 //! The text of a body: hexadecimal digits, with zeros after the last bit up to a whole byte.
 
-ghost use Rattle.std.specs.Prelude.{◌≡◌, ◌+◌, ◌*◌, ◌<◌, ◌≤◌, ◌∷◌, [], length, take, drop, string_bytes, IfOk, OnOk};
-ghost use Rattle.hex.specs.Hex.{decode_of, encode_lower, IsBytes};
+ghost use Rattle.std.specs.Prelude.{◌≡◌, ◌+◌, ◌*◌, ◌<◌, ◌≤◌, ◌∷◌, [], codes, length, take, drop, Some, IfOk, OnOk};
+ghost use Rattle.hex.specs.Hex.{decode_of};
+ghost use Rattle.serde_json.specs.Data.{string};
 ghost use Rattle.etcs_bits.specs.bits.Number.{num_of_bits};
-ghost use Rattle.json.specs.Token.{string as string_token};
 ghost use Rattle.etcs_json.specs.BodyText.{are_padded, body_bytes, body_text, bytes_for, decoded_or, filled_up, first_bits};
 ghost use Rattle.etcs_json.specs.Fault.{Gives};
-ghost use Rattle.etcs_json.specs.Sending.{Adds};
 
 use crate::error::FormError;
+use crate::writing::Sink;
 use etcs_bits::{BitSlice, Bits, Memory};
 use hex::FromHexError;
-use json::Writer;
 use std::alloc::Global;
 
 // How many bits have little room made for them. A telegram has no longer body.
@@ -43,14 +42,15 @@ fn bytes_of<const BYTES: usize>(bits: &BitSlice<'_>) -> [u8; BYTES]
     bytes
 }
 
-// Sends the text, in room for so many bytes and for their digits.
-fn send_in_room<const BYTES: usize, const DIGITS: usize>(
-    out: &mut Writer,
+// Sends the body, in room for so many bytes and for their digits.
+fn send_in_room<const BYTES: usize, const DIGITS: usize, S: Sink>(
+    out: &mut S,
     bits: &Bits,
 ) -> Result<(), Memory>
     requires bytes { length bits.now ≤ 8 * BYTES }
     requires digits { (2 * BYTES ≤ DIGITS) × (DIGITS ≤ 2044) }
-    ensures { OnOk result (Adds (string_token (body_text bits.now) ∷ []) out.old out.new) }
+    ensures { OnOk result (S.takes
+        ((codes "body", Some (string (body_text bits.now))) ∷ []) out.old out.new) }
 {
     let bytes: [u8; BYTES] = bytes_of(&bits.slice());
     let count = bits.len().div_ceil(8);
@@ -62,41 +62,20 @@ fn send_in_room<const BYTES: usize, const DIGITS: usize>(
     let Ok(text) = str::from_utf8(room) else {
         unreachable!("digits are text")
     };
-    out.string(text)?;
-    Ok(())
+    out.send_text("body", text)
 }
 
-/// Sends the text of a body. No packet's body has more than 8,170 bits, which are 1,022 bytes. The
-/// only error is that the writer's buffer can't grow.
-pub(crate) fn send_body(out: &mut Writer, body: &Bits) -> Result<(), Memory>
+/// Sends the member `body`. No packet's body has more than 8,170 bits, which are 1,022 bytes.
+pub(crate) fn send_body<S: Sink>(out: &mut S, body: &Bits) -> Result<(), Memory>
     requires { length body.now ≤ 8170 }
-    ensures { OnOk result (Adds (string_token (body_text body.now) ∷ []) out.old out.new) }
+    ensures { OnOk result (S.takes
+        ((codes "body", Some (string (body_text body.now))) ∷ []) out.old out.new) }
 {
     if body.len() <= FEW_BITS {
-        send_in_room::<128, 256>(out, body)
+        send_in_room::<128, 256, S>(out, body)
     } else {
-        send_in_room::<1022, 2044>(out, body)
+        send_in_room::<1022, 2044, S>(out, body)
     }
-}
-
-// The lower-case digits of bytes.
-fn digits_of(alloc: Global, bytes: &[u8]) -> Result<String, Memory>
-    ensures text { IfOk result (λ s. string_bytes s ≡ encode_lower bytes.now) }
-    ensures in_range { OnOk result (IsBytes bytes.now) }
-{
-    match hex::encode(alloc, bytes) {
-        Ok(text) => Ok(text),
-        Err(_) => Err(Memory),
-    }
-}
-
-/// The text of a body. The only error is that memory runs out.
-pub(crate) fn text_of(alloc: Global, body: &Bits) -> Result<String, Memory>
-    ensures { IfOk result (λ text. string_bytes text ≡ body_text body.now) }
-{
-    let bytes = body.to_bytes(alloc)?;
-    let text = digits_of(alloc, bytes.as_slice())?;
-    Ok(text)
 }
 
 // Whether the bits after the first `count` are zeros.

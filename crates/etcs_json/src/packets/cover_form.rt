@@ -4,12 +4,9 @@ use crate::error::FormError;
 use crate::node::Node;
 use crate::node::reading::{read_fixed, read_key};
 use crate::record::{Members, Record, stay_allowed};
-use crate::writing::building::{put_key, put_number};
-use crate::writing::sending::{send_key, send_number};
+use crate::writing::Sink;
 use etcs_bits::Memory;
 use etcs_packet::CoverMarker;
-use json::Writer;
-use serde_json::{Map, Value};
 use std::alloc::Global;
 
 impl Record for CoverMarker {
@@ -18,21 +15,15 @@ impl Record for CoverMarker {
     ghost object = { cover_marker };
 }
 
-#[tactic(auto, using(crate::proofs::SendingLemmas::then), unfolding(crate::specs::Cover::cover_marker))]
+#[tactic(auto, unfolding(crate::specs::Cover::cover_marker))]
 impl Members for CoverMarker {
     fn keys() -> &'static [&'static str] {
         &["nid_packet", "nid_vbcmk"]
     }
 
-    fn send_members(&self, out: &mut Writer) -> Result<(), Memory> {
-        send_number(out, "nid_packet", 0)?;
-        send_key(out, "nid_vbcmk", &self.marker)?;
-        Ok(())
-    }
-
-    fn put_members(&self, alloc: Global, out: &mut Map<String, Value>) -> Result<(), Memory> {
-        put_number(out, alloc, "nid_packet", 0)?;
-        put_key(out, alloc, "nid_vbcmk", &self.marker)?;
+    fn send_members<S: Sink>(&self, out: &mut S) -> Result<(), Memory> {
+        out.send_number("nid_packet", 0)?;
+        out.send_key("nid_vbcmk", &self.marker)?;
         Ok(())
     }
 

@@ -3,14 +3,11 @@
 use crate::error::FormError;
 use crate::node::Node;
 use crate::node::reading::read_key;
-use crate::packets::profile_form::{put_profile, read_profile, send_profile};
+use crate::packets::profile_form::{read_profile, send_profile};
 use crate::record::{Members, Record, stay_allowed};
-use crate::writing::building::put_key;
-use crate::writing::sending::send_key;
+use crate::writing::Sink;
 use etcs_bits::Memory;
 use etcs_profile::{Gradient, GradientElement};
-use json::Writer;
-use serde_json::{Map, Value};
 use std::alloc::Global;
 
 impl Record for GradientElement {
@@ -19,23 +16,16 @@ impl Record for GradientElement {
     ghost object = { gradient_element };
 }
 
-#[tactic(auto, using(crate::proofs::SendingLemmas::then), unfolding(crate::specs::Profiles::gradient_element))]
+#[tactic(auto, unfolding(crate::specs::Profiles::gradient_element))]
 impl Members for GradientElement {
     fn keys() -> &'static [&'static str] {
         &["d_gradient", "q_gdir", "g_a"]
     }
 
-    fn send_members(&self, out: &mut Writer) -> Result<(), Memory> {
-        send_key(out, "d_gradient", &self.distance)?;
-        send_key(out, "g_a", &self.gradient)?;
-        send_key(out, "q_gdir", &self.uphill)?;
-        Ok(())
-    }
-
-    fn put_members(&self, alloc: Global, out: &mut Map<String, Value>) -> Result<(), Memory> {
-        put_key(out, alloc, "d_gradient", &self.distance)?;
-        put_key(out, alloc, "q_gdir", &self.uphill)?;
-        put_key(out, alloc, "g_a", &self.gradient)?;
+    fn send_members<S: Sink>(&self, out: &mut S) -> Result<(), Memory> {
+        out.send_key("d_gradient", &self.distance)?;
+        out.send_key("g_a", &self.gradient)?;
+        out.send_key("q_gdir", &self.uphill)?;
         Ok(())
     }
 
@@ -64,12 +54,8 @@ impl Members for Gradient {
         &["nid_packet", "q_dir", "q_scale", "elements"]
     }
 
-    fn send_members(&self, out: &mut Writer) -> Result<(), Memory> {
+    fn send_members<S: Sink>(&self, out: &mut S) -> Result<(), Memory> {
         send_profile(out, "elements", self)
-    }
-
-    fn put_members(&self, alloc: Global, out: &mut Map<String, Value>) -> Result<(), Memory> {
-        put_profile(out, alloc, "elements", self)
     }
 
     fn of_members<N: Node>(alloc: Global, node: &N) -> Result<Self, FormError> {

@@ -3,14 +3,11 @@
 use crate::error::FormError;
 use crate::node::Node;
 use crate::node::reading::{read_key, read_key_if};
-use crate::packets::profile_form::{put_profile, read_profile, send_profile};
+use crate::packets::profile_form::{read_profile, send_profile};
 use crate::record::{Members, Record, stay_allowed};
-use crate::writing::building::{put_key, put_key_if};
-use crate::writing::sending::{send_key, send_key_if};
+use crate::writing::Sink;
 use etcs_bits::Memory;
 use etcs_profile::{Link, Linking};
-use json::Writer;
-use serde_json::{Map, Value};
 use std::alloc::Global;
 
 impl Record for Link {
@@ -19,7 +16,7 @@ impl Record for Link {
     ghost object = { link };
 }
 
-#[tactic(auto, using(crate::proofs::SendingLemmas::then), unfolding(crate::specs::Profiles::link))]
+#[tactic(auto, unfolding(crate::specs::Profiles::link))]
 impl Members for Link {
     fn keys() -> &'static [&'static str] {
         &[
@@ -32,23 +29,13 @@ impl Members for Link {
         ]
     }
 
-    fn send_members(&self, out: &mut Writer) -> Result<(), Memory> {
-        send_key(out, "d_link", &self.distance)?;
-        send_key(out, "nid_bg", &self.group)?;
-        send_key_if(out, "nid_c", &self.country)?;
-        send_key(out, "q_linkorientation", &self.nominal)?;
-        send_key(out, "q_linkreaction", &self.reaction)?;
-        send_key(out, "q_locacc", &self.accuracy)?;
-        Ok(())
-    }
-
-    fn put_members(&self, alloc: Global, out: &mut Map<String, Value>) -> Result<(), Memory> {
-        put_key(out, alloc, "d_link", &self.distance)?;
-        put_key_if(out, alloc, "nid_c", &self.country)?;
-        put_key(out, alloc, "nid_bg", &self.group)?;
-        put_key(out, alloc, "q_linkorientation", &self.nominal)?;
-        put_key(out, alloc, "q_linkreaction", &self.reaction)?;
-        put_key(out, alloc, "q_locacc", &self.accuracy)?;
+    fn send_members<S: Sink>(&self, out: &mut S) -> Result<(), Memory> {
+        out.send_key("d_link", &self.distance)?;
+        out.send_key("nid_bg", &self.group)?;
+        out.send_key_if("nid_c", &self.country)?;
+        out.send_key("q_linkorientation", &self.nominal)?;
+        out.send_key("q_linkreaction", &self.reaction)?;
+        out.send_key("q_locacc", &self.accuracy)?;
         Ok(())
     }
 
@@ -80,12 +67,8 @@ impl Members for Linking {
         &["nid_packet", "q_dir", "q_scale", "links"]
     }
 
-    fn send_members(&self, out: &mut Writer) -> Result<(), Memory> {
+    fn send_members<S: Sink>(&self, out: &mut S) -> Result<(), Memory> {
         send_profile(out, "links", self)
-    }
-
-    fn put_members(&self, alloc: Global, out: &mut Map<String, Value>) -> Result<(), Memory> {
-        put_profile(out, alloc, "links", self)
     }
 
     fn of_members<N: Node>(alloc: Global, node: &N) -> Result<Self, FormError> {

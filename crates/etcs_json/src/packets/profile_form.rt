@@ -5,11 +5,8 @@ ghost use Rattle.std.specs.List.{AllByRecursion};
 ghost use Rattle.etcs_bits.specs.layout.Rows.{width};
 ghost use Rattle.etcs_profile.specs.Elements.{elements, profile as profile_of};
 ghost use Rattle.serde_json.specs.Data.{Data, array};
-ghost use Rattle.serde_json.specs.View.{members_view};
-ghost use Rattle.etcs_json.specs.Entries.{members_onto};
 ghost use Rattle.etcs_json.specs.Fault.{Gives};
 ghost use Rattle.etcs_json.specs.Profiles.{profile};
-ghost use Rattle.etcs_json.specs.Sending.{SendsMembers};
 ghost use Rattle.etcs_json.specs.Shape.{items_of, only, whole};
 ghost use Rattle.etcs_json.specs.Variables.{direction, scale};
 
@@ -17,48 +14,28 @@ use crate::error::FormError;
 use crate::form::{Form, InPieces};
 use crate::node::Node;
 use crate::node::reading::{read_first_and_at, read_fixed, read_key};
-use crate::writing::building::{put_first_and, put_key, put_number};
-use crate::writing::sending::{send_first_and, send_key, send_number};
+use crate::writing::Sink;
 use etcs_bits::{Dir, Layout, Memory, Scale};
 use etcs_profile::{Elements, Packet};
-use json::Writer;
-use serde_json::{Map, Value};
 use std::alloc::Global;
 
 /// Sends the members of a packet of elements. `name` is the key of the list of its elements.
-pub(crate) fn send_profile<const N: u32, T: InPieces + Layout>(
-    out: &mut Writer,
+pub(crate) fn send_profile<const N: u32, T: InPieces + Layout, S: Sink>(
+    out: &mut S,
     name: &str,
     packet: &Packet<N, Elements<T>>,
 ) -> Result<(), Memory>
-    ensures { OnOk result (SendsMembers (
+    ensures { OnOk result (S.takes (
         (name.now, Some (array (items_of T.shape.to (packet.now.1.first ∷ packet.now.1.further))))
         ∷ (codes "nid_packet", Some (whole N))
         ∷ (codes "q_dir", Some (direction.to packet.now.0))
         ∷ (codes "q_scale", Some (scale.to packet.now.1.scale)) ∷ [])
         out.old out.new) }
 {
-    send_first_and(out, name, packet.first(), packet.further())?;
-    send_number(out, "nid_packet", u64::from(N))?;
-    send_key(out, "q_dir", &packet.dir())?;
-    send_key(out, "q_scale", &packet.scale())?;
-    Ok(())
-}
-
-/// Puts the members of a packet of elements into an object.
-pub(crate) fn put_profile<const N: u32, T: Form + Layout>(
-    out: &mut Map<String, Value>,
-    alloc: Global,
-    name: &str,
-    packet: &Packet<N, Elements<T>>,
-) -> Result<(), Memory>
-    ensures { OnOk result (members_view out.new.entries ≡ members_onto (members_view out.old.entries)
-        ((profile N name.now T.format T.shape).to packet.now)) }
-{
-    put_number(out, alloc, "nid_packet", u64::from(N))?;
-    put_key(out, alloc, "q_dir", &packet.dir())?;
-    put_key(out, alloc, "q_scale", &packet.scale())?;
-    put_first_and(out, alloc, name, packet.first(), packet.further())?;
+    out.send_first_and(name, packet.first(), packet.further())?;
+    out.send_number("nid_packet", u64::from(N))?;
+    out.send_key("q_dir", &packet.dir())?;
+    out.send_key("q_scale", &packet.scale())?;
     Ok(())
 }
 

@@ -9,14 +9,12 @@ ghost use Rattle.etcs_json.specs.Variables.{is_allowed};
 use crate::error::FormError;
 use crate::node::Node;
 use crate::node::reading::{member, read_key, under};
-use crate::packets::body_form::{put_measured, read_measured, send_body_at, send_length};
+use crate::packets::body_form::{read_measured, send_length};
+use crate::packets::body_text::send_body;
 use crate::record::{Members, Record};
-use crate::writing::building::{put_key, put_number};
-use crate::writing::sending::{send_key, send_number};
+use crate::writing::Sink;
 use etcs_bits::Memory;
 use etcs_packet::RawPacket;
-use json::Writer;
-use serde_json::{Map, Value};
 use std::alloc::Global;
 
 // How many bits stand before the body: NID_PACKET, Q_DIR and L_PACKET.
@@ -58,24 +56,17 @@ impl Record for RawPacket {
     ghost object = { raw_packet };
 }
 
-#[tactic(auto, using(crate::proofs::SendingLemmas::then), unfolding(crate::specs::Raw::raw_packet))]
+#[tactic(auto, unfolding(crate::specs::Raw::raw_packet))]
 impl Members for RawPacket {
     fn keys() -> &'static [&'static str] {
         &["nid_packet", "q_dir", "l_packet", "body"]
     }
 
-    fn send_members(&self, out: &mut Writer) -> Result<(), Memory> {
-        send_body_at(out, self.body())?;
+    fn send_members<S: Sink>(&self, out: &mut S) -> Result<(), Memory> {
+        send_body(out, self.body())?;
         send_length(out, HEAD_BITS, self.body())?;
-        send_number(out, "nid_packet", u64::from(self.number()))?;
-        send_key(out, "q_dir", &self.dir())?;
-        Ok(())
-    }
-
-    fn put_members(&self, alloc: Global, out: &mut Map<String, Value>) -> Result<(), Memory> {
-        put_number(out, alloc, "nid_packet", u64::from(self.number()))?;
-        put_key(out, alloc, "q_dir", &self.dir())?;
-        put_measured(out, alloc, HEAD_BITS, self.body())?;
+        out.send_number("nid_packet", u64::from(self.number()))?;
+        out.send_key("q_dir", &self.dir())?;
         Ok(())
     }
 

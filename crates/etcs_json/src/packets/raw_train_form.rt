@@ -9,14 +9,12 @@ ghost use Rattle.etcs_json.specs.Variables.{is_allowed};
 use crate::error::FormError;
 use crate::node::Node;
 use crate::node::reading::{member, under};
-use crate::packets::body_form::{put_measured, read_measured, send_body_at, send_length};
+use crate::packets::body_form::{read_measured, send_length};
+use crate::packets::body_text::send_body;
 use crate::record::{Members, Record};
-use crate::writing::building::put_number;
-use crate::writing::sending::send_number;
+use crate::writing::Sink;
 use etcs_bits::Memory;
 use etcs_radio::RawTrainPacket;
-use json::Writer;
-use serde_json::{Map, Value};
 use std::alloc::Global;
 
 // How many bits stand before the body: NID_PACKET and L_PACKET.
@@ -58,22 +56,16 @@ impl Record for RawTrainPacket {
     ghost object = { raw_train_packet };
 }
 
-#[tactic(auto, using(crate::proofs::SendingLemmas::then), unfolding(crate::specs::RawTrain::raw_train_packet))]
+#[tactic(auto, unfolding(crate::specs::RawTrain::raw_train_packet))]
 impl Members for RawTrainPacket {
     fn keys() -> &'static [&'static str] {
         &["nid_packet", "l_packet", "body"]
     }
 
-    fn send_members(&self, out: &mut Writer) -> Result<(), Memory> {
-        send_body_at(out, self.body())?;
+    fn send_members<S: Sink>(&self, out: &mut S) -> Result<(), Memory> {
+        send_body(out, self.body())?;
         send_length(out, HEAD_BITS, self.body())?;
-        send_number(out, "nid_packet", u64::from(self.number()))?;
-        Ok(())
-    }
-
-    fn put_members(&self, alloc: Global, out: &mut Map<String, Value>) -> Result<(), Memory> {
-        put_number(out, alloc, "nid_packet", u64::from(self.number()))?;
-        put_measured(out, alloc, HEAD_BITS, self.body())?;
+        out.send_number("nid_packet", u64::from(self.number()))?;
         Ok(())
     }
 

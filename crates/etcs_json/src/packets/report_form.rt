@@ -1,11 +1,8 @@
 //! The forms of position reports, train packets 0 and 1.
 
 ghost use Rattle.std.specs.Prelude.{◌≡◌, OnOk};
-ghost use Rattle.serde_json.specs.View.{members_view};
-ghost use Rattle.etcs_json.specs.Entries.{members_onto};
 ghost use Rattle.etcs_json.specs.Fault.{Gives};
 ghost use Rattle.etcs_json.specs.Report.{identity, place, state};
-ghost use Rattle.etcs_json.specs.Sending.{SendsMembers};
 ghost use Rattle.etcs_json.specs.ReportRuns.{first_run, previous_run, second_run, third_run};
 
 use crate::error::FormError;
@@ -14,12 +11,9 @@ use crate::node::reading::{read_fixed, read_key};
 use crate::packets::integrity_form::{confirmed_length, length_number, read_integrity};
 use crate::packets::level_form::{national_system_of, read_level};
 use crate::record::{Members, Record};
-use crate::writing::building::{put_key, put_key_if, put_number};
-use crate::writing::sending::{send_key, send_key_if, send_number};
+use crate::writing::Sink;
 use etcs_bits::{Country, Distance, GroupNumber, Identity, Level, Memory, Plain, Scale};
 use etcs_radio::{Integrity, Train3};
-use json::Writer;
-use serde_json::{Map, Value};
 use std::alloc::Global;
 
 /// Where a train is, as seen from the group that its report refers to.
@@ -124,110 +118,63 @@ fn read_state<N: Node>(alloc: Global, node: &N) -> Result<State, FormError>
     })
 }
 
-// ---- building
-
-/// Puts the identity of a group into an object, at these keys.
-pub(crate) fn put_identity(
-    out: &mut Map<String, Value>,
-    alloc: Global,
-    country: &str,
-    group: &str,
-    lrbg: &Identity,
-) -> Result<(), Memory>
-    ensures { OnOk result (members_view out.new.entries
-        ≡ members_onto (members_view out.old.entries) ((identity country.now group.now).to lrbg.now)) }
-{
-    put_key(out, alloc, country, &lrbg.country)?;
-    put_key(out, alloc, group, &lrbg.group)
-}
-
-// Puts the members that say where a train is into an object.
-#[tactic(auto, unfolding(crate::specs::Report::place))]
-fn put_place(out: &mut Map<String, Value>, alloc: Global, train: &Place) -> Result<(), Memory>
-    ensures { OnOk result (members_view out.new.entries
-        ≡ members_onto (members_view out.old.entries) (place.to train.now)) }
-{
-    put_key(out, alloc, "d_lrbg", &train.distance)?;
-    put_key(out, alloc, "q_dirlrbg", &train.orientation)?;
-    put_key(out, alloc, "q_dlrbg", &train.side)?;
-    put_key(out, alloc, "l_doubtover", &train.doubt_over)?;
-    put_key(out, alloc, "l_doubtunder", &train.doubt_under)?;
-    Ok(())
-}
-
-// Puts the members of a train's state into an object.
-#[tactic(auto, unfolding(crate::specs::Report::state))]
-fn put_state(out: &mut Map<String, Value>, alloc: Global, train: &State) -> Result<(), Memory>
-    ensures { OnOk result (members_view out.new.entries
-        ≡ members_onto (members_view out.old.entries) (state.to train.now)) }
-{
-    put_number(out, alloc, "q_length", length_number(train.length))?;
-    put_key_if(out, alloc, "l_trainint", &confirmed_length(train.length))?;
-    put_key(out, alloc, "v_train", &train.speed)?;
-    put_key(out, alloc, "q_dirtrain", &train.running)?;
-    put_key(out, alloc, "m_mode", &train.mode)?;
-    put_number(out, alloc, "m_level", u64::from(train.level.number()))?;
-    put_key_if(out, alloc, "nid_ntc", &national_system_of(train.level))?;
-    Ok(())
-}
-
 // ---- sending
 // The text of an object has its members in the byte order of their keys. So the members of a report
 // are sent in three runs, and those of the group before stand between the second and the third.
 
 // Sends the members of the first run: distances and lengths, the level's number and the mode.
-fn send_first_run(out: &mut Writer, place: &Place, state: &State) -> Result<(), Memory>
-    ensures { OnOk result (SendsMembers (first_run place.now state.now) out.old out.new) }
+fn send_first_run<S: Sink>(out: &mut S, place: &Place, state: &State) -> Result<(), Memory>
+    ensures { OnOk result (S.takes (first_run place.now state.now) out.old out.new) }
 {
-    send_key(out, "d_lrbg", &place.distance)?;
-    send_key(out, "l_doubtover", &place.doubt_over)?;
-    send_key(out, "l_doubtunder", &place.doubt_under)?;
-    send_key_if(out, "l_trainint", &confirmed_length(state.length))?;
-    send_number(out, "m_level", u64::from(state.level.number()))?;
-    send_key(out, "m_mode", &state.mode)?;
+    out.send_key("d_lrbg", &place.distance)?;
+    out.send_key("l_doubtover", &place.doubt_over)?;
+    out.send_key("l_doubtunder", &place.doubt_under)?;
+    out.send_key_if("l_trainint", &confirmed_length(state.length))?;
+    out.send_number("m_level", u64::from(state.level.number()))?;
+    out.send_key("m_mode", &state.mode)?;
     Ok(())
 }
 
 // Sends the members of the second run: the group, the national system, and the packet's number.
-fn send_second_run(
-    out: &mut Writer,
+fn send_second_run<S: Sink>(
+    out: &mut S,
     packet: u64,
     lrbg: &Identity,
     state: &State,
 ) -> Result<(), Memory>
-    ensures { OnOk result (SendsMembers (second_run packet lrbg.now state.now) out.old out.new) }
+    ensures { OnOk result (S.takes (second_run packet lrbg.now state.now) out.old out.new) }
 {
-    send_key(out, "nid_bg", &lrbg.group)?;
-    send_key(out, "nid_c", &lrbg.country)?;
-    send_key_if(out, "nid_ntc", &national_system_of(state.level))?;
-    send_number(out, "nid_packet", packet)?;
+    out.send_key("nid_bg", &lrbg.group)?;
+    out.send_key("nid_c", &lrbg.country)?;
+    out.send_key_if("nid_ntc", &national_system_of(state.level))?;
+    out.send_number("nid_packet", packet)?;
     Ok(())
 }
 
 // Sends the members of the group before.
-fn send_previous(out: &mut Writer, previous: &Identity) -> Result<(), Memory>
-    ensures { OnOk result (SendsMembers (previous_run previous.now) out.old out.new) }
+fn send_previous<S: Sink>(out: &mut S, previous: &Identity) -> Result<(), Memory>
+    ensures { OnOk result (S.takes (previous_run previous.now) out.old out.new) }
 {
-    send_key(out, "prv_nid_bg", &previous.group)?;
-    send_key(out, "prv_nid_c", &previous.country)?;
+    out.send_key("prv_nid_bg", &previous.group)?;
+    out.send_key("prv_nid_c", &previous.country)?;
     Ok(())
 }
 
 // Sends the members of the third run: the qualifiers, and the speed.
-fn send_third_run(
-    out: &mut Writer,
+fn send_third_run<S: Sink>(
+    out: &mut S,
     scale: &Scale,
     place: &Place,
     state: &State,
 ) -> Result<(), Memory>
-    ensures { OnOk result (SendsMembers (third_run scale.now place.now state.now) out.old out.new) }
+    ensures { OnOk result (S.takes (third_run scale.now place.now state.now) out.old out.new) }
 {
-    send_key(out, "q_dirlrbg", &place.orientation)?;
-    send_key(out, "q_dirtrain", &state.running)?;
-    send_key(out, "q_dlrbg", &place.side)?;
-    send_number(out, "q_length", length_number(state.length))?;
-    send_key(out, "q_scale", scale)?;
-    send_key(out, "v_train", &state.speed)?;
+    out.send_key("q_dirlrbg", &place.orientation)?;
+    out.send_key("q_dirtrain", &state.running)?;
+    out.send_key("q_dlrbg", &place.side)?;
+    out.send_number("q_length", length_number(state.length))?;
+    out.send_key("q_scale", scale)?;
+    out.send_key("v_train", &state.speed)?;
     Ok(())
 }
 
@@ -265,19 +212,10 @@ impl Members for WithOne {
         ]
     }
 
-    fn send_members(&self, out: &mut Writer) -> Result<(), Memory> {
+    fn send_members<S: Sink>(&self, out: &mut S) -> Result<(), Memory> {
         send_first_run(out, &self.place, &self.state)?;
         send_second_run(out, 0, &self.lrbg, &self.state)?;
         send_third_run(out, &self.scale, &self.place, &self.state)?;
-        Ok(())
-    }
-
-    fn put_members(&self, alloc: Global, out: &mut Map<String, Value>) -> Result<(), Memory> {
-        put_number(out, alloc, "nid_packet", 0)?;
-        put_key(out, alloc, "q_scale", &self.scale)?;
-        put_identity(out, alloc, "nid_c", "nid_bg", &self.lrbg)?;
-        put_place(out, alloc, &self.place)?;
-        put_state(out, alloc, &self.state)?;
         Ok(())
     }
 
@@ -330,21 +268,11 @@ impl Members for WithTwo {
         ]
     }
 
-    fn send_members(&self, out: &mut Writer) -> Result<(), Memory> {
+    fn send_members<S: Sink>(&self, out: &mut S) -> Result<(), Memory> {
         send_first_run(out, &self.place, &self.state)?;
         send_second_run(out, 1, &self.lrbg, &self.state)?;
         send_previous(out, &self.previous)?;
         send_third_run(out, &self.scale, &self.place, &self.state)?;
-        Ok(())
-    }
-
-    fn put_members(&self, alloc: Global, out: &mut Map<String, Value>) -> Result<(), Memory> {
-        put_number(out, alloc, "nid_packet", 1)?;
-        put_key(out, alloc, "q_scale", &self.scale)?;
-        put_identity(out, alloc, "nid_c", "nid_bg", &self.lrbg)?;
-        put_identity(out, alloc, "prv_nid_c", "prv_nid_bg", &self.previous)?;
-        put_place(out, alloc, &self.place)?;
-        put_state(out, alloc, &self.state)?;
         Ok(())
     }
 

@@ -3,14 +3,11 @@
 use crate::error::FormError;
 use crate::node::Node;
 use crate::node::reading::{read_items_at, read_key};
-use crate::packets::profile_form::{put_profile, read_profile, send_profile};
+use crate::packets::profile_form::{read_profile, send_profile};
 use crate::record::{Members, Record, stay_allowed};
-use crate::writing::building::{put_key, put_list_at};
-use crate::writing::sending::{send_key, send_list_at};
+use crate::writing::Sink;
 use etcs_bits::Memory;
 use etcs_profile::{Difference, SpeedElement, SpeedProfile};
-use json::Writer;
-use serde_json::{Map, Value};
 use std::alloc::Global;
 
 impl Record for Difference {
@@ -19,23 +16,16 @@ impl Record for Difference {
     ghost object = { difference };
 }
 
-#[tactic(auto, using(crate::proofs::SendingLemmas::then), unfolding(crate::specs::Profiles::difference))]
+#[tactic(auto, unfolding(crate::specs::Profiles::difference))]
 impl Members for Difference {
     fn keys() -> &'static [&'static str] {
         &["q_diff", "nc", "v_diff"]
     }
 
-    fn send_members(&self, out: &mut Writer) -> Result<(), Memory> {
-        send_key(out, "nc", &self.category)?;
-        send_key(out, "q_diff", &self.kind)?;
-        send_key(out, "v_diff", &self.speed)?;
-        Ok(())
-    }
-
-    fn put_members(&self, alloc: Global, out: &mut Map<String, Value>) -> Result<(), Memory> {
-        put_key(out, alloc, "q_diff", &self.kind)?;
-        put_key(out, alloc, "nc", &self.category)?;
-        put_key(out, alloc, "v_diff", &self.speed)?;
+    fn send_members<S: Sink>(&self, out: &mut S) -> Result<(), Memory> {
+        out.send_key("nc", &self.category)?;
+        out.send_key("q_diff", &self.kind)?;
+        out.send_key("v_diff", &self.speed)?;
         Ok(())
     }
 
@@ -62,25 +52,17 @@ impl Record for SpeedElement {
     ghost bounded = { λ e. length e.differences ≤ 31 };
 }
 
-#[tactic(auto, using(crate::proofs::SendingLemmas::then), unfolding(crate::specs::Profiles::speed_element))]
+#[tactic(auto, unfolding(crate::specs::Profiles::speed_element))]
 impl Members for SpeedElement {
     fn keys() -> &'static [&'static str] {
         &["d_static", "v_static", "q_front", "differences"]
     }
 
-    fn send_members(&self, out: &mut Writer) -> Result<(), Memory> {
-        send_key(out, "d_static", &self.distance)?;
-        send_list_at(out, "differences", self.differences.as_slice())?;
-        send_key(out, "q_front", &self.front)?;
-        send_key(out, "v_static", &self.speed)?;
-        Ok(())
-    }
-
-    fn put_members(&self, alloc: Global, out: &mut Map<String, Value>) -> Result<(), Memory> {
-        put_key(out, alloc, "d_static", &self.distance)?;
-        put_key(out, alloc, "v_static", &self.speed)?;
-        put_key(out, alloc, "q_front", &self.front)?;
-        put_list_at(out, alloc, "differences", self.differences.as_slice())?;
+    fn send_members<S: Sink>(&self, out: &mut S) -> Result<(), Memory> {
+        out.send_key("d_static", &self.distance)?;
+        out.send_list_at("differences", self.differences.as_slice())?;
+        out.send_key("q_front", &self.front)?;
+        out.send_key("v_static", &self.speed)?;
         Ok(())
     }
 
@@ -110,12 +92,8 @@ impl Members for SpeedProfile {
         &["nid_packet", "q_dir", "q_scale", "elements"]
     }
 
-    fn send_members(&self, out: &mut Writer) -> Result<(), Memory> {
+    fn send_members<S: Sink>(&self, out: &mut S) -> Result<(), Memory> {
         send_profile(out, "elements", self)
-    }
-
-    fn put_members(&self, alloc: Global, out: &mut Map<String, Value>) -> Result<(), Memory> {
-        put_profile(out, alloc, "elements", self)
     }
 
     fn of_members<N: Node>(alloc: Global, node: &N) -> Result<Self, FormError> {

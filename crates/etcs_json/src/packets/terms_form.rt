@@ -1,10 +1,8 @@
 //! The members that both movement authorities have after their head.
 
-ghost use Rattle.std.specs.Prelude.{◌≡◌, ◌<◌, codes, length, IfOk, OnOk};
-ghost use Rattle.serde_json.specs.View.{members_view, view};
+ghost use Rattle.std.specs.Prelude.{◌≡◌, ◌<◌, codes, length, IfOk};
 ghost use Rattle.etcs_profile.specs.Authority.{permission};
 ghost use Rattle.etcs_json.specs.Authority.{end_parts, section, terms};
-ghost use Rattle.etcs_json.specs.Entries.{members_onto};
 ghost use Rattle.etcs_json.specs.Fault.{Gives};
 ghost use Rattle.etcs_json.specs.Reading.{at_key, list_of};
 ghost use Rattle.etcs_json.specs.Shape.{object};
@@ -12,10 +10,8 @@ ghost use Rattle.etcs_json.specs.Shape.{object};
 use crate::error::FormError;
 use crate::node::Node;
 use crate::node::reading::{read_key, read_key_if, read_list_at};
-use crate::writing::building::{put_key, put_key_if, put_list_at};
-use etcs_bits::{Dir, Distance, Memory, Scale, Speed, Time};
+use etcs_bits::{Dir, Distance, Scale, Speed, Time};
 use etcs_profile::{Authority, DangerPoint, EndTimer, Overlap, Section, SectionTimer};
-use serde_json::{Map, Value};
 use std::alloc::Global;
 use std::marker::Model;
 
@@ -48,46 +44,6 @@ impl Model for Terms {
         t.end.section_timer t.end.end_timer t.end.danger_point t.end.overlap };
 
     ghost invariant = { λ t. length t.sections.items < 32 };
-}
-
-// Puts what follows the end section into an object.
-#[tactic(auto, unfolding(crate::specs::Authority::end_parts))]
-fn put_end_parts(
-    out: &mut Map<String, Value>,
-    alloc: Global,
-    authority: &Authority,
-) -> Result<(), Memory>
-    ensures { OnOk result (members_view out.new.entries ≡ members_onto (members_view out.old.entries)
-        (end_parts.to (
-          authority.now.terms.section_timer,
-          (
-            authority.now.terms.end_timer,
-            (authority.now.terms.danger_point, authority.now.terms.overlap),
-          ),
-        ))) }
-{
-    put_key_if(out, alloc, "section_timer", &authority.section_timer())?;
-    put_key_if(out, alloc, "end_timer", &authority.end_timer())?;
-    put_key_if(out, alloc, "danger_point", &authority.danger_point())?;
-    put_key_if(out, alloc, "overlap", &authority.overlap())?;
-    Ok(())
-}
-
-/// Puts the conditions into an object.
-#[tactic(auto, unfolding(crate::specs::Authority::terms))]
-pub(crate) fn put_terms(
-    out: &mut Map<String, Value>,
-    alloc: Global,
-    authority: &Authority,
-) -> Result<(), Memory>
-    ensures { OnOk result (members_view out.new.entries
-        ≡ members_onto (members_view out.old.entries) (terms.to authority.now.terms)) }
-{
-    put_key(out, alloc, "end_speed", &authority.end_speed())?;
-    put_key(out, alloc, "end_timeout", &authority.end_timeout())?;
-    put_list_at(out, alloc, "sections", authority.sections())?;
-    put_key(out, alloc, "l_endsection", &authority.l_endsection())?;
-    put_end_parts(out, alloc, authority)
 }
 
 // Reads what follows the end section.

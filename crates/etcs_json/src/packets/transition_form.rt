@@ -5,12 +5,9 @@ use crate::node::Node;
 use crate::node::reading::{read_first_and_at, read_fixed, read_key};
 use crate::packets::level_form::{national_system_of, read_level};
 use crate::record::{Members, Record, stay_allowed};
-use crate::writing::building::{put_first_and, put_key, put_key_if, put_number};
-use crate::writing::sending::{send_first_and, send_key, send_key_if, send_number};
+use crate::writing::Sink;
 use etcs_bits::Memory;
 use etcs_profile::{LevelOrder, Transition};
-use json::Writer;
-use serde_json::{Map, Value};
 use std::alloc::Global;
 
 impl Record for LevelOrder {
@@ -19,25 +16,17 @@ impl Record for LevelOrder {
     ghost object = { level_order };
 }
 
-#[tactic(auto, using(crate::proofs::SendingLemmas::then), unfolding(crate::specs::Transition::level_order))]
+#[tactic(auto, unfolding(crate::specs::Transition::level_order))]
 impl Members for LevelOrder {
     fn keys() -> &'static [&'static str] {
         &["m_leveltr", "nid_ntc", "l_ackleveltr"]
     }
 
-    fn send_members(&self, out: &mut Writer) -> Result<(), Memory> {
+    fn send_members<S: Sink>(&self, out: &mut S) -> Result<(), Memory> {
         let ntc = national_system_of(self.level);
-        send_key(out, "l_ackleveltr", &self.acknowledge)?;
-        send_number(out, "m_leveltr", u64::from(self.level.number()))?;
-        send_key_if(out, "nid_ntc", &ntc)?;
-        Ok(())
-    }
-
-    fn put_members(&self, alloc: Global, out: &mut Map<String, Value>) -> Result<(), Memory> {
-        let ntc = national_system_of(self.level);
-        put_number(out, alloc, "m_leveltr", u64::from(self.level.number()))?;
-        put_key_if(out, alloc, "nid_ntc", &ntc)?;
-        put_key(out, alloc, "l_ackleveltr", &self.acknowledge)?;
+        out.send_key("l_ackleveltr", &self.acknowledge)?;
+        out.send_number("m_leveltr", u64::from(self.level.number()))?;
+        out.send_key_if("nid_ntc", &ntc)?;
         Ok(())
     }
 
@@ -59,27 +48,18 @@ impl Record for Transition {
     ghost object = { transition };
 }
 
-#[tactic(auto, using(crate::proofs::SendingLemmas::then), unfolding(crate::specs::Transition::transition))]
+#[tactic(auto, unfolding(crate::specs::Transition::transition))]
 impl Members for Transition {
     fn keys() -> &'static [&'static str] {
         &["nid_packet", "q_dir", "q_scale", "d_leveltr", "transitions"]
     }
 
-    fn send_members(&self, out: &mut Writer) -> Result<(), Memory> {
-        send_key(out, "d_leveltr", &self.d_leveltr())?;
-        send_number(out, "nid_packet", 41)?;
-        send_key(out, "q_dir", &self.dir())?;
-        send_key(out, "q_scale", &self.scale())?;
-        send_first_and(out, "transitions", self.first(), self.further())?;
-        Ok(())
-    }
-
-    fn put_members(&self, alloc: Global, out: &mut Map<String, Value>) -> Result<(), Memory> {
-        put_number(out, alloc, "nid_packet", 41)?;
-        put_key(out, alloc, "q_dir", &self.dir())?;
-        put_key(out, alloc, "q_scale", &self.scale())?;
-        put_key(out, alloc, "d_leveltr", &self.d_leveltr())?;
-        put_first_and(out, alloc, "transitions", self.first(), self.further())?;
+    fn send_members<S: Sink>(&self, out: &mut S) -> Result<(), Memory> {
+        out.send_key("d_leveltr", &self.d_leveltr())?;
+        out.send_number("nid_packet", 41)?;
+        out.send_key("q_dir", &self.dir())?;
+        out.send_key("q_scale", &self.scale())?;
+        out.send_first_and("transitions", self.first(), self.further())?;
         Ok(())
     }
 

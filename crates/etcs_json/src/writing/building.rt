@@ -1,73 +1,52 @@
-//! How the parts of a form are put together as a JSON value.
+//! How members are put into an object.
 
-ghost use Rattle.std.specs.Prelude.{◌≡◌, ◌∷◌, Some, IfOk, OnOk};
-ghost use Rattle.serde_json.specs.Data.{array, put as with_member};
+ghost use Rattle.std.specs.Prelude.{◌≡◌, IfOk, OnOk};
+ghost use Rattle.serde_json.specs.Data.{no_members, object, put as with_member};
 ghost use Rattle.serde_json.specs.View.{items_view, members_view, view};
-ghost use Rattle.etcs_json.specs.Entries.{put_or};
-ghost use Rattle.etcs_json.specs.Shape.{items_of, optional, whole};
+ghost use Rattle.etcs_json.specs.Shape.{items_of};
 
-use crate::form::Form;
+use crate::form::{Form, InPieces};
+use crate::writing::Sink;
 use etcs_bits::Memory;
 use serde_json::{Map, Value, put};
 use std::alloc::Global;
 
-// Puts a member into an object.
-fn put_value(
-    out: &mut Map<String, Value>,
+/// An object that is made in memory, member by member.
+#[derive(Drop)]
+pub(crate) struct NewObject {
     alloc: Global,
-    name: &str,
-    value: Value,
-) -> Result<(), Memory>
-    ensures { OnOk result (members_view out.new.entries
-        ≡ with_member name.now (view value) (members_view out.old.entries)) }
-{
-    match put(out, alloc, name, value) {
-        Ok(()) => Ok(()),
-        Err(_) => Err(Memory),
+    members: Map<String, Value>,
+}
+
+impl NewObject {
+    /// An object with no member.
+    pub(crate) fn new(alloc: Global) -> NewObject
+        ensures { members_view result.members.entries ≡ no_members }
+    {
+        NewObject {
+            alloc,
+            members: Map::new(alloc),
+        }
     }
-}
 
-/// Puts a member into an object.
-pub(crate) fn put_key<T: Form>(
-    out: &mut Map<String, Value>,
-    alloc: Global,
-    name: &str,
-    value: &T,
-) -> Result<(), Memory>
-    ensures { OnOk result (members_view out.new.entries
-        ≡ put_or name.now (Some (T.shape.to value.now)) (members_view out.old.entries)) }
-{
-    let form = value.to_form(alloc)?;
-    put_value(out, alloc, name, form)
-}
-
-/// Puts a member into an object if there is a value.
-pub(crate) fn put_key_if<T: Form>(
-    out: &mut Map<String, Value>,
-    alloc: Global,
-    name: &str,
-    value: &Option<T>,
-) -> Result<(), Memory>
-    ensures { OnOk result (members_view out.new.entries
-        ≡ put_or name.now (optional T.shape.to value.now) (members_view out.old.entries)) }
-{
-    match value {
-        Some(value) => put_key(out, alloc, name, value),
-        None => Ok(()),
+    /// The object.
+    pub(crate) fn into_value(self) -> Value
+        ensures { view result ≡ object (members_view self.members.entries) }
+    {
+        let NewObject { members, .. } = self;
+        Value::Object(members)
     }
-}
 
-/// Puts a member that is a number into an object.
-pub(crate) fn put_number(
-    out: &mut Map<String, Value>,
-    alloc: Global,
-    name: &str,
-    number: u64,
-) -> Result<(), Memory>
-    ensures { OnOk result (members_view out.new.entries
-        ≡ put_or name.now (Some (whole number)) (members_view out.old.entries)) }
-{
-    put_value(out, alloc, name, Value::from(number))
+    // Puts a member into the object.
+    fn put(&mut self, name: &str, value: Value) -> Result<(), Memory>
+        ensures { OnOk result (members_view self.new.members.entries
+            ≡ with_member name.now (view value) (members_view self.old.members.entries)) }
+    {
+        match put(&mut self.members, self.alloc, name, value) {
+            Ok(()) => Ok(()),
+            Err(_) => Err(Memory),
+        }
+    }
 }
 
 // The forms of the items.
@@ -84,35 +63,48 @@ fn build_items<T: Form>(alloc: Global, items: &[T]) -> Result<Vec<Value>, Memory
     Ok(values)
 }
 
-/// Puts a member that is a list into an object.
-pub(crate) fn put_list_at<T: Form>(
-    out: &mut Map<String, Value>,
-    alloc: Global,
-    name: &str,
-    items: &[T],
-) -> Result<(), Memory>
-    ensures { OnOk result (members_view out.new.entries
-        ≡ put_or name.now (Some (array (items_of T.shape.to items.now))) (members_view out.old.entries)) }
-{
-    let values = build_items(alloc, items)?;
-    put_value(out, alloc, name, Value::Array(values))
-}
+impl Sink for NewObject {
+    ghost use Rattle.etcs_json.specs.Entries.{members_onto};
+    ghost use Rattle.etcs_json.specs.SinkLemmas.{onto_then};
+    ghost use Rattle.std.specs.Prelude.{refl};
 
-/// Puts a member that is a list into an object: a first item and further ones.
-pub(crate) fn put_first_and<T: Form>(
-    out: &mut Map<String, Value>,
-    alloc: Global,
-    name: &str,
-    first: &T,
-    further: &[T],
-) -> Result<(), Memory>
-    ensures { OnOk result (members_view out.new.entries ≡ put_or name.now
-        (Some (array (items_of T.shape.to (first.now ∷ further.now)))) (members_view out.old.entries)) }
-{
-    let mut values = build_items(alloc, further)?;
-    let form = first.to_form(alloc)?;
-    if values.insert(0, form).is_err() {
-        return Err(Memory);
+    ghost takes = { λ es old new.
+        members_view new.members.entries ≡ members_onto (members_view old.members.entries) es };
+
+    ghost left_out = { λ name out. refl };
+
+    ghost then = { λ es fs old mid new. onto_then es fs _ _ _ };
+
+    fn send_key<T: InPieces>(&mut self, name: &str, value: &T) -> Result<(), Memory> {
+        let form = value.to_form(self.alloc)?;
+        self.put(name, form)
     }
-    put_value(out, alloc, name, Value::Array(values))
+
+    fn send_number(&mut self, name: &str, number: u64) -> Result<(), Memory> {
+        self.put(name, Value::from(number))
+    }
+
+    fn send_text(&mut self, name: &str, text: &str) -> Result<(), Memory> {
+        let text = String::from_str(self.alloc, text)?;
+        self.put(name, Value::String(text))
+    }
+
+    fn send_list_at<T: InPieces>(&mut self, name: &str, items: &[T]) -> Result<(), Memory> {
+        let values = build_items(self.alloc, items)?;
+        self.put(name, Value::Array(values))
+    }
+
+    fn send_first_and<T: InPieces>(
+        &mut self,
+        name: &str,
+        first: &T,
+        further: &[T],
+    ) -> Result<(), Memory> {
+        let mut values = build_items(self.alloc, further)?;
+        let form = first.to_form(self.alloc)?;
+        if values.insert(0, form).is_err() {
+            return Err(Memory);
+        }
+        self.put(name, Value::Array(values))
+    }
 }

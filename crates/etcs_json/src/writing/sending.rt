@@ -1,47 +1,13 @@
-//! How the parts of a form are sent.
+//! How members are sent to a writer of JSON.
 
-ghost use Rattle.std.specs.Prelude.{◌∷◌, [], Some, OnOk};
-ghost use Rattle.serde_json.specs.Data.{array};
+ghost use Rattle.std.specs.Prelude.{OnOk};
 ghost use Rattle.etcs_json.specs.Sending.{Adds, SendsMembers, each_tokens};
-ghost use Rattle.etcs_json.specs.Shape.{items_of, optional, whole};
 
 use crate::form::InPieces;
+use crate::writing::Sink;
 use etcs_bits::Memory;
 use etcs_digits::send_decimal;
 use json::Writer;
-
-/// Sends a member.
-pub(crate) fn send_key<T: InPieces>(out: &mut Writer, name: &str, value: &T) -> Result<(), Memory>
-    ensures { OnOk result
-        (SendsMembers ((name.now, Some (T.shape.to value.now)) ∷ []) out.old out.new) }
-{
-    out.key(name)?;
-    value.send(out)
-}
-
-/// Sends a member if there is a value, and nothing if there is none.
-pub(crate) fn send_key_if<T: InPieces>(
-    out: &mut Writer,
-    name: &str,
-    value: &Option<T>,
-) -> Result<(), Memory>
-    ensures { OnOk result
-        (SendsMembers ((name.now, optional T.shape.to value.now) ∷ []) out.old out.new) }
-{
-    match value {
-        Some(value) => send_key(out, name, value),
-        None => Ok(()),
-    }
-}
-
-/// Sends a member that is a number.
-pub(crate) fn send_number(out: &mut Writer, name: &str, number: u64) -> Result<(), Memory>
-    ensures { OnOk result (SendsMembers ((name.now, Some (whole number)) ∷ []) out.old out.new) }
-{
-    out.key(name)?;
-    send_decimal(out, number)?;
-    Ok(())
-}
 
 // Sends items one after the other, without the marks of a list.
 fn send_items<T: InPieces>(out: &mut Writer, items: &[T]) -> Result<(), Memory>
@@ -53,37 +19,51 @@ fn send_items<T: InPieces>(out: &mut Writer, items: &[T]) -> Result<(), Memory>
     Ok(())
 }
 
-/// Sends a member that is a list.
-pub(crate) fn send_list_at<T: InPieces>(
-    out: &mut Writer,
-    name: &str,
-    items: &[T],
-) -> Result<(), Memory>
-    ensures { OnOk result (SendsMembers
-        ((name.now, Some (array (items_of T.shape.to items.now))) ∷ []) out.old out.new) }
-{
-    out.key(name)?;
-    out.begin_array()?;
-    send_items(out, items)?;
-    out.end_array()?;
-    Ok(())
-}
+impl Sink for Writer {
+    ghost use Rattle.etcs_json.specs.SinkLemmas.{sent_none, sent_then};
 
-/// Sends a member that is a list, of a first item and further ones.
-pub(crate) fn send_first_and<T: InPieces>(
-    out: &mut Writer,
-    name: &str,
-    first: &T,
-    further: &[T],
-) -> Result<(), Memory>
-    ensures { OnOk result (SendsMembers
-        ((name.now, Some (array (items_of T.shape.to (first.now ∷ further.now)))) ∷ [])
-        out.old out.new) }
-{
-    out.key(name)?;
-    out.begin_array()?;
-    first.send(out)?;
-    send_items(out, further)?;
-    out.end_array()?;
-    Ok(())
+    ghost takes = { SendsMembers };
+
+    ghost left_out = { sent_none };
+
+    ghost then = { sent_then };
+
+    fn send_key<T: InPieces>(&mut self, name: &str, value: &T) -> Result<(), Memory> {
+        self.key(name)?;
+        value.send(self)
+    }
+
+    fn send_number(&mut self, name: &str, number: u64) -> Result<(), Memory> {
+        self.key(name)?;
+        send_decimal(self, number)?;
+        Ok(())
+    }
+
+    fn send_text(&mut self, name: &str, text: &str) -> Result<(), Memory> {
+        self.key(name)?;
+        self.string(text)?;
+        Ok(())
+    }
+
+    fn send_list_at<T: InPieces>(&mut self, name: &str, items: &[T]) -> Result<(), Memory> {
+        self.key(name)?;
+        self.begin_array()?;
+        send_items(self, items)?;
+        self.end_array()?;
+        Ok(())
+    }
+
+    fn send_first_and<T: InPieces>(
+        &mut self,
+        name: &str,
+        first: &T,
+        further: &[T],
+    ) -> Result<(), Memory> {
+        self.key(name)?;
+        self.begin_array()?;
+        first.send(self)?;
+        send_items(self, further)?;
+        self.end_array()?;
+        Ok(())
+    }
 }

@@ -4,10 +4,10 @@ use Rattle.etcs_json.proofs.Objects.{read_again}
 use Rattle.etcs_json.proofs.PacketRanges.{authority_keeps}
 use Rattle.etcs_json.proofs.packets.authority_form.AuthorityForm.to_form.Goals as goal
 
--- the object that was built member after member
+-- the members were taken by an empty object
 pub returns-clause-form : goal.returns-clause-form
 unfolding authority
-returns-clause-form c = made_authority c.args.self.now c.new-members.result.entries c.put_members.new.out c.new-members.ensures.empty c.in_ok-put_members.ensures
+returns-clause-form c = made_authority c.args.self.now _ _ _ _ c.new-out.ensures c.in_ok-send_first.ensures c.in_ok-send_last.ensures c.into_value.ensures
 
 pub returns-clause-again : goal.returns-clause-again
 returns-clause-again c = λ bounded. read_again authority c.args.self.now _ (returns-clause-form c) (authority_keeps.range c.args.self.now (c.stay_allowed.ensures tt))

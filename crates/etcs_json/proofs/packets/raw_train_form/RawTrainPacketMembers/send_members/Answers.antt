@@ -1,10 +1,10 @@
 use Rattle.etcs_json.specs.RawTrain.{raw_train_packet}
-use Rattle.etcs_json.proofs.SendingLemmas.{then}
 use Rattle.etcs_json.proofs.packets.raw_train_form.RawTrainPacketMembers.send_members.Goals as goal
 
 -- the members one after the other
 pub returns : goal.returns
 unfolding raw_train_packet
-returns c =
-    then _ _ _ _ _ (rw c.body.ensures.bits at c.in_ok-send_body_at.ensures) (then _ _ _ _ _ (rw c.body-2.ensures.bits at c.in_ok-send_length.ensures)
+returns g c =
+    let then = g.met.S.Sink.then in
+    then _ _ _ _ _ (rw c.body.ensures.bits at c.in_ok-send_body.ensures) (then _ _ _ _ _ (rw c.body-2.ensures.bits at c.in_ok-send_length.ensures)
     (rw (c.from.ensures, c.number.ensures.number) at c.in_ok-send_number.ensures))

@@ -1,10 +1,10 @@
-use Rattle.etcs_json.proofs.RunLemmas.{then_all}
 use Rattle.etcs_json.specs.Report.{place, state, with_two}
 use Rattle.etcs_json.proofs.packets.report_form.WithTwoMembers.send_members.Goals as goal
 
 -- the members one after the other
 pub returns : goal.returns
 unfolding with_two place state
-returns c =
-    then_all _ _ _ _ _ c.in_ok-send_first_run.ensures (then_all _ _ _ _ _ c.in_ok-send_second_run.ensures
-    (then_all _ _ _ _ _ c.in_ok-send_previous.ensures c.in_ok-send_third_run.ensures))
+returns g c =
+    let then = g.met.S.Sink.then in
+    then _ _ _ _ _ c.in_ok-send_first_run.ensures (then _ _ _ _ _ c.in_ok-send_second_run.ensures
+    (then _ _ _ _ _ c.in_ok-send_previous.ensures c.in_ok-send_third_run.ensures))

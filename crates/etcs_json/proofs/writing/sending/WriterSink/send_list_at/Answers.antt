@@ -1,5 +1,5 @@
 use Rattle.etcs_json.proofs.SendingLemmas.{array_sent, one_token}
-use Rattle.etcs_json.proofs.writing.sending.send_list_at.Goals as goal
+use Rattle.etcs_json.proofs.writing.sending.WriterSink.send_list_at.Goals as goal
 
 -- the key, and the items between the two marks of a list
 pub returns : goal.returns

@@ -1,6 +1,7 @@
 use Rattle.std.proofs.Common.{◌∷◌}
-use Rattle.etcs_json.proofs.SendingLemmas.{adds_more, array_sent, one_token}
-use Rattle.etcs_json.proofs.writing.sending.send_first_and.Goals as goal
+use Rattle.etcs_json.proofs.SendingLemmas.{array_sent, one_token}
+use Rattle.etcs_json.specs.SinkLemmas.{adds_more}
+use Rattle.etcs_json.proofs.writing.sending.WriterSink.send_first_and.Goals as goal
 
 -- the key, and the first item and the further ones between the two marks of a list
 pub returns : goal.returns

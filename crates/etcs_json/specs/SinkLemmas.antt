@@ -1,0 +1,37 @@
+-- Members that are taken one after the other: by a writer of JSON, and by an object in memory.
+use Rattle.std.proofs.Common.{◌≡◌, ◌∙◌, ◌++◌, ℕ, List, [], ◌∷◌, None, refl, ap, sym, append_assoc, append-nil}
+use Rattle.json.specs.Token.{Token}
+use Rattle.json.specs.Written.{Written}
+use Rattle.serde_json.specs.Data.{Members}
+use Rattle.etcs_json.specs.Entries.{Entry, members_onto, put_or}
+use Rattle.etcs_json.specs.Sending.{Adds, SendsMembers, entries_tokens, entry_tokens}
+
+-- ---- a writer
+
+-- tokens, and then others
+pub adds_more : (a b : List Token) (old mid new : Written) → Adds a old mid → Adds b mid new → Adds (a ++ b) old new
+adds_more a b old mid new one two = record {
+  before = two.before ∙ one.before;
+  added = two.added ∙ ap (λ ts. ts ++ b) one.added ∙ append_assoc old.tokens a b;
+}
+
+entries_append : (es fs : List Entry) → entries_tokens (es ++ fs) ≡ entries_tokens es ++ entries_tokens fs
+entries_append [] fs = refl
+entries_append (e ∷ es) fs =
+    ap (λ ts. entry_tokens e.0 e.1 ++ ts) (entries_append es fs) ∙ sym (append_assoc (entry_tokens e.0 e.1) (entries_tokens es) (entries_tokens fs))
+
+pub sent_then : (es fs : List Entry) (old mid new : Written) → SendsMembers es old mid → SendsMembers fs mid new → SendsMembers (es ++ fs) old new
+sent_then es fs old mid new some others =
+    record { sent = rw (entries_append es fs) (adds_more (entries_tokens es) (entries_tokens fs) old mid new some.sent others.sent) }
+
+pub sent_none : (name : List ℕ) (out : Written) → SendsMembers ((name, None) ∷ []) out out
+sent_none name out = record { sent = record { before = refl; added = sym (append-nil out.tokens) } }
+
+-- ---- an object
+
+onto_append : (es fs : List Entry) (ms : Members) → members_onto ms (es ++ fs) ≡ members_onto (members_onto ms es) fs
+onto_append [] fs ms = refl
+onto_append (e ∷ es) fs ms = onto_append es fs (put_or e.0 e.1 ms)
+
+pub onto_then : (es fs : List Entry) (old mid new : Members) → mid ≡ members_onto old es → new ≡ members_onto mid fs → new ≡ members_onto old (es ++ fs)
+onto_then es fs old mid new some others = others ∙ ap (λ ms. members_onto ms fs) some ∙ sym (onto_append es fs old)
