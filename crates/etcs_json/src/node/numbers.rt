@@ -1,6 +1,7 @@
 //! Numbers as JSON writes them.
 
-ghost use Rattle.std.specs.Prelude.{◌≡◌, ◌==◌, ◌<◌, length, slice_index, option_and_then, is_some, true, false, IsTrue};
+ghost use Rattle.std.specs.Prelude.{◌≡◌, ◌==◌, ◌<◌, ◌^◌, length, slice_index, option_and_then, is_some, true, false, IfSome, IsTrue};
+ghost use Rattle.std.specs.Str.Parse.{IsNumeral, digits_value};
 ghost use Rattle.serde_json.specs.Find.{as_u64};
 ghost use Rattle.serde_json.specs.Read.{float_of, number_from, number_of};
 
@@ -14,11 +15,33 @@ fn has_minus(text: &[u8]) -> bool
     !text.is_empty() && text[0] == b'-'
 }
 
+// From here on a number may be too great with one digit more.
+const MANY: u64 = 1_000_000_000_000_000_000;
+
+// The number that plain digits are. None says nothing.
+fn plain_number(text: &[u8]) -> Option<u64>
+    ensures { IfSome result
+        (λ n. IsNumeral 10 text.now × (digits_value 10 text.now ≡ n) × (n < 2 ^ 64)) }
+{
+    let mut number = 0u64;
+    'digits: for byte in text {
+        let byte = *byte;
+        if byte < b'0' || byte > b'9' || number >= MANY {
+            return None;
+        }
+        number = number * 10 + u64::from(byte - b'0');
+    }
+    if text.is_empty() { None } else { Some(number) }
+}
+
 /// The number that a text is, where it is a whole one of at most 64 bits and has no sign.
 pub(crate) fn whole_number(text: &str) -> Option<u64>
     ensures { result ≡ option_and_then as_u64 (number_of text.now) }
 {
     let bytes = text.as_bytes();
+    if let Some(number) = plain_number(bytes) {
+        return Some(number);
+    }
     if has_minus(bytes) {
         None
     } else {
@@ -60,6 +83,9 @@ pub(crate) fn is_in_range(text: &str) -> bool
     ensures { result ≡ is_some (number_of text.now) }
 {
     let bytes = text.as_bytes();
+    if let Some(_) = plain_number(bytes) {
+        return true;
+    }
     if has_minus(bytes) {
         is_in_range_below(&Numeral::scan(&bytes[1..]))
     } else {

@@ -1,8 +1,14 @@
 use Rattle.std.proofs.Common.{◌≡◌, ◌∙◌, true, false, drop, is_some, sym, ap, arith, take_all, length-drop}
 use Rattle.fast_float.specs.Text.{scan}
 use Rattle.serde_json.specs.Read.{number_from, number_of}
-use Rattle.etcs_json.proofs.NumberLemmas.{plain, signed}
+use Rattle.etcs_json.proofs.NumberLemmas.{digits_in_range, plain, signed}
 use Rattle.etcs_json.proofs.node.numbers.is_in_range.Goals as goal
+
+-- plain digits
+pub returns-in-Some : goal.returns-in-Some
+returns-in-Some c =
+    let is = c.in-Some.ensures in
+    digits_in_range _ _ is.0 is.1 is.2 ∙ ap (λ s. is_some (number_of s)) c.as_bytes-bytes.ensures.value
 
 -- what stands behind the sign is scanned
 pub returns-then-has_minus : goal.returns-then-has_minus
