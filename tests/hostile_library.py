@@ -5,9 +5,10 @@ import subprocess
 from hostile_program import EACH_NTH, FROM, ONE, Job, Program
 from runner import TOP, Answer
 
-# the tests of crates/trials_lines, which `rt ci` builds
+# the tests of crates/trials_groups and crates/trials_lines, which `rt ci` builds
 NAMED = os.environ.get("BALISECHECK_TESTS")
-TESTS = NAMED or str(TOP / "crates" / "trials_lines" / "out" / "trials_lines_tests")
+BUILT = [str(TOP / "crates" / crate / "out" / f"{crate}_tests") for crate in ("trials_groups", "trials_lines")]
+TESTS = NAMED.split(":") if NAMED else BUILT
 # of these tests, those that pass whichever requests are refused
 FOLDER = "refused_memory::"
 PASSED = Answer(0, "\ntest result: ok\n", "")
@@ -15,12 +16,12 @@ PASSED = Answer(0, "\ntest result: ok\n", "")
 
 def tests_are_there():
     """Whether the tests are there. Where they are named they have to be."""
-    return bool(NAMED) or os.path.exists(TESTS)
+    return bool(NAMED) or all(map(os.path.exists, TESTS))
 
 
-def names():
-    """The names of the tests."""
-    listed = subprocess.run([TESTS, "--list"], capture_output=True, text=True, check=True).stdout
+def names(path):
+    """The names of the tests of this program."""
+    listed = subprocess.run([path, "--list"], capture_output=True, text=True, check=True).stdout
     return [line.removesuffix(": test") for line in listed.splitlines() if line.startswith(FOLDER)]
 
 
@@ -33,9 +34,9 @@ def refusals(name, requests):
         yield Job((name,), b"", EACH_NTH, each)
 
 
-def library(_, tests, whole=True):
-    """Each test passes undisturbed, and whichever requests for memory are refused."""
-    program, named = Program(TESTS), names()
+def calls(path, tests):
+    """Each of these tests of this program passes undisturbed, and whichever requests for memory are refused."""
+    program, named = Program(path), names(path)
     known = program.play([Job((name,), b"") for name in named])
     tests.holds("there are tests of library calls", len(known) > 0)
     for name, (answer, _) in zip(named, known):
@@ -44,3 +45,9 @@ def library(_, tests, whole=True):
     for job, (answer, counts) in zip(jobs, program.play(jobs)):
         tests.figures["requests of library calls refused"] += counts.refused
         tests.equal(f"{job.words[0]}, {job.refused} {job.request}", answer, PASSED)
+
+
+def library(_, tests, whole=True):
+    """The tests of each program pass, whichever requests for memory are refused."""
+    for path in TESTS:
+        calls(path, tests)

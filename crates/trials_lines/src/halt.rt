@@ -1,12 +1,8 @@
 //! Why calls came to no answer. A test of refused memory has to tell want of memory from anything else.
 
-use etcs_bits::{DecodeError, Memory};
-use etcs_check::CheckError;
+use etcs_bits::Memory;
 use etcs_form::{FormError, LineError};
-use etcs_group::Refused;
-use etcs_radio::RadioTextError;
-use etcs_telegram::TextError;
-use std::alloc::{AllocError, AllocFailed};
+use std::alloc::AllocError;
 
 /// Why calls came to no answer.
 #[derive(Clone, Copy, Debug, PartialEq, Eq)]
@@ -26,54 +22,6 @@ impl From<Memory> for Halt {
 impl From<AllocError> for Halt {
     fn from(_error: AllocError) -> Halt {
         Halt::Memory
-    }
-}
-
-impl<T: Drop> From<AllocFailed<T>> for Halt {
-    fn from(_failed: AllocFailed<T>) -> Halt {
-        Halt::Memory
-    }
-}
-
-impl From<DecodeError> for Halt {
-    fn from(error: DecodeError) -> Halt {
-        halt_of(error == DecodeError::Memory)
-    }
-}
-
-impl From<TextError> for Halt {
-    fn from(error: TextError) -> Halt {
-        halt_of(error == TextError::Memory)
-    }
-}
-
-impl From<RadioTextError> for Halt {
-    fn from(error: RadioTextError) -> Halt {
-        halt_of(error == RadioTextError::Memory)
-    }
-}
-
-impl From<etcs_telegram::EncodeError> for Halt {
-    fn from(error: etcs_telegram::EncodeError) -> Halt {
-        halt_of(error == etcs_telegram::EncodeError::Memory)
-    }
-}
-
-impl From<etcs_radio::EncodeError> for Halt {
-    fn from(error: etcs_radio::EncodeError) -> Halt {
-        halt_of(error == etcs_radio::EncodeError::Memory)
-    }
-}
-
-impl From<CheckError> for Halt {
-    fn from(error: CheckError) -> Halt {
-        halt_of(error == CheckError::Memory)
-    }
-}
-
-impl From<Refused> for Halt {
-    fn from(error: Refused) -> Halt {
-        halt_of(error == Refused::Memory)
     }
 }
 

@@ -1,23 +1,16 @@
-//! Tests of the crates that judge lines, from outside: `etcs_group`, `etcs_check` and `etcs_form`. Here is what code
-//! alone can ask. What the program can be asked is a case of `tests/cases/` at the top.
+//! Tests of the crates of forms and of documents of lines, from outside: `etcs_json` and `etcs_form`. Here is what code
+//! alone can ask. What the program can be asked is a case of `tests/cases/` at the top. Tests of groups and of checkers,
+//! which need none of these crates, stand in `trials_groups`.
 //!
-//! `shared.rt` has what several tests use: telegrams, groups and texts. `refused_memory.rt` is on all libraries.
+//! `shared.rt` has what several tests use: what is read of tapes. `refused_memory.rt` is on documents and forms.
 #![tactic(auto)]
 
 #[cfg(test)]
 mod ample_memory;
 #[cfg(test)]
-mod assembly;
-#[cfg(test)]
-mod by_itself;
-#[cfg(test)]
-mod controlled;
-#[cfg(test)]
 mod documents;
 #[cfg(test)]
 mod halt;
-#[cfg(test)]
-mod readings;
 #[cfg(test)]
 mod records;
 #[cfg(test)]

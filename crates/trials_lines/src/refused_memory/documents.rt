@@ -2,7 +2,6 @@
 
 use super::{Answer, expect_answers};
 use crate::halt::Halt;
-use crate::shared::MESSAGE_FORM;
 use etcs_form::{
     Form, InPieces, JsonError, JsonText, LineError, LineFault, Refusal, check_in_order, check_text,
     read_line, refusal_text, report, report_counts,
@@ -17,6 +16,11 @@ use std::alloc::Global;
 const TELEGRAM_FORM: &str =
     "{\"m_dup\":0,\"m_mcount\":255,\"m_version\":33,\"n_pig\":0,\"n_total\":0,\
 \"nid_bg\":1,\"nid_c\":1,\"packets\":[],\"q_link\":1,\"user_bits\":210}";
+
+/// The form of a movement authority of 1,000 m for one train, at 1 s.
+const MESSAGE_FORM: &str = "{\"m_ack\":0,\"nid_bg\":1,\"nid_c\":1,\"nid_message\":3,\
+\"packets\":[{\"end_speed\":0,\"end_timeout\":1023,\"l_endsection\":1000,\"nid_packet\":15,\
+\"q_dir\":1,\"q_scale\":1,\"sections\":[]}],\"t_train\":100}";
 
 /// Two groups with one identity, and a group with a text that is no telegram.
 const USED: &str = "{\"groups\":[\

@@ -5,8 +5,7 @@ use crate::shared::{
     ALONE, FIRST, FIRST_7, FIRST_8, MESSAGE, REPORT, SECOND, SECOND_7, SECOND_8, WITH_GRADIENT,
     controlled, telegram,
 };
-use etcs_check::{LineChecker, same_packets};
-use etcs_form::report_counts;
+use etcs_check::{Finding, LineChecker, Rule, Site, same_packets};
 use etcs_packet::Run;
 use etcs_radio::from_hex;
 use std::alloc::Global;
@@ -17,33 +16,41 @@ const IN_ONE_ORDER: &str = "a102ff802000c5601b40001fe01b80740000fe003f";
 
 const IN_ANOTHER: &str = "a1137f802000c6e01d00003f80015806d00007f83f";
 
-/// The aspects of each group, the messages, and what is told of the line.
-const LINES: [(&[&[&[&str]]], &[&str], &str); 4] = [
-    (&[&[&[ALONE]]], &[REPORT], "yes: groups 1, messages 1\n"),
+/// A finding: its rule and its site, its aspect, its direction and its balise. None of them names a packet.
+type Fact = (Rule, Site, Option<usize>, Option<Run>, Option<usize>);
+
+const NOMINAL: Option<Run> = Some(Run::Nominal);
+
+/// The aspects of each group, the messages, and what is found.
+const LINES: [(&[&[&[&str]]], &[&str], &[Fact]); 4] = [
+    (&[&[&[ALONE]]], &[REPORT], &[]),
     (
         &[&[&[FIRST_7, SECOND_7], &[FIRST_8, SECOND_8]], &[&[ALONE]]],
         &[MESSAGE],
-        "no: findings 3\n\
-F14 group 1: identity used before\n\
-F10 message 0 nominal: no gradient\n\
-F12 message 0 nominal: no speed profile\n",
+        &[
+            (Rule::IdentityUsed, Site::Group(1), None, None, None),
+            (Rule::NoGradient, Site::Message(0), None, NOMINAL, None),
+            (Rule::NoSpeed, Site::Message(0), None, NOMINAL, None),
+        ],
     ),
     (
         &[&[&[SECOND]]],
         &[REPORT, MESSAGE],
-        "no: findings 5\n\
-F1 group 0 balise 0: position wrong\n\
-F2 group 0 balise 0: total wrong\n\
-F4 group 0 balise 0: mark points outside\n\
-F10 message 1 nominal: no gradient\n\
-F12 message 1 nominal: no speed profile\n",
+        &[
+            (Rule::PositionWrong, Site::Group(0), None, None, Some(0)),
+            (Rule::TotalWrong, Site::Group(0), None, None, Some(0)),
+            (Rule::MarkOutside, Site::Group(0), None, None, Some(0)),
+            (Rule::NoGradient, Site::Message(1), None, NOMINAL, None),
+            (Rule::NoSpeed, Site::Message(1), None, NOMINAL, None),
+        ],
     ),
     (
         &[&[&[FIRST_7, SECOND_7], &[FIRST_7, SECOND_8]]],
         &[],
-        "no: findings 2\n\
-F7 group 0 aspect 1 balise 1: counters differ\n\
-F16 group 0 aspect 1 balise 0: aspects not told apart\n",
+        &[
+            (Rule::CountersDiffer, Site::Group(0), Some(1), None, Some(1)),
+            (Rule::NotToldApart, Site::Group(0), Some(1), None, Some(0)),
+        ],
     ),
 ];
 
@@ -67,22 +74,28 @@ fn take_messages(alloc: Global, checker: &mut LineChecker, texts: &[&str]) -> Re
     Ok(())
 }
 
-// What a checker tells of what it took.
-fn told(alloc: Global, checker: LineChecker) -> Result<String, Halt> {
-    let groups = checker.groups();
-    let messages = checker.messages();
+// Whether a checker counts so many groups and messages, and finds these facts in this order.
+fn has_found(checker: LineChecker, counts: (usize, usize), facts: &[Fact]) -> Result<bool, Halt> {
+    let are_counted = (checker.groups(), checker.messages()) == counts;
     let found = checker.finish()?;
-    Ok(report_counts(alloc, groups, messages, found.as_slice())?)
+    'facts: for (one, fact) in found.iter().zip(facts) {
+        let told = (one.rule, one.site, one.aspect, one.dir, one.balise);
+        if told != *fact || one.packet.is_some() {
+            return Ok(false);
+        }
+    }
+    Ok(are_counted && found.len() == facts.len())
 }
 
 #[test]
 fn a_line_is_checked_as_it_comes(rt: HostRuntime) -> Result<(), Fail> {
     let alloc = rt.alloc();
-    'rows: for (groups, messages, wanted) in &LINES {
+    'rows: for (place, (groups, messages, facts)) in LINES.iter().enumerate() {
         let mut checker = LineChecker::new(alloc);
         take_groups(alloc, &mut checker, groups)?;
         take_messages(alloc, &mut checker, messages)?;
-        assert_eq!(rt; told(alloc, checker)?.as_str(), *wanted);
+        let counts = (groups.len(), messages.len());
+        assert!(rt; has_found(checker, counts, facts)?, "{place}");
     }
     Ok(())
 }
@@ -90,11 +103,12 @@ fn a_line_is_checked_as_it_comes(rt: HostRuntime) -> Result<(), Fail> {
 #[test]
 fn messages_may_come_first(rt: HostRuntime) -> Result<(), Fail> {
     let alloc = rt.alloc();
-    'rows: for (groups, messages, wanted) in &LINES {
+    'rows: for (place, (groups, messages, facts)) in LINES.iter().enumerate() {
         let mut checker = LineChecker::new(alloc);
         take_messages(alloc, &mut checker, messages)?;
         take_groups(alloc, &mut checker, groups)?;
-        assert_eq!(rt; told(alloc, checker)?.as_str(), *wanted);
+        let counts = (groups.len(), messages.len());
+        assert!(rt; has_found(checker, counts, facts)?, "{place}");
     }
     Ok(())
 }

@@ -1,0 +1,24 @@
+//! Tests of groups and of checkers of lines, from outside: `etcs_group` and `etcs_check`. Here is what code alone can
+//! ask. What the program can be asked is a case of `tests/cases/` at the top. Tests of forms and documents stand in
+//! `trials_lines`, since they wait for the proofs of more crates.
+//!
+//! `shared.rt` has what several tests use: telegrams, groups and messages. `refused_memory.rt` is on all libraries up to
+//! `etcs_check`.
+#![tactic(auto)]
+
+#[cfg(test)]
+mod ample_memory;
+#[cfg(test)]
+mod assembly;
+#[cfg(test)]
+mod by_itself;
+#[cfg(test)]
+mod controlled;
+#[cfg(test)]
+mod halt;
+#[cfg(test)]
+mod readings;
+#[cfg(test)]
+mod refused_memory;
+#[cfg(test)]
+mod shared;
