@@ -12,6 +12,7 @@ pub mod ListLemmas
 pub mod SendingLemmas
 pub mod ReadLemmas
 pub mod AuthorityLemmas
+pub mod SumLemmas
 pub mod AuthorityWidth
 pub mod BodyTextLemmas
 pub mod RawLemmas

@@ -1,8 +1,10 @@
 -- Numbers as JSON writes them, with a sign and without.
-use Rattle.std.proofs.Common.{◌≡◌, ◌∙◌, ◌==◌, ◌<◌, ◌^◌, ℕ, true, false, List, [], ◌∷◌, Option, Some, None, ap, drop, length, option_and_then, refl, sym, append-nil, arith}
+use Rattle.std.proofs.Common.{◌≡◌, ◌∙◌, ◌==◌, ◌<◌, ◌≤◌, ◌^◌, ℕ, true, false, List, [], ◌∷◌, Option, Some, None, ap, drop, length, option_and_then, refl, sym, append-nil, arith}
 use Rattle.std.specs.Prelude.{is_some, slice_index, SomeIff}
 use Rattle.std.specs.Str.Parse.{AllDigits, IsNumeral, digits_value}
+use Rattle.std.proofs.Math.Nat.{pow-le-pow_right}
 use Rattle.std.proofs.lemmas.Bool.{ne_eqb}
+use Rattle.std.proofs.lemmas.Int.Digits.{digits_value-lt}
 use Rattle.std.proofs.lemmas.Float.Parse.{scan_numeral-text_of}
 use Rattle.std.proofs.lemmas.Str.Parse.{digit_from_value}
 use Rattle.fast_float.specs.Text.{Parts, digits_of, scan, IsInteger}
@@ -26,6 +28,12 @@ pub whole_from : (p : Parts) (r : Option ℕ) → SomeIff r (IsInteger p × (dig
 whole_from p r h = grind arith
 
 -- ---- plain digits
+
+-- so many digits write no greater number
+pub few_digits : (ds : List ℕ) (k : ℕ) → AllDigits 10 ds → length ds ≤ k → digits_value 10 ds < 10 ^ k
+few_digits ds k digits short =
+    let ten : 0 < 10 = omega arith in
+    omega (arith, digits_value-lt 10 ds digits, pow-le-pow_right ten short)
 
 plain_parts : List ℕ → Parts
 plain_parts ds = record { whole = ds; point = false; fraction = []; exponent_negative = false; exponent = []; len = length ds }

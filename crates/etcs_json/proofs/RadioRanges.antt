@@ -1,42 +1,38 @@
 -- The form of each radio message is in range, if none of its numbers is spare, and so is that of a packet
 -- from train to track.
-use Rattle.std.proofs.Common.{◌≡◌, ◌<◌, ◌*◌, ◌+◌, ◌/◌, ◌++◌, ◌&&◌, true, List, Option, Some, None, refl, arith}
+use Rattle.std.proofs.Common.{◌≡◌, ◌<◌, ◌*◌, ◌+◌, ◌/◌, ◌++◌, ◌&&◌, ◌⊎◌, ℕ, true, List, inl, inr, refl, arith}
 use Rattle.std.specs.Prelude.{codes}
+use Rattle.std.specs.List.{flat_map}
 use Rattle.std.proofs.lemmas.Bool.{and_from}
 use Rattle.etcs_bits.specs.declared.variables.identity.Identity.{Identity}
-use Rattle.etcs_bits.specs.layout.Format.{◌then◌}
-use Rattle.etcs_bits.specs.layout.RowLemmas.{allowed_first, allowed_second}
-use Rattle.etcs_bits.specs.layout.Rows.{AreAllowed, Row, alone}
-use Rattle.etcs_bits.specs.variables.Level.{m_level}
-use Rattle.etcs_bits.specs.variables.Variables.{plain, ranged}
-use Rattle.std.specs.List.{flat_map}
+use Rattle.etcs_bits.specs.layout.Rows.{AreAllowed, alone}
 use Rattle.etcs_bits.specs.variables.Identity.{identity as identity_layout}
+use Rattle.etcs_bits.specs.variables.VariableFormats.{q_scale}
+use Rattle.etcs_bits.specs.variables.Variables.{plain, ranged, scale_number, scale_variable}
 use Rattle.etcs_packet.specs.Track.{track_packet as track_layout}
 use Rattle.etcs_radio.specs.Integrity.{q_length}
 use Rattle.etcs_radio.specs.Lrbg.{lrbg_rows}
+use Rattle.etcs_radio.specs.RawTrain.{tail}
 use Rattle.etcs_radio.specs.Record.{Movement, Position}
-use Rattle.etcs_radio.specs.Report.{m_mode, numbered, numbered_by, report as report_layout, report_variable, situation, situation_of, v_train, with_one as with_one_layout, with_two as with_two_layout}
+use Rattle.etcs_radio.specs.Report.{WithOne, WithTwo, numbered_of, report as report_layout, report_variable, situation as situation_layout, with_one as with_one_layout, with_two as with_two_layout}
 use Rattle.etcs_radio.specs.Required.{has_authority, has_report}
+use Rattle.etcs_radio.specs.Train3.{train3_number, train3_variable}
 use Rattle.etcs_radio.specs.TrainNumbers.{nid_train}
-use Rattle.etcs_radio.specs.TrainPacket.{report_in, train_numbered, train_packet as train_layout}
-use Rattle.etcs_radio.specs.Train3.{q_dirtrain}
+use Rattle.etcs_radio.specs.TrainPacket.{parts_of, train_packet as train_layout}
 use Rattle.etcs_radio.specs.declared.integrity.Integrity.{Integrity}
 use Rattle.etcs_radio.specs.declared.integrity.Integrity.TheVariants as lengths
 use Rattle.etcs_radio.specs.declared.message.Message.{Message}
 use Rattle.etcs_radio.specs.declared.message.Message.TheVariants as messages
-use Rattle.etcs_radio.specs.declared.report.Report.{Report}
-use Rattle.etcs_radio.specs.declared.train_packet.TrainPacket.{TrainPacket}
-use Rattle.etcs_radio.specs.declared.train_packet.TrainPacket.TheVariants as packets
 use Rattle.etcs_json.specs.AnyMessage.{message}
 use Rattle.etcs_json.specs.Laws.{IsMessageInRange}
 use Rattle.etcs_json.specs.Messages.{movement, position}
-use Rattle.etcs_json.specs.Report.{integrity, place, state, with_one, with_two}
-use Rattle.etcs_json.specs.Reports.{fits_by, number_by, one_of, place_of, report, state_of, two_of}
+use Rattle.etcs_json.specs.RawTrain.{raw_train_packet}
+use Rattle.etcs_json.specs.Report.{either_report, identity, integrity, report, side, situation, state, with_one, with_two}
 use Rattle.etcs_json.specs.TrackPackets.{track_packet}
-use Rattle.etcs_json.specs.TrainPackets.{number_of_train, train_fits, train_packet}
-use Rattle.etcs_json.specs.Variables.{is_allowed}
+use Rattle.etcs_json.specs.TrainPackets.{train_numbered, train_packet}
+use Rattle.etcs_json.specs.Variables.{is_allowed, scale}
 use Rattle.etcs_json.proofs.PacketRanges.{track_keeps}
-use Rattle.etcs_json.proofs.RangeLemmas.{Keeps, all_in_range, nid_range, number_range}
+use Rattle.etcs_json.proofs.RangeLemmas.{Keeps, all_in_range, both_keep, chosen_keeps, either_keeps, last_keeps, names_keep, nid_range, number_range, parts_keep, variable_keeps}
 use Rattle.etcs_json.proofs.RawLemmas.{raw_train_fits}
 use Rattle.etcs_json.proofs.TrackRanges.{level_keeps}
 
@@ -58,50 +54,48 @@ integrity_range (lengths.Q1 l) allowed = number_range (plain 15) l allowed.1.0
 integrity_range (lengths.Q2 l) allowed = number_range (plain 15) l allowed.1.0
 integrity_range lengths.Q3 allowed = refl
 
--- the rows behind Q_LENGTH and L_TRAININT
-abbrev later_rows : Report → List Row
-later_rows r = (v_train then q_dirtrain then m_mode then m_level).rows (r.speed, (r.running, (r.mode, r.level)))
+integrity_keeps : Keeps q_length.rows integrity.fits
+integrity_keeps = record { range = integrity_range }
 
-situation_range : (r : Report) → AreAllowed (situation.rows (situation_of r)) → (place.fits (place_of r) && state.fits (state_of r)) ≡ true
-unfolding alone place state
-situation_range r allowed =
-    let over = allowed.1.1.1 in
-    let length = allowed_first (q_length.rows r.length) (later_rows r) over.1.1 in
-    let later = allowed_second (q_length.rows r.length) (later_rows r) over.1.1 in
-    and_from _ _
-    (and_from _ _ (number_range (plain 15) r.distance allowed.0) (and_from _ _ (number_range (plain 15) r.doubt_over over.0) (number_range (plain 15) r.doubt_under over.1.0)))
-    (and_from _ _ (integrity_range r.length length) (and_from _ _ (number_range (plain 7) r.speed later.0)
-    (and_from _ _ (number_range (plain 4) r.mode later.1.1.0) ((level_keeps (codes "m_level")).range r.level later.1.1.1))))
+lrbg_keeps : (country group : List ℕ) → Keeps lrbg_rows (identity country group).fits
+lrbg_keeps country group = record { range = lrbg_range }
+
+side_keeps : Keeps (λ v. alone train3_variable (train3_number v)) side.fits
+side_keeps = names_keep train3_variable train3_number
+
+situation_keeps : Keeps situation_layout.rows situation.fits
+unfolding situation state
+situation_keeps =
+    both_keep (variable_keeps (plain 15)) (both_keep side_keeps (both_keep side_keeps (both_keep (variable_keeps (plain 15)) (both_keep (variable_keeps (plain 15))
+    (both_keep integrity_keeps (both_keep (variable_keeps (plain 7)) (both_keep side_keeps (both_keep (variable_keeps (plain 4)) (level_keeps (codes "m_level"))))))))))
+
+scale_keeps : Keeps q_scale.rows scale.fits
+scale_keeps = names_keep scale_variable scale_number
 
 -- ---- packets
 
-pub one_range : (r : Report) → AreAllowed (with_one_layout.rows (r.scale, (r.lrbg, situation_of r))) → with_one.part.fits (one_of r) ≡ true
+with_one_keeps : Keeps with_one_layout.rows with_one.part.fits
 unfolding alone with_one
-one_range r allowed =
-    let group = allowed.1.1 in
-    and_from _ _ (lrbg_range r.lrbg (group.0, (group.1.0, tt))) (situation_range r group.1.1)
+with_one_keeps = record {
+  range = λ p allowed. (both_keep scale_keeps (both_keep (lrbg_keeps (codes "nid_c") (codes "nid_bg")) situation_keeps)).range p allowed.1;
+}
 
-pub two_range : (r : Report) (previous : Identity) → AreAllowed (with_two_layout.rows (r.scale, (r.lrbg, (previous, situation_of r)))) → with_two.part.fits (two_of r previous) ≡ true
+with_two_keeps : Keeps with_two_layout.rows with_two.part.fits
 unfolding alone with_two
-two_range r previous allowed =
-    let group = allowed.1.1 in
-    let before = group.1.1 in
-    and_from _ _ (lrbg_range r.lrbg (group.0, (group.1.0, tt))) (and_from _ _ (lrbg_range previous (before.0, (before.1.0, tt))) (situation_range r before.1.1))
+with_two_keeps = record {
+  range = λ p allowed.
+      (both_keep scale_keeps (both_keep (lrbg_keeps (codes "nid_c") (codes "nid_bg"))
+      (both_keep (lrbg_keeps (codes "prv_nid_c") (codes "prv_nid_bg")) situation_keeps))).range p allowed.1;
+}
 
-report_range : (previous : Option Identity) (r : Report)
-    → AreAllowed (alone nid_train (train_numbered.number (report_in (numbered_by previous r))) ++ train_numbered.rows (report_in (numbered_by previous r)))
-    → (is_allowed (ranged 8 254 256) (number_by previous) && fits_by previous r) ≡ true
+raw_train_keeps : Keeps (λ r. alone nid_train r.number ++ tail.rows r.body) raw_train_packet.part.fits
 unfolding alone
-report_range None r allowed = one_range r allowed.1
-report_range (Some previous) r allowed = two_range r previous allowed.1
-
-train_range : (p : TrainPacket) → AreAllowed (train_layout.rows p) → (is_allowed (ranged 8 254 256) (number_of_train p) && train_fits p) ≡ true
-unfolding alone
-train_range (packets.Report r) allowed = report_range r.previous r allowed
-train_range (packets.Raw p) allowed = and_from _ _ (nid_range p.number allowed.0.0 allowed.0.1) (raw_train_fits p allowed.0.0)
+raw_train_keeps = record { range = λ r allowed. raw_train_fits r allowed.0.0 }
 
 pub train_keeps : Keeps train_layout.rows train_packet.fits
-train_keeps = record { range = train_range }
+train_keeps =
+    parts_keep parts_of (chosen_keeps nid_train train_numbered.number (is_allowed (ranged 8 254 256)) _ _ (λ v nid. nid_range (train_numbered.number v) nid.0 nid.1)
+    (either_keeps nid_train 0 _ _ _ _ _ with_one_keeps (either_keeps nid_train 1 _ _ _ _ _ with_two_keeps raw_train_keeps)))
 
 -- ---- messages
 
@@ -119,20 +113,21 @@ position_range m allowed =
     (and_from _ _ (all_in_range train_keeps m.packets allowed.packets) allowed.complete))
 
 pub message_range : (m : Message) → IsMessageInRange m → message.fits m ≡ true
+unfolding message
 message_range (messages.Movement m) allowed = movement_range m allowed
 message_range (messages.Position m) allowed = position_range m allowed
 
 -- ---- packets and messages by themselves
 
-own_report_range : (previous : Option Identity) (r : Report)
-    → AreAllowed (alone report_variable (numbered.number (numbered_by previous r)) ++ numbered.rows (numbered_by previous r))
-    → (is_allowed (plain 1) (number_by previous) && fits_by previous r) ≡ true
-unfolding alone
-own_report_range None r allowed = one_range r allowed.1
-own_report_range (Some previous) r allowed = two_range r previous allowed.1
+either_nid : (v : WithOne ⊎ WithTwo) → is_allowed (plain 1) (either_report.number v) ≡ true
+either_nid (inl p) = refl
+either_nid (inr p) = refl
 
 pub report_keeps : Keeps report_layout.rows report.fits
-report_keeps = record { range = λ r allowed. own_report_range r.previous r allowed }
+unfolding report
+report_keeps =
+    parts_keep numbered_of (chosen_keeps report_variable either_report.number (is_allowed (plain 1)) _ _ (λ v _. either_nid v)
+    (either_keeps report_variable 0 _ _ _ _ _ with_one_keeps (last_keeps report_variable 1 _ _ with_two_keeps)))
 
 -- a message whose group is two numbers
 pub movement_keeps : (m : Movement) → AreAllowed (alone (plain 32) m.time) → AreAllowed (identity_layout.rows m.lrbg) → AreAllowed (flat_map track_layout.rows m.packets)

@@ -1,7 +1,8 @@
 -- Whatever a layout allows, a form has in range: variables, records after one another, options, lists.
-use Rattle.std.proofs.Common.{◌≡◌, ◌∙◌, ◌==◌, ap, sym, not, ◌<◌, ◌≤◌, ◌^◌, ◌&&◌, ℕ, Bool, true, List, [], ◌∷◌, length, Option, Some, None, refl, arith}
+use Rattle.std.proofs.Common.{◌≡◌, ◌∙◌, ◌++◌, ◌==◌, ◌⊎◌, inl, inr, ap, sym, not, ◌<◌, ◌≤◌, ◌^◌, ◌&&◌, ℕ, Bool, true, List, [], ◌∷◌, length, Option, Some, None, refl, arith}
 use Rattle.std.specs.List.{flat_map, list_all}
-use Rattle.std.proofs.lemmas.Bool.{and_from, eq-eqb, le-leb, lt-ltb, true≢false}
+use Rattle.std.proofs.lemmas.Bool.{and_from, le-leb, lt-ltb, true≢false}
+use Rattle.etcs_bits.specs.layout.Choice.{either_number, either_rows}
 use Rattle.etcs_bits.specs.layout.Combined.{counted_rows, option_rows, pair_rows}
 use Rattle.etcs_bits.specs.layout.Format.{Format}
 use Rattle.etcs_bits.specs.layout.RowLemmas.{allowed_first, allowed_second}
@@ -9,6 +10,7 @@ use Rattle.etcs_bits.specs.layout.Rows.{AreAllowed, IsAllowed, Row, Variable, al
 use Rattle.etcs_bits.specs.variables.Variables.{ranged}
 use Rattle.etcs_profile.specs.Elements.{elements}
 use Rattle.etcs_profile.specs.Packet.{rest}
+use Rattle.etcs_json.specs.Chosen.{by_kind}
 use Rattle.etcs_json.specs.Profiles.{profile}
 use Rattle.etcs_json.specs.Shape.{Shape, list_fits, option_fits}
 use Rattle.etcs_json.specs.Variables.{is_allowed}
@@ -76,16 +78,41 @@ first_range x v vs first further =
 
 -- ---- packets of elements
 
-pub profile_keeps : {X : Type 0} (k : ℕ) (name : List ℕ) (layout : Format X) (s : Shape X) → Keeps layout.rows s.fits → Keeps (rest (elements layout)).rows (profile k name layout s).fits
+pub profile_keeps : {X : Type 0} (name : List ℕ) (layout : Format X) (s : Shape X) → Keeps layout.rows s.fits → Keeps (rest (elements layout)).rows (profile name layout s).fits
 unfolding alone
-profile_keeps k name layout s x = record {
+profile_keeps name layout s x = record {
   range = λ p allowed.
       let both = allowed.1.1.1 in
       let items = first_range x p.1.first p.1.further (allowed_first (layout.rows p.1.first) (counted_rows layout.rows p.1.further) both) (allowed_second (layout.rows p.1.first) (counted_rows layout.rows p.1.further) both) in
-      and_from _ _ (and_from _ _ (eq-eqb k k refl) items) (le-leb _ 8191 (omega (arith, allowed.1.0.0)));
+      and_from _ _ items (le-leb _ 8191 (omega (arith, allowed.1.0.0)));
 }
 
 -- ---- values told apart by a number
+
+-- what stands behind the last number
+pub last_keeps : {A : Type 0} (x : Variable) (k : ℕ) (rows : A → List Row) (fits : A → Bool) → Keeps rows fits → Keeps (λ v. alone x k ++ rows v) fits
+unfolding alone
+last_keeps x k rows fits a = record { range = λ v allowed. a.range v allowed.1 }
+
+either_range : {A B : Type 0} (x : Variable) (k : ℕ) (number : B → ℕ) (rows_a : A → List Row) (rows_b : B → List Row) (fits_a : A → Bool) (fits_b : B → Bool)
+    → Keeps rows_a fits_a → Keeps (λ v. alone x (number v) ++ rows_b v) fits_b
+    → (v : A ⊎ B) → AreAllowed (alone x (either_number k number v) ++ either_rows rows_a rows_b v) → by_kind fits_a fits_b v ≡ true
+unfolding alone
+either_range x k number rows_a rows_b fits_a fits_b a b (inl v) allowed = a.range v allowed.1
+either_range x k number rows_a rows_b fits_a fits_b a b (inr v) allowed = b.range v allowed
+
+-- what stands behind the number k, or behind another one
+pub either_keeps : {A B : Type 0} (x : Variable) (k : ℕ) (number : B → ℕ) (rows_a : A → List Row) (rows_b : B → List Row) (fits_a : A → Bool) (fits_b : B → Bool)
+    → Keeps rows_a fits_a → Keeps (λ v. alone x (number v) ++ rows_b v) fits_b
+    → Keeps (λ v. alone x (either_number k number v) ++ either_rows rows_a rows_b v) (by_kind fits_a fits_b)
+either_keeps x k number rows_a rows_b fits_a fits_b a b = record { range = either_range x k number rows_a rows_b fits_a fits_b a b }
+
+-- and the number is in range too
+pub chosen_keeps : {X : Type 0} (x : Variable) (number : X → ℕ) (allowed : ℕ → Bool) (rows : X → List Row) (fits : X → Bool)
+    → ((v : X) → IsAllowed (row x (number v)) → allowed (number v) ≡ true)
+    → Keeps (λ v. alone x (number v) ++ rows v) fits → Keeps (λ v. alone x (number v) ++ rows v) (λ v. allowed (number v) && fits v)
+unfolding alone
+chosen_keeps x number allowed rows fits is_allowed all = record { range = λ v rows. and_from _ _ (is_allowed v rows.0) (all.range v rows) }
 
 -- NID_PACKET of a packet in a list: any number but 255, the end mark
 pub nid_range : (n : ℕ) → n < 256 → not (n == 255) ≡ true → is_allowed (ranged 8 254 256) n ≡ true

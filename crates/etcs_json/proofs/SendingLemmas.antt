@@ -1,5 +1,5 @@
 -- How the pieces of an object or array make its form.
-use Rattle.std.proofs.Common.{◌≡◌, ◌++◌, ◌+◌, ◌<◌, ℕ, List, [], ◌∷◌, length, take, Option, Some, None, refl, ap, sym, ◌∙◌, append_assoc, append-nil, get_or, Ok}
+use Rattle.std.proofs.Common.{◌≡◌, ◌++◌, ◌+◌, ◌<◌, ℕ, List, [], ◌∷◌, length, take, Option, Some, None, refl, ap, sym, subst, ◌∙◌, append_assoc, append-nil, get_or, Ok}
 use Rattle.std.proofs.lemmas.List.{take_more}
 use Rattle.json.specs.Token.{Token, begin_array, begin_object, end_array, end_object, key}
 use Rattle.json.specs.Tree.{items_tokens, members_tokens}
@@ -57,6 +57,11 @@ pub between : (es : List Entry) (old begun sent new : Written)
     → Adds (begin_object ∷ []) old begun → SendsMembers es begun sent → Adds (end_object ∷ []) sent new → SendsValue (object (members_of es)) old new
 between es old begun sent new one two three =
     rw (object_tokens es) (adds_more _ _ _ _ _ one (adds_more _ _ _ _ _ two.sent three))
+
+-- the same for the object that they are
+pub sent_as : (es : List Entry) (d : Data) (old begun sent new : Written) → object (members_of es) ≡ d
+    → Adds (begin_object ∷ []) old begun → SendsMembers es begun sent → Adds (end_object ∷ []) sent new → SendsValue d old new
+sent_as es d old begun sent new is one two three = subst (λ e. SendsValue e old new) is (between es old begun sent new one two three)
 
 -- the members between the two marks of an object
 pub object_sent : {X : Type 0} (o : Object X) (x : X) (old begun sent new : Written)

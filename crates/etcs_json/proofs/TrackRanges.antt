@@ -39,7 +39,7 @@ link_keeps =
 
 pub linking_keeps : Keeps (rest (elements link_layout)).rows linking.part.fits
 unfolding linking
-linking_keeps = profile_keeps 5 (codes "links") link_layout (object link) link_keeps
+linking_keeps = profile_keeps (codes "links") link_layout (object link) link_keeps
 
 pub gradient_element_keeps : Keeps gradient_layout.rows gradient_element.part.fits
 unfolding gradient_element
@@ -49,7 +49,7 @@ gradient_element_keeps =
 
 pub gradient_keeps : Keeps (rest (elements gradient_layout)).rows gradient.part.fits
 unfolding gradient
-gradient_keeps = profile_keeps 21 (codes "elements") gradient_layout (object gradient_element) gradient_element_keeps
+gradient_keeps = profile_keeps (codes "elements") gradient_layout (object gradient_element) gradient_element_keeps
 
 pub difference_keeps : Keeps difference_layout.rows difference.part.fits
 unfolding difference
@@ -65,7 +65,7 @@ speed_element_keeps =
 
 pub speed_profile_keeps : Keeps (rest (elements speed_layout)).rows speed_profile.part.fits
 unfolding speed_profile
-speed_profile_keeps = profile_keeps 27 (codes "elements") speed_layout (object speed_element) speed_element_keeps
+speed_profile_keeps = profile_keeps (codes "elements") speed_layout (object speed_element) speed_element_keeps
 
 -- ---- packet 41
 

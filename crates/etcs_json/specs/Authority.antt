@@ -3,22 +3,18 @@
 -- and T_LOA, are this project's, and so are the keys of `sections` and of the parts. A part that may be
 -- left out has no qualifier in the form: its key is there or not. Keys are in the order in which they
 -- are looked for.
-use Rattle.std.specs.Prelude.{◌≡◌, ℕ, ◌==◌, ◌⊎◌, Bool, true, List, Option, Result, Ok, Err, codes, if◌then◌else◌, refl}
-use Rattle.std.proofs.Common.{◌∙◌, ap, inl, inr}
-use Rattle.serde_json.specs.Data.{Data}
+use Rattle.std.specs.Prelude.{◌⊎◌, Option, codes, refl}
 use Rattle.etcs_bits.specs.variables.Variables.{ranged}
-use Rattle.etcs_profile.specs.Authority.{Permission, WithMain, WithoutMain, again, authority_number, level_1, level_2, numbered, numbered_of, permission_of}
+use Rattle.etcs_profile.specs.Authority.{Permission, WithMain, WithoutMain, again, numbered_of, permission_of}
 use Rattle.etcs_profile.specs.Terms.{Conditions, conditions}
 use Rattle.etcs_profile.specs.declared.danger_point.DangerPoint.{DangerPoint}
 use Rattle.etcs_profile.specs.declared.end_timer.EndTimer.{EndTimer}
 use Rattle.etcs_profile.specs.declared.overlap.Overlap.{Overlap}
 use Rattle.etcs_profile.specs.declared.section.Section.{Section}
 use Rattle.etcs_profile.specs.declared.section.SectionTimer.{SectionTimer}
-use Rattle.etcs_json.specs.Chosen.{HasNumber, as_kind, begins_with, chosen, kind_again}
-use Rattle.etcs_json.specs.Entries.{Entry, object_of}
-use Rattle.etcs_json.specs.Fault.{Fault, Range, at_once, key as key_step}
-use Rattle.etcs_json.specs.Head.{headed}
-use Rattle.etcs_json.specs.Shape.{Object, Part, Shape, key, key_if, list, named, object, ◌then◌}
+use Rattle.etcs_json.specs.Chosen.{Choice, behind, chosen, either, last}
+use Rattle.etcs_json.specs.Head.{Packet, headed}
+use Rattle.etcs_json.specs.Shape.{Object, Part, Shape, key, key_if, list, named, object, renamed, ◌then◌}
 use Rattle.etcs_json.specs.Variables.{is_allowed, number, ranges}
 
 -- ---- parts
@@ -117,57 +113,19 @@ terms =
 -- ---- the packets
 
 -- packet 12: V_MAIN stands before the conditions
-unfoldable pub with_main : Object WithMain
+unfoldable pub with_main : Packet 12 WithMain
 unfolding terms end_parts
-with_main = record { apart = refl; part = headed 12 (key (codes "v_main") (ranges 7 120 128) then terms) }
+with_main = behind (headed (key (codes "v_main") (ranges 7 120 128) then terms)) refl
 
 -- packet 15
-unfoldable pub without_main : Object WithoutMain
+unfoldable pub without_main : Packet 15 WithoutMain
 unfolding terms end_parts
-without_main = record { apart = refl; part = headed 15 terms }
+without_main = behind (headed terms) refl
 
--- ---- either packet
-
--- the members of packet 12 or of packet 15
-abbrev pub authority_members : WithMain ⊎ WithoutMain → List Entry
-authority_members (inl p) = with_main.part.to p
-authority_members (inr p) = without_main.part.to p
-
-abbrev pub authority_fits : WithMain ⊎ WithoutMain → Bool
-authority_fits (inl p) = with_main.part.fits p
-authority_fits (inr p) = without_main.part.fits p
-
--- packet 12, as a permission
-abbrev pub with_main_of : Data → Result Permission Fault
-with_main_of d = as_kind level_1 ((object with_main).of d)
-
--- packet 15, as a permission
-abbrev pub without_main_of : Data → Result Permission Fault
-without_main_of d = as_kind level_2 ((object without_main).of d)
-
--- packet 12 or 15, by NID_PACKET
-abbrev pub authority_of : ℕ → Data → Result Permission Fault
-authority_of n d =
-    if n == 12 then with_main_of d else (
-    if n == 15 then without_main_of d else
-    Err (at_once Range (key_step (codes "nid_packet"))))
-
-pub authority_has : (p : WithMain ⊎ WithoutMain) → HasNumber (codes "nid_packet") (numbered.number p) (object_of (authority_members p))
-unfolding with_main without_main
-authority_has (inl p) = begins_with (codes "nid_packet") 12 with_main p _ refl
-authority_has (inr p) = begins_with (codes "nid_packet") 15 without_main p _ refl
-
-pub authority_again : (p : WithMain ⊎ WithoutMain) → authority_fits p ≡ true → authority_of (numbered.number p) (object_of (authority_members p)) ≡ Ok (permission_of p)
-authority_again (inl p) fits = kind_again level_1 (object with_main) p fits
-authority_again (inr p) fits = kind_again level_2 (object without_main) p fits
+-- packet 12 or 15
+abbrev pub either_authority : Choice (codes "nid_packet") (WithMain ⊎ WithoutMain)
+either_authority = either with_main (last without_main) refl
 
 -- a movement authority; NID_PACKET is looked at before the other keys
 unfoldable pub authority : Shape Permission
-authority = chosen (codes "nid_packet") (is_allowed (ranged 8 254 256)) record {
-  tag = authority_number;
-  to = λ a. object_of (authority_members (numbered_of a));
-  of = authority_of;
-  fits = λ a. authority_fits (numbered_of a);
-  has_number = λ a. authority_has (numbered_of a);
-  again = λ a fits. authority_again (numbered_of a) fits ∙ ap Ok (again a);
-}
+authority = renamed permission_of numbered_of again (chosen (codes "nid_packet") (is_allowed (ranged 8 254 256)) either_authority)

@@ -1,5 +1,5 @@
 -- What is sent of a movement authority: its members in the byte order of their keys.
-use Rattle.std.specs.Prelude.{List, [], ◌∷◌, Some, codes}
+use Rattle.std.specs.Prelude.{List, [], ◌∷◌, ◌++◌, Some, codes}
 use Rattle.serde_json.specs.Data.{array}
 use Rattle.etcs_profile.specs.Authority.{Permission, authority_number}
 use Rattle.etcs_json.specs.Authority.{danger_point, end_timer, overlap, section, section_timer}
@@ -28,3 +28,6 @@ last_members a =
     ∷ (codes "sections", Some (array (items_of (object section).to a.terms.sections)))
     ∷ (codes "v_main", optional whole a.main)
     ∷ []
+
+abbrev pub sent_members : Permission → List Entry
+sent_members a = first_members a ++ last_members a

@@ -8,12 +8,12 @@ pub mod Shape
 pub mod Sending
 pub mod SinkLemmas
 pub mod Variables
-pub mod Profiles
 pub mod Choice
 pub mod Chosen
-pub mod Transition
-pub mod Cover
 pub mod Head
+pub mod Cover
+pub mod Profiles
+pub mod Transition
 pub mod Authority
 pub mod AuthoritySending
 pub mod BodyText
@@ -23,10 +23,9 @@ pub mod Raw
 pub mod RawTrain
 pub mod TrackPackets
 pub mod Report
-pub mod ReportRuns
+pub mod ReportSending
 pub mod Listed
 pub mod Messages
-pub mod Reports
 pub mod TrainPackets
 pub mod Telegrams
 pub mod AnyMessage

@@ -7,9 +7,10 @@ use Rattle.etcs_packet.specs.declared.track.TrackPacket.{TrackPacket}
 use Rattle.etcs_radio.specs.Record.{Movement, Position}
 use Rattle.etcs_radio.specs.Required.{has_authority, has_report}
 use Rattle.etcs_radio.specs.declared.train_packet.TrainPacket.{TrainPacket}
+use Rattle.etcs_json.specs.Chosen.{BehindNumber, behind}
 use Rattle.etcs_json.specs.Listed.{checked, listed}
 use Rattle.etcs_json.specs.Report.{identity}
-use Rattle.etcs_json.specs.Shape.{Object, Part, Shape, fixed, key, named, ◌then◌}
+use Rattle.etcs_json.specs.Shape.{Part, Shape, key, named, ◌then◌}
 use Rattle.etcs_json.specs.Variables.{flag, number}
 
 -- the packets of a message, any number of them; without the packet that its kind has to hold they are
@@ -18,27 +19,20 @@ abbrev pub packets : {X : Type 0} → (List X → Bool) → Shape X → Part (Li
 packets has packet = key (codes "packets") (checked has (listed packet))
 
 -- message 3: a packet 15 is among its packets
-unfoldable pub movement : Shape TrackPacket → Object Movement
-movement packet = record {
-  apart = refl;
-  part =
-      named
-      (λ p. record { time = p.1.0; ack = p.1.1.0; lrbg = p.1.1.1.0; packets = p.1.1.1.1 })
-      (λ m. (tt, (m.time, (m.ack, (m.lrbg, m.packets)))))
-      (λ _. refl)
-      (fixed (codes "nid_message") 3 then key (codes "t_train") (number 32) then key (codes "m_ack") flag
-      then identity (codes "nid_c") (codes "nid_bg") then packets has_authority packet);
-}
+unfoldable pub movement : Shape TrackPacket → BehindNumber (codes "nid_message") 3 Movement
+movement packet =
+    behind (named
+    (λ p. record { time = p.0; ack = p.1.0; lrbg = p.1.1.0; packets = p.1.1.1 })
+    (λ m. (m.time, (m.ack, (m.lrbg, m.packets))))
+    (λ _. refl)
+    (key (codes "t_train") (number 32) then key (codes "m_ack") flag then identity (codes "nid_c") (codes "nid_bg")
+    then packets has_authority packet)) refl
 
 -- message 136: a packet 0 or 1 is among its packets
-unfoldable pub position : Shape TrainPacket → Object Position
-position packet = record {
-  apart = refl;
-  part =
-      named
-      (λ p. record { time = p.1.0; engine = p.1.1.0; packets = p.1.1.1 })
-      (λ m. (tt, (m.time, (m.engine, m.packets))))
-      (λ _. refl)
-      (fixed (codes "nid_message") 136 then key (codes "t_train") (number 32) then key (codes "nid_engine") (number 24)
-      then packets has_report packet);
-}
+unfoldable pub position : Shape TrainPacket → BehindNumber (codes "nid_message") 136 Position
+position packet =
+    behind (named
+    (λ p. record { time = p.0; engine = p.1.0; packets = p.1.1 })
+    (λ m. (m.time, (m.engine, m.packets)))
+    (λ _. refl)
+    (key (codes "t_train") (number 32) then key (codes "nid_engine") (number 24) then packets has_report packet)) refl

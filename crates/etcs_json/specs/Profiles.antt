@@ -15,18 +15,19 @@ use Rattle.etcs_profile.specs.declared.gradient.GradientElement.{GradientElement
 use Rattle.etcs_profile.specs.declared.linking.Link.{Link}
 use Rattle.etcs_profile.specs.declared.speed.Difference.{Difference}
 use Rattle.etcs_profile.specs.declared.speed.SpeedElement.{SpeedElement}
-use Rattle.etcs_json.specs.Shape.{Object, Part, Shape, closed, fixed, key, key_if, list, list_from_one, named, object, within, ◌then◌}
-use Rattle.etcs_json.specs.Variables.{direction, flag, number, ranges, scale}
+use Rattle.etcs_json.specs.Chosen.{behind}
+use Rattle.etcs_json.specs.Head.{Packet, headed}
+use Rattle.etcs_json.specs.Shape.{Object, Part, Shape, closed, key, key_if, list, list_from_one, named, object, within, ◌then◌}
+use Rattle.etcs_json.specs.Variables.{flag, number, ranges}
 
--- packet k with a list of elements at this key; it is refused where it has more than 8,191 bits
-abbrev pub profile : {X : Type 0} → ℕ → List ℕ → Format X → Shape X → Part (Dir × Profile X)
-profile k name layout element = within (λ p. nat_le (23 + width ((elements layout).rows p.1)) 8191) (
+-- a packet with a list of elements at this key; it is refused where it has more than 8,191 bits
+abbrev pub profile : {X : Type 0} → List ℕ → Format X → Shape X → Part (Dir × Profile X)
+profile name layout element = within (λ p. nat_le (23 + width ((elements layout).rows p.1)) 8191) (
     named
-    (λ p. (p.1.0, profile_of p.1.1.0 p.1.1.1.0 p.1.1.1.1))
-    (λ p. (tt, (p.0, (p.1.scale, (p.1.first, p.1.further)))))
+    (λ p. (p.0, profile_of p.1.0 p.1.1.0 p.1.1.1))
+    (λ p. (p.0, (p.1.scale, (p.1.first, p.1.further))))
     (λ _. refl)
-    (fixed (codes "nid_packet") k then key (codes "q_dir") direction then key (codes "q_scale") scale
-    then key name (list_from_one 32 element)))
+    (headed (key name (list_from_one 32 element))))
 
 -- a balise group ahead; its country is there only if it is a new one
 unfoldable pub link : Object Link
@@ -39,8 +40,8 @@ link =
     then key (codes "q_linkorientation") flag then key (codes "q_linkreaction") (ranges 2 2 4) then key (codes "q_locacc") (number 6))) refl
 
 -- packet 5
-unfoldable pub linking : Object (Dir × Profile Link)
-linking = closed (profile 5 (codes "links") link_layout (object link)) refl
+unfoldable pub linking : Packet 5 (Dir × Profile Link)
+linking = behind (profile (codes "links") link_layout (object link)) refl
 
 -- a gradient, and the place where it begins
 unfoldable pub gradient_element : Object GradientElement
@@ -52,8 +53,8 @@ gradient_element =
     (key (codes "d_gradient") (number 15) then key (codes "q_gdir") flag then key (codes "g_a") (number 8))) refl
 
 -- packet 21
-unfoldable pub gradient : Object (Dir × Profile GradientElement)
-gradient = closed (profile 21 (codes "elements") gradient_layout (object gradient_element)) refl
+unfoldable pub gradient : Packet 21 (Dir × Profile GradientElement)
+gradient = behind (profile (codes "elements") gradient_layout (object gradient_element)) refl
 
 -- another speed for some trains
 unfoldable pub difference : Object Difference
@@ -75,5 +76,5 @@ speed_element =
     then key (codes "differences") (list 0 31 (object difference)))) refl
 
 -- packet 27
-unfoldable pub speed_profile : Object (Dir × Profile SpeedElement)
-speed_profile = closed (profile 27 (codes "elements") speed_layout (object speed_element)) refl
+unfoldable pub speed_profile : Packet 27 (Dir × Profile SpeedElement)
+speed_profile = behind (profile (codes "elements") speed_layout (object speed_element)) refl

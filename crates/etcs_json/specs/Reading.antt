@@ -11,6 +11,10 @@ abbrev pub ◌>>=◌ : {A B : Type 0} → Result A Fault → (A → Result B Fau
 (Ok x) >>= f = f x
 (Err e) >>= f = Err e
 
+-- what is read, as one of several kinds
+abbrev pub as_kind : {A X : Type 0} → (A → X) → Result A Fault → Result X Fault
+as_kind kind r = r >>= λ a. Ok (kind a)
+
 -- ---- one value
 
 abbrev pub allowed_or : (ℕ → Bool) → Option ℕ → Result ℕ Fault

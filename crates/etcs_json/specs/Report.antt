@@ -2,19 +2,20 @@
 -- standard names its variable, in small letters. The standard has the identity of a group as one
 -- variable, NID_LRBG or NID_PRVLRBG. Here its country and its number are two keys. Keys are in the order
 -- in which they are looked for.
-use Rattle.std.specs.Prelude.{◌≡◌, ◌==◌, ◌||◌, ℕ, Bool, List, Option, Some, None, codes, if◌then◌else◌, is_some, refl}
+use Rattle.std.specs.Prelude.{◌≡◌, ◌==◌, ◌||◌, ◌⊎◌, ℕ, Bool, List, Option, Some, None, codes, if◌then◌else◌, is_some, refl}
 use Rattle.etcs_bits.specs.declared.variables.identity.Identity.{Identity}
+use Rattle.etcs_bits.specs.declared.variables.level.Level.{Level}
 use Rattle.etcs_bits.specs.variables.Variables.{plain}
+use Rattle.etcs_radio.specs.Report.{Situation, WithOne, WithTwo, again, numbered_of, report_of}
 use Rattle.etcs_radio.specs.Train3.{train3_names, train3_number, train3_of, train3_variable}
 use Rattle.etcs_radio.specs.declared.integrity.Integrity.{Integrity}
 use Rattle.etcs_radio.specs.declared.integrity.Integrity.TheVariants as lengths
+use Rattle.etcs_radio.specs.declared.report.Report.{Report}
 use Rattle.etcs_radio.specs.declared.train3.Train3.{Train3}
-use Rattle.etcs_json.specs.declared.packets.report_form.Place.{Place}
-use Rattle.etcs_json.specs.declared.packets.report_form.State.{State}
-use Rattle.etcs_json.specs.declared.packets.report_form.WithOne.{WithOne}
-use Rattle.etcs_json.specs.declared.packets.report_form.WithTwo.{WithTwo}
 use Rattle.etcs_json.specs.Choice.{decided}
-use Rattle.etcs_json.specs.Shape.{Object, Part, Shape, fixed, key, named, ◌then◌}
+use Rattle.etcs_json.specs.Chosen.{Choice, behind, chosen, either, last}
+use Rattle.etcs_json.specs.Head.{Packet}
+use Rattle.etcs_json.specs.Shape.{Part, Shape, key, named, renamed, ◌then◌}
 use Rattle.etcs_json.specs.Transition.{level}
 use Rattle.etcs_json.specs.Variables.{is_allowed, named_numbers, number, scale}
 
@@ -74,52 +75,39 @@ integrity = decided (codes "q_length") (is_allowed (plain 2)) is_confirmed (code
 
 -- ---- the members behind the groups
 
--- where the train is, as seen from the group
-unfoldable pub place : Part Place
-place =
-    named
-    (λ p. record { distance = p.0; orientation = p.1.0; side = p.1.1.0; doubt_over = p.1.1.1.0; doubt_under = p.1.1.1.1 })
-    (λ s. (s.distance, (s.orientation, (s.side, (s.doubt_over, s.doubt_under)))))
-    (λ _. refl)
-    (key (codes "d_lrbg") (number 15) then key (codes "q_dirlrbg") side then key (codes "q_dlrbg") side
-    then key (codes "l_doubtover") (number 15) then key (codes "l_doubtunder") (number 15))
-
 -- whether the train is whole, how it runs, and in which mode and level
+abbrev pub State : Type 0
+State = Integrity × (ℕ × (Train3 × (ℕ × Level)))
+
 unfoldable pub state : Part State
 state =
-    named
-    (λ p. record { length = p.0; speed = p.1.0; running = p.1.1.0; mode = p.1.1.1.0; level = p.1.1.1.1 })
-    (λ s. (s.length, (s.speed, (s.running, (s.mode, s.level)))))
-    (λ _. refl)
-    (integrity then key (codes "v_train") (number 7) then key (codes "q_dirtrain") side then key (codes "m_mode") (number 4)
-    then level (codes "m_level"))
+    integrity then key (codes "v_train") (number 7) then key (codes "q_dirtrain") side then key (codes "m_mode") (number 4)
+    then level (codes "m_level")
+
+-- where the train is, as seen from the group, and its state
+unfoldable pub situation : Part Situation
+situation =
+    key (codes "d_lrbg") (number 15) then key (codes "q_dirlrbg") side then key (codes "q_dlrbg") side
+    then key (codes "l_doubtover") (number 15) then key (codes "l_doubtunder") (number 15) then state
 
 -- ---- the packets
 
 -- packet 0
-unfoldable pub with_one : Object WithOne
-unfolding place state
-with_one = record {
-  apart = refl;
-  part =
-      named
-      (λ p. record { scale = p.1.0; lrbg = p.1.1.0; place = p.1.1.1.0; state = p.1.1.1.1 })
-      (λ r. (tt, (r.scale, (r.lrbg, (r.place, r.state)))))
-      (λ _. refl)
-      (fixed (codes "nid_packet") 0 then key (codes "q_scale") scale then identity (codes "nid_c") (codes "nid_bg")
-      then place then state);
-}
+unfoldable pub with_one : Packet 0 WithOne
+unfolding situation state
+with_one = behind (key (codes "q_scale") scale then identity (codes "nid_c") (codes "nid_bg") then situation) refl
 
 -- packet 1: the group before stands behind the group
-unfoldable pub with_two : Object WithTwo
-unfolding place state
-with_two = record {
-  apart = refl;
-  part =
-      named
-      (λ p. record { scale = p.1.0; lrbg = p.1.1.0; previous = p.1.1.1.0; place = p.1.1.1.1.0; state = p.1.1.1.1.1 })
-      (λ r. (tt, (r.scale, (r.lrbg, (r.previous, (r.place, r.state))))))
-      (λ _. refl)
-      (fixed (codes "nid_packet") 1 then key (codes "q_scale") scale then identity (codes "nid_c") (codes "nid_bg")
-      then identity (codes "prv_nid_c") (codes "prv_nid_bg") then place then state);
-}
+unfoldable pub with_two : Packet 1 WithTwo
+unfolding situation state
+with_two =
+    behind (key (codes "q_scale") scale then identity (codes "nid_c") (codes "nid_bg")
+    then identity (codes "prv_nid_c") (codes "prv_nid_bg") then situation) refl
+
+-- packet 0 or 1
+abbrev pub either_report : Choice (codes "nid_packet") (WithOne ⊎ WithTwo)
+either_report = either with_one (last with_two) refl
+
+-- a position report; NID_PACKET is looked at first
+unfoldable pub report : Shape Report
+report = renamed report_of numbered_of again (chosen (codes "nid_packet") (is_allowed (plain 1)) either_report)

@@ -8,7 +8,7 @@ use Rattle.serde_json.specs.Data.{Data, Items, item, no_items, array, number, un
 use Rattle.etcs_json.specs.Entries.{Entry, keys_of, object_of, are_apart, Holds}
 use Rattle.etcs_json.specs.EntryLemmas.{object_holds, object_known, holds_parts, keys_of-append}
 use Rattle.etcs_json.specs.Fault.{Fault, key as key_step, under, here}
-use Rattle.etcs_json.specs.Reading.{◌>>=◌, number_of, items_at, data_list, list_of, object_with, at_key, key_or, at_key_if, option_or, as_some}
+use Rattle.etcs_json.specs.Reading.{◌>>=◌, number_of, items_at, data_list, list_of, object_with, at_key, key_or, at_key_if, option_or, as_kind, as_some}
 use Rattle.etcs_json.specs.Fault.{Range}
 
 -- a value
@@ -48,6 +48,15 @@ names allowed tag of is_allowed again = record {
   of = λ d. number_of allowed d >>= λ n. Ok (of n);
   fits = λ _. true;
   again = λ x _. ap (λ r. r >>= λ n. Ok (of n)) (number_again allowed (tag x) (is_allowed x)) ∙ ap Ok (again x);
+}
+
+-- the same form for other values, of which each is one of these
+abbrev pub renamed : {X Y : Type 0} (make : X → Y) (parts : Y → X) → ((y : Y) → make (parts y) ≡ y) → Shape X → Shape Y
+renamed make parts same s = record {
+  to = λ y. s.to (parts y);
+  of = λ d. as_kind make (s.of d);
+  fits = λ y. s.fits (parts y);
+  again = λ y fits. ap (as_kind make) (s.again (parts y) fits) ∙ ap Ok (same y);
 }
 
 -- the items, each in its form

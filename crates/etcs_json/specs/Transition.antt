@@ -9,8 +9,10 @@ use Rattle.etcs_bits.specs.variables.Variables.{ranged}
 use Rattle.etcs_profile.specs.Transition.{Orders, orders}
 use Rattle.etcs_profile.specs.declared.transition.LevelOrder.{LevelOrder}
 use Rattle.etcs_json.specs.Choice.{decided}
-use Rattle.etcs_json.specs.Shape.{Object, Part, closed, fixed, key, list_from_one, named, object, ◌then◌}
-use Rattle.etcs_json.specs.Variables.{direction, is_allowed, number, scale}
+use Rattle.etcs_json.specs.Chosen.{behind}
+use Rattle.etcs_json.specs.Head.{Packet, headed}
+use Rattle.etcs_json.specs.Shape.{Object, Part, closed, key, list_from_one, named, object, ◌then◌}
+use Rattle.etcs_json.specs.Variables.{is_allowed, number}
 
 -- the national system of level NTC
 abbrev pub national_system : Level → Option ℕ
@@ -53,11 +55,10 @@ level_order =
     (level (codes "m_leveltr") then key (codes "l_ackleveltr") (number 15))) refl
 
 -- packet 41
-unfoldable pub transition : Object (Dir × Orders)
+unfoldable pub transition : Packet 41 (Dir × Orders)
 transition =
-    closed (named
-    (λ p. (p.1.0, orders p.1.1.0 p.1.1.1.0 p.1.1.1.1.0 p.1.1.1.1.1))
-    (λ p. (tt, (p.0, (p.1.scale, (p.1.d_leveltr, (p.1.first, p.1.further))))))
+    behind (named
+    (λ p. (p.0, orders p.1.0 p.1.1.0 p.1.1.1.0 p.1.1.1.1))
+    (λ p. (p.0, (p.1.scale, (p.1.d_leveltr, (p.1.first, p.1.further)))))
     (λ _. refl)
-    (fixed (codes "nid_packet") 41 then key (codes "q_dir") direction then key (codes "q_scale") scale
-    then key (codes "d_leveltr") (number 15) then key (codes "transitions") (list_from_one 32 (object level_order)))) refl
+    (headed (key (codes "d_leveltr") (number 15) then key (codes "transitions") (list_from_one 32 (object level_order))))) refl

@@ -1,7 +1,7 @@
 //! The form of a radio message, whose number decides it.
 
 ghost use Rattle.std.specs.Prelude.{codes, IsOk};
-ghost use Rattle.etcs_json.specs.AnyMessage.{is_message};
+ghost use Rattle.etcs_json.specs.AnyMessage.{is_message, number_by};
 ghost use Rattle.etcs_json.specs.Chosen.{any_object, first_at};
 ghost use Rattle.etcs_json.specs.Fault.{Gives, IfMemory};
 ghost use Rattle.etcs_json.specs.Reading.{at_key, number_of};
@@ -17,16 +17,16 @@ use json::Writer;
 use serde_json::Value;
 use std::alloc::Global;
 
-// Reads the number of a message: 3 or 136.
+// Whether a number is that of message 3. The other number that is allowed is 136.
 #[tactic(auto, unfolding(crate::specs::Reading::number_of))]
-fn number_in<N: Node>(alloc: Global, node: &N) -> Result<u64, FormError>
-    ensures { Gives (λ n. n) result (number_of is_message (N.shows node.now)) }
+fn is_three<N: Node>(alloc: Global, node: &N) -> Result<bool, FormError>
+    ensures { Gives number_by result (number_of is_message (N.shows node.now)) }
 {
     match node.number() {
         None => Err(FormError::kind(alloc)),
         Some(number) => {
             if number == 3 || number == 136 {
-                Ok(number)
+                Ok(number == 3)
             } else {
                 Err(FormError::range(alloc))
             }
@@ -34,26 +34,27 @@ fn number_in<N: Node>(alloc: Global, node: &N) -> Result<u64, FormError>
     }
 }
 
-// Reads the member `nid_message`.
+// Whether the member `nid_message` is that of message 3.
 #[tactic(auto, using(crate::proofs::Objects::member_read))]
-fn read_number<N: Node>(alloc: Global, node: &N) -> Result<u64, FormError>
-    ensures { Gives (λ n. n) result
+fn has_three<N: Node>(alloc: Global, node: &N) -> Result<bool, FormError>
+    ensures { Gives number_by result
         (at_key (number_of is_message) (codes "nid_message") (N.shows node.now)) }
 {
     let found = member(alloc, node, "nid_message")?;
-    under("nid_message", number_in(alloc, &found))
+    under("nid_message", is_three(alloc, &found))
 }
 
-// Reads the number before the other keys are looked at.
-fn read_first_number<N: Node>(alloc: Global, node: &N) -> Result<u64, FormError>
-    ensures first { Gives (λ n. n) result
+// Whether a form is that of message 3, before its other keys are looked at.
+fn is_movement<N: Node>(alloc: Global, node: &N) -> Result<bool, FormError>
+    ensures first { Gives number_by result
         (first_at (number_of is_message) (codes "nid_message") (N.shows node.now)) }
     ensures memory { IfMemory result (IsOk (any_object (N.shows node.now))) }
 {
     check_object(alloc, node)?;
-    read_number(alloc, node)
+    has_three(alloc, node)
 }
 
+#[tactic(auto, unfolding(crate::specs::AnyMessage::message))]
 impl Form for Message {
     ghost use Rattle.etcs_json.specs.AnyMessage.{message};
 
@@ -76,8 +77,7 @@ impl Form for Message {
     }
 
     fn of_node<N: Node>(alloc: Global, node: &N) -> Result<Self, FormError> {
-        let number = read_first_number(alloc, node)?;
-        if number == 3 {
+        if is_movement(alloc, node)? {
             Ok(Message::Movement(Form::of_node(alloc, node)?))
         } else {
             Ok(Message::Position(Form::of_node(alloc, node)?))
@@ -85,6 +85,7 @@ impl Form for Message {
     }
 }
 
+#[tactic(auto, unfolding(crate::specs::AnyMessage::message))]
 impl InPieces for Message {
     fn send(&self, out: &mut Writer) -> Result<(), Memory> {
         match self {

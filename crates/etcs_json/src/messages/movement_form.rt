@@ -12,10 +12,11 @@ use etcs_radio::MovementMessage;
 use std::alloc::Global;
 
 impl Record for MovementMessage {
+    ghost use Rattle.etcs_json.specs.Chosen.{with_number};
     ghost use Rattle.etcs_json.specs.Messages.{movement};
     ghost use Rattle.etcs_json.specs.TrackPackets.{track_packet};
 
-    ghost object = { movement track_packet };
+    ghost object = { with_number (movement track_packet) };
 }
 
 #[tactic(auto, unfolding(crate::specs::Messages::movement))]

@@ -11,10 +11,11 @@ use etcs_radio::PositionMessage;
 use std::alloc::Global;
 
 impl Record for PositionMessage {
+    ghost use Rattle.etcs_json.specs.Chosen.{with_number};
     ghost use Rattle.etcs_json.specs.Messages.{position};
     ghost use Rattle.etcs_json.specs.TrainPackets.{train_packet};
 
-    ghost object = { position train_packet };
+    ghost object = { with_number (position train_packet) };
 }
 
 #[tactic(auto, unfolding(crate::specs::Messages::position))]

@@ -15,23 +15,26 @@ fn has_minus(text: &[u8]) -> bool
     !text.is_empty() && text[0] == b'-'
 }
 
-// From here on a number may be too great with one digit more.
-const MANY: u64 = 1_000_000_000_000_000_000;
+// So many digits always fit in 64 bits.
+const FEW: usize = 19;
 
-// The number that plain digits are. None says nothing.
+// The number that a few plain digits are. None says nothing.
 fn plain_number(text: &[u8]) -> Option<u64>
     ensures { IfSome result
         (λ n. IsNumeral 10 text.now × (digits_value 10 text.now ≡ n) × (n < 2 ^ 64)) }
 {
+    if text.is_empty() || FEW < text.len() {
+        return None;
+    }
     let mut number = 0u64;
     'digits: for byte in text {
         let byte = *byte;
-        if byte < b'0' || byte > b'9' || number >= MANY {
+        if byte < b'0' || byte > b'9' {
             return None;
         }
         number = number * 10 + u64::from(byte - b'0');
     }
-    if text.is_empty() { None } else { Some(number) }
+    Some(number)
 }
 
 /// The number that a text is, where it is a whole one of at most 64 bits and has no sign.

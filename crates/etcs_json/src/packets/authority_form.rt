@@ -1,27 +1,32 @@
 //! The forms of movement authorities, packets 12 and 15.
 
 ghost use Rattle.std.specs.Prelude.{◌≡◌, OnOk};
-ghost use Rattle.etcs_profile.specs.Authority.{authority_number};
-ghost use Rattle.etcs_json.specs.Authority.{with_main, with_main_of, without_main, without_main_of};
-ghost use Rattle.etcs_json.specs.AuthoritySending.{first_members, last_members};
+ghost use Rattle.etcs_profile.specs.Authority.{authority_number, permission_of};
+ghost use Rattle.etcs_json.specs.Authority.{either_authority, with_main, without_main};
+ghost use Rattle.etcs_json.specs.AuthoritySending.{first_members, last_members, sent_members};
+ghost use Rattle.etcs_json.specs.Chosen.{with_number};
 ghost use Rattle.etcs_json.specs.Fault.{Gives};
-ghost use Rattle.etcs_json.specs.Reading.{object_with};
+ghost use Rattle.etcs_json.specs.Reading.{as_kind, object_with};
 
 use crate::error::FormError;
 use crate::form::{Form, InPieces};
 use crate::node::Node;
 use crate::node::known_keys::check_keys;
-use crate::node::reading::{read_first, read_key};
-use crate::packets::head_form::read_head;
-use crate::packets::terms_form::{authority_of, read_terms};
+use crate::node::reading::{read_first, read_fixed, read_key};
+use crate::packets::terms_form::{Terms, authority_of, read_terms};
 use crate::record::stay_allowed;
 use crate::writing::Sink;
 use crate::writing::building::NewObject;
-use etcs_bits::{Memory, Ranged};
+use etcs_bits::{Dir, Memory, Ranged, Scale, Speed};
 use etcs_profile::Authority;
 use json::Writer;
 use serde_json::Value;
 use std::alloc::Global;
+
+// What follows the number in packet 12, and in packet 15.
+type WithMain = (Dir, (Scale, (Speed, Terms)));
+
+type WithoutMain = (Dir, (Scale, Terms));
 
 // NID_PACKET: 12 if the authority has V_MAIN, else 15.
 fn packet_number(authority: &Authority) -> u64
@@ -61,10 +66,18 @@ fn send_last<S: Sink>(out: &mut S, authority: &Authority) -> Result<(), Memory>
     Ok(())
 }
 
+// Sends all members.
+fn send_authority<S: Sink>(out: &mut S, authority: &Authority) -> Result<(), Memory>
+    ensures { OnOk result (S.takes (sent_members authority.now) out.old out.new) }
+{
+    send_first(out, authority)?;
+    send_last(out, authority)
+}
+
 // Refuses what is no object, and an object with a key that packet 12 does not have.
 #[tactic(auto, unfolding(crate::specs::Authority::with_main, crate::specs::Authority::terms, crate::specs::Authority::end_parts))]
 fn check_keys_with_main<N: Node>(alloc: Global, node: &N) -> Result<(), FormError>
-    ensures { Gives (λ u. u) result (object_with with_main.part.keys (N.shows node.now)) }
+    ensures { Gives (λ u. u) result (object_with (with_number with_main).part.keys (N.shows node.now)) }
 {
     check_keys(
         alloc,
@@ -89,7 +102,7 @@ fn check_keys_with_main<N: Node>(alloc: Global, node: &N) -> Result<(), FormErro
 // Refuses what is no object, and an object with a key that packet 15 does not have.
 #[tactic(auto, unfolding(crate::specs::Authority::without_main, crate::specs::Authority::terms, crate::specs::Authority::end_parts))]
 fn check_keys_without_main<N: Node>(alloc: Global, node: &N) -> Result<(), FormError>
-    ensures { Gives (λ u. u) result (object_with without_main.part.keys (N.shows node.now)) }
+    ensures { Gives (λ u. u) result (object_with (with_number without_main).part.keys (N.shows node.now)) }
 {
     check_keys(
         alloc,
@@ -110,26 +123,48 @@ fn check_keys_without_main<N: Node>(alloc: Global, node: &N) -> Result<(), FormE
     )
 }
 
-/// Reads the form of packet 12.
+// Reads the members of packet 12.
 #[tactic(auto, unfolding(crate::specs::Authority::with_main))]
-pub(crate) fn read_with_main<N: Node>(alloc: Global, node: &N) -> Result<Authority, FormError>
-    ensures { Gives (λ a. a) result (with_main_of (N.shows node.now)) }
+fn read_main_and_terms<N: Node>(alloc: Global, node: &N) -> Result<WithMain, FormError>
+    ensures { Gives (λ p. p) result ((with_number with_main).part.of (N.shows node.now)) }
 {
-    check_keys_with_main(alloc, node)?;
-    let (dir, scale) = read_head(alloc, node, 12)?;
+    read_fixed(alloc, node, "nid_packet", 12)?;
+    let dir = read_key(alloc, node, "q_dir")?;
+    let scale = read_key(alloc, node, "q_scale")?;
     let main = read_key(alloc, node, "v_main")?;
     let terms = read_terms(alloc, node)?;
+    Ok((dir, (scale, (main, terms))))
+}
+
+// Reads the members of packet 15.
+#[tactic(auto, unfolding(crate::specs::Authority::without_main))]
+fn read_terms_alone<N: Node>(alloc: Global, node: &N) -> Result<WithoutMain, FormError>
+    ensures { Gives (λ p. p) result ((with_number without_main).part.of (N.shows node.now)) }
+{
+    read_fixed(alloc, node, "nid_packet", 15)?;
+    let dir = read_key(alloc, node, "q_dir")?;
+    let scale = read_key(alloc, node, "q_scale")?;
+    let terms = read_terms(alloc, node)?;
+    Ok((dir, (scale, terms)))
+}
+
+/// Reads packet 12.
+pub(crate) fn read_with_main<N: Node>(alloc: Global, node: &N) -> Result<Authority, FormError>
+    ensures { Gives (λ a. a) result
+        (as_kind permission_of (either_authority.of 12 (N.shows node.now))) }
+{
+    check_keys_with_main(alloc, node)?;
+    let (dir, (scale, (main, terms))) = read_main_and_terms(alloc, node)?;
     Ok(authority_of(dir, scale, Some(main), terms))
 }
 
-/// Reads the form of packet 15.
-#[tactic(auto, unfolding(crate::specs::Authority::without_main))]
+/// Reads packet 15.
 pub(crate) fn read_without_main<N: Node>(alloc: Global, node: &N) -> Result<Authority, FormError>
-    ensures { Gives (λ a. a) result (without_main_of (N.shows node.now)) }
+    ensures { Gives (λ a. a) result
+        (as_kind permission_of (either_authority.of 15 (N.shows node.now))) }
 {
     check_keys_without_main(alloc, node)?;
-    let (dir, scale) = read_head(alloc, node, 15)?;
-    let terms = read_terms(alloc, node)?;
+    let (dir, (scale, terms)) = read_terms_alone(alloc, node)?;
     Ok(authority_of(dir, scale, None, terms))
 }
 
@@ -147,8 +182,7 @@ impl Form for Authority {
         // For the proof alone: what is written is read again.
         stay_allowed(self);
         let mut out = NewObject::new(alloc);
-        send_first(&mut out, self)?;
-        send_last(&mut out, self)?;
+        send_authority(&mut out, self)?;
         Ok(out.into_value())
     }
 
@@ -165,8 +199,7 @@ impl Form for Authority {
 impl InPieces for Authority {
     fn send(&self, out: &mut Writer) -> Result<(), Memory> {
         out.begin_object()?;
-        send_first(out, self)?;
-        send_last(out, self)?;
+        send_authority(out, self)?;
         out.end_object()?;
         Ok(())
     }

@@ -15,7 +15,7 @@ impl Record for CoverMarker {
     ghost object = { cover_marker };
 }
 
-#[tactic(auto, unfolding(crate::specs::Cover::cover_marker))]
+#[tactic(auto, unfolding(crate::specs::Cover::cover_marker, crate::specs::Cover::cover))]
 impl Members for CoverMarker {
     fn keys() -> &'static [&'static str] {
         &["nid_packet", "nid_vbcmk"]

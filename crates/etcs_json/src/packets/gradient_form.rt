@@ -2,7 +2,7 @@
 
 use crate::error::FormError;
 use crate::node::Node;
-use crate::node::reading::read_key;
+use crate::node::reading::{read_fixed, read_key};
 use crate::packets::profile_form::{read_profile, send_profile};
 use crate::record::{Members, Record, stay_allowed};
 use crate::writing::Sink;
@@ -43,9 +43,10 @@ impl Members for GradientElement {
 }
 
 impl Record for Gradient {
+    ghost use Rattle.etcs_json.specs.Chosen.{with_number};
     ghost use Rattle.etcs_json.specs.Profiles.{gradient};
 
-    ghost object = { gradient };
+    ghost object = { with_number gradient };
 }
 
 #[tactic(auto, unfolding(crate::specs::Profiles::gradient))]
@@ -59,6 +60,7 @@ impl Members for Gradient {
     }
 
     fn of_members<N: Node>(alloc: Global, node: &N) -> Result<Self, FormError> {
+        read_fixed(alloc, node, "nid_packet", 21)?;
         read_profile(alloc, node, "elements")
     }
 

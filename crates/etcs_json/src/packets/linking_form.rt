@@ -2,7 +2,7 @@
 
 use crate::error::FormError;
 use crate::node::Node;
-use crate::node::reading::{read_key, read_key_if};
+use crate::node::reading::{read_fixed, read_key, read_key_if};
 use crate::packets::profile_form::{read_profile, send_profile};
 use crate::record::{Members, Record, stay_allowed};
 use crate::writing::Sink;
@@ -56,9 +56,10 @@ impl Members for Link {
 }
 
 impl Record for Linking {
+    ghost use Rattle.etcs_json.specs.Chosen.{with_number};
     ghost use Rattle.etcs_json.specs.Profiles.{linking};
 
-    ghost object = { linking };
+    ghost object = { with_number linking };
 }
 
 #[tactic(auto, unfolding(crate::specs::Profiles::linking))]
@@ -72,6 +73,7 @@ impl Members for Linking {
     }
 
     fn of_members<N: Node>(alloc: Global, node: &N) -> Result<Self, FormError> {
+        read_fixed(alloc, node, "nid_packet", 5)?;
         read_profile(alloc, node, "links")
     }
 

@@ -13,7 +13,7 @@ ghost use Rattle.etcs_json.specs.Variables.{direction, scale};
 use crate::error::FormError;
 use crate::form::{Form, InPieces};
 use crate::node::Node;
-use crate::node::reading::{read_first_and_at, read_fixed, read_key};
+use crate::node::reading::{read_first_and_at, read_key};
 use crate::writing::Sink;
 use etcs_bits::{Dir, Layout, Memory, Scale};
 use etcs_profile::{Elements, Packet};
@@ -60,16 +60,15 @@ fn packet_of<const N: u32, T: Form + Layout>(
     }
 }
 
-/// Reads the members of a packet of elements.
+/// Reads the members of a packet of elements behind its number.
 pub(crate) fn read_profile<const K: u32, T: Form + Layout, N: Node>(
     alloc: Global,
     node: &N,
     name: &'static str,
 ) -> Result<Packet<K, Elements<T>>, FormError>
     requires { (d : Data) → (x : T) → T.shape.of d ≡ Ok x → T.fit x }
-    ensures { Gives (λ p. p) result ((profile K name.now T.format T.shape).of (N.shows node.now)) }
+    ensures { Gives (λ p. p) result ((profile name.now T.format T.shape).of (N.shows node.now)) }
 {
-    read_fixed(alloc, node, "nid_packet", u64::from(K))?;
     let dir = read_key(alloc, node, "q_dir")?;
     let scale = read_key(alloc, node, "q_scale")?;
     let (first, further) = read_first_and_at(alloc, node, name, 32)?;

@@ -1,78 +1,39 @@
-//! The forms of position reports, train packets 0 and 1.
+//! The form of position reports, train packets 0 and 1.
 
-ghost use Rattle.std.specs.Prelude.{◌≡◌, OnOk};
+ghost use Rattle.std.specs.Prelude.{◌≡◌, OnOk, option_map};
+ghost use Rattle.etcs_radio.specs.Report.{report_of, report_with as what_is_with};
+ghost use Rattle.etcs_json.specs.Chosen.{with_number};
 ghost use Rattle.etcs_json.specs.Fault.{Gives};
-ghost use Rattle.etcs_json.specs.Report.{identity, place, state};
-ghost use Rattle.etcs_json.specs.ReportRuns.{first_run, previous_run, second_run, third_run};
+ghost use Rattle.etcs_json.specs.Reading.{as_kind, object_with};
+ghost use Rattle.etcs_json.specs.Report.{either_report, identity, situation, state, with_one, with_two};
+ghost use Rattle.etcs_json.specs.ReportSending.{first_members, last_members, middle_members, sent_members};
 
 use crate::error::FormError;
+use crate::form::{Form, InPieces};
 use crate::node::Node;
-use crate::node::reading::{read_fixed, read_key};
+use crate::node::known_keys::check_keys;
+use crate::node::reading::{read_first, read_fixed, read_key};
 use crate::packets::integrity_form::{confirmed_length, length_number, read_integrity};
 use crate::packets::level_form::{national_system_of, read_level};
-use crate::record::{Members, Record};
+use crate::record::stay_allowed;
 use crate::writing::Sink;
+use crate::writing::building::NewObject;
 use etcs_bits::{Country, Distance, GroupNumber, Identity, Level, Memory, Plain, Scale};
-use etcs_radio::{Integrity, Train3};
+use etcs_radio::{Integrity, Report, Train3};
+use json::Writer;
+use serde_json::Value;
 use std::alloc::Global;
 
-/// Where a train is, as seen from the group that its report refers to.
-#[derive(Clone, Copy, Debug, PartialEq, Eq)]
-pub(crate) struct Place {
-    /// D_LRBG: from the group to the train's estimated front.
-    pub(crate) distance: Distance,
-    /// Q_DIRLRBG: how the train stands.
-    pub(crate) orientation: Train3,
-    /// Q_DLRBG: on which side of the group the train's front is.
-    pub(crate) side: Train3,
-    /// L_DOUBTOVER: how much nearer to the group the front may be.
-    pub(crate) doubt_over: Distance,
-    /// L_DOUBTUNDER: how much further from the group the front may be.
-    pub(crate) doubt_under: Distance,
-}
+// Whether a train is whole, how it runs, and in which mode and level.
+type State = (Integrity, (Plain<7>, (Train3, (Plain<4>, Level))));
 
-/// Whether a train is whole, how it runs, and in which mode and level.
-#[derive(Clone, Copy, Debug, PartialEq, Eq)]
-pub(crate) struct State {
-    /// Q_LENGTH and L_TRAININT: whether the train is whole, and its length.
-    pub(crate) length: Integrity,
-    /// V_TRAIN: the train's speed, in steps of 5 km/h.
-    pub(crate) speed: Plain<7>,
-    /// Q_DIRTRAIN: in which direction the train runs.
-    pub(crate) running: Train3,
-    /// M_MODE: the mode of the equipment on board.
-    pub(crate) mode: Plain<4>,
-    /// M_LEVEL and NID_NTC: the level in which the train runs.
-    pub(crate) level: Level,
-}
+// Where a train is, as seen from the group that its report refers to, and its state.
+type Situation = (Distance, (Train3, (Train3, (Distance, (Distance, State)))));
 
-/// A report with one group: packet 0.
-#[derive(Clone, Copy, Debug, PartialEq, Eq)]
-pub(crate) struct WithOne {
-    /// Q_SCALE: the unit of distances.
-    pub(crate) scale: Scale,
-    /// NID_LRBG: the group that the report refers to.
-    pub(crate) lrbg: Identity,
-    /// Where the train is.
-    pub(crate) place: Place,
-    /// How it runs.
-    pub(crate) state: State,
-}
+// What follows the number in packet 0, and in packet 1.
+type WithOne = (Scale, (Identity, Situation));
 
-/// A report with two groups: packet 1.
-#[derive(Clone, Copy, Debug, PartialEq, Eq)]
-pub(crate) struct WithTwo {
-    /// Q_SCALE: the unit of distances.
-    pub(crate) scale: Scale,
-    /// NID_LRBG: the group that the report refers to.
-    pub(crate) lrbg: Identity,
-    /// NID_PRVLRBG: the group before that one.
-    pub(crate) previous: Identity,
-    /// Where the train is.
-    pub(crate) place: Place,
-    /// How it runs.
-    pub(crate) state: State,
-}
+type WithTwo = (Scale, (Identity, (Identity, Situation)));
 
 // ---- reading
 
@@ -90,108 +51,69 @@ pub(crate) fn read_identity<N: Node>(
     Ok(Identity { country, group })
 }
 
-// Reads the members that say where a train is.
-#[tactic(auto, unfolding(crate::specs::Report::place))]
-fn read_place<N: Node>(alloc: Global, node: &N) -> Result<Place, FormError>
-    ensures { Gives (λ p. p) result (place.of (N.shows node.now)) }
-{
-    Ok(Place {
-        distance: read_key(alloc, node, "d_lrbg")?,
-        orientation: read_key(alloc, node, "q_dirlrbg")?,
-        side: read_key(alloc, node, "q_dlrbg")?,
-        doubt_over: read_key(alloc, node, "l_doubtover")?,
-        doubt_under: read_key(alloc, node, "l_doubtunder")?,
-    })
-}
-
 // Reads the members of a train's state.
 #[tactic(auto, unfolding(crate::specs::Report::state))]
 fn read_state<N: Node>(alloc: Global, node: &N) -> Result<State, FormError>
     ensures { Gives (λ s. s) result (state.of (N.shows node.now)) }
 {
-    Ok(State {
-        length: read_integrity(alloc, node)?,
-        speed: read_key(alloc, node, "v_train")?,
-        running: read_key(alloc, node, "q_dirtrain")?,
-        mode: read_key(alloc, node, "m_mode")?,
-        level: read_level(alloc, node, "m_level")?,
-    })
+    let length = read_integrity(alloc, node)?;
+    let speed = read_key(alloc, node, "v_train")?;
+    let running = read_key(alloc, node, "q_dirtrain")?;
+    let mode = read_key(alloc, node, "m_mode")?;
+    let level = read_level(alloc, node, "m_level")?;
+    Ok((length, (speed, (running, (mode, level)))))
 }
 
-// ---- sending
-// The text of an object has its members in the byte order of their keys. So the members of a report
-// are sent in three runs, and those of the group before stand between the second and the third.
-
-// Sends the members of the first run: distances and lengths, the level's number and the mode.
-fn send_first_run<S: Sink>(out: &mut S, place: &Place, state: &State) -> Result<(), Memory>
-    ensures { OnOk result (S.takes (first_run place.now state.now) out.old out.new) }
+// Reads the members behind the groups.
+#[tactic(auto, unfolding(crate::specs::Report::situation))]
+fn read_situation<N: Node>(alloc: Global, node: &N) -> Result<Situation, FormError>
+    ensures { Gives (λ s. s) result (situation.of (N.shows node.now)) }
 {
-    out.send_key("d_lrbg", &place.distance)?;
-    out.send_key("l_doubtover", &place.doubt_over)?;
-    out.send_key("l_doubtunder", &place.doubt_under)?;
-    out.send_key_if("l_trainint", &confirmed_length(state.length))?;
-    out.send_number("m_level", u64::from(state.level.number()))?;
-    out.send_key("m_mode", &state.mode)?;
-    Ok(())
+    let distance = read_key(alloc, node, "d_lrbg")?;
+    let orientation = read_key(alloc, node, "q_dirlrbg")?;
+    let side = read_key(alloc, node, "q_dlrbg")?;
+    let over = read_key(alloc, node, "l_doubtover")?;
+    let under = read_key(alloc, node, "l_doubtunder")?;
+    let state = read_state(alloc, node)?;
+    Ok((distance, (orientation, (side, (over, (under, state))))))
 }
 
-// Sends the members of the second run: the group, the national system, and the packet's number.
-fn send_second_run<S: Sink>(
-    out: &mut S,
-    packet: u64,
-    lrbg: &Identity,
-    state: &State,
-) -> Result<(), Memory>
-    ensures { OnOk result (S.takes (second_run packet lrbg.now state.now) out.old out.new) }
+// The report of these parts.
+fn report_with(
+    previous: Option<Identity>,
+    scale: Scale,
+    lrbg: Identity,
+    situation: Situation,
+) -> Report
+    ensures { result ≡ what_is_with previous scale lrbg situation }
 {
-    out.send_key("nid_bg", &lrbg.group)?;
-    out.send_key("nid_c", &lrbg.country)?;
-    out.send_key_if("nid_ntc", &national_system_of(state.level))?;
-    out.send_number("nid_packet", packet)?;
-    Ok(())
+    let (distance, (orientation, (side, (doubt_over, (doubt_under, state))))) = situation;
+    let (length, (speed, (running, (mode, level)))) = state;
+    Report {
+        scale,
+        lrbg,
+        previous,
+        distance,
+        orientation,
+        side,
+        doubt_over,
+        doubt_under,
+        length,
+        speed,
+        running,
+        mode,
+        level,
+    }
 }
 
-// Sends the members of the group before.
-fn send_previous<S: Sink>(out: &mut S, previous: &Identity) -> Result<(), Memory>
-    ensures { OnOk result (S.takes (previous_run previous.now) out.old out.new) }
+// Refuses what is no object, and an object with a key that packet 0 does not have.
+#[tactic(auto, unfolding(crate::specs::Report::with_one, crate::specs::Report::situation, crate::specs::Report::state))]
+fn check_keys_with_one<N: Node>(alloc: Global, node: &N) -> Result<(), FormError>
+    ensures { Gives (λ u. u) result (object_with (with_number with_one).part.keys (N.shows node.now)) }
 {
-    out.send_key("prv_nid_bg", &previous.group)?;
-    out.send_key("prv_nid_c", &previous.country)?;
-    Ok(())
-}
-
-// Sends the members of the third run: the qualifiers, and the speed.
-fn send_third_run<S: Sink>(
-    out: &mut S,
-    scale: &Scale,
-    place: &Place,
-    state: &State,
-) -> Result<(), Memory>
-    ensures { OnOk result (S.takes (third_run scale.now place.now state.now) out.old out.new) }
-{
-    out.send_key("q_dirlrbg", &place.orientation)?;
-    out.send_key("q_dirtrain", &state.running)?;
-    out.send_key("q_dlrbg", &place.side)?;
-    out.send_number("q_length", length_number(state.length))?;
-    out.send_key("q_scale", scale)?;
-    out.send_key("v_train", &state.speed)?;
-    Ok(())
-}
-
-impl Record for WithOne {
-    ghost use Rattle.etcs_json.specs.Report.{with_one};
-    ghost use Rattle.std.specs.Prelude.{◌≡◌, true};
-
-    ghost object = { with_one };
-
-    // A report says that it is in range, and its parts follow it.
-    ghost bounded = { λ p. with_one.part.fits p ≡ true };
-}
-
-#[tactic(auto, unfolding(crate::specs::Report::with_one))]
-impl Members for WithOne {
-    #[tactic(auto, unfolding(crate::specs::Report::with_one, crate::specs::Report::place, crate::specs::Report::state))]
-    fn keys() -> &'static [&'static str] {
+    check_keys(
+        alloc,
+        node,
         &[
             "nid_packet",
             "q_scale",
@@ -209,43 +131,18 @@ impl Members for WithOne {
             "m_mode",
             "m_level",
             "nid_ntc",
-        ]
-    }
-
-    fn send_members<S: Sink>(&self, out: &mut S) -> Result<(), Memory> {
-        send_first_run(out, &self.place, &self.state)?;
-        send_second_run(out, 0, &self.lrbg, &self.state)?;
-        send_third_run(out, &self.scale, &self.place, &self.state)?;
-        Ok(())
-    }
-
-    fn of_members<N: Node>(alloc: Global, node: &N) -> Result<Self, FormError> {
-        read_fixed(alloc, node, "nid_packet", 0)?;
-        Ok(WithOne {
-            scale: read_key(alloc, node, "q_scale")?,
-            lrbg: read_identity(alloc, node, "nid_c", "nid_bg")?,
-            place: read_place(alloc, node)?,
-            state: read_state(alloc, node)?,
-        })
-    }
-
-    fn stay_in_range(&self) {}
+        ],
+    )
 }
 
-impl Record for WithTwo {
-    ghost use Rattle.etcs_json.specs.Report.{with_two};
-    ghost use Rattle.std.specs.Prelude.{◌≡◌, true};
-
-    ghost object = { with_two };
-
-    // A report says that it is in range, and its parts follow it.
-    ghost bounded = { λ p. with_two.part.fits p ≡ true };
-}
-
-#[tactic(auto, unfolding(crate::specs::Report::with_two))]
-impl Members for WithTwo {
-    #[tactic(auto, unfolding(crate::specs::Report::with_two, crate::specs::Report::place, crate::specs::Report::state))]
-    fn keys() -> &'static [&'static str] {
+// Refuses what is no object, and an object with a key that packet 1 does not have.
+#[tactic(auto, unfolding(crate::specs::Report::with_two, crate::specs::Report::situation, crate::specs::Report::state))]
+fn check_keys_with_two<N: Node>(alloc: Global, node: &N) -> Result<(), FormError>
+    ensures { Gives (λ u. u) result (object_with (with_number with_two).part.keys (N.shows node.now)) }
+{
+    check_keys(
+        alloc,
+        node,
         &[
             "nid_packet",
             "q_scale",
@@ -265,27 +162,160 @@ impl Members for WithTwo {
             "m_mode",
             "m_level",
             "nid_ntc",
-        ]
+        ],
+    )
+}
+
+// Reads the members of packet 0.
+#[tactic(auto, unfolding(crate::specs::Report::with_one))]
+fn read_with_one<N: Node>(alloc: Global, node: &N) -> Result<WithOne, FormError>
+    ensures { Gives (λ p. p) result ((with_number with_one).part.of (N.shows node.now)) }
+{
+    read_fixed(alloc, node, "nid_packet", 0)?;
+    let scale = read_key(alloc, node, "q_scale")?;
+    let lrbg = read_identity(alloc, node, "nid_c", "nid_bg")?;
+    let situation = read_situation(alloc, node)?;
+    Ok((scale, (lrbg, situation)))
+}
+
+// Reads the members of packet 1.
+#[tactic(auto, unfolding(crate::specs::Report::with_two))]
+fn read_with_two<N: Node>(alloc: Global, node: &N) -> Result<WithTwo, FormError>
+    ensures { Gives (λ p. p) result ((with_number with_two).part.of (N.shows node.now)) }
+{
+    read_fixed(alloc, node, "nid_packet", 1)?;
+    let scale = read_key(alloc, node, "q_scale")?;
+    let lrbg = read_identity(alloc, node, "nid_c", "nid_bg")?;
+    let previous = read_identity(alloc, node, "prv_nid_c", "prv_nid_bg")?;
+    let situation = read_situation(alloc, node)?;
+    Ok((scale, (lrbg, (previous, situation))))
+}
+
+/// Reads packet 0.
+pub(crate) fn read_one<N: Node>(alloc: Global, node: &N) -> Result<Report, FormError>
+    ensures { Gives (λ r. r) result (as_kind report_of (either_report.of 0 (N.shows node.now))) }
+{
+    check_keys_with_one(alloc, node)?;
+    let (scale, (lrbg, situation)) = read_with_one(alloc, node)?;
+    Ok(report_with(None, scale, lrbg, situation))
+}
+
+/// Reads packet 1.
+pub(crate) fn read_two<N: Node>(alloc: Global, node: &N) -> Result<Report, FormError>
+    ensures { Gives (λ r. r) result (as_kind report_of (either_report.of 1 (N.shows node.now))) }
+{
+    check_keys_with_two(alloc, node)?;
+    let (scale, (lrbg, (previous, situation))) = read_with_two(alloc, node)?;
+    Ok(report_with(Some(previous), scale, lrbg, situation))
+}
+
+// ---- sending
+// The text of an object has its members in the byte order of their keys. So the members of a report
+// are sent in three runs.
+
+// Sends the members of the first run: distances and lengths, the level's number and the mode.
+#[tactic(auto, unfolding(crate::specs::ReportSending::first_members))]
+fn send_first<S: Sink>(out: &mut S, report: &Report) -> Result<(), Memory>
+    ensures { OnOk result (S.takes (first_members report.now) out.old out.new) }
+{
+    out.send_key("d_lrbg", &report.distance)?;
+    out.send_key("l_doubtover", &report.doubt_over)?;
+    out.send_key("l_doubtunder", &report.doubt_under)?;
+    out.send_key_if("l_trainint", &confirmed_length(report.length))?;
+    out.send_number("m_level", u64::from(report.level.number()))?;
+    out.send_key("m_mode", &report.mode)?;
+    Ok(())
+}
+
+// The number of the group before.
+fn previous_group(report: &Report) -> Option<GroupNumber>
+    ensures { result ≡ option_map (λ i. i.group) report.now.previous }
+{
+    match report.previous {
+        None => None,
+        Some(previous) => Some(previous.group),
+    }
+}
+
+// The country of the group before.
+fn previous_country(report: &Report) -> Option<Country>
+    ensures { result ≡ option_map (λ i. i.country) report.now.previous }
+{
+    match report.previous {
+        None => None,
+        Some(previous) => Some(previous.country),
+    }
+}
+
+// Sends the members of the second run: the groups, the national system, and the packet's number.
+#[tactic(auto, unfolding(crate::specs::ReportSending::middle_members))]
+fn send_middle<S: Sink>(out: &mut S, report: &Report) -> Result<(), Memory>
+    ensures { OnOk result (S.takes (middle_members report.now) out.old out.new) }
+{
+    out.send_key("nid_bg", &report.lrbg.group)?;
+    out.send_key("nid_c", &report.lrbg.country)?;
+    out.send_key_if("nid_ntc", &national_system_of(report.level))?;
+    out.send_number("nid_packet", u64::from(report.number()))?;
+    out.send_key_if("prv_nid_bg", &previous_group(report))?;
+    out.send_key_if("prv_nid_c", &previous_country(report))?;
+    Ok(())
+}
+
+// Sends the members of the third run: the qualifiers, and the speed.
+#[tactic(auto, unfolding(crate::specs::ReportSending::last_members))]
+fn send_last<S: Sink>(out: &mut S, report: &Report) -> Result<(), Memory>
+    ensures { OnOk result (S.takes (last_members report.now) out.old out.new) }
+{
+    out.send_key("q_dirlrbg", &report.orientation)?;
+    out.send_key("q_dirtrain", &report.running)?;
+    out.send_key("q_dlrbg", &report.side)?;
+    out.send_number("q_length", length_number(report.length))?;
+    out.send_key("q_scale", &report.scale)?;
+    out.send_key("v_train", &report.speed)?;
+    Ok(())
+}
+
+// Sends all members.
+fn send_report<S: Sink>(out: &mut S, report: &Report) -> Result<(), Memory>
+    ensures { OnOk result (S.takes (sent_members report.now) out.old out.new) }
+{
+    send_first(out, report)?;
+    send_middle(out, report)?;
+    send_last(out, report)
+}
+
+#[tactic(auto, unfolding(crate::specs::Report::report))]
+impl Form for Report {
+    ghost use Rattle.std.specs.Prelude.{IsOk};
+    ghost use Rattle.etcs_json.specs.Chosen.{any_object};
+    ghost use Rattle.etcs_json.specs.Report.{report};
+
+    ghost shape = { report };
+
+    ghost asks = { λ d. IsOk (any_object d) };
+
+    fn to_form(&self, alloc: Global) -> Result<Value, Memory> {
+        // For the proof alone: what is written is read again.
+        stay_allowed(self);
+        let mut out = NewObject::new(alloc);
+        send_report(&mut out, self)?;
+        Ok(out.into_value())
     }
 
-    fn send_members<S: Sink>(&self, out: &mut S) -> Result<(), Memory> {
-        send_first_run(out, &self.place, &self.state)?;
-        send_second_run(out, 1, &self.lrbg, &self.state)?;
-        send_previous(out, &self.previous)?;
-        send_third_run(out, &self.scale, &self.place, &self.state)?;
+    fn of_node<N: Node>(alloc: Global, node: &N) -> Result<Self, FormError> {
+        let number: Plain<1> = read_first(alloc, node, "nid_packet")?;
+        match number.number() {
+            0 => read_one(alloc, node),
+            _ => read_two(alloc, node),
+        }
+    }
+}
+
+impl InPieces for Report {
+    fn send(&self, out: &mut Writer) -> Result<(), Memory> {
+        out.begin_object()?;
+        send_report(out, self)?;
+        out.end_object()?;
         Ok(())
     }
-
-    fn of_members<N: Node>(alloc: Global, node: &N) -> Result<Self, FormError> {
-        read_fixed(alloc, node, "nid_packet", 1)?;
-        Ok(WithTwo {
-            scale: read_key(alloc, node, "q_scale")?,
-            lrbg: read_identity(alloc, node, "nid_c", "nid_bg")?,
-            previous: read_identity(alloc, node, "prv_nid_c", "prv_nid_bg")?,
-            place: read_place(alloc, node)?,
-            state: read_state(alloc, node)?,
-        })
-    }
-
-    fn stay_in_range(&self) {}
 }

@@ -2,7 +2,7 @@
 
 use crate::error::FormError;
 use crate::node::Node;
-use crate::node::reading::{read_items_at, read_key};
+use crate::node::reading::{read_fixed, read_items_at, read_key};
 use crate::packets::profile_form::{read_profile, send_profile};
 use crate::record::{Members, Record, stay_allowed};
 use crate::writing::Sink;
@@ -81,9 +81,10 @@ impl Members for SpeedElement {
 }
 
 impl Record for SpeedProfile {
+    ghost use Rattle.etcs_json.specs.Chosen.{with_number};
     ghost use Rattle.etcs_json.specs.Profiles.{speed_profile};
 
-    ghost object = { speed_profile };
+    ghost object = { with_number speed_profile };
 }
 
 #[tactic(auto, using(crate::proofs::ReadLemmas::few_differences), unfolding(crate::specs::Profiles::speed_profile))]
@@ -97,6 +98,7 @@ impl Members for SpeedProfile {
     }
 
     fn of_members<N: Node>(alloc: Global, node: &N) -> Result<Self, FormError> {
+        read_fixed(alloc, node, "nid_packet", 27)?;
         read_profile(alloc, node, "elements")
     }
 

@@ -12,7 +12,7 @@ use json::Writer;
 use serde_json::Value;
 use std::alloc::Global;
 
-#[tactic(auto, unfolding(crate::specs::Authority::authority))]
+#[tactic(auto, using(crate::proofs::SumLemmas::authority_to, crate::proofs::SumLemmas::with_main_read, crate::proofs::SumLemmas::without_main_read, crate::proofs::SumLemmas::cover_read), unfolding(crate::specs::Cover::cover_marker))]
 impl Form for TrackPacket {
     ghost use Rattle.std.specs.Prelude.{IsOk};
     ghost use Rattle.etcs_json.specs.Chosen.{any_object};
@@ -51,7 +51,7 @@ impl Form for TrackPacket {
     }
 }
 
-#[tactic(auto, unfolding(crate::specs::Authority::authority))]
+#[tactic(auto, using(crate::proofs::SumLemmas::authority_to), unfolding(crate::specs::Cover::cover_marker))]
 impl InPieces for TrackPacket {
     fn send(&self, out: &mut Writer) -> Result<(), Memory> {
         match self {

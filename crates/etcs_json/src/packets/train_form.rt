@@ -4,7 +4,7 @@ use crate::error::FormError;
 use crate::form::{Form, InPieces};
 use crate::node::Node;
 use crate::node::reading::read_first;
-use crate::packets::reports_form::{read_one, read_two};
+use crate::packets::report_form::{read_one, read_two};
 use crate::record::stay_allowed;
 use etcs_bits::{Memory, Ranged};
 use etcs_radio::TrainPacket;
@@ -12,6 +12,7 @@ use json::Writer;
 use serde_json::Value;
 use std::alloc::Global;
 
+#[tactic(auto, using(crate::proofs::SumLemmas::report_to, crate::proofs::SumLemmas::with_one_read, crate::proofs::SumLemmas::with_two_read))]
 impl Form for TrainPacket {
     ghost use Rattle.std.specs.Prelude.{IsOk};
     ghost use Rattle.etcs_json.specs.Chosen.{any_object};
@@ -40,6 +41,7 @@ impl Form for TrainPacket {
     }
 }
 
+#[tactic(auto, using(crate::proofs::SumLemmas::report_to))]
 impl InPieces for TrainPacket {
     fn send(&self, out: &mut Writer) -> Result<(), Memory> {
         match self {

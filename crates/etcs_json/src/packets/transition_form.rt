@@ -43,9 +43,10 @@ impl Members for LevelOrder {
 }
 
 impl Record for Transition {
+    ghost use Rattle.etcs_json.specs.Chosen.{with_number};
     ghost use Rattle.etcs_json.specs.Transition.{transition};
 
-    ghost object = { transition };
+    ghost object = { with_number transition };
 }
 
 #[tactic(auto, unfolding(crate::specs::Transition::transition))]

@@ -5,5 +5,4 @@ use Rattle.etcs_json.proofs.packets.profile_form.read_profile.Goals as goal
 pub returns : goal.returns
 returns g c =
     let read = first_and_read g.T.Layout.fit g.T.Form.shape 32 c.args.name.now (g.N.Node.shows c.args.node.now) _ c.requires c.in_ok-first.ensures in
-    let number = rw c.from.ensures at c.in_ok-read_fixed.ensures in
-    rw (number, c.in_ok-dir.ensures, c.in_ok-scale.ensures, c.in_ok-first.ensures) (c.packet_of.ensures read.1 read.0)
+    rw (c.in_ok-dir.ensures, c.in_ok-scale.ensures, c.in_ok-first.ensures) (c.packet_of.ensures read.1 read.0)

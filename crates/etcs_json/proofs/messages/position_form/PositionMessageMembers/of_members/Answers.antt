@@ -8,6 +8,11 @@ use Rattle.etcs_json.proofs.messages.position_form.PositionMessageMembers.of_mem
 
 -- the members before were read
 
+pub returns-in_err-engine : goal.returns-in_err-engine
+unfolding position
+returns-in_err-engine g c = fails_up (λ x. x) _ _ _ _ c.from_residual-in_err-engine.ensures.1 c.in_err-engine.ensures (λ f is.
+    rw (c.in_ok-read_fixed.ensures, c.in_ok-time.ensures, is) refl)
+
 pub returns-in_err-packets : goal.returns-in_err-packets
 unfolding position
 returns-in_err-packets g c = fails_up (λ x. x) _ _ _ _ c.from_residual-in_err-packets.ensures.1 c.in_err-packets.ensures (λ f is.

@@ -1,13 +1,15 @@
 use Rattle.etcs_json.specs.Authority.{authority}
-use Rattle.etcs_json.proofs.AuthorityLemmas.{made_authority}
+use Rattle.etcs_json.specs.AuthoritySending.{sent_members}
 use Rattle.etcs_json.proofs.Objects.{read_again}
 use Rattle.etcs_json.proofs.PacketRanges.{authority_keeps}
+use Rattle.etcs_json.proofs.SumLemmas.{authority_in_order, authority_sent, made_of}
 use Rattle.etcs_json.proofs.packets.authority_form.AuthorityForm.to_form.Goals as goal
 
 -- the members were taken by an empty object
 pub returns-clause-form : goal.returns-clause-form
-unfolding authority
-returns-clause-form c = made_authority c.args.self.now _ _ _ _ c.new-out.ensures c.in_ok-send_first.ensures c.in_ok-send_last.ensures c.into_value.ensures
+returns-clause-form c =
+    let a = c.args.self.now in
+    made_of (sent_members a) _ _ _ _ (authority_in_order a) (authority_sent a) c.new-out.ensures c.in_ok-send_authority.ensures c.into_value.ensures
 
 pub returns-clause-again : goal.returns-clause-again
 returns-clause-again c = λ bounded. read_again authority c.args.self.now _ (returns-clause-form c) (authority_keeps.range c.args.self.now (c.stay_allowed.ensures tt))

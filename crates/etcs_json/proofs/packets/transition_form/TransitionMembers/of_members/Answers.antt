@@ -1,4 +1,4 @@
-use Rattle.std.proofs.Common.{refl}
+use Rattle.std.proofs.Common.{Ok, ap, refl, sym}
 use Rattle.std.specs.Prelude.{codes}
 use Rattle.etcs_json.specs.Shape.{object}
 use Rattle.etcs_json.specs.Transition.{level_order, transition}
@@ -22,3 +22,9 @@ returns-in_err-first g c = fails_up (λ x. x) _ _ _ _ c.from_residual-in_err-fir
 pub returns-in-Err : goal.returns-in-Err
 returns-in-Err g c =
     absurd (is_built _ _ c.in-Err.ensures (few_further (object level_order) 32 (codes "transitions") (g.N.Node.shows c.args.node.now) _ c.in_ok-first.ensures))
+
+-- the packet is that of what was read
+pub returns-in-Ok : goal.returns-in-Ok
+unfolding transition
+returns-in-Ok g c =
+    rw (c.in_ok-read_fixed.ensures, c.in_ok-dir.ensures, c.in_ok-scale.ensures, c.in_ok-d_leveltr.ensures, c.in_ok-first.ensures) (ap Ok (sym c.in-Ok.ensures.0))

@@ -1,0 +1,123 @@
+-- A movement authority and a position report, each of which has the form of one of two packets: the members
+-- that are sent are those of the form.
+use Rattle.std.proofs.Common.{◌≡◌, ◌∙◌, ℕ, List, Option, Some, None, Result, Ok, Err, inl, inr, refl, sym, ap}
+use Rattle.serde_json.specs.Data.{Data, Members, no_members, object as object_data}
+use Rattle.etcs_bits.specs.declared.variables.identity.Identity.{Identity}
+use Rattle.etcs_profile.specs.Authority.{Permission, WithMain, WithoutMain, numbered_by as authority_by, permission, permission_of}
+use Rattle.etcs_packet.specs.Track.{authority_in, track_of}
+use Rattle.etcs_packet.specs.declared.cover.CoverMarker.{CoverMarker}
+use Rattle.etcs_packet.specs.declared.track.TrackPacket.TheVariants as track
+use Rattle.etcs_radio.specs.Report.{WithOne, WithTwo, numbered_by as report_by, report_of, report_with, situation_of}
+use Rattle.etcs_radio.specs.TrainPacket.{report_in, train_of}
+use Rattle.etcs_radio.specs.declared.report.Report.{Report}
+use Rattle.etcs_radio.specs.declared.train_packet.TrainPacket.TheVariants as train
+use Rattle.etcs_json.specs.Authority.{authority, either_authority, end_parts, terms, with_main, without_main}
+use Rattle.etcs_json.specs.AuthoritySending.{first_members, last_members, sent_members}
+use Rattle.etcs_json.specs.Chosen.{with_number}
+use Rattle.etcs_json.specs.Cover.{cover, cover_marker}
+use Rattle.etcs_json.specs.Entries.{Entry, members_onto}
+use Rattle.etcs_json.specs.Fault.{Fault}
+use Rattle.etcs_json.specs.Reading.{◌>>=◌, as_kind, object_with}
+use Rattle.etcs_json.specs.Report.{either_report, report, situation, state, with_one, with_two}
+use Rattle.etcs_json.specs.ReportSending.{first_members as report_first, middle_members as report_middle, last_members as report_last, sent_members as sent_report}
+use Rattle.etcs_json.specs.Sending.{members_of}
+use Rattle.etcs_json.specs.Shape.{object}
+use Rattle.etcs_json.specs.TrackPackets.{track_numbered, track_packet}
+use Rattle.etcs_json.specs.TrainPackets.{train_numbered, train_packet}
+use Rattle.etcs_json.proofs.SortedLemmas.{made_members}
+
+-- an empty object that has taken members in the byte order of their keys
+pub made_of : (es : List Entry) (old new : Members) (d e : Data) → members_onto no_members es ≡ members_of es → object_data (members_of es) ≡ e
+    → old ≡ no_members → new ≡ members_onto old es → d ≡ object_data new → d ≡ e
+made_of es old new d e in_order same none made is =
+    is ∙ ap object_data (made ∙ ap (λ ms. members_onto ms es) none ∙ in_order) ∙ same
+
+-- ---- a movement authority
+
+authority_sent_by : (main : Option ℕ) (a : Permission) → object_data (members_of (sent_members (permission a.dir a.scale main a.terms))) ≡ either_authority.to (authority_by main a)
+unfolding first_members last_members with_main without_main terms end_parts
+authority_sent_by None a = ap object_data (sym (made_members ((with_number without_main).part.to (a.dir, (a.scale, a.terms))) refl))
+authority_sent_by (Some v) a = ap object_data (sym (made_members ((with_number with_main).part.to (a.dir, (a.scale, (v, a.terms)))) refl))
+
+pub authority_sent : (a : Permission) → object_data (members_of (sent_members a)) ≡ authority.to a
+unfolding authority
+authority_sent a = authority_sent_by a.main a
+
+pub authority_in_order : (a : Permission) → members_onto no_members (sent_members a) ≡ members_of (sent_members a)
+unfolding first_members last_members
+authority_in_order a = made_members (sent_members a) refl
+
+-- ---- a position report
+
+report_sent_by : (previous : Option Identity) (r : Report) → object_data (members_of (sent_report (report_with previous r.scale r.lrbg (situation_of r)))) ≡ either_report.to (report_by previous r)
+unfolding report_first report_middle report_last with_one with_two situation state
+report_sent_by None r = ap object_data (sym (made_members ((with_number with_one).part.to (r.scale, (r.lrbg, situation_of r))) refl))
+report_sent_by (Some previous) r = ap object_data (sym (made_members ((with_number with_two).part.to (r.scale, (r.lrbg, (previous, situation_of r)))) refl))
+
+pub report_sent : (r : Report) → object_data (members_of (sent_report r)) ≡ report.to r
+unfolding report
+report_sent r = report_sent_by r.previous r
+
+pub report_in_order : (r : Report) → members_onto no_members (sent_report r) ≡ members_of (sent_report r)
+unfolding report_first report_middle report_last
+report_in_order r = made_members (sent_report r) refl
+
+-- ---- both as one of all packets
+
+authority_to_by : (main : Option ℕ) (a : Permission) → track_numbered.to (authority_in (authority_by main a)) ≡ either_authority.to (authority_by main a)
+authority_to_by None a = refl
+authority_to_by (Some v) a = refl
+
+pub authority_to : (a : Permission) → track_packet.to (track.Authority a) ≡ authority.to a
+unfolding authority
+authority_to a = authority_to_by a.main a
+
+with_main_as : (r : Result WithMain Fault) → as_kind track_of (as_kind inr (as_kind inr (as_kind inl r))) ≡ as_kind track.Authority (as_kind permission_of (as_kind inl r))
+with_main_as (Ok p) = refl
+with_main_as (Err f) = refl
+
+pub with_main_read : (d : Data) → as_kind track_of (track_numbered.of 12 d) ≡ as_kind track.Authority (as_kind permission_of (either_authority.of 12 d))
+with_main_read d = with_main_as _
+
+without_main_as : (r : Result WithoutMain Fault) → as_kind track_of (as_kind inr (as_kind inr (as_kind inr (as_kind inl r)))) ≡ as_kind track.Authority (as_kind permission_of (as_kind inr r))
+without_main_as (Ok p) = refl
+without_main_as (Err f) = refl
+
+pub without_main_read : (d : Data) → as_kind track_of (track_numbered.of 15 d) ≡ as_kind track.Authority (as_kind permission_of (either_authority.of 15 d))
+without_main_read d = without_main_as _
+
+report_to_by : (previous : Option Identity) (r : Report) → train_numbered.to (report_in (report_by previous r)) ≡ either_report.to (report_by previous r)
+report_to_by None r = refl
+report_to_by (Some i) r = refl
+
+pub report_to : (r : Report) → train_packet.to (train.Report r) ≡ report.to r
+unfolding report
+report_to r = report_to_by r.previous r
+
+with_one_as : (r : Result WithOne Fault) → as_kind train_of (as_kind inl r) ≡ as_kind train.Report (as_kind report_of (as_kind inl r))
+with_one_as (Ok p) = refl
+with_one_as (Err f) = refl
+
+pub with_one_read : (d : Data) → as_kind train_of (train_numbered.of 0 d) ≡ as_kind train.Report (as_kind report_of (either_report.of 0 d))
+with_one_read d = with_one_as _
+
+with_two_as : (r : Result WithTwo Fault) → as_kind train_of (as_kind inr (as_kind inl r)) ≡ as_kind train.Report (as_kind report_of (as_kind inr r))
+with_two_as (Ok p) = refl
+with_two_as (Err f) = refl
+
+pub with_two_read : (d : Data) → as_kind train_of (train_numbered.of 1 d) ≡ as_kind train.Report (as_kind report_of (either_report.of 1 d))
+with_two_read d = with_two_as _
+
+-- ---- a cover marker as one of all packets
+
+cover_to_same : {U A : Type 0} (r : Result U Fault) (s : Result A Fault) (make : A → CoverMarker) → (r >>= λ _. (s >>= λ m. Ok (make m))) ≡ as_kind make (r >>= λ _. s)
+cover_to_same (Ok u) s make = refl
+cover_to_same (Err f) s make = refl
+
+cover_as : (r : Result ℕ Fault) → as_kind track_of (as_kind inl r) ≡ as_kind track.Cover (as_kind (λ m. record { marker = m }) r)
+cover_as (Ok m) = refl
+cover_as (Err f) = refl
+
+pub cover_read : (d : Data) → as_kind track_of (track_numbered.of 0 d) ≡ as_kind track.Cover ((object cover_marker).of d)
+unfolding cover_marker
+cover_read d = cover_as _ ∙ ap (as_kind track.Cover) (sym (cover_to_same (object_with (with_number cover).part.keys d) ((with_number cover).part.of d) _))

@@ -1,0 +1,35 @@
+-- What is sent of a position report: its members in the byte order of their keys.
+use Rattle.std.specs.Prelude.{List, [], ◌∷◌, ◌++◌, Some, codes, option_map}
+use Rattle.etcs_bits.specs.variables.Level.{level_number}
+use Rattle.etcs_radio.specs.Report.{report_number}
+use Rattle.etcs_radio.specs.declared.report.Report.{Report}
+use Rattle.etcs_json.specs.Entries.{Entry}
+use Rattle.etcs_json.specs.Report.{confirmed, length_number, side}
+use Rattle.etcs_json.specs.Shape.{optional, whole}
+use Rattle.etcs_json.specs.Transition.{national_system}
+use Rattle.etcs_json.specs.Variables.{scale}
+
+-- distances and lengths, the level's number and the mode
+unfoldable pub first_members : Report → List Entry
+first_members r =
+    (codes "d_lrbg", Some (whole r.distance)) ∷ (codes "l_doubtover", Some (whole r.doubt_over))
+    ∷ (codes "l_doubtunder", Some (whole r.doubt_under)) ∷ (codes "l_trainint", optional whole (confirmed r.length))
+    ∷ (codes "m_level", Some (whole (level_number r.level))) ∷ (codes "m_mode", Some (whole r.mode)) ∷ []
+
+-- the groups, the national system, and the packet's number; the group before is there in packet 1 alone
+unfoldable pub middle_members : Report → List Entry
+middle_members r =
+    (codes "nid_bg", Some (whole r.lrbg.group)) ∷ (codes "nid_c", Some (whole r.lrbg.country))
+    ∷ (codes "nid_ntc", optional whole (national_system r.level)) ∷ (codes "nid_packet", Some (whole (report_number r)))
+    ∷ (codes "prv_nid_bg", optional whole (option_map (λ i. i.group) r.previous))
+    ∷ (codes "prv_nid_c", optional whole (option_map (λ i. i.country) r.previous)) ∷ []
+
+-- the qualifiers, and the speed
+unfoldable pub last_members : Report → List Entry
+last_members r =
+    (codes "q_dirlrbg", Some (side.to r.orientation)) ∷ (codes "q_dirtrain", Some (side.to r.running))
+    ∷ (codes "q_dlrbg", Some (side.to r.side)) ∷ (codes "q_length", Some (whole (length_number r.length)))
+    ∷ (codes "q_scale", Some (scale.to r.scale)) ∷ (codes "v_train", Some (whole r.speed)) ∷ []
+
+abbrev pub sent_members : Report → List Entry
+sent_members r = first_members r ++ (middle_members r ++ last_members r)
