@@ -121,6 +121,7 @@ fn append_few(bytes: &mut Vec<u8>, block: &[u8], count: usize) -> Result<(), All
 }
 
 // Appends the bits of `n` to whole bytes, and zeros up to a whole byte.
+#[inline(never)]
 fn append_whole(bytes: &mut Vec<u8>, width: u32, n: u64) -> Result<(), AllocError>
     requires low { 1 ≤ width }
     requires high { width ≤ 32 }
@@ -137,6 +138,7 @@ fn append_whole(bytes: &mut Vec<u8>, width: u32, n: u64) -> Result<(), AllocErro
 
 // Appends the bits of `n` after the first `used` bits of the last byte, and zeros up to a whole
 // byte.
+#[inline(never)]
 fn append_within(bytes: &mut Vec<u8>, used: u32, width: u32, n: u64) -> Result<(), AllocError>
     requires positive { 1 ≤ used }
     requires within { used ≤ 7 }
@@ -161,7 +163,29 @@ fn append_within(bytes: &mut Vec<u8>, used: u32, width: u32, n: u64) -> Result<(
     Ok(())
 }
 
-// Appends the bits of `n` after the first `len` bits.
+// Appends the bits of `n` after the first `used` bits of the last byte, which has room for them. That
+// asks for no memory.
+#[inline(always)]
+fn append_in_last(bytes: &mut Vec<u8>, used: u32, width: u32, n: u64)
+    requires positive { 1 ≤ used }
+    requires low { 1 ≤ width }
+    requires high { used + width ≤ 8 }
+    requires fits { n < 2 ^ width }
+    requires last { 1 ≤ vec_len bytes.old }
+    requires zeros { slice_index bytes.old.items (vec_len bytes.old - 1) % 2 ^ (8 - used) ≡ 0 }
+    ensures { bits_of_bytes bytes.new.items
+        ≡ (take (8 * (vec_len bytes.old - 1) + used) (bits_of_bytes bytes.old.items) ++ num width n)
+        ++ num (8 * ((used + width + 7) / 8) - used - width) 0 }
+{
+    let place = bytes.len() - 1;
+    let shift = 64 - width - used;
+    let word = (bytes[place] as u64) << 56 | n << shift;
+    bytes[place] = word.to_be_bytes()[0];
+}
+
+// Appends the bits of `n` after the first `len` bits. What may ask for memory stands apart, so that
+// bits within the last byte save no registers.
+#[inline]
 pub fn append(bytes: &mut Vec<u8>, len: usize, width: u32, n: u64) -> Result<(), AllocError>
     requires packed { IsPacked bytes.old.items len }
     requires room { len + width < 2 ^ 64 }
@@ -179,6 +203,9 @@ pub fn append(bytes: &mut Vec<u8>, len: usize, width: u32, n: u64) -> Result<(),
     let used = (len % 8) as u32;
     if used == 0 {
         append_whole(bytes, width, n)?;
+        Ok(())
+    } else if used + width <= 8 {
+        append_in_last(bytes, used, width, n);
         Ok(())
     } else {
         append_within(bytes, used, width, n)?;
