@@ -1,6 +1,8 @@
 -- The object of some entries has its members in the byte order of their keys.
-use Rattle.std.proofs.Common.{◌≡◌, ◌∙◌, ◌++◌, ℕ, true, false, List, [], ◌∷◌, Option, Some, None, Ordering, Less, Equal, Greater, is_eq, nat_cmp, bytes_eq, refl, sym, ap, subst, append_assoc, append-nil}
+use Rattle.std.proofs.Common.{◌≡◌, ◌∙◌, ◌++◌, ◌||◌, ℕ, Bool, true, false, List, [], ◌∷◌, Option, Some, None, Ordering, Less, Equal, Greater, is_eq, nat_cmp, bytes_eq, refl, sym, ap, subst, append_assoc, append-nil, arith}
+use Rattle.std.proofs.Math.Bool.{or_assoc}
 use Rattle.std.proofs.lemmas.Bool.{and_parts, or_parts, or_from, true≢false}
+use Rattle.std.proofs.lemmas.Bool.Decides.{nat_tests}
 use Rattle.std.proofs.lemmas.Cmp.{nat_list_cmp_total}
 use Rattle.std.proofs.lemmas.Map.Text.{is_eq-slice_cmp}
 use Rattle.std.specs.Cmp.Lexicographic.{slice_cmp}
@@ -10,18 +12,28 @@ use Rattle.etcs_json.specs.EntryLemmas.{apart_sym, not_true}
 use Rattle.etcs_json.specs.Entries.{Entry, keys_of, put_or, members_onto, is_among, are_apart}
 use Rattle.etcs_json.specs.Sending.{member_or, members_of, insert, onto, sorted}
 
-not_inserted_at : (o : Ordering) (k : List ℕ) (e f : Entry) (fs : List Entry) → bytes_eq k e.0 ≡ false → bytes_eq k f.0 ≡ false
-    → is_among k (keys_of fs) ≡ false → is_among k (keys_of (insert e fs)) ≡ false
-    → is_among k (keys_of (match_ordering o (e ∷ f ∷ fs) (e ∷ f ∷ fs) (f ∷ insert e fs))) ≡ false
-not_inserted_at Less k e f fs one two rest later = or_from _ _ one (or_from _ _ two rest)
-not_inserted_at Equal k e f fs one two rest later = or_from _ _ one (or_from _ _ two rest)
-not_inserted_at Greater k e f fs one two rest later = or_from _ _ two later
+or_swapped : (a b c : Bool) → (a || (b || c)) ≡ (b || (a || c))
+or_swapped a b c = grind (arith, nat_tests)
+
+among_inserted_at : (o : Ordering) (k : List ℕ) (e f : Entry) (fs : List Entry) → is_among k (keys_of (insert e fs)) ≡ (bytes_eq k e.0 || is_among k (keys_of fs))
+    → is_among k (keys_of (match_ordering o (e ∷ f ∷ fs) (e ∷ f ∷ fs) (f ∷ insert e fs))) ≡ (bytes_eq k e.0 || (bytes_eq k f.0 || is_among k (keys_of fs)))
+among_inserted_at Less k e f fs later = refl
+among_inserted_at Equal k e f fs later = refl
+among_inserted_at Greater k e f fs later = ap (λ b. bytes_eq k f.0 || b) later ∙ or_swapped (bytes_eq k f.0) (bytes_eq k e.0) (is_among k (keys_of fs))
+
+among_inserted : (k : List ℕ) (e : Entry) (es : List Entry) → is_among k (keys_of (insert e es)) ≡ (bytes_eq k e.0 || is_among k (keys_of es))
+among_inserted k e [] = refl
+among_inserted k e (f ∷ fs) = among_inserted_at _ k e f fs (among_inserted k e fs)
+
+-- the keys stay the same
+pub among_onto : (k : List ℕ) (done es : List Entry) → is_among k (keys_of (onto done es)) ≡ (is_among k (keys_of es) || is_among k (keys_of done))
+among_onto k done [] = refl
+among_onto k done (e ∷ es) =
+    among_onto k (insert e done) es ∙ ap (λ b. is_among k (keys_of es) || b) (among_inserted k e done)
+    ∙ or_swapped (is_among k (keys_of es)) (bytes_eq k e.0) (is_among k (keys_of done)) ∙ sym (or_assoc (bytes_eq k e.0) (is_among k (keys_of es)) (is_among k (keys_of done)))
 
 not_inserted : (k : List ℕ) (e : Entry) (es : List Entry) → bytes_eq k e.0 ≡ false → is_among k (keys_of es) ≡ false → is_among k (keys_of (insert e es)) ≡ false
-not_inserted k e [] other none = or_from _ _ other refl
-not_inserted k e (f ∷ fs) other none =
-    let both = or_parts _ _ none in
-    not_inserted_at _ k e f fs other both.0 both.1 (not_inserted k e fs other both.1)
+not_inserted k e es other none = among_inserted k e es ∙ or_from _ _ other none
 
 -- the keys of the first are none of the second's
 AreNew : List Entry → List Entry → Type 0

@@ -1,6 +1,6 @@
 -- What is written of a value: the tokens of its text, behind those that stand there. An object's members
 -- are written in the byte order of their keys.
-use Rattle.std.specs.Prelude.{◌≡◌, ◌++◌, ℕ, List, [], ◌∷◌, Option, Some, None}
+use Rattle.std.specs.Prelude.{◌≡◌, ◌++◌, ℕ, List, [], ◌∷◌, map, Option, Some, None}
 use Rattle.std.specs.Cmp.Lexicographic.{slice_cmp}
 use Rattle.std.specs.Ordering.{nat_cmp, match_ordering}
 use Rattle.json.specs.Token.{Token, key}
@@ -8,7 +8,7 @@ use Rattle.json.specs.Tree.{json_tokens}
 use Rattle.json.specs.Written.{Written}
 use Rattle.serde_json.specs.Data.{Data, Members, member, no_members}
 use Rattle.serde_json.specs.Written.{outline}
-use Rattle.etcs_json.specs.Entries.{Entry}
+use Rattle.etcs_json.specs.Entries.{Entry, keys_of}
 
 -- the keys that are there, in this order
 abbrev pub member_or : List ℕ → Option Data → Members → Members
@@ -31,6 +31,9 @@ onto done (e ∷ es) = onto (insert e done) es
 
 abbrev pub sorted : List Entry → List Entry
 sorted es = onto [] es
+
+abbrev pub sorted_keys : List (List ℕ) → List (List ℕ)
+sorted_keys ks = keys_of (sorted (map (λ k. (k, None)) ks))
 
 -- the tokens of a value's text
 abbrev pub tokens_of : Data → List Token

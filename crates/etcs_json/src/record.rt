@@ -2,10 +2,10 @@
 
 ghost use Rattle.std.specs.Prelude.{◌≡◌, true, map, IsOk, OnOk};
 ghost use Rattle.etcs_bits.specs.layout.Rows.{AreAllowed};
-ghost use Rattle.etcs_json.specs.Fault.{Gives};
+ghost use Rattle.etcs_json.specs.Fault.{Gives, IfMemory};
 ghost use Rattle.etcs_json.specs.Reading.{object_with};
 ghost use Rattle.etcs_json.specs.Shape.{Object, object as shape_of};
-ghost use Rattle.etcs_json.specs.Sending.{sorted};
+ghost use Rattle.etcs_json.specs.Sending.{sorted, sorted_keys};
 
 use crate::error::FormError;
 use crate::form::{Form, InPieces};
@@ -30,9 +30,9 @@ pub trait Record: Drop {
 
 /// How the members of a record are sent and read.
 pub(crate) trait Members: Record {
-    /// Its keys, in the order in which they are looked for.
+    /// Its keys in byte order, in which most objects have them.
     fn keys() -> &'static [&'static str]
-        ensures { map (λ l. l.now) result.now ≡ Self.object.part.keys };
+        ensures { map (λ l. l.now) result.now ≡ sorted_keys Self.object.part.keys };
 
     /// Sends the members in the byte order of their keys.
     fn send_members<S: Sink>(&self, out: &mut S) -> Result<(), Memory>
@@ -54,6 +54,16 @@ pub(crate) fn stay_allowed<T: Layout>(value: &T)
     let _allowed = value.is_allowed();
 }
 
+// Refuses what is no object, and an object with a key that the record does not have. Both are told
+// without memory.
+#[tactic(auto, using(crate::proofs::Keys::sorted_gives))]
+fn check_record<T: Members, N: Node>(alloc: Global, node: &N) -> Result<(), FormError>
+    ensures keys { Gives (λ u. u) result (object_with T.object.part.keys (N.shows node.now)) }
+    ensures memory { IfMemory result ⊥ }
+{
+    check_keys(alloc, node, T::keys())
+}
+
 impl<T: Members> Form for T {
     ghost shape = { shape_of T.object };
 
@@ -70,7 +80,7 @@ impl<T: Members> Form for T {
     }
 
     fn of_node<N: Node>(alloc: Global, node: &N) -> Result<Self, FormError> {
-        check_keys(alloc, node, T::keys())?;
+        check_record::<T, N>(alloc, node)?;
         T::of_members(alloc, node)
     }
 }

@@ -23,12 +23,12 @@ impl Record for MovementMessage {
 impl Members for MovementMessage {
     fn keys() -> &'static [&'static str] {
         &[
-            "nid_message",
-            "t_train",
             "m_ack",
-            "nid_c",
             "nid_bg",
+            "nid_c",
+            "nid_message",
             "packets",
+            "t_train",
         ]
     }
 

@@ -21,7 +21,7 @@ impl Record for PositionMessage {
 #[tactic(auto, unfolding(crate::specs::Messages::position))]
 impl Members for PositionMessage {
     fn keys() -> &'static [&'static str] {
-        &["nid_message", "t_train", "nid_engine", "packets"]
+        &["nid_engine", "nid_message", "packets", "t_train"]
     }
 
     fn send_members<S: Sink>(&self, out: &mut S) -> Result<(), Memory> {

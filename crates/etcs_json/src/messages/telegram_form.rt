@@ -88,16 +88,16 @@ impl Members for Telegram {
     #[tactic(auto, unfolding(crate::specs::Telegrams::telegram, crate::specs::Telegrams::header))]
     fn keys() -> &'static [&'static str] {
         &[
-            "user_bits",
+            "m_dup",
+            "m_mcount",
             "m_version",
             "n_pig",
             "n_total",
-            "m_dup",
-            "m_mcount",
-            "nid_c",
             "nid_bg",
-            "q_link",
+            "nid_c",
             "packets",
+            "q_link",
+            "user_bits",
         ]
     }
 

@@ -1,6 +1,6 @@
 //! Which keys an object may have.
 
-ghost use Rattle.std.specs.Prelude.{◌≡◌, map};
+ghost use Rattle.std.specs.Prelude.{◌≡◌, is_some, map};
 ghost use Rattle.std.specs.List.{list_any};
 ghost use Rattle.std.specs.Str.{bytes_eq};
 ghost use Rattle.serde_json.specs.View.{members_view};
@@ -20,6 +20,22 @@ pub(crate) fn is_key(name: &str, keys: &[&str]) -> bool
     ensures { result ≡ is_among name.now (map (λ l. l.now) keys.now) }
 {
     is_one_of(name, keys)
+}
+
+/// The place after a key in a list: it is looked for from a place on, and then anywhere. None where
+/// the list does not have it. Keys that come in the order of the list are found at once.
+#[inline]
+pub(crate) fn place_after(name: &str, keys: &[&str], from: usize) -> Option<usize>
+    ensures { is_some result ≡ is_among name.now (map (λ l. l.now) keys.now) }
+{
+    let mut place = from;
+    'places: while place < keys.len() {
+        if name == keys[place] {
+            return Some(place + 1);
+        }
+        place += 1;
+    }
+    if is_key(name, keys) { Some(0) } else { None }
 }
 
 /// Whether each key of an object is one of these.

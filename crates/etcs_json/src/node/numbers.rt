@@ -37,18 +37,27 @@ fn plain_number(text: &[u8]) -> Option<u64>
     Some(number)
 }
 
+// The whole number without a sign that any text is. Few texts come here, so it stands apart: its
+// numeral takes room that plain digits shall not clear.
+#[cold]
+#[inline(never)]
+fn whole_number_of(text: &[u8]) -> Option<u64>
+    ensures { result ≡ option_and_then as_u64 (number_of text.now) }
+{
+    if has_minus(text) {
+        None
+    } else {
+        Numeral::scan(text).to_u64()
+    }
+}
+
 /// The number that a text is, where it is a whole one of at most 64 bits and has no sign.
 pub(crate) fn whole_number(text: &str) -> Option<u64>
     ensures { result ≡ option_and_then as_u64 (number_of text.now) }
 {
-    let bytes = text.as_bytes();
-    if let Some(number) = plain_number(bytes) {
-        return Some(number);
-    }
-    if has_minus(bytes) {
-        None
-    } else {
-        Numeral::scan(bytes).to_u64()
+    match plain_number(text.as_bytes()) {
+        Some(number) => Some(number),
+        None => whole_number_of(text.as_bytes()),
     }
 }
 
@@ -81,17 +90,25 @@ fn is_in_range_below(numeral: &Numeral<'_>) -> bool
     is_finite(true, numeral)
 }
 
+// Whether any text is a number in range. It stands apart as `whole_number_of` does.
+#[cold]
+#[inline(never)]
+fn is_number_in_range(text: &[u8]) -> bool
+    ensures { result ≡ is_some (number_of text.now) }
+{
+    if has_minus(text) {
+        is_in_range_below(&Numeral::scan(&text[1..]))
+    } else {
+        is_in_range_above(&Numeral::scan(text))
+    }
+}
+
 /// Whether a number is in the range of 64-bit floats, as `serde_json` wants it.
 pub(crate) fn is_in_range(text: &str) -> bool
     ensures { result ≡ is_some (number_of text.now) }
 {
-    let bytes = text.as_bytes();
-    if let Some(_) = plain_number(bytes) {
-        return true;
-    }
-    if has_minus(bytes) {
-        is_in_range_below(&Numeral::scan(&bytes[1..]))
-    } else {
-        is_in_range_above(&Numeral::scan(bytes))
+    match plain_number(text.as_bytes()) {
+        Some(_) => true,
+        None => is_number_in_range(text.as_bytes()),
     }
 }

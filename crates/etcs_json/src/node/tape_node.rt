@@ -5,7 +5,7 @@ ghost use Rattle.json.specs.Token.{begin_array};
 ghost use Rattle.etcs_json.specs.node.Tape.{is_sound};
 
 use crate::node::Node;
-use crate::node::keys::is_key;
+use crate::node::keys::place_after;
 use crate::node::numbers::whole_number;
 use json::{Element, Items};
 
@@ -65,9 +65,11 @@ impl<'t> Node for TapeNode<'t> {
             None => None,
             Some(found) => {
                 let mut members = found;
+                let mut place = 0;
                 'members: while let Some((name, _)) = members.next() {
-                    if !is_key(name, keys) {
-                        return Some(false);
+                    match place_after(name, keys, place) {
+                        None => return Some(false),
+                        Some(after) => place = after,
                     }
                 }
                 Some(true)

@@ -75,7 +75,6 @@ fn send_authority<S: Sink>(out: &mut S, authority: &Authority) -> Result<(), Mem
 }
 
 // Refuses what is no object, and an object with a key that packet 12 does not have.
-#[tactic(auto, unfolding(crate::specs::Authority::with_main, crate::specs::Authority::terms, crate::specs::Authority::end_parts))]
 fn check_keys_with_main<N: Node>(alloc: Global, node: &N) -> Result<(), FormError>
     ensures { Gives (λ u. u) result (object_with (with_number with_main).part.keys (N.shows node.now)) }
 {
@@ -83,24 +82,23 @@ fn check_keys_with_main<N: Node>(alloc: Global, node: &N) -> Result<(), FormErro
         alloc,
         node,
         &[
-            "nid_packet",
-            "q_dir",
-            "q_scale",
-            "v_main",
+            "danger_point",
             "end_speed",
             "end_timeout",
-            "sections",
-            "l_endsection",
-            "section_timer",
             "end_timer",
-            "danger_point",
+            "l_endsection",
+            "nid_packet",
             "overlap",
+            "q_dir",
+            "q_scale",
+            "section_timer",
+            "sections",
+            "v_main",
         ],
     )
 }
 
 // Refuses what is no object, and an object with a key that packet 15 does not have.
-#[tactic(auto, unfolding(crate::specs::Authority::without_main, crate::specs::Authority::terms, crate::specs::Authority::end_parts))]
 fn check_keys_without_main<N: Node>(alloc: Global, node: &N) -> Result<(), FormError>
     ensures { Gives (λ u. u) result (object_with (with_number without_main).part.keys (N.shows node.now)) }
 {
@@ -108,17 +106,17 @@ fn check_keys_without_main<N: Node>(alloc: Global, node: &N) -> Result<(), FormE
         alloc,
         node,
         &[
-            "nid_packet",
-            "q_dir",
-            "q_scale",
+            "danger_point",
             "end_speed",
             "end_timeout",
-            "sections",
-            "l_endsection",
-            "section_timer",
             "end_timer",
-            "danger_point",
+            "l_endsection",
+            "nid_packet",
             "overlap",
+            "q_dir",
+            "q_scale",
+            "section_timer",
+            "sections",
         ],
     )
 }

@@ -18,7 +18,7 @@ impl Record for SectionTimer {
 #[tactic(auto, unfolding(crate::specs::Authority::section_timer))]
 impl Members for SectionTimer {
     fn keys() -> &'static [&'static str] {
-        &["t_sectiontimer", "d_sectiontimerstoploc"]
+        &["d_sectiontimerstoploc", "t_sectiontimer"]
     }
 
     fn send_members<S: Sink>(&self, out: &mut S) -> Result<(), Memory> {
@@ -78,7 +78,7 @@ impl Record for EndTimer {
 #[tactic(auto, unfolding(crate::specs::Authority::end_timer))]
 impl Members for EndTimer {
     fn keys() -> &'static [&'static str] {
-        &["t_endtimer", "d_endtimerstartloc"]
+        &["d_endtimerstartloc", "t_endtimer"]
     }
 
     fn send_members<S: Sink>(&self, out: &mut S) -> Result<(), Memory> {
@@ -138,7 +138,7 @@ impl Record for Overlap {
 #[tactic(auto, unfolding(crate::specs::Authority::overlap))]
 impl Members for Overlap {
     fn keys() -> &'static [&'static str] {
-        &["d_startol", "t_ol", "d_ol", "v_releaseol"]
+        &["d_ol", "d_startol", "t_ol", "v_releaseol"]
     }
 
     fn send_members<S: Sink>(&self, out: &mut S) -> Result<(), Memory> {

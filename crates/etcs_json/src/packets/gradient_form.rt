@@ -19,7 +19,7 @@ impl Record for GradientElement {
 #[tactic(auto, unfolding(crate::specs::Profiles::gradient_element))]
 impl Members for GradientElement {
     fn keys() -> &'static [&'static str] {
-        &["d_gradient", "q_gdir", "g_a"]
+        &["d_gradient", "g_a", "q_gdir"]
     }
 
     fn send_members<S: Sink>(&self, out: &mut S) -> Result<(), Memory> {
@@ -52,7 +52,7 @@ impl Record for Gradient {
 #[tactic(auto, unfolding(crate::specs::Profiles::gradient))]
 impl Members for Gradient {
     fn keys() -> &'static [&'static str] {
-        &["nid_packet", "q_dir", "q_scale", "elements"]
+        &["elements", "nid_packet", "q_dir", "q_scale"]
     }
 
     fn send_members<S: Sink>(&self, out: &mut S) -> Result<(), Memory> {

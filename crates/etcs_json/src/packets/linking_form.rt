@@ -21,8 +21,8 @@ impl Members for Link {
     fn keys() -> &'static [&'static str] {
         &[
             "d_link",
-            "nid_c",
             "nid_bg",
+            "nid_c",
             "q_linkorientation",
             "q_linkreaction",
             "q_locacc",
@@ -65,7 +65,7 @@ impl Record for Linking {
 #[tactic(auto, unfolding(crate::specs::Profiles::linking))]
 impl Members for Linking {
     fn keys() -> &'static [&'static str] {
-        &["nid_packet", "q_dir", "q_scale", "links"]
+        &["links", "nid_packet", "q_dir", "q_scale"]
     }
 
     fn send_members<S: Sink>(&self, out: &mut S) -> Result<(), Memory> {

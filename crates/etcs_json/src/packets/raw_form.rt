@@ -59,7 +59,7 @@ impl Record for RawPacket {
 #[tactic(auto, unfolding(crate::specs::Raw::raw_packet))]
 impl Members for RawPacket {
     fn keys() -> &'static [&'static str] {
-        &["nid_packet", "q_dir", "l_packet", "body"]
+        &["body", "l_packet", "nid_packet", "q_dir"]
     }
 
     fn send_members<S: Sink>(&self, out: &mut S) -> Result<(), Memory> {

@@ -59,7 +59,7 @@ impl Record for RawTrainPacket {
 #[tactic(auto, unfolding(crate::specs::RawTrain::raw_train_packet))]
 impl Members for RawTrainPacket {
     fn keys() -> &'static [&'static str] {
-        &["nid_packet", "l_packet", "body"]
+        &["body", "l_packet", "nid_packet"]
     }
 
     fn send_members<S: Sink>(&self, out: &mut S) -> Result<(), Memory> {

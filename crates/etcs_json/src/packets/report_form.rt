@@ -107,7 +107,6 @@ fn report_with(
 }
 
 // Refuses what is no object, and an object with a key that packet 0 does not have.
-#[tactic(auto, unfolding(crate::specs::Report::with_one, crate::specs::Report::situation, crate::specs::Report::state))]
 fn check_keys_with_one<N: Node>(alloc: Global, node: &N) -> Result<(), FormError>
     ensures { Gives (λ u. u) result (object_with (with_number with_one).part.keys (N.shows node.now)) }
 {
@@ -115,28 +114,27 @@ fn check_keys_with_one<N: Node>(alloc: Global, node: &N) -> Result<(), FormError
         alloc,
         node,
         &[
-            "nid_packet",
-            "q_scale",
-            "nid_c",
-            "nid_bg",
             "d_lrbg",
-            "q_dirlrbg",
-            "q_dlrbg",
             "l_doubtover",
             "l_doubtunder",
-            "q_length",
             "l_trainint",
-            "v_train",
-            "q_dirtrain",
-            "m_mode",
             "m_level",
+            "m_mode",
+            "nid_bg",
+            "nid_c",
             "nid_ntc",
+            "nid_packet",
+            "q_dirlrbg",
+            "q_dirtrain",
+            "q_dlrbg",
+            "q_length",
+            "q_scale",
+            "v_train",
         ],
     )
 }
 
 // Refuses what is no object, and an object with a key that packet 1 does not have.
-#[tactic(auto, unfolding(crate::specs::Report::with_two, crate::specs::Report::situation, crate::specs::Report::state))]
 fn check_keys_with_two<N: Node>(alloc: Global, node: &N) -> Result<(), FormError>
     ensures { Gives (λ u. u) result (object_with (with_number with_two).part.keys (N.shows node.now)) }
 {
@@ -144,24 +142,24 @@ fn check_keys_with_two<N: Node>(alloc: Global, node: &N) -> Result<(), FormError
         alloc,
         node,
         &[
-            "nid_packet",
-            "q_scale",
-            "nid_c",
-            "nid_bg",
-            "prv_nid_c",
-            "prv_nid_bg",
             "d_lrbg",
-            "q_dirlrbg",
-            "q_dlrbg",
             "l_doubtover",
             "l_doubtunder",
-            "q_length",
             "l_trainint",
-            "v_train",
-            "q_dirtrain",
-            "m_mode",
             "m_level",
+            "m_mode",
+            "nid_bg",
+            "nid_c",
             "nid_ntc",
+            "nid_packet",
+            "prv_nid_bg",
+            "prv_nid_c",
+            "q_dirlrbg",
+            "q_dirtrain",
+            "q_dlrbg",
+            "q_length",
+            "q_scale",
+            "v_train",
         ],
     )
 }

@@ -19,7 +19,7 @@ impl Record for Difference {
 #[tactic(auto, unfolding(crate::specs::Profiles::difference))]
 impl Members for Difference {
     fn keys() -> &'static [&'static str] {
-        &["q_diff", "nc", "v_diff"]
+        &["nc", "q_diff", "v_diff"]
     }
 
     fn send_members<S: Sink>(&self, out: &mut S) -> Result<(), Memory> {
@@ -55,7 +55,7 @@ impl Record for SpeedElement {
 #[tactic(auto, unfolding(crate::specs::Profiles::speed_element))]
 impl Members for SpeedElement {
     fn keys() -> &'static [&'static str] {
-        &["d_static", "v_static", "q_front", "differences"]
+        &["d_static", "differences", "q_front", "v_static"]
     }
 
     fn send_members<S: Sink>(&self, out: &mut S) -> Result<(), Memory> {
@@ -90,7 +90,7 @@ impl Record for SpeedProfile {
 #[tactic(auto, using(crate::proofs::ReadLemmas::few_differences), unfolding(crate::specs::Profiles::speed_profile))]
 impl Members for SpeedProfile {
     fn keys() -> &'static [&'static str] {
-        &["nid_packet", "q_dir", "q_scale", "elements"]
+        &["elements", "nid_packet", "q_dir", "q_scale"]
     }
 
     fn send_members<S: Sink>(&self, out: &mut S) -> Result<(), Memory> {

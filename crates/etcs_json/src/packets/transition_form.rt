@@ -19,7 +19,7 @@ impl Record for LevelOrder {
 #[tactic(auto, unfolding(crate::specs::Transition::level_order))]
 impl Members for LevelOrder {
     fn keys() -> &'static [&'static str] {
-        &["m_leveltr", "nid_ntc", "l_ackleveltr"]
+        &["l_ackleveltr", "m_leveltr", "nid_ntc"]
     }
 
     fn send_members<S: Sink>(&self, out: &mut S) -> Result<(), Memory> {
@@ -52,7 +52,7 @@ impl Record for Transition {
 #[tactic(auto, unfolding(crate::specs::Transition::transition))]
 impl Members for Transition {
     fn keys() -> &'static [&'static str] {
-        &["nid_packet", "q_dir", "q_scale", "d_leveltr", "transitions"]
+        &["d_leveltr", "nid_packet", "q_dir", "q_scale", "transitions"]
     }
 
     fn send_members<S: Sink>(&self, out: &mut S) -> Result<(), Memory> {
