@@ -6,7 +6,7 @@ use Rattle.json.proofs.Printed.Decimals.{IsNumber-decimal}
 use Rattle.etcs_digits.proofs.decimal.send_digits.Goals as goal
 
 pub from_utf8_unchecked-requires : goal.from_utf8_unchecked-requires
-from_utf8_unchecked-requires g c = rw c.requires (IsUtf8-from_ascii (decimal c.args.n) (IsAscii-decimal c.args.n (search rules)))
+from_utf8_unchecked-requires g c = rw c.requires.digits (IsUtf8-from_ascii (decimal c.args.n) (IsAscii-decimal c.args.n (search rules)))
 
 pub number-requires : goal.number-requires
-number-requires g c = rw (c.from_utf8_unchecked.ensures, c.requires) (IsNumber-decimal c.args.n (search rules))
+number-requires g c = rw (c.from_utf8_unchecked.ensures, c.requires.digits) (IsNumber-decimal c.args.n (search rules))
