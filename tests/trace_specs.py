@@ -12,7 +12,7 @@ CRATES = ("etcs_bits", "etcs_profile", "etcs_packet", "etcs_telegram", "etcs_rad
 LONGEST_PACKET = 8191
 
 # Definitions that make a layout or a variable of others; they are none of the standard's.
-COMBINING = {*"variable number ranges names flag fixed empty then if_there several behind_length chosen named "
+COMBINING = {*"variable number ranges names flag fixed empty then if_there several behind_length kept_bits chosen named "
               "plain free only ranged naming".split()}
 CHOOSING = ("last", "either")
 # Variables whose definition does not have their name in small letters.
@@ -22,8 +22,8 @@ OTHER_NAMES = {
     "level_variable": ("M_LEVELTR", "M_LEVEL"), "length_variable": ("Q_LENGTH",), "nc_diff": ("NC_CDDIFF", "NC_DIFF"),
     "train3_variable": ("Q_DIRLRBG", "Q_DLRBG", "Q_DIRTRAIN"), "train3": ("Q_DIRLRBG", "Q_DLRBG", "Q_DIRTRAIN"),
     "qualifier": ("Q_NEWCOUNTRY", "Q_SECTIONTIMER", "Q_ENDTIMER", "Q_DANGERPOINT", "Q_OVERLAP"),
-    **dict.fromkeys(("authority_variable", "report_variable", "nid_raw", "nid_track", "nid_train"), ("NID_PACKET",)),
-    "l_raw": ("L_PACKET",),
+    **dict.fromkeys(("authority_variable", "report_variable", "nid_raw", "nid_track"), ("NID_PACKET",)),
+    "l_kept": ("L_PACKET",),
 }
 # The qualifier before what may follow it.
 QUALIFIERS = {"nid_c": "Q_NEWCOUNTRY", "section_timer": "Q_SECTIONTIMER", "end_timer": "Q_ENDTIMER",
@@ -296,11 +296,14 @@ class Reader:
         if test.endswith(".allows"):
             return {int(it) for it in self.choice(self.term(test[: -len(".allows")], place)) if it.isdigit()}
         found = self.definition(place, test)
-        outer = re.fullmatch(r"\w+ n = not \((\w+) n \|\| \(n == (\d+)\)\)", found.text)
+        outer = re.fullmatch(r"\w+ n = not \(([\w.]+) n \|\| \(n == (\d+)\)\)", found.text)
         if not outer:
             raise Stopped(f"{place}: the numbers of {test} have another form")
-        known = re.findall(r"n == (\d+)", self.definition(found.place, outer[1]).text)
-        return every - {int(outer[2]), *map(int, known)}
+        if outer[1].endswith(".allows"):
+            known = self.allowed(outer[1], width, found.place)
+        else:
+            known = map(int, re.findall(r"n == (\d+)", self.definition(found.place, outer[1]).text))
+        return every - {int(outer[2]), *known}
 
     def layout(self, term):
         """The layout that a term of type Format is."""
@@ -328,10 +331,6 @@ class Reader:
         """A layout that a record states by its table of fields."""
         table = re.search(r"fields = (\w+);", found.text)
         fields = self.definition(found.place, table[1]).parts()[1] if table else ""
-        body = re.fullmatch(r"field (\w+) \(λ l\. one \(free \(l - (\d+)\)\)\)", fields)
-        if body:
-            length = self.named_variable(self.definition(found.place, body[1]))
-            return Layout([length], length.width, length.width + LONGEST_PACKET - int(body[2]))
         widths = [int(it) for it in re.findall(r"one \((?:plain|free) (\d+)\)", fields)]
         if not widths or re.sub(r"one \(\w+ \d+\)", "", fields).strip(" ▹"):
             raise Stopped(f"{found.place}: the fields of {found.name} have another form")
@@ -342,13 +341,10 @@ class Reader:
         head, *rest = parted(term)
         if head in CHOOSING:
             return {word(rest[0]): self.layout(rest[1]), **(self.choice(rest[2]) if head == "either" else {})}
+        if (head.place, head.name) == ("etcs_bits/layout/Format", "others"):
+            return {"other": self.layout(rest[1])}
         parameters, body = self.use(head).parts()
-        if not body.startswith("record"):
-            return self.choice(self.term(body, head.place, zip(parameters, rest)))
-        following = re.search(r"next = λ _\. (\w+)\.fields;", body)
-        if not following:
-            raise Stopped(f"{head.place}: the choice {head.name} has another form")
-        return {"other": self.expand(self.definition(head.place, following[1]))}
+        return self.choice(self.term(body, head.place, zip(parameters, rest)))
 
     # The combinators, by their names.
 
@@ -388,6 +384,12 @@ class Reader:
         length, inner = self.named_variable(self.definition("etcs_bits/layout/Combined", "l_packet")), self.layout(item)
         most = min(length.width + inner.most, LONGEST_PACKET - int(word(before)))
         return Layout([length, *inner.variables], length.width + inner.least, most)
+
+    def make_kept_bits(self, before):
+        found = self.definition("etcs_bits/layout/Combined", "l_kept")
+        text = found.parts()[1].replace("(before + 13)", str(int(word(before)) + 13))
+        length = replace(self.stated(text, found.place), names=names_of(found))
+        return Layout([length], length.width, LONGEST_PACKET - int(word(before)))
 
     def make_named(self, layout, *_):
         return self.layout(layout)

@@ -17,3 +17,4 @@ pub mod SizedLemmas
 pub mod ValueLemmas
 pub mod FitLemmas
 pub mod SumLemmas
+pub mod KeptLemmas

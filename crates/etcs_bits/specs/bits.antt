@@ -1,3 +1,4 @@
 -- Bits as numbers, and bits in bytes.
 pub mod Number
+pub mod NumberLemmas
 pub mod Packed

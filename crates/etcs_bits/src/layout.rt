@@ -3,6 +3,7 @@
 pub(crate) mod body;
 pub(crate) mod fault;
 pub(crate) mod items;
+pub(crate) mod kept;
 pub(crate) mod option;
 pub(crate) mod pair;
 pub(crate) mod same;

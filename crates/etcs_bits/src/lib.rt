@@ -3,12 +3,13 @@
 //!
 //! [`Bits`] is a list of bits. [`Cursor`] is a place in such a list. [`Layout`] is a record of
 //! variables, such as [`Version`] or [`Identity`]. Pairs, options, [`Items`] and [`Body`] make
-//! records of others (`specs/layout/Combined.antt`). Layers above rely on the contract of
-//! [`Layout::scan`]: it reads the record at the cursor, or reports the first [`Fault`] if no record
-//! stands there. [`Same`] compares two values. Read `layout.rt` first, with `Rows.antt`,
-//! `Fields.antt` and `Fault.antt` of `specs/layout/`. The laws of every record and variable are in
-//! [`laws`]. This crate leaves out packets, whole telegrams and their text, and the channel coding
-//! of the user bits (SUBSET-036, 4.3).
+//! records of others (`specs/layout/Combined.antt`). [`scan_kept`] and [`put_kept`] read and write a
+//! body that is kept as bits. Layers above rely on the contract of [`Layout::scan`]: it reads the
+//! record at the cursor, or reports the first [`Fault`] if no record stands there. [`Same`] compares
+//! two values. Read `layout.rt` first, with `Rows.antt`, `Fields.antt` and `Fault.antt` of
+//! `specs/layout/`. The laws of every record and variable are in [`laws`]. This crate leaves out
+//! packets, whole telegrams and their text, and the channel coding of the user bits (SUBSET-036,
+//! 4.3).
 #![tactic(auto)]
 
 mod bits;
@@ -24,6 +25,7 @@ pub use layout::Layout;
 pub use layout::body::Body;
 pub use layout::fault::{DecodeError, Fault, FaultKind, refused};
 pub use layout::items::{Items, are_allowed, width_of};
+pub use layout::kept::{can_keep, put_kept, scan_kept};
 pub use layout::same::{Same, are_same};
 pub use variables::direction::Dir;
 pub use variables::duplicate::Dup;

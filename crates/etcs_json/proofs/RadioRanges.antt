@@ -5,6 +5,7 @@ use Rattle.std.specs.Prelude.{codes}
 use Rattle.std.specs.List.{flat_map}
 use Rattle.std.proofs.lemmas.Bool.{and_from}
 use Rattle.etcs_bits.specs.declared.variables.identity.Identity.{Identity}
+use Rattle.etcs_bits.specs.layout.Format.{kept_bits}
 use Rattle.etcs_bits.specs.layout.Rows.{AreAllowed, alone}
 use Rattle.etcs_bits.specs.variables.Identity.{identity as identity_layout}
 use Rattle.etcs_bits.specs.variables.VariableFormats.{q_scale}
@@ -12,12 +13,11 @@ use Rattle.etcs_bits.specs.variables.Variables.{plain, ranged, scale_number, sca
 use Rattle.etcs_packet.specs.Track.{track_packet as track_layout}
 use Rattle.etcs_radio.specs.Integrity.{q_length}
 use Rattle.etcs_radio.specs.Lrbg.{lrbg_rows}
-use Rattle.etcs_radio.specs.RawTrain.{tail}
 use Rattle.etcs_radio.specs.Record.{Movement, Position}
 use Rattle.etcs_radio.specs.Report.{WithOne, WithTwo, numbered_of, report as report_layout, report_variable, situation as situation_layout, with_one as with_one_layout, with_two as with_two_layout}
 use Rattle.etcs_radio.specs.Required.{has_authority, has_report}
 use Rattle.etcs_radio.specs.Train3.{train3_number, train3_variable}
-use Rattle.etcs_radio.specs.TrainNumbers.{nid_train}
+use Rattle.etcs_packet.specs.PacketNumbers.{nid_track as nid_train}
 use Rattle.etcs_radio.specs.TrainPacket.{parts_of, train_packet as train_layout}
 use Rattle.etcs_radio.specs.declared.integrity.Integrity.{Integrity}
 use Rattle.etcs_radio.specs.declared.integrity.Integrity.TheVariants as lengths
@@ -88,7 +88,7 @@ with_two_keeps = record {
       (both_keep (lrbg_keeps (codes "prv_nid_c") (codes "prv_nid_bg")) situation_keeps))).range p allowed.1;
 }
 
-raw_train_keeps : Keeps (λ r. alone nid_train r.number ++ tail.rows r.body) raw_train_packet.part.fits
+raw_train_keeps : Keeps (λ r. alone nid_train r.number ++ (kept_bits 8).rows r.body) raw_train_packet.part.fits
 unfolding alone
 raw_train_keeps = record { range = λ r allowed. raw_train_fits r allowed.0.0 }
 

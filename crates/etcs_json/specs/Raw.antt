@@ -1,15 +1,12 @@
 -- The form of packets whose layout is not known (SUBSET-026, 7.4.1). Their bodies are kept as bits.
-use Rattle.std.specs.Prelude.{◌≡◌, codes, length, refl}
+use Rattle.std.specs.Prelude.{codes, refl}
 use Rattle.etcs_packet.specs.FoundRaw.{raw_with}
-use Rattle.etcs_packet.specs.PacketNumbers.{is_kept, nid_raw}
-use Rattle.etcs_packet.specs.Raw.{raw_back}
+use Rattle.etcs_packet.specs.PacketNumbers.{nid_raw}
+use Rattle.etcs_packet.specs.Raw.{raw_again}
 use Rattle.etcs_packet.specs.declared.raw.RawPacket.{RawPacket}
 use Rattle.etcs_json.specs.Measured.{measured}
 use Rattle.etcs_json.specs.Shape.{Object, key, named, ◌then◌}
 use Rattle.etcs_json.specs.Variables.{direction, variable}
-
-pub raw_again : (r : RawPacket) → raw_with r.number (r.dir, r.body) ≡ r
-raw_again r = raw_back r.number r.dir r.body r.kept (is_kept r.number (length r.body)) refl
 
 -- a track packet of another number than those of known packets and of the end mark; 23 bits stand
 -- before its body

@@ -1,16 +1,13 @@
 -- The form of packets from train to track whose layout is not known (SUBSET-026, 7.4.1). Their
 -- bodies are kept as bits. They have no Q_DIR.
-use Rattle.std.specs.Prelude.{◌≡◌, codes, length, refl}
+use Rattle.std.specs.Prelude.{codes, refl}
 use Rattle.etcs_radio.specs.FoundRaw.{raw_with}
-use Rattle.etcs_radio.specs.TrainNumbers.{is_kept, nid_raw}
-use Rattle.etcs_radio.specs.RawTrain.{raw_back}
+use Rattle.etcs_radio.specs.TrainNumbers.{nid_raw}
+use Rattle.etcs_radio.specs.RawTrain.{raw_again}
 use Rattle.etcs_radio.specs.declared.raw_train.RawTrainPacket.{RawTrainPacket}
 use Rattle.etcs_json.specs.Measured.{measured}
 use Rattle.etcs_json.specs.Shape.{Object, key, named, ◌then◌}
 use Rattle.etcs_json.specs.Variables.{variable}
-
-pub raw_train_again : (r : RawTrainPacket) → raw_with r.number r.body ≡ r
-raw_train_again r = raw_back r.number r.body r.kept (is_kept r.number (length r.body)) refl
 
 -- a train packet of another number than those of position reports and of the end mark; 21 bits
 -- stand before its body
@@ -21,6 +18,6 @@ raw_train_packet = record {
       named
       (λ p. raw_with p.0 p.1)
       (λ r. (r.number, r.body))
-      raw_train_again
+      raw_again
       (key (codes "nid_packet") (variable nid_raw) then measured 21);
 }

@@ -1,16 +1,9 @@
 -- A packet that is kept as bits, found again in its rows.
 -- Pinned by the law a_record_is_read_as_it_is_spelled.
-use Rattle.std.specs.Prelude.{◌≡◌, ℕ, ◌-◌, Bool, true, false, List, [], length, refl}
+use Rattle.std.specs.Prelude.{◌≡◌, ℕ, Bool, true, false, List, [], length, refl}
 use Rattle.etcs_bits.specs.declared.variables.direction.Dir.{Dir}
-use Rattle.etcs_bits.specs.bits.Number.{num}
-use Rattle.etcs_bits.specs.layout.Rows.{Row}
-use Rattle.etcs_bits.specs.layout.Found.{number_at}
 use Rattle.etcs_packet.specs.declared.raw.RawPacket.{RawPacket}
 use Rattle.etcs_packet.specs.PacketNumbers.{is_kept}
-
--- the body that rows hold
-abbrev pub tail_of : List Row → List Bool
-tail_of rows = num (number_at 0 rows - 23) (number_at 1 rows)
 
 -- the packet of these parts, where they make one, and of any parts
 abbrev pub raw : (n : ℕ) → Dir → (body : List Bool) → is_kept n (length body) ≡ true → RawPacket

@@ -1,7 +1,8 @@
 -- The numbers of packets (SUBSET-026, 7.4.2): those of packets whose layout is known here, that of
 -- the end mark, and all others. Packets with the other numbers keep their bodies as bits.
-use Rattle.std.specs.Prelude.{ℕ, ◌==◌, ◌||◌, ◌&&◌, nat_le, Bool, false, true, not}
-use Rattle.etcs_bits.specs.declared.layout.fault.FaultKind.TheVariants.{Spare, Length}
+use Rattle.std.specs.Prelude.{ℕ, ◌==◌, ◌||◌, ◌&&◌, Bool, false, true, not}
+use Rattle.etcs_bits.specs.declared.layout.fault.FaultKind.TheVariants.{Spare}
+use Rattle.etcs_bits.specs.layout.Combined.{is_countable}
 use Rattle.etcs_bits.specs.layout.Rows.{Variable}
 
 -- whether this is the number of a packet whose layout is known
@@ -14,9 +15,9 @@ abbrev pub is_other : ℕ → Bool
 is_other n = not (is_known n || (n == 255))
 
 -- Whether a packet of number `n` is kept as bits, and a body of `bits` bits is short enough for
--- L_PACKET. L_PACKET has 13 bits, and counts the 23 of the head too.
+-- L_PACKET, which NID_PACKET and Q_DIR stand before.
 abbrev pub is_kept : ℕ → ℕ → Bool
-is_kept n bits = is_other n && nat_le bits 8168
+is_kept n bits = is_other n && is_countable 10 bits
 
 -- NID_PACKET of a packet that is kept as bits; any other number is spare
 abbrev pub nid_raw : Variable
@@ -26,8 +27,3 @@ nid_raw = record { width = 8; allows = is_other; refusal = Spare; closes = false
 -- place.
 abbrev pub nid_track : Variable
 nid_track = record { width = 8; allows = λ n. not (n == 255); refusal = Spare; closes = true }
-
--- L_PACKET of a packet that is kept as bits. It counts the head of 23 bits and the body. A number
--- less than 23 is a Length fault at once.
-abbrev pub l_raw : Variable
-l_raw = record { width = 13; allows = λ l. nat_le 23 l; refusal = Length; closes = false }

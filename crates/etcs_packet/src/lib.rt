@@ -8,8 +8,8 @@
 //! body: a [`PacketView`].
 //!
 //! Below them are calls that take any record whose table of fields begins with NID_PACKET.
-//! [`read_items`] reads all packets of a list, and [`write_items`] writes packets. [`next_whole`]
-//! also reads the head before the packets. A [`Stop`] says where a list ends. All these calls rest on
+//! [`read_items`] reads all packets of a list, and [`write_items`] writes packets. [`scan_number`]
+//! reads NID_PACKET of one. [`next_whole`] also reads the head before the packets. A [`Stop`] says where a list ends. All these calls rest on
 //! the contract of [`etcs_bits::Layout`].
 //!
 //! Read `track.rt` and `packets.rt` first, with `specs/Track.antt`. Then read `view.rt` with
@@ -33,6 +33,7 @@ mod whole;
 pub use cover::CoverMarker;
 pub use etcs_profile::{LevelOrder, Link, Linking, Reaction, Transition};
 pub use list::{read_items, write_items};
+pub use number::scan_number;
 pub use packets::{next_view, read_packets, write_packets};
 pub use raw::RawPacket;
 pub use run::Run;

@@ -1,4 +1,4 @@
-//! The number of a packet from track to train.
+//! The number of a packet in a list.
 
 ghost use Rattle.std.specs.Prelude.{◌≡◌, ◌==◌, ◌<◌, true, not, IfOk};
 ghost use Rattle.etcs_bits.specs.layout.Reading.{field_at};
@@ -7,9 +7,10 @@ ghost use Rattle.etcs_packet.specs.PacketNumbers.{nid_track};
 
 use etcs_bits::{Cursor, DecodeError, Fault, FaultKind, refused};
 
-/// NID_PACKET of the packet at the cursor, which no end mark is.
+/// Reads NID_PACKET of a packet in a list. 255, the end mark, is spare here. Fewer than eight bits are
+/// a NoEnd fault. After an error the cursor may stand anywhere.
 #[inline]
-pub(crate) fn scan_number(cur: &mut Cursor<'_>) -> Result<u64, DecodeError>
+pub fn scan_number(cur: &mut Cursor<'_>) -> Result<u64, DecodeError>
     ensures gives { Gives (λ n. n) result (field_at nid_track cur.old) cur.new }
     ensures number { IfOk result (λ n. (n < 256) × (not (n == 255) ≡ true)) }
 

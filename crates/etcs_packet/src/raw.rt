@@ -1,64 +1,19 @@
 //! Packets whose layout is not known here.
 
-ghost use Rattle.std.specs.Prelude.{◌≡◌, ◌≤◌, ◌<◌, ◌+◌, length, true, IfOk, IfErr, IsOk, ◌↔◌};
-ghost use Rattle.etcs_bits.specs.bits.Number.{num_of_bits};
-ghost use Rattle.etcs_bits.specs.layout.Reading.{field_at, rows_at};
-ghost use Rattle.etcs_bits.specs.layout.Results.{Gives, IfMemory, Puts};
-ghost use Rattle.etcs_bits.specs.layout.Rows.{join};
-ghost use Rattle.etcs_bits.specs.variables.Variables.{free};
-ghost use Rattle.etcs_packet.specs.Free.{free_rows};
-ghost use Rattle.etcs_packet.specs.PacketNumbers.{is_kept, is_other, l_raw};
+ghost use Rattle.std.specs.Prelude.{◌≡◌, ◌≤◌, length, true, IfOk, IfErr, IsOk, ◌↔◌};
+ghost use Rattle.etcs_bits.specs.layout.Combined.{is_countable};
+ghost use Rattle.etcs_bits.specs.layout.Reading.{rows_at};
+ghost use Rattle.etcs_bits.specs.layout.Results.{Gives, IfMemory};
+ghost use Rattle.etcs_packet.specs.PacketNumbers.{is_kept, is_other};
 
 use etcs_bits::{
-    BitSlice, Bits, Cursor, DecodeError, Dir, FaultKind, Layout, Memory, Same, refused,
+    BitSlice, Bits, Cursor, DecodeError, Dir, FaultKind, Layout, Memory, Same, can_keep, put_kept,
+    refused, scan_kept,
 };
 use std::alloc::Global;
 
-// The most bits that a body may have. L_PACKET has 13 bits, and counts the 23 of the head too.
-const MOST_BITS: usize = 8168;
-
-/// Whether a number is neither that of a known packet nor that of the end mark.
-#[inline]
-pub(crate) fn is_raw(number: u64) -> bool
-    ensures { result ≡ is_other number }
-{
-    !matches!(number, 0 | 5 | 12 | 15 | 21 | 27 | 41 | 255)
-}
-
-// Reads L_PACKET of a packet that is kept as bits.
-#[inline]
-fn scan_length(cur: &mut Cursor<'_>) -> Result<u64, DecodeError>
-    ensures gives { Gives (λ n. n) result (field_at l_raw cur.old) cur.new }
-    ensures least { IfOk result (λ n. 23 ≤ n) }
-    ensures most { IfOk result (λ n. n < 8192) }
-
-    // Reading L_PACKET takes no memory.
-    ensures memory { IfMemory result ⊥ }
-{
-    let at = cur.at();
-    let length = cur.take(13)?;
-    if length < 23 {
-        return Err(refused(at, cur, FaultKind::Length));
-    }
-    Ok(length)
-}
-
-// The next bits, borrowed.
-#[inline]
-fn scan_body<'a>(cur: &mut Cursor<'a>, width: usize) -> Result<BitSlice<'a>, DecodeError>
-    ensures gives { Gives num_of_bits result (field_at (free width) cur.old) cur.new }
-    ensures len { IfOk result (λ body. length body ≡ width) }
-    ensures memory { IfMemory result ⊥ }
-{
-    Ok(cur.take_slice(width)?)
-}
-
-// Appends bits as they are.
-fn put_body(body: &Bits, out: &mut Bits) -> Result<(), Memory>
-    ensures { Puts (join (free_rows body.now)) result out.old out.new }
-{
-    out.push_bits(body)
-}
+// How many bits stand before L_PACKET: NID_PACKET and Q_DIR.
+const BEFORE: u32 = 10;
 
 /// A packet whose layout is not known here: NID_PACKET, Q_DIR, L_PACKET and a body that is kept as
 /// it is. Its number is none of 0, 5, 12, 15, 21, 27, 41 and 255. Its body has at most 8,168 bits
@@ -72,6 +27,15 @@ pub struct RawPacket {
 }
 
 impl RawPacket {
+    /// Whether packets of this number are kept as bits: it is neither that of a packet whose layout
+    /// is known nor that of the end mark.
+    #[inline]
+    pub fn has_number(number: u64) -> bool
+        ensures { result ≡ is_other number }
+    {
+        !matches!(number, 0 | 5 | 12 | 15 | 21 | 27 | 41 | 255)
+    }
+
     /// The packet of these parts.
     ///
     /// The error gives the body back. Either the number is that of a known packet or of the end
@@ -81,7 +45,7 @@ impl RawPacket {
         ensures made { IsOk result ↔ (is_kept number (length body) ≡ true) }
         ensures err { IfErr result (λ b. b ≡ body) }
     {
-        if !is_raw(u64::from(number)) || MOST_BITS < body.len() {
+        if !RawPacket::has_number(u64::from(number)) || !can_keep(BEFORE, &body) {
             return Err(body);
         }
         Ok(RawPacket { number, dir, body })
@@ -122,13 +86,11 @@ impl RawPacket {
         cur: &mut Cursor<'a>,
     ) -> Result<(Dir, BitSlice<'a>), DecodeError>
         ensures gives { Gives raw_rest.rows result (rows_at raw_rest.fields cur.old) cur.new }
-        ensures short { IfOk result (λ rest. length rest.1 ≤ 8168) }
+        ensures few { IfOk result (λ rest. is_countable 10 (length rest.1) ≡ true) }
         ensures memory { IfMemory result ⊥ }
     {
         let dir = Dir::scan(alloc, cur)?;
-        let length = scan_length(cur)?;
-        let body = scan_body(cur, (length - 23) as usize)?;
-        Ok((dir, body))
+        Ok((dir, scan_kept(BEFORE, cur)?))
     }
 
     /// The packet of these parts, with a copy of the body. Fails only if memory runs out.
@@ -157,9 +119,8 @@ impl Layout for RawPacket {
     ghost grows = { Unit {0} };
 
     fn is_allowed(&self) -> bool {
-        // For the proof alone: the type keeps the number and the length in range.
+        // For the proof alone: the type keeps the number in range.
         let _number = self.number();
-        let _body = self.body();
         self.dir.is_allowed()
     }
 
@@ -172,14 +133,13 @@ impl Layout for RawPacket {
     fn put(&self, out: &mut Bits) -> Result<(), Memory> {
         out.push_num(8, u64::from(self.number))?;
         self.dir.put(out)?;
-        out.push_num(13, self.body().len() as u64 + 23)?;
-        put_body(&self.body, out)
+        put_kept(BEFORE, &self.body, out)
     }
 
     fn scan(alloc: Global, cur: &mut Cursor<'_>) -> Result<Self, DecodeError> {
         let at = cur.at();
         let number = cur.take(8)?;
-        if !is_raw(number) {
+        if !RawPacket::has_number(number) {
             return Err(refused(at, cur, FaultKind::Spare));
         }
         let (dir, body) = RawPacket::scan_rest(alloc, cur)?;

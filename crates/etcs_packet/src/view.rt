@@ -4,7 +4,7 @@ ghost use Rattle.std.specs.Prelude.{◌≡◌, true, IfOk, IsOk};
 ghost use Rattle.etcs_bits.specs.layout.Results.{IfMemory};
 
 use crate::number::scan_number;
-use crate::raw::{RawPacket, is_raw};
+use crate::raw::RawPacket;
 use crate::track::TrackPacket;
 use etcs_bits::{BitSlice, Cursor, DecodeError, Dir, Memory};
 use std::alloc::Global;
@@ -39,7 +39,7 @@ impl<'a> PacketView<'a> {
         ensures direction { IfMemory result (IsOk (rows_at q_dir.fields (forward cur.old 8))) }
     {
         let number = scan_number(cur)?;
-        if is_raw(number) {
+        if RawPacket::has_number(number) {
             let (dir, body) = RawPacket::scan_rest(alloc, cur)?;
             return Ok(PacketView::Raw {
                 number: number as u8,

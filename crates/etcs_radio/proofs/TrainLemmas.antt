@@ -9,8 +9,9 @@ use Rattle.etcs_radio.specs.declared.report.Report.{Report}
 use Rattle.etcs_radio.specs.declared.train_packet.TrainPacket.{TrainPacket}
 use Rattle.etcs_radio.specs.declared.train_packet.TrainPacket.TheVariants as packets
 use Rattle.etcs_radio.specs.Report.{WithOne, WithTwo, numbered, numbered_of, report_variable}
-use Rattle.etcs_radio.specs.RawTrain.{tail, other_of}
-use Rattle.etcs_radio.specs.TrainNumbers.{is_report_number, nid_train}
+use Rattle.etcs_bits.specs.layout.Format.{kept_bits}
+use Rattle.etcs_radio.specs.RawTrain.{other_of}
+use Rattle.etcs_packet.specs.PacketNumbers.{nid_track as nid_train}
 use Rattle.etcs_radio.specs.TrainPacket.{train_numbered, report_in, train_packet, own_rows}
 
 -- the rows of a report with its number, as one of a list and by itself
@@ -53,7 +54,7 @@ pub train_allowed : (p : TrainPacket) → AreAllowed (own_rows p) → AreAllowed
 unfolding alone
 train_allowed (packets.Report r) allowed = report_allowed (numbered_of r) allowed
 train_allowed (packets.Raw p) allowed =
-    ((allowed.0.0, not_mark (is_report_number p.number) (p.number == 255) (other_of p.number (length p.body) p.kept)), allowed.1)
+    ((allowed.0.0, not_mark (numbered.allows p.number) (p.number == 255) (other_of p.number (length p.body) p.kept)), allowed.1)
 
 -- ---- reading
 
@@ -61,7 +62,7 @@ abbrev Not : ℕ → ℕ → Type 0
 Not n k = n ≡ k → ⊥
 
 -- what follows a number that is no report's
-pub other_next : (n : ℕ) → Not n 0 → Not n 1 → train_numbered.next n ≡ tail.fields
+pub other_next : (n : ℕ) → Not n 0 → Not n 1 → train_numbered.next n ≡ (kept_bits 8).fields
 other_next n a b = rw (ne_eqb n 0 a, ne_eqb n 1 b) refl
 
 -- what follows the number of a report

@@ -1,15 +1,8 @@
 -- A train packet that is kept as bits, found again in its rows.
 -- Pinned by the law a_record_is_read_as_it_is_spelled.
-use Rattle.std.specs.Prelude.{◌≡◌, ℕ, ◌-◌, Bool, true, false, List, [], length, refl}
-use Rattle.etcs_bits.specs.bits.Number.{num}
-use Rattle.etcs_bits.specs.layout.Rows.{Row}
-use Rattle.etcs_bits.specs.layout.Found.{number_at}
+use Rattle.std.specs.Prelude.{◌≡◌, ℕ, Bool, true, false, List, [], length, refl}
 use Rattle.etcs_radio.specs.declared.raw_train.RawTrainPacket.{RawTrainPacket}
 use Rattle.etcs_radio.specs.TrainNumbers.{is_kept}
-
--- the body that rows hold
-abbrev pub tail_of : List Row → List Bool
-tail_of rows = num (number_at 0 rows - 21) (number_at 1 rows)
 
 -- The packet of these parts where they make one. The laws rule out that allowed rows have other
 -- parts; packet 2 without a body stands there only as a value.

@@ -8,9 +8,9 @@ use Rattle.etcs_bits.specs.layout.Format.{Format, either, chosen, named}
 use Rattle.etcs_radio.specs.declared.raw_train.RawTrainPacket.{RawTrainPacket}
 use Rattle.etcs_radio.specs.declared.train_packet.TrainPacket.{TrainPacket}
 use Rattle.etcs_radio.specs.declared.train_packet.TrainPacket.TheVariants as packets
-use Rattle.etcs_radio.specs.Report.{WithOne, WithTwo, with_one, with_two, report_of, numbered_of as report_parts, again as report_again, report}
+use Rattle.etcs_radio.specs.Report.{WithOne, WithTwo, with_one, with_two, report_of, numbered, numbered_of as report_parts, again as report_again, report}
 use Rattle.etcs_radio.specs.RawTrain.{others, raw_train_packet}
-use Rattle.etcs_radio.specs.TrainNumbers.{is_report_number, nid_train}
+use Rattle.etcs_packet.specs.PacketNumbers.{nid_track as nid_train}
 
 -- NID_PACKET, and what follows it
 abbrev pub Numbered : Type 0
@@ -53,15 +53,15 @@ again (packets.Raw p) = refl
 
 -- ---- any number but the end mark's has a packet
 
-allowed_by : (a b m : Bool) → ((a || b) ≡ true → m ≡ false)
-    → not m ≡ (if a then true else (if b then true else not ((a || b) || m)))
+allowed_by : (a b m : Bool) → ((if a then true else b) ≡ true → m ≡ false)
+    → not m ≡ (if a then true else (if b then true else not ((if a then true else b) || m)))
 allowed_by true b m no_end = rw (no_end refl) refl
 allowed_by false true m no_end = rw (no_end refl) refl
 allowed_by false false m no_end = refl
 
-report_is_no_end : (n : ℕ) → is_report_number n ≡ true → (n == 255) ≡ false
+report_is_no_end : (n : ℕ) → numbered.allows n ≡ true → (n == 255) ≡ false
 report_is_no_end n known =
-    ne_eqb n 255 (λ end. true≢false (sym known ∙ ap is_report_number end))
+    ne_eqb n 255 (λ end. true≢false (sym known ∙ ap numbered.allows end))
 
 pub all_but_the_end : (n : ℕ) → nid_train.allows n ≡ train_numbered.allows n
 all_but_the_end n = allowed_by (n == 0) (n == 1) (n == 255) (report_is_no_end n)

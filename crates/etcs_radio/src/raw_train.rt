@@ -1,61 +1,30 @@
 //! Packets from train to track whose layout is not known here.
 
 ghost use Rattle.std.specs.Prelude.{◌≡◌, ◌≤◌, ◌<◌, ◌+◌, length, true, IfOk, IfErr, IsOk, ◌↔◌};
-ghost use Rattle.etcs_bits.specs.bits.Number.{num_of_bits};
-ghost use Rattle.etcs_bits.specs.layout.Reading.{field_at};
-ghost use Rattle.etcs_bits.specs.layout.Results.{Gives, IfMemory, Puts};
-ghost use Rattle.etcs_bits.specs.layout.Rows.{join};
-ghost use Rattle.etcs_bits.specs.variables.Variables.{free};
-ghost use Rattle.etcs_packet.specs.Free.{free_rows};
-ghost use Rattle.etcs_radio.specs.TrainNumbers.{is_kept, is_other, l_raw};
+ghost use Rattle.etcs_bits.specs.layout.Combined.{is_countable};
+ghost use Rattle.etcs_bits.specs.layout.Format.{kept_bits};
+ghost use Rattle.etcs_bits.specs.layout.Reading.{rows_at};
+ghost use Rattle.etcs_bits.specs.layout.Results.{Gives, IfMemory};
+ghost use Rattle.etcs_radio.specs.TrainNumbers.{is_kept, is_other};
 
-use etcs_bits::{Bits, Cursor, DecodeError, FaultKind, Layout, Memory, Same, refused};
+use etcs_bits::{
+    Bits, Cursor, DecodeError, FaultKind, Layout, Memory, Same, can_keep, put_kept, refused,
+    scan_kept,
+};
 use std::alloc::Global;
 
-// The most bits that a body may have. L_PACKET has 13 bits, and counts the 21 of the head too.
-const MOST_BITS: usize = 8170;
+// How many bits stand before L_PACKET: NID_PACKET.
+const BEFORE: u32 = 8;
 
-// Whether a number is neither that of a position report nor that of the end mark.
-fn is_raw(number: u64) -> bool
-    ensures { result ≡ is_other number }
+// Reads L_PACKET, and copies the bits after it.
+fn scan_body(alloc: Global, cur: &mut Cursor<'_>) -> Result<Bits, DecodeError>
+    ensures gives { Gives (kept_bits 8).rows result (rows_at (kept_bits 8).fields cur.old) cur.new }
+    ensures few { IfOk result (λ body. is_countable 8 (length body) ≡ true) }
+
+    // Memory is asked for only where there are bits, and as many as L_PACKET says.
+    ensures memory { IfMemory result (IsOk (rows_at (kept_bits 8).fields cur.old) × (cur.old.at + 13 < cur.new.at)) }
 {
-    !matches!(number, 0 | 1 | 255)
-}
-
-// Reads L_PACKET of a packet that is kept as bits.
-fn scan_length(cur: &mut Cursor<'_>) -> Result<u64, DecodeError>
-    ensures gives { Gives (λ n. n) result (field_at l_raw cur.old) cur.new }
-    ensures least { IfOk result (λ n. 21 ≤ n) }
-    ensures most { IfOk result (λ n. n < 8192) }
-
-    // Reading L_PACKET takes no memory.
-    ensures memory { IfMemory result ⊥ }
-{
-    let at = cur.at();
-    let length = cur.take(13)?;
-    if length < 21 {
-        return Err(refused(at, cur, FaultKind::Length));
-    }
-    Ok(length)
-}
-
-// Copies the next bits.
-fn scan_body(alloc: Global, cur: &mut Cursor<'_>, width: usize) -> Result<Bits, DecodeError>
-    ensures gives { Gives num_of_bits result (field_at (free width) cur.old) cur.new }
-    ensures len { IfOk result (λ body. length body ≡ width) }
-
-    // Memory is asked for only where there are bits, and as many as that.
-    ensures memory { IfMemory result ((0 < width) × (cur.old.at + width ≤ length cur.old.bits)) }
-{
-    let body = cur.take_slice(width)?.to_bits(alloc)?;
-    Ok(body)
-}
-
-// Appends bits as they are.
-fn put_body(body: &Bits, out: &mut Bits) -> Result<(), Memory>
-    ensures { Puts (join (free_rows body.now)) result out.old out.new }
-{
-    out.push_bits(body)
+    Ok(scan_kept(BEFORE, cur)?.to_bits(alloc)?)
 }
 
 /// A train packet whose layout is not known here: NID_PACKET, L_PACKET and a body that is kept as it
@@ -68,6 +37,14 @@ pub struct RawTrainPacket {
 }
 
 impl RawTrainPacket {
+    /// Whether packets of this number are kept as bits: it is neither that of a position report nor
+    /// that of the end mark.
+    pub fn has_number(number: u64) -> bool
+        ensures { result ≡ is_other number }
+    {
+        !matches!(number, 0 | 1 | 255)
+    }
+
     /// The packet of these parts.
     ///
     /// The error gives the body back. Either the number is that of a position report or of the end
@@ -77,7 +54,7 @@ impl RawTrainPacket {
         ensures made { IsOk result ↔ (is_kept number (length body) ≡ true) }
         ensures err { IfErr result (λ b. b ≡ body) }
     {
-        if !is_raw(u64::from(number)) || MOST_BITS < body.len() {
+        if !RawTrainPacket::has_number(u64::from(number)) || !can_keep(BEFORE, &body) {
             return Err(body);
         }
         Ok(RawTrainPacket { number, body })
@@ -114,8 +91,7 @@ impl RawTrainPacket {
         requires other { is_other number ≡ true }
         ensures { Gives (numbered_rows others) result (chosen_at others number cur.old) cur.new }
     {
-        let length = scan_length(cur)?;
-        let body = scan_body(alloc, cur, (length - 21) as usize)?;
+        let body = scan_body(alloc, cur)?;
         Ok(RawTrainPacket {
             number: number as u8,
             body,
@@ -131,9 +107,8 @@ impl Layout for RawTrainPacket {
     ghost grows = { Unit {0} };
 
     fn is_allowed(&self) -> bool {
-        // For the proof alone: the type keeps the number and the length in range.
+        // For the proof alone: the type keeps the number in range.
         let _number = self.number();
-        let _body = self.body();
         true
     }
 
@@ -145,14 +120,13 @@ impl Layout for RawTrainPacket {
     #[tactic(auto, using(etcs_bits::proofs::PutLemmas::puts_bits, etcs_bits::proofs::PutLemmas::keeps_front), unfolding(etcs_bits::specs::layout::Rows::alone))]
     fn put(&self, out: &mut Bits) -> Result<(), Memory> {
         out.push_num(8, u64::from(self.number))?;
-        out.push_num(13, self.body().len() as u64 + 21)?;
-        put_body(&self.body, out)
+        put_kept(BEFORE, &self.body, out)
     }
 
     fn scan(alloc: Global, cur: &mut Cursor<'_>) -> Result<Self, DecodeError> {
         let at = cur.at();
         let number = cur.take(8)?;
-        if !is_raw(number) {
+        if !RawTrainPacket::has_number(number) {
             return Err(refused(at, cur, FaultKind::Spare));
         }
         RawTrainPacket::scan_rest(alloc, number, cur)

@@ -1,14 +1,13 @@
 //! The packets from train to track.
 
-ghost use Rattle.std.specs.Prelude.{◌≡◌, ◌==◌, ◌<◌, true, min, not, IfOk};
-ghost use Rattle.etcs_bits.specs.layout.Reading.{field_at};
-ghost use Rattle.etcs_bits.specs.layout.Results.{Gives, IfMemory, Puts};
+ghost use Rattle.std.specs.Prelude.{◌≡◌, true, min};
+ghost use Rattle.etcs_bits.specs.layout.Results.{Puts};
 ghost use Rattle.etcs_bits.specs.layout.Rows.{AreAllowed, join, width};
-ghost use Rattle.etcs_radio.specs.TrainNumbers.{nid_train};
 
 use crate::raw_train::RawTrainPacket;
 use crate::report::Report;
-use etcs_bits::{Bits, Cursor, DecodeError, Fault, FaultKind, Layout, Memory, Same, refused};
+use etcs_bits::{Bits, Cursor, DecodeError, Layout, Memory, Same};
+use etcs_packet::scan_number;
 use std::alloc::Global;
 
 /// A packet from train to track (SUBSET-026, 7.4.3).
@@ -18,27 +17,6 @@ pub enum TrainPacket {
     Report(Report),
     /// Any other packet. Its body is kept as bits.
     Raw(RawTrainPacket),
-}
-
-// Reads NID_PACKET. 255, the end mark, is spare here. Fewer than eight bits are a NoEnd fault.
-fn scan_number(cur: &mut Cursor<'_>) -> Result<u64, DecodeError>
-    ensures gives { Gives (λ n. n) result (field_at nid_train cur.old) cur.new }
-    ensures number { IfOk result (λ n. (n < 256) × (not (n == 255) ≡ true)) }
-
-    // Looking at the number takes no memory.
-    ensures memory { IfMemory result ⊥ }
-{
-    let at = cur.at();
-    match cur.take(8) {
-        Ok(255) => Err(refused(at, cur, FaultKind::Spare)),
-        Ok(number) => Ok(number),
-        // No end mark fits in the bits that are left.
-        Err(_) => Err(DecodeError::Fault(Fault {
-            at,
-            end: at,
-            why: FaultKind::NoEnd,
-        })),
-    }
 }
 
 impl TrainPacket {

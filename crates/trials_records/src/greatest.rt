@@ -1,7 +1,7 @@
 //! How far the limits of what is built go: the greatest lists and bodies, which hardly a telegram has
 //! room for, and what is refused beyond them.
 
-use crate::spelled::{comes_back, ones, read_one, times};
+use crate::spelled::{KINDS, comes_back, ones, read_one, times};
 use etcs_bits::{Bits, Body, Dir, Distance, Items, Layout, Scale, Speed};
 use etcs_packet::RawPacket;
 use etcs_profile::{
@@ -184,12 +184,18 @@ fn a_raw_body_from_the_train_has_8170_bits_at_most(rt: HostRuntime) -> Result<()
 }
 
 #[test]
-fn every_number_without_a_layout_is_kept_as_bits(rt: HostRuntime) {
+fn every_number_without_a_layout_is_kept_as_bits(rt: HostRuntime) -> Result<(), Fail> {
+    let alloc = rt.alloc();
     for number in 0..=255u8 {
-        let made = RawPacket::new(number, Dir::Reverse, Bits::new(rt.alloc()));
-        let is_barred = matches!(number, 0 | 5 | 12 | 15 | 21 | 27 | 41 | 255);
-        assert!(rt; made.is_err() == is_barred, "{number}");
-        let made = RawTrainPacket::new(number, Bits::new(rt.alloc()));
+        let digits = format!(in alloc; "{number:08b}")?;
+        // The last of the kinds is a packet that is kept as bits.
+        let has_layout = KINDS[..7]
+            .iter()
+            .any(|kind| kind.starts_with(digits.as_str()));
+        let made = RawPacket::new(number, Dir::Reverse, Bits::new(alloc));
+        assert!(rt; made.is_err() == (has_layout || number == 255), "{number}");
+        let made = RawTrainPacket::new(number, Bits::new(alloc));
         assert!(rt; made.is_err() == matches!(number, 0 | 1 | 255), "{number}");
     }
+    Ok(())
 }

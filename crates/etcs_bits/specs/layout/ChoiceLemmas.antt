@@ -1,6 +1,6 @@
 -- The laws of sums.
 use Rattle.std.specs.Prelude.{◌≡◌, ℕ, ◌==◌, ◌⊎◌, if◌then◌else◌, Bool, true, false, List, ◌∷◌, ◌++◌, drop, refl}
-use Rattle.std.proofs.Common.{ap, ap₂, sym, ◌∙◌, inl, inr}
+use Rattle.std.proofs.Common.{ap, ap₂, subst, sym, ◌∙◌, inl, inr}
 use Rattle.std.proofs.lemmas.Bool.{eqb-true, ne_eqb, eq-eqb, true≢false}
 use Rattle.etcs_bits.specs.layout.Rows.{Variable, Row, row, alone, AreAllowed}
 use Rattle.etcs_bits.specs.layout.Found.{number_at, either_of}
@@ -54,6 +54,17 @@ pub either_has_value : {A B : Type 0} (k : ℕ) {a : Fields} {rows_a : A → Lis
     → either_allows k c.allows n ≡ true → AreRowsOf (either_next k a c.next n) more → AreAllowed more
     → (v : A ⊎ B) × (either_number k c.number v ≡ n) × (either_rows rows_a c.rows v ≡ more)
 either_has_value k laid c n more ok w allowed = either_by k laid c n more (n == k) refl ok w allowed
+
+-- every number that passes a test
+pub others_value : {X A : Type 0} {test : ℕ → Bool} {a : Fields} {rows_a : A → List Row} {of_a : List Row → A}
+    (number : X → ℕ) (parts : X → A) (make : ℕ → A → X) → IsLayout a rows_a of_a
+    → ((n : ℕ) (p : A) → test n ≡ true → AreAllowed (rows_a p) → (number (make n p) ≡ n) × (parts (make n p) ≡ p))
+    → (n : ℕ) (more : List Row) → test n ≡ true → AreRowsOf a more → AreAllowed more
+    → (x : X) × (number x ≡ n) × (rows_a (parts x) ≡ more)
+others_value {rows_a = rows_a} number parts make laid back n more ok w allowed =
+    let p = laid.has_record more w allowed in
+    let same = back n p.0 ok (subst AreAllowed (sym p.1) allowed) in
+    (make n p.0, same.0, ap rows_a same.1 ∙ p.1)
 
 -- the variable whose number is chosen, and what follows it
 pub chosen_laid : {X : Type 0} (x : Variable) (c : Choice X) → ((n : ℕ) → x.allows n ≡ c.allows n)

@@ -1,14 +1,18 @@
 -- The law of `Layout` for records that are made of others.
-use Rattle.std.specs.Prelude.{◌≡◌, ℕ, zero, suc, ◌+◌, List, [], ◌∷◌, ◌++◌, length, refl, Option, Some, None}
+use Rattle.std.specs.Prelude.{◌≡◌, ℕ, zero, suc, ◌+◌, ◌-◌, List, [], ◌∷◌, ◌++◌, length, refl, Option, Some, None}
 use Rattle.std.specs.List.{flat_map}
-use Rattle.std.proofs.Common.{ap, ap₂, sym, ◌∙◌, arith}
+use Rattle.std.proofs.Common.{ap, ap₂, subst, sym, ◌∙◌, arith}
+use Rattle.std.proofs.lemmas.Bool.{leb-true}
+use Rattle.etcs_bits.specs.bits.Number.{num, num_of_bits}
+use Rattle.etcs_bits.specs.bits.NumberLemmas.{length-num, num_of_bits-small, num-num_of_bits}
 use Rattle.etcs_bits.specs.layout.Rows.{Variable, Row, row, IsAllowed, AreAllowed, alone, width}
 use Rattle.etcs_bits.specs.layout.RowLemmas.{allowed_first, allowed_second}
-use Rattle.etcs_bits.specs.layout.Fields.{Fields, field, ◌▹◌, sized, option, times, counted, AreRowsOf}
+use Rattle.etcs_bits.specs.layout.Fields.{Fields, one, field, ◌▹◌, sized, option, times, counted, AreRowsOf}
 use Rattle.etcs_bits.specs.layout.CutLemmas.{cut_whole}
 use Rattle.etcs_bits.specs.layout.Laid.{IsLayout}
-use Rattle.etcs_bits.specs.layout.Combined.{qualifier, n_iter, pair_rows, option_rows, counted_rows, body_rows}
-use Rattle.etcs_bits.specs.layout.Found.{pair_of, option_of, items_of, counted_of, body_of}
+use Rattle.etcs_bits.specs.layout.Combined.{qualifier, n_iter, pair_rows, option_rows, counted_rows, body_rows, l_kept}
+use Rattle.etcs_bits.specs.layout.Found.{pair_of, option_of, items_of, counted_of, body_of, kept_of}
+use Rattle.etcs_bits.specs.variables.Variables.{free}
 
 -- each whole list of rows has a record, if a field's number decides what follows it
 pub field_records : {X : Type 0} {x : Variable} {rows : X → List Row} (next : ℕ → Fields)
@@ -117,4 +121,25 @@ body_laid before {rows = rows} v = record {
       let x = v.has_record more w (rw e at allowed).1 in
       let count : width r ≡ 13 + width more = ap width e in
       (x.0, rw (x.1, e, count) refl);
+}
+
+-- ---- a body that is kept as bits
+
+left : (head count : ℕ) → (head + count) - head ≡ count
+left head count = omega arith
+
+pub kept_laid : (before : ℕ)
+    → IsLayout (field (l_kept before) (λ l. one (free (l - (before + 13)))))
+    (λ bits. row (l_kept before) (before + 13 + length bits) ∷ row (free (length bits)) (num_of_bits bits) ∷ [])
+    (kept_of before)
+kept_laid before = record {
+  are_rows = λ bits.
+      let of_bits = row (free (length bits)) (num_of_bits bits) ∷ [] in
+      (before + 13 + length bits, of_bits, refl, subst (λ k. AreRowsOf (one (free k)) of_bits) (sym (left (before + 13) (length bits))) (num_of_bits bits, [], refl, refl));
+  is_record = λ bits. ap (λ k. num k (num_of_bits bits)) (left (before + 13) (length bits)) ∙ num-num_of_bits bits;
+  has_record = λ r (l, more, e, (m, end, is, none)) allowed.
+      let here = rw (e, is) at allowed in
+      let bits = length-num (l - (before + 13)) m in
+      let back : before + 13 + (l - (before + 13)) ≡ l = omega (arith, leb-true (before + 13) l here.0.1) in
+      (num (l - (before + 13)) m, rw (e, is, none, bits, back, num_of_bits-small (l - (before + 13)) m here.1.0.0) refl);
 }

@@ -1,20 +1,21 @@
 -- The layout of a record as one value, and how layouts are made of others (SUBSET-026, 7.4). One
 -- expression describes a record, and reads as its table in the standard.
-use Rattle.std.specs.Prelude.{◌≡◌, ℕ, ◌==◌, ◌⊎◌, Bool, false, List, [], ◌++◌, Option, drop, refl}
+use Rattle.std.specs.Prelude.{◌≡◌, ℕ, ◌+◌, ◌-◌, ◌==◌, ◌⊎◌, Bool, true, false, List, [], ◌∷◌, ◌++◌, length, Option, drop, refl}
+use Rattle.std.proofs.Common.{ap, ◌∙◌}
 use Rattle.etcs_bits.specs.declared.layout.fault.FaultKind.{FaultKind}
-use Rattle.etcs_bits.specs.bits.Number.{worth}
-use Rattle.etcs_bits.specs.layout.Rows.{Variable, Row, alone}
-use Rattle.etcs_bits.specs.layout.Found.{number_at, either_of, pair_of, option_of, counted_of, body_of}
+use Rattle.etcs_bits.specs.bits.Number.{worth, num_of_bits}
+use Rattle.etcs_bits.specs.layout.Rows.{Variable, Row, row, AreAllowed, alone}
+use Rattle.etcs_bits.specs.layout.Found.{number_at, either_of, pair_of, option_of, counted_of, body_of, kept_of}
 use Rattle.etcs_bits.specs.layout.Fields.{Fields, nothing, one, field, ◌▹◌, sized, option, counted}
-use Rattle.etcs_bits.specs.variables.Variables.{plain, only, ranged}
+use Rattle.etcs_bits.specs.variables.Variables.{plain, free, only, ranged}
 use Rattle.etcs_bits.specs.variables.VariableValues.{flag_of}
 use Rattle.etcs_bits.specs.layout.Values.{HasValues}
 use Rattle.etcs_bits.specs.layout.Laid.{IsLayout}
 use Rattle.etcs_bits.specs.layout.Choice.{Choice, either_allows, either_next, either_number, either_rows}
-use Rattle.etcs_bits.specs.layout.Combined.{qualifier, n_iter, pair_rows, option_rows, counted_rows, body_rows}
-use Rattle.etcs_bits.specs.layout.ChoiceLemmas.{is_itself, last_value, either_is_number, either_are_rows, either_is_value, either_has_value, chosen_laid}
+use Rattle.etcs_bits.specs.layout.Combined.{qualifier, n_iter, pair_rows, option_rows, counted_rows, body_rows, l_kept}
+use Rattle.etcs_bits.specs.layout.ChoiceLemmas.{is_itself, last_value, others_value, either_is_number, either_are_rows, either_is_value, either_has_value, chosen_laid}
 use Rattle.etcs_bits.specs.variables.VariableLemmas.{flags_have_values}
-use Rattle.etcs_bits.specs.layout.CombinedLemmas.{pair_laid, option_laid, counted_laid, body_laid}
+use Rattle.etcs_bits.specs.layout.CombinedLemmas.{pair_laid, option_laid, counted_laid, body_laid, kept_laid}
 use Rattle.etcs_bits.specs.layout.LaidLemmas.{alone_laid, empty_laid, only_laid, named_laid, parted_laid}
 
 -- the table of fields, the rows of a record, the record of rows, and the proof that these agree
@@ -104,6 +105,15 @@ behind_length before a = record {
   laid = body_laid before a.laid;
 }
 
+-- L_PACKET, and bits that are kept as they are; L_PACKET counts the `before` bits ahead of it too
+abbrev pub kept_bits : ℕ → Format (List Bool)
+kept_bits before = record {
+  fields = field (l_kept before) (λ l. one (free (l - (before + 13))));
+  rows = λ bits. row (l_kept before) (before + 13 + length bits) ∷ row (free (length bits)) (num_of_bits bits) ∷ [];
+  of = kept_of before;
+  laid = kept_laid before;
+}
+
 -- ---- sums
 
 -- only the number k, and this record
@@ -132,6 +142,23 @@ either k a c fresh = record {
   are_rows = either_are_rows k a.laid c fresh;
   is_value = either_is_value k a.laid c fresh;
   has_value = either_has_value k a.laid c;
+}
+
+-- every number that passes the test, and this record. A value has its number and the parts of the
+-- record, and is made of these.
+abbrev pub others : {X A : Type 0} (test : ℕ → Bool) (a : Format A) (number : X → ℕ) (parts : X → A) (make : ℕ → A → X)
+    → ((x : X) → test (number x) ≡ true) → ((x : X) → make (number x) (parts x) ≡ x)
+    → ((n : ℕ) (p : A) → test n ≡ true → AreAllowed (a.rows p) → (number (make n p) ≡ n) × (parts (make n p) ≡ p)) → Choice X
+others test a number parts make is_number again back = record {
+  allows = test;
+  next = λ _. a.fields;
+  number = number;
+  rows = λ x. a.rows (parts x);
+  of = λ n rows. make n (a.of rows);
+  is_number = is_number;
+  are_rows = λ x. a.laid.are_rows (parts x);
+  is_value = λ x. ap (make (number x)) (a.laid.is_record (parts x)) ∙ again x;
+  has_value = others_value number parts make a.laid back;
 }
 
 -- a variable with the numbers of a choice, and the record that its number decides

@@ -1,8 +1,9 @@
 -- The record that a whole list of rows makes. Each function finds the record again that the rows are
 -- of.
 -- Pinned by the law a_record_is_read_as_it_is_spelled.
-use Rattle.std.specs.Prelude.{ℕ, zero, suc, ◌==◌, ◌⊎◌, if◌then◌else◌, List, [], ◌∷◌, drop, Option, Some, None}
+use Rattle.std.specs.Prelude.{ℕ, zero, suc, ◌+◌, ◌-◌, ◌==◌, ◌⊎◌, if◌then◌else◌, Bool, List, [], ◌∷◌, drop, Option, Some, None}
 use Rattle.std.proofs.Common.{inl, inr}
+use Rattle.etcs_bits.specs.bits.Number.{num}
 use Rattle.etcs_bits.specs.layout.Rows.{Row}
 use Rattle.etcs_bits.specs.layout.Fields.{Fields}
 use Rattle.etcs_bits.specs.layout.Cut.{cut}
@@ -35,6 +36,10 @@ counted_of fields of rows = items_of fields of (number_at 0 rows) (drop 1 rows)
 -- the record after L_PACKET
 abbrev pub body_of : {X : Type 0} → (List Row → X) → List Row → X
 body_of of rows = of (drop 1 rows)
+
+-- the bits that L_PACKET leaves, after `before` bits of the packet and its own 13
+abbrev pub kept_of : ℕ → List Row → List Bool
+kept_of before rows = num (number_at 0 rows - (before + 13)) (number_at 1 rows)
 
 -- the record of the number k, or of another number
 abbrev pub either_of : {A B : Type 0} → ℕ → (List Row → A) → (ℕ → List Row → B) → ℕ → List Row → A ⊎ B

@@ -29,8 +29,7 @@ fn number_in<N: Node>(alloc: Global, node: &N) -> Result<u8, FormError>
     match node.number() {
         None => Err(FormError::kind(alloc)),
         Some(number) => {
-            let is_known = matches!(number, 0 | 5 | 12 | 15 | 21 | 27 | 41 | 255);
-            if number < 256 && !is_known {
+            if number < 256 && RawPacket::has_number(number) {
                 Ok(number as u8)
             } else {
                 Err(FormError::range(alloc))

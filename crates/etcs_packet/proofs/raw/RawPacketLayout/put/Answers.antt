@@ -1,10 +1,10 @@
-use Rattle.std.proofs.Common.{◌≡◌, ◌+◌, ◌++◌, length, ap, ◌∙◌, arith}
+use Rattle.std.proofs.Common.{◌≡◌, ◌++◌, ap, ◌∙◌}
 use Rattle.etcs_bits.specs.bits.Number.{num}
+use Rattle.etcs_bits.specs.layout.Format.{kept_bits}
 use Rattle.etcs_bits.specs.layout.Rows.{alone, join}
 use Rattle.etcs_bits.specs.variables.VariableFormats.{q_dir}
 use Rattle.etcs_bits.proofs.PutLemmas.{puts_bits, puts_then}
-use Rattle.etcs_packet.specs.Free.{free_rows}
-use Rattle.etcs_packet.specs.Raw.{tail_rows, raw_rest}
+use Rattle.etcs_packet.specs.Raw.{raw_rest}
 use Rattle.etcs_packet.proofs.raw.RawPacketLayout.put.Goals as goal
 
 pub returns : goal.returns
@@ -12,11 +12,7 @@ unfolding alone
 returns c =
     let r = c.args.self.now in
     let old = c.args.out.now in
-    let end = c.put_body.new.out in
+    let end = c.put_kept.new.out in
     let number : c.push_num.new.self ≡ old ++ num 8 r.number = c.in_ok-push_num.ensures.ok ∙ ap (λ n. old ++ num 8 n) c.from.ensures in
-    let bits = ap length c.body.ensures.bits in
-    let sum : c.len.result + 23 ≡ 23 + length r.body = omega (arith, c.len.ensures, bits) in
-    let counted : c.push_num-2.new.self ≡ c.put.new.out ++ num 13 (23 + length r.body) = c.in_ok-push_num-2.ensures.ok ∙ ap (λ n. c.put.new.out ++ num 13 n) sum in
-    let tail = puts_bits (num 13 (23 + length r.body)) (join (free_rows r.body)) c.put_body.result c.put.new.out c.push_num-2.new.self end counted c.put_body.ensures in
-    let rest = puts_then (q_dir.rows r.dir) (tail_rows r.body) c.put_body.result c.push_num.new.self c.put.new.out end c.in_ok-put.ensures tail in
-    puts_bits (num 8 r.number) (join (raw_rest.rows (r.dir, r.body))) c.put_body.result old c.push_num.new.self end number rest
+    let rest = puts_then (q_dir.rows r.dir) ((kept_bits 10).rows r.body) c.put_kept.result c.push_num.new.self c.put.new.out end c.in_ok-put.ensures c.put_kept.ensures in
+    puts_bits (num 8 r.number) (join (raw_rest.rows (r.dir, r.body))) c.put_kept.result old c.push_num.new.self end number rest

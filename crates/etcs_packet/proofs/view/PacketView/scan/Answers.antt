@@ -1,4 +1,4 @@
-use Rattle.std.proofs.Common.{◌≡◌, true, length, Ok, refl, sym, ◌∙◌}
+use Rattle.std.proofs.Common.{◌≡◌, true, Ok, refl, sym, ◌∙◌}
 use Rattle.std.proofs.lemmas.Result.{err_from_is_err_and}
 use Rattle.etcs_bits.specs.layout.Rows.{alone}
 use Rattle.etcs_bits.specs.layout.Reading.{rows_at}
@@ -11,7 +11,6 @@ use Rattle.etcs_packet.specs.FoundRaw.{raw}
 use Rattle.etcs_packet.specs.Raw.{raw_rest}
 use Rattle.etcs_packet.specs.Track.{IsKnown, track_numbered}
 use Rattle.etcs_packet.specs.View.{view_of}
-use Rattle.etcs_packet.proofs.RawLemmas.{kept_of}
 use Rattle.etcs_packet.proofs.TrackLemmas.{field_forward, other_next}
 use Rattle.etcs_packet.proofs.view.PacketView.scan.Goals as goal
 
@@ -20,14 +19,15 @@ known_view (packets.Raw r) known = absurd known
 known_view p known = refl
 
 -- the packet has the number, the direction and the body that were read
-pub returns-then-is_raw-clause-gives : goal.returns-then-is_raw-clause-gives
+pub returns-then-has_number-clause-gives : goal.returns-then-has_number-clause-gives
 unfolding alone
-returns-then-is_raw-clause-gives c =
+returns-then-has_number-clause-gives c =
     let n = c.in_ok-number.number in
     let dir = c.in_ok-dir.dir in
     let body = c.in_ok-dir.body in
-    let other : is_other n ≡ true = sym c.is_raw.ensures ∙ c.if-is_raw.true in
-    let seen = raw n dir body (kept_of n (length body) other c.in_ok-dir.ensures.short) in
+    let other : is_other n ≡ true = sym c.has_number.ensures ∙ c.if-has_number.true in
+    let few = c.in_ok-dir.ensures.few in
+    let seen = raw n dir body (rw (other, few) refl) in
     let rest : rows_at (track_numbered.next n) c.scan_number.new.cur ≡ Ok (raw_rest.rows (dir, body), c.scan_rest.new.cur) = rw (other_next n other) c.in_ok-dir.ensures.gives in
     (packets.Raw seen, refl, rest_read nid_track track_numbered.next n n c.args.cur.now c.scan_number.new.cur c.scan_rest.new.cur (raw_rest.rows (dir, body)) c.in_ok-number.ensures.gives refl rest)
 
