@@ -12,8 +12,8 @@ CRATES = ("etcs_bits", "etcs_profile", "etcs_packet", "etcs_telegram", "etcs_rad
 LONGEST_PACKET = 8191
 
 # Definitions that make a layout or a variable of others; they are none of the standard's.
-COMBINING = {*"variable number ranges names flag fixed empty then if_there several behind_length kept_bits chosen named "
-              "plain free only ranged naming".split()}
+COMBINING = {*"variable number ranges names flag fixed empty then before if_there several behind_length kept_bits chosen "
+              "named struct plain free only ranged naming".split()}
 CHOOSING = ("last", "either")
 # Variables whose definition does not have their name in small letters.
 OTHER_NAMES = {
@@ -127,17 +127,16 @@ class Specs:
 
 
 def parse(tokens):
-    """The term that the tokens begin with, which are taken away: applications, `then` and brackets."""
+    """The term that the tokens begin with, which are taken away: applications, `then`, `before` and brackets."""
     items = []
-    while tokens and tokens[0] not in (")", "then"):
+    while tokens and tokens[0] not in (")", "then", "before"):
         token = tokens.pop(0)
         items.append(parse_group(tokens) if token == "(" else token)
     if not items:
         raise Stopped("a term has an empty part")
     term = items[0] if len(items) == 1 else items
-    if tokens[:1] == ["then"]:
-        tokens.pop(0)
-        return ["then", term, parse(tokens)]
+    if tokens and tokens[0] != ")":
+        return [tokens.pop(0), term, parse(tokens)]
     return term
 
 
@@ -369,6 +368,8 @@ class Reader:
     def make_then(self, first, second):
         return joined(self.layout(first), self.layout(second))
 
+    make_before = make_then
+
     def make_if_there(self, item):
         if not isinstance(item, Definition) or item.name not in QUALIFIERS:
             raise Stopped(f"no qualifier is known before {item}")
@@ -392,6 +393,9 @@ class Reader:
         return Layout([length], length.width, LONGEST_PACKET - int(word(before)))
 
     def make_named(self, layout, *_):
+        return self.layout(layout)
+
+    def make_struct(self, _, layout):
         return self.layout(layout)
 
     def make_chosen(self, variable, choice, *_):

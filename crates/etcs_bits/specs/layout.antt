@@ -14,6 +14,7 @@ pub mod Combined
 pub mod Laid
 pub mod CombinedLemmas
 pub mod LaidLemmas
+pub mod Struct
 pub mod Choice
 pub mod ChoiceLemmas
 pub mod Format

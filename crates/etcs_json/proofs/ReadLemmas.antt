@@ -10,8 +10,9 @@ use Rattle.etcs_json.specs.Fault.{Fault, Range, Step, here, key, place, under}
 use Rattle.etcs_json.specs.Reading.{◌>>=◌, at_key, counted_or, data_list, items_at, key_or, list_of, object_with, with_first}
 use Rattle.etcs_json.specs.Profiles.{difference, speed_element}
 use Rattle.etcs_json.specs.Shape.{Shape, both_of, first_and_rest, key as key_part, list, list_from_one, object}
-use Rattle.etcs_json.specs.Variables.{flag, number, ranges}
+use Rattle.etcs_json.specs.Variables.{flag, number}
 use Rattle.etcs_profile.specs.Built.{IsReason}
+use Rattle.etcs_profile.specs.Speed.{d_static, v_static}
 use Rattle.etcs_profile.specs.declared.error.BuildError.{BuildError}
 use Rattle.etcs_profile.specs.declared.error.BuildError.TheVariants as errors
 use Rattle.etcs_profile.specs.declared.speed.Difference.{Difference}
@@ -121,8 +122,8 @@ few_differences d e is =
     let several = key_part (codes "differences") (list 0 31 (object difference)) in
     let last = short_list (object difference) (codes "differences") 0 31 d in
     let third = second Few (at_key flag.of (codes "q_front")) several.of d last in
-    let two = second (of_second Few) (at_key (ranges 7 120 127).of (codes "v_static")) (both_of (at_key flag.of (codes "q_front")) several.of) d third in
-    let all = second (of_second (of_second Few)) (at_key (number 15).of (codes "d_static")) (both_of (at_key (ranges 7 120 127).of (codes "v_static")) (both_of (at_key flag.of (codes "q_front")) several.of)) d two in
+    let two = second (of_second Few) (at_key (number v_static.fields).of (codes "v_static")) (both_of (at_key flag.of (codes "q_front")) several.of) d third in
+    let all = second (of_second (of_second Few)) (at_key (number d_static.fields).of (codes "d_static")) (both_of (at_key (number v_static.fields).of (codes "v_static")) (both_of (at_key flag.of (codes "q_front")) several.of)) d two in
     found (λ (x : SpeedElement). length x.differences ≤ 31) _ e
     (after (λ (x : SpeedElement). length x.differences ≤ 31) (object_with speed_element.part.keys d) (λ u. speed_element.part.of d) (λ u.
     as_named (λ (x : SpeedElement). length x.differences ≤ 31) _ _ all)) is

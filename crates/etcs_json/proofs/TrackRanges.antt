@@ -12,13 +12,13 @@ use Rattle.etcs_bits.specs.variables.Level.{m_level}
 use Rattle.etcs_bits.specs.variables.Variables.{plain, ranged}
 use Rattle.etcs_profile.specs.Authority.{with_main as with_main_layout, without_main as without_main_layout}
 use Rattle.etcs_profile.specs.Elements.{elements}
-use Rattle.etcs_profile.specs.Gradient.{gradient_element as gradient_layout}
-use Rattle.etcs_profile.specs.Linking.{link as link_layout}
+use Rattle.etcs_profile.specs.Gradient.{gradient_element as gradient_layout, gradient_struct}
+use Rattle.etcs_profile.specs.Linking.{link as link_layout, link_struct}
 use Rattle.etcs_profile.specs.Packet.{rest}
-use Rattle.etcs_profile.specs.Parts.{danger_point as danger_point_layout, end_timer as end_timer_layout, overlap as overlap_layout, section as section_layout, section_timer as section_timer_layout}
-use Rattle.etcs_profile.specs.Speed.{difference as difference_layout, speed_element as speed_layout}
-use Rattle.etcs_profile.specs.Terms.{terms as terms_layout}
-use Rattle.etcs_profile.specs.Transition.{level_order as level_order_layout, level_orders}
+use Rattle.etcs_profile.specs.Parts.{danger_point as danger_point_layout, danger_point_struct, end_timer as end_timer_layout, end_timer_struct, overlap as overlap_layout, overlap_struct, section as section_layout, section_struct, section_timer as section_timer_layout, section_timer_struct}
+use Rattle.etcs_profile.specs.Speed.{difference as difference_layout, difference_struct, speed_element as speed_layout, speed_struct}
+use Rattle.etcs_profile.specs.Terms.{conditions_struct, terms as terms_layout}
+use Rattle.etcs_profile.specs.Transition.{level_order as level_order_layout, level_order_struct, level_orders}
 use Rattle.etcs_json.specs.Authority.{danger_point, end_parts, end_timer, overlap, section, section_timer, terms, with_main, without_main}
 use Rattle.etcs_json.specs.Profiles.{difference, gradient, gradient_element, link, linking, speed_element, speed_profile}
 use Rattle.etcs_json.specs.Shape.{object}
@@ -33,7 +33,7 @@ flag_keeps = names_keep (plain 1) worth
 pub link_keeps : Keeps link_layout.rows link.part.fits
 unfolding link
 link_keeps =
-    parts_keep (λ l. (l.distance, (l.country, (l.group, (l.nominal, (l.reaction, l.accuracy))))))
+    parts_keep link_struct.parts
     (both_keep (variable_keeps (plain 15)) (both_keep (option_keeps (variable_keeps (plain 10))) (both_keep (variable_keeps (plain 14))
     (both_keep flag_keeps (both_keep (variable_keeps (ranged 2 2 4)) (variable_keeps (plain 6)))))))
 
@@ -44,7 +44,7 @@ linking_keeps = profile_keeps (codes "links") link_layout (object link) link_kee
 pub gradient_element_keeps : Keeps gradient_layout.rows gradient_element.part.fits
 unfolding gradient_element
 gradient_element_keeps =
-    parts_keep (λ e. (e.distance, (e.uphill, e.gradient)))
+    parts_keep gradient_struct.parts
     (both_keep (variable_keeps (plain 15)) (both_keep flag_keeps (variable_keeps (plain 8))))
 
 pub gradient_keeps : Keeps (rest (elements gradient_layout)).rows gradient.part.fits
@@ -54,13 +54,13 @@ gradient_keeps = profile_keeps (codes "elements") gradient_layout (object gradie
 pub difference_keeps : Keeps difference_layout.rows difference.part.fits
 unfolding difference
 difference_keeps =
-    parts_keep (λ d. (d.kind, (d.category, d.speed)))
+    parts_keep difference_struct.parts
     (both_keep (variable_keeps (ranged 2 2 4)) (both_keep (variable_keeps (plain 4)) (variable_keeps (ranged 7 120 128))))
 
 pub speed_element_keeps : Keeps speed_layout.rows speed_element.part.fits
 unfolding speed_element
 speed_element_keeps =
-    parts_keep (λ e. (e.distance, (e.speed, (e.front, e.differences))))
+    parts_keep speed_struct.parts
     (both_keep (variable_keeps (plain 15)) (both_keep (variable_keeps (ranged 7 120 127)) (both_keep flag_keeps (list_keeps difference_keeps))))
 
 pub speed_profile_keeps : Keeps (rest (elements speed_layout)).rows speed_profile.part.fits
@@ -82,7 +82,7 @@ level_keeps name = record { range = level_range name }
 
 pub level_order_keeps : Keeps level_order_layout.rows level_order.part.fits
 unfolding level_order
-level_order_keeps = parts_keep (λ o. (o.level, o.acknowledge)) (both_keep (level_keeps (codes "m_leveltr")) (variable_keeps (plain 15)))
+level_order_keeps = parts_keep level_order_struct.parts (both_keep (level_keeps (codes "m_leveltr")) (variable_keeps (plain 15)))
 
 pub transition_keeps : Keeps (rest level_orders).rows transition.part.fits
 unfolding transition alone
@@ -98,31 +98,30 @@ transition_keeps = record {
 
 pub section_timer_keeps : Keeps section_timer_layout.rows section_timer.part.fits
 unfolding section_timer
-section_timer_keeps = parts_keep (λ t. (t.time, t.stop)) (both_keep (variable_keeps (plain 10)) (variable_keeps (plain 15)))
+section_timer_keeps = parts_keep section_timer_struct.parts (both_keep (variable_keeps (plain 10)) (variable_keeps (plain 15)))
 
 pub section_keeps : Keeps section_layout.rows section.part.fits
 unfolding section
-section_keeps = parts_keep (λ s. (s.length, s.timer)) (both_keep (variable_keeps (plain 15)) (option_keeps section_timer_keeps))
+section_keeps = parts_keep section_struct.parts (both_keep (variable_keeps (plain 15)) (option_keeps section_timer_keeps))
 
 pub end_timer_keeps : Keeps end_timer_layout.rows end_timer.part.fits
 unfolding end_timer
-end_timer_keeps = parts_keep (λ t. (t.time, t.start)) (both_keep (variable_keeps (plain 10)) (variable_keeps (plain 15)))
+end_timer_keeps = parts_keep end_timer_struct.parts (both_keep (variable_keeps (plain 10)) (variable_keeps (plain 15)))
 
 pub danger_point_keeps : Keeps danger_point_layout.rows danger_point.part.fits
 unfolding danger_point
-danger_point_keeps = parts_keep (λ d. (d.distance, d.release_speed)) (both_keep (variable_keeps (plain 15)) (variable_keeps (ranged 7 120 126)))
+danger_point_keeps = parts_keep danger_point_struct.parts (both_keep (variable_keeps (plain 15)) (variable_keeps (ranged 7 120 126)))
 
 pub overlap_keeps : Keeps overlap_layout.rows overlap.part.fits
 unfolding overlap
 overlap_keeps =
-    parts_keep (λ o. (o.start, (o.time, (o.length, o.release_speed))))
+    parts_keep overlap_struct.parts
     (both_keep (variable_keeps (plain 15)) (both_keep (variable_keeps (plain 10)) (both_keep (variable_keeps (plain 15)) (variable_keeps (ranged 7 120 126)))))
 
 pub terms_keep : Keeps terms_layout.rows terms.fits
 unfolding terms end_parts
 terms_keep =
-    parts_keep
-    (λ c. (c.end_speed, (c.end_timeout, (c.sections, (c.l_endsection, (c.section_timer, (c.end_timer, (c.danger_point, c.overlap))))))))
+    parts_keep conditions_struct.parts
     (both_keep (variable_keeps (ranged 7 120 128)) (both_keep (variable_keeps (plain 10)) (both_keep (list_keeps section_keeps) (both_keep (variable_keeps (plain 15))
     (both_keep (option_keeps section_timer_keeps) (both_keep (option_keeps end_timer_keeps) (both_keep (option_keeps danger_point_keeps) (option_keeps overlap_keeps))))))))
 

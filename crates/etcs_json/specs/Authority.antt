@@ -5,80 +5,51 @@
 -- are looked for.
 use Rattle.std.specs.Prelude.{◌⊎◌, Option, codes, refl}
 use Rattle.etcs_bits.specs.variables.Variables.{ranged}
-use Rattle.etcs_profile.specs.Authority.{Permission, WithMain, WithoutMain, again, numbered_of, permission_of}
-use Rattle.etcs_profile.specs.Terms.{Conditions, conditions}
+use Rattle.etcs_profile.specs.Authority.{Permission, WithMain, WithoutMain, again, numbered_of, permission_of, v_main}
+use Rattle.etcs_profile.specs.Parts.{d_dp, d_endtimerstartloc, d_ol, d_sectiontimerstoploc, d_startol, danger_point_struct, end_timer_struct, l_section, overlap_struct, section_struct, section_timer_struct, t_endtimer, t_ol, t_sectiontimer, v_releasedp, v_releaseol}
+use Rattle.etcs_profile.specs.Terms.{Conditions, conditions_struct, l_endsection, t_loa, v_loa}
 use Rattle.etcs_profile.specs.declared.danger_point.DangerPoint.{DangerPoint}
 use Rattle.etcs_profile.specs.declared.end_timer.EndTimer.{EndTimer}
 use Rattle.etcs_profile.specs.declared.overlap.Overlap.{Overlap}
 use Rattle.etcs_profile.specs.declared.section.Section.{Section}
 use Rattle.etcs_profile.specs.declared.section.SectionTimer.{SectionTimer}
 use Rattle.etcs_json.specs.Chosen.{Choice, behind, chosen, either, last}
-use Rattle.etcs_json.specs.Head.{Packet, headed}
-use Rattle.etcs_json.specs.Shape.{Object, Part, Shape, key, key_if, list, named, object, renamed, ◌then◌}
-use Rattle.etcs_json.specs.Variables.{is_allowed, number, ranges}
+use Rattle.etcs_json.specs.Head.{Packet, headed, scaled}
+use Rattle.etcs_json.specs.Shape.{Object, Part, Shape, closed, key, key_if, list, object, renamed, struct, ◌then◌}
+use Rattle.etcs_json.specs.Variables.{is_allowed, number}
 
 -- ---- parts
 
 -- how long a section is valid, and where its timer stops
 unfoldable pub section_timer : Object SectionTimer
-section_timer = record {
-  apart = refl;
-  part =
-      named
-      (λ p. record { time = p.0; stop = p.1 })
-      (λ t. (t.time, t.stop))
-      (λ _. refl)
-      (key (codes "t_sectiontimer") (number 10) then key (codes "d_sectiontimerstoploc") (number 15));
-}
+section_timer =
+    closed (struct section_timer_struct
+    (key (codes "t_sectiontimer") (number t_sectiontimer.fields) then key (codes "d_sectiontimerstoploc") (number d_sectiontimerstoploc.fields))) refl
 
 -- a section
 unfoldable pub section : Object Section
-section = record {
-  apart = refl;
-  part =
-      named
-      (λ p. record { length = p.0; timer = p.1 })
-      (λ s. (s.length, s.timer))
-      (λ _. refl)
-      (key (codes "l_section") (number 15) then key_if (codes "section_timer") (object section_timer));
-}
+section =
+    closed (struct section_struct
+    (key (codes "l_section") (number l_section.fields) then key_if (codes "section_timer") (object section_timer))) refl
 
 -- how long the end section is granted, and where its timer starts
 unfoldable pub end_timer : Object EndTimer
-end_timer = record {
-  apart = refl;
-  part =
-      named
-      (λ p. record { time = p.0; start = p.1 })
-      (λ t. (t.time, t.start))
-      (λ _. refl)
-      (key (codes "t_endtimer") (number 10) then key (codes "d_endtimerstartloc") (number 15));
-}
+end_timer =
+    closed (struct end_timer_struct
+    (key (codes "t_endtimer") (number t_endtimer.fields) then key (codes "d_endtimerstartloc") (number d_endtimerstartloc.fields))) refl
 
 -- the danger point, and the release speed that belongs to it
 unfoldable pub danger_point : Object DangerPoint
-danger_point = record {
-  apart = refl;
-  part =
-      named
-      (λ p. record { distance = p.0; release_speed = p.1 })
-      (λ d. (d.distance, d.release_speed))
-      (λ _. refl)
-      (key (codes "d_dp") (number 15) then key (codes "v_releasedp") (ranges 7 120 126));
-}
+danger_point =
+    closed (struct danger_point_struct
+    (key (codes "d_dp") (number d_dp.fields) then key (codes "v_releasedp") (number v_releasedp.fields))) refl
 
 -- the overlap, and the release speed that belongs to it
 unfoldable pub overlap : Object Overlap
-overlap = record {
-  apart = refl;
-  part =
-      named
-      (λ p. record { start = p.0; time = p.1.0; length = p.1.1.0; release_speed = p.1.1.1 })
-      (λ o. (o.start, (o.time, (o.length, o.release_speed))))
-      (λ _. refl)
-      (key (codes "d_startol") (number 15) then key (codes "t_ol") (number 10) then key (codes "d_ol") (number 15)
-      then key (codes "v_releaseol") (ranges 7 120 126));
-}
+overlap =
+    closed (struct overlap_struct
+    (key (codes "d_startol") (number d_startol.fields) then key (codes "t_ol") (number t_ol.fields) then key (codes "d_ol") (number d_ol.fields)
+    then key (codes "v_releaseol") (number v_releaseol.fields))) refl
 
 -- ---- what both packets have
 
@@ -91,36 +62,21 @@ end_parts =
 -- the conditions: V_LOA, T_LOA, the sections, L_ENDSECTION, and what follows the end section
 unfoldable pub terms : Part Conditions
 terms =
-    named
-    (λ p. conditions p.0 p.1.0 p.1.1.0 p.1.1.1.0 p.1.1.1.1.0 p.1.1.1.1.1.0 p.1.1.1.1.1.1.0 p.1.1.1.1.1.1.1)
-    (λ c. (
-      c.end_speed,
-      (
-        c.end_timeout,
-        (
-          c.sections,
-          (
-            c.l_endsection,
-            (c.section_timer, (c.end_timer, (c.danger_point, c.overlap))),
-          ),
-        ),
-      ),
-    ))
-    (λ _. refl)
-    (key (codes "end_speed") (ranges 7 120 128) then key (codes "end_timeout") (number 10)
-    then key (codes "sections") (list 0 31 (object section)) then key (codes "l_endsection") (number 15) then end_parts)
+    struct conditions_struct
+    (key (codes "end_speed") (number v_loa.fields) then key (codes "end_timeout") (number t_loa.fields)
+    then key (codes "sections") (list 0 31 (object section)) then key (codes "l_endsection") (number l_endsection.fields) then end_parts)
 
 -- ---- the packets
 
 -- packet 12: V_MAIN stands before the conditions
 unfoldable pub with_main : Packet 12 WithMain
 unfolding terms end_parts
-with_main = behind (headed (key (codes "v_main") (ranges 7 120 128) then terms)) refl
+with_main = behind (headed (scaled (key (codes "v_main") (number v_main.fields) then terms))) refl
 
 -- packet 15
 unfoldable pub without_main : Packet 15 WithoutMain
 unfolding terms end_parts
-without_main = behind (headed terms) refl
+without_main = behind (headed (scaled terms)) refl
 
 -- packet 12 or 15
 abbrev pub either_authority : Choice (codes "nid_packet") (WithMain ⊎ WithoutMain)

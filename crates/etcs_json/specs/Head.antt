@@ -11,6 +11,10 @@ use Rattle.etcs_json.specs.Variables.{direction, scale}
 abbrev pub Packet : ℕ → Type 0 → Type 0
 Packet k X = BehindNumber (codes "nid_packet") k X
 
--- Q_DIR and Q_SCALE, and then the packet's own members
-abbrev pub headed : {X : Type 0} → Part X → Part (Dir × (Scale × X))
-headed rest = key (codes "q_dir") direction then key (codes "q_scale") scale then rest
+-- Q_DIR, and then the packet's other members
+abbrev pub headed : {X : Type 0} → Part X → Part (Dir × X)
+headed rest = key (codes "q_dir") direction then rest
+
+-- Q_SCALE, and then the members with distances
+abbrev pub scaled : {X : Type 0} → Part X → Part (Scale × X)
+scaled rest = key (codes "q_scale") scale then rest

@@ -4,6 +4,7 @@
 -- are in the order in which they are looked for.
 use Rattle.std.specs.Prelude.{Bool, List, codes, refl}
 use Rattle.etcs_packet.specs.declared.track.TrackPacket.{TrackPacket}
+use Rattle.etcs_radio.specs.Head.{nid_engine, t_train}
 use Rattle.etcs_radio.specs.Record.{Movement, Position}
 use Rattle.etcs_radio.specs.Required.{has_authority, has_report}
 use Rattle.etcs_radio.specs.declared.train_packet.TrainPacket.{TrainPacket}
@@ -25,7 +26,7 @@ movement packet =
     (λ p. record { time = p.0; ack = p.1.0; lrbg = p.1.1.0; packets = p.1.1.1 })
     (λ m. (m.time, (m.ack, (m.lrbg, m.packets))))
     (λ _. refl)
-    (key (codes "t_train") (number 32) then key (codes "m_ack") flag then identity (codes "nid_c") (codes "nid_bg")
+    (key (codes "t_train") (number t_train.fields) then key (codes "m_ack") flag then identity (codes "nid_c") (codes "nid_bg")
     then packets has_authority packet)) refl
 
 -- message 136: a packet 0 or 1 is among its packets
@@ -35,4 +36,4 @@ position packet =
     (λ p. record { time = p.0; engine = p.1.0; packets = p.1.1 })
     (λ m. (m.time, (m.engine, m.packets)))
     (λ _. refl)
-    (key (codes "t_train") (number 32) then key (codes "nid_engine") (number 24) then packets has_report packet)) refl
+    (key (codes "t_train") (number t_train.fields) then key (codes "nid_engine") (number nid_engine.fields) then packets has_report packet)) refl

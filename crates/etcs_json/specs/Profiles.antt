@@ -6,38 +6,33 @@ use Rattle.std.specs.Prelude.{ℕ, ◌+◌, List, codes, nat_le, refl}
 use Rattle.etcs_bits.specs.declared.variables.direction.Dir.{Dir}
 use Rattle.etcs_bits.specs.layout.Format.{Format}
 use Rattle.etcs_bits.specs.layout.Rows.{width}
-use Rattle.etcs_profile.specs.Elements.{elements, profile as profile_of}
-use Rattle.etcs_profile.specs.Gradient.{gradient_element as gradient_layout}
-use Rattle.etcs_profile.specs.Linking.{link as link_layout}
+use Rattle.etcs_bits.specs.variables.VariableFormats.{nid_bg, nid_c}
+use Rattle.etcs_profile.specs.Elements.{elements, profile_struct}
+use Rattle.etcs_profile.specs.Gradient.{d_gradient, g_a, gradient_element as gradient_layout, gradient_struct}
+use Rattle.etcs_profile.specs.Linking.{d_link, link as link_layout, link_struct, q_linkreaction, q_locacc}
 use Rattle.etcs_profile.specs.Profile.{Profile}
-use Rattle.etcs_profile.specs.Speed.{speed_element as speed_layout}
+use Rattle.etcs_profile.specs.Speed.{d_static, difference_struct, nc_diff, q_diff, speed_element as speed_layout, speed_struct, v_diff, v_static}
 use Rattle.etcs_profile.specs.declared.gradient.GradientElement.{GradientElement}
 use Rattle.etcs_profile.specs.declared.linking.Link.{Link}
 use Rattle.etcs_profile.specs.declared.speed.Difference.{Difference}
 use Rattle.etcs_profile.specs.declared.speed.SpeedElement.{SpeedElement}
 use Rattle.etcs_json.specs.Chosen.{behind}
-use Rattle.etcs_json.specs.Head.{Packet, headed}
-use Rattle.etcs_json.specs.Shape.{Object, Part, Shape, closed, key, key_if, list, list_from_one, named, object, within, ◌then◌}
-use Rattle.etcs_json.specs.Variables.{flag, number, ranges}
+use Rattle.etcs_json.specs.Head.{Packet, headed, scaled}
+use Rattle.etcs_json.specs.Shape.{Object, Part, Shape, closed, key, key_if, list, list_from_one, object, struct, within, ◌then◌}
+use Rattle.etcs_json.specs.Variables.{flag, number}
 
 -- a packet with a list of elements at this key; it is refused where it has more than 8,191 bits
 abbrev pub profile : {X : Type 0} → List ℕ → Format X → Shape X → Part (Dir × Profile X)
-profile name layout element = within (λ p. nat_le (23 + width ((elements layout).rows p.1)) 8191) (
-    named
-    (λ p. (p.0, profile_of p.1.0 p.1.1.0 p.1.1.1))
-    (λ p. (p.0, (p.1.scale, (p.1.first, p.1.further))))
-    (λ _. refl)
-    (headed (key name (list_from_one 32 element))))
+profile name layout element =
+    within (λ p. nat_le (23 + width ((elements layout).rows p.1)) 8191)
+    (headed (struct profile_struct (scaled (key name (list_from_one 32 element)))))
 
 -- a balise group ahead; its country is there only if it is a new one
 unfoldable pub link : Object Link
 link =
-    closed (named
-    (λ p. record { distance = p.0; country = p.1.0; group = p.1.1.0; nominal = p.1.1.1.0; reaction = p.1.1.1.1.0; accuracy = p.1.1.1.1.1 })
-    (λ l. (l.distance, (l.country, (l.group, (l.nominal, (l.reaction, l.accuracy))))))
-    (λ _. refl)
-    (key (codes "d_link") (number 15) then key_if (codes "nid_c") (number 10) then key (codes "nid_bg") (number 14)
-    then key (codes "q_linkorientation") flag then key (codes "q_linkreaction") (ranges 2 2 4) then key (codes "q_locacc") (number 6))) refl
+    closed (struct link_struct
+    (key (codes "d_link") (number d_link.fields) then key_if (codes "nid_c") (number nid_c.fields) then key (codes "nid_bg") (number nid_bg.fields)
+    then key (codes "q_linkorientation") flag then key (codes "q_linkreaction") (number q_linkreaction.fields) then key (codes "q_locacc") (number q_locacc.fields))) refl
 
 -- packet 5
 unfoldable pub linking : Packet 5 (Dir × Profile Link)
@@ -46,11 +41,8 @@ linking = behind (profile (codes "links") link_layout (object link)) refl
 -- a gradient, and the place where it begins
 unfoldable pub gradient_element : Object GradientElement
 gradient_element =
-    closed (named
-    (λ p. record { distance = p.0; uphill = p.1.0; gradient = p.1.1 })
-    (λ e. (e.distance, (e.uphill, e.gradient)))
-    (λ _. refl)
-    (key (codes "d_gradient") (number 15) then key (codes "q_gdir") flag then key (codes "g_a") (number 8))) refl
+    closed (struct gradient_struct
+    (key (codes "d_gradient") (number d_gradient.fields) then key (codes "q_gdir") flag then key (codes "g_a") (number g_a.fields))) refl
 
 -- packet 21
 unfoldable pub gradient : Packet 21 (Dir × Profile GradientElement)
@@ -59,20 +51,14 @@ gradient = behind (profile (codes "elements") gradient_layout (object gradient_e
 -- another speed for some trains
 unfoldable pub difference : Object Difference
 difference =
-    closed (named
-    (λ p. record { kind = p.0; category = p.1.0; speed = p.1.1 })
-    (λ d. (d.kind, (d.category, d.speed)))
-    (λ _. refl)
-    (key (codes "q_diff") (ranges 2 2 4) then key (codes "nc") (number 4) then key (codes "v_diff") (ranges 7 120 128))) refl
+    closed (struct difference_struct
+    (key (codes "q_diff") (number q_diff.fields) then key (codes "nc") (number nc_diff.fields) then key (codes "v_diff") (number v_diff.fields))) refl
 
 -- a speed, and the place where it begins
 unfoldable pub speed_element : Object SpeedElement
 speed_element =
-    closed (named
-    (λ p. record { distance = p.0; speed = p.1.0; front = p.1.1.0; differences = p.1.1.1 })
-    (λ e. (e.distance, (e.speed, (e.front, e.differences))))
-    (λ _. refl)
-    (key (codes "d_static") (number 15) then key (codes "v_static") (ranges 7 120 127) then key (codes "q_front") flag
+    closed (struct speed_struct
+    (key (codes "d_static") (number d_static.fields) then key (codes "v_static") (number v_static.fields) then key (codes "q_front") flag
     then key (codes "differences") (list 0 31 (object difference)))) refl
 
 -- packet 27

@@ -5,8 +5,11 @@
 use Rattle.std.specs.Prelude.{◌≡◌, ◌==◌, ◌||◌, ◌⊎◌, ℕ, Bool, List, Option, Some, None, codes, if◌then◌else◌, is_some, refl}
 use Rattle.etcs_bits.specs.declared.variables.identity.Identity.{Identity}
 use Rattle.etcs_bits.specs.declared.variables.level.Level.{Level}
+use Rattle.etcs_bits.specs.variables.Identity.{identity_struct}
 use Rattle.etcs_bits.specs.variables.Variables.{plain}
-use Rattle.etcs_radio.specs.Report.{Situation, WithOne, WithTwo, again, numbered_of, report_of}
+use Rattle.etcs_bits.specs.variables.VariableFormats.{nid_bg, nid_c}
+use Rattle.etcs_radio.specs.Integrity.{l_trainint, length_number}
+use Rattle.etcs_radio.specs.Report.{Situation, WithOne, WithTwo, again, d_lrbg, l_doubtover, l_doubtunder, m_mode, numbered_of, report_of, v_train}
 use Rattle.etcs_radio.specs.Train3.{train3_names, train3_number, train3_of, train3_variable}
 use Rattle.etcs_radio.specs.declared.integrity.Integrity.{Integrity}
 use Rattle.etcs_radio.specs.declared.integrity.Integrity.TheVariants as lengths
@@ -15,31 +18,19 @@ use Rattle.etcs_radio.specs.declared.train3.Train3.{Train3}
 use Rattle.etcs_json.specs.Choice.{decided}
 use Rattle.etcs_json.specs.Chosen.{Choice, behind, chosen, either, last}
 use Rattle.etcs_json.specs.Head.{Packet}
-use Rattle.etcs_json.specs.Shape.{Part, Shape, key, named, renamed, ◌then◌}
+use Rattle.etcs_json.specs.Shape.{Part, Shape, key, renamed, struct, ◌then◌}
 use Rattle.etcs_json.specs.Transition.{level}
 use Rattle.etcs_json.specs.Variables.{is_allowed, named_numbers, number, scale}
 
 -- the identity of a group, as its country and its number there
 abbrev pub identity : List ℕ → List ℕ → Part Identity
-identity country group =
-    named
-    (λ p. record { country = p.0; group = p.1 })
-    (λ i. (i.country, i.group))
-    (λ _. refl)
-    (key country (number 10) then key group (number 14))
+identity country group = struct identity_struct (key country (number nid_c.fields) then key group (number nid_bg.fields))
 
 -- Q_DIRLRBG, Q_DLRBG and Q_DIRTRAIN: a direction or a side, as seen from the group
 abbrev pub side : Shape Train3
 side = named_numbers train3_variable train3_number train3_of train3_names
 
 -- ---- whether the train is whole, and its length
-
--- Q_LENGTH
-abbrev pub length_number : Integrity → ℕ
-length_number lengths.Q0 = 0
-length_number (lengths.Q1 l) = 1
-length_number (lengths.Q2 l) = 2
-length_number lengths.Q3 = 3
 
 -- L_TRAININT: the length that is confirmed
 abbrev pub confirmed : Integrity → Option ℕ
@@ -71,24 +62,21 @@ integrity_again lengths.Q3 = refl
 
 -- Q_LENGTH; L_TRAININT is wanted exactly at 1 and 2
 abbrev pub integrity : Part Integrity
-integrity = decided (codes "q_length") (is_allowed (plain 2)) is_confirmed (codes "l_trainint") (number 15) length_number confirmed integrity_with has_length integrity_again
+integrity = decided (codes "q_length") (is_allowed (plain 2)) is_confirmed (codes "l_trainint") (number l_trainint.fields) length_number confirmed integrity_with has_length integrity_again
 
 -- ---- the members behind the groups
 
 -- whether the train is whole, how it runs, and in which mode and level
-abbrev pub State : Type 0
-State = Integrity × (ℕ × (Train3 × (ℕ × Level)))
-
-unfoldable pub state : Part State
+unfoldable pub state : Part (Integrity × (ℕ × (Train3 × (ℕ × Level))))
 state =
-    integrity then key (codes "v_train") (number 7) then key (codes "q_dirtrain") side then key (codes "m_mode") (number 4)
+    integrity then key (codes "v_train") (number v_train.fields) then key (codes "q_dirtrain") side then key (codes "m_mode") (number m_mode.fields)
     then level (codes "m_level")
 
 -- where the train is, as seen from the group, and its state
 unfoldable pub situation : Part Situation
 situation =
-    key (codes "d_lrbg") (number 15) then key (codes "q_dirlrbg") side then key (codes "q_dlrbg") side
-    then key (codes "l_doubtover") (number 15) then key (codes "l_doubtunder") (number 15) then state
+    key (codes "d_lrbg") (number d_lrbg.fields) then key (codes "q_dirlrbg") side then key (codes "q_dlrbg") side
+    then key (codes "l_doubtover") (number l_doubtover.fields) then key (codes "l_doubtunder") (number l_doubtunder.fields) then state
 
 -- ---- the packets
 

@@ -1,10 +1,11 @@
 -- What is sent of a position report: its members in the byte order of their keys.
 use Rattle.std.specs.Prelude.{List, [], ◌∷◌, ◌++◌, Some, codes, option_map}
 use Rattle.etcs_bits.specs.variables.Level.{level_number}
+use Rattle.etcs_radio.specs.Integrity.{length_number}
 use Rattle.etcs_radio.specs.Report.{report_number}
 use Rattle.etcs_radio.specs.declared.report.Report.{Report}
 use Rattle.etcs_json.specs.Entries.{Entry}
-use Rattle.etcs_json.specs.Report.{confirmed, length_number, side}
+use Rattle.etcs_json.specs.Report.{confirmed, side}
 use Rattle.etcs_json.specs.Shape.{optional, whole}
 use Rattle.etcs_json.specs.Transition.{national_system}
 use Rattle.etcs_json.specs.Variables.{scale}

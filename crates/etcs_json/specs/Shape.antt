@@ -5,6 +5,7 @@ use Rattle.std.specs.List.{list_all}
 use Rattle.std.proofs.Common.{ap, ◌∙◌}
 use Rattle.std.proofs.lemmas.Bool.{and_parts}
 use Rattle.serde_json.specs.Data.{Data, Items, item, no_items, array, number, unsigned}
+use Rattle.etcs_bits.specs.layout.Struct.{Struct}
 use Rattle.etcs_json.specs.Entries.{Entry, keys_of, object_of, are_apart, Holds}
 use Rattle.etcs_json.specs.EntryLemmas.{object_holds, object_known, holds_parts, keys_of-append}
 use Rattle.etcs_json.specs.Fault.{Fault, key as key_step, under, here}
@@ -180,6 +181,10 @@ named with_parts parts_of same a = record {
   has_keys = λ y. a.has_keys (parts_of y);
   again = λ y d fits holds. ap (λ r. r >>= λ x. Ok (with_parts x)) (a.again (parts_of y) d fits holds) ∙ ap Ok (same y);
 }
+
+-- the same, as a struct whose bits have the same parts
+abbrev pub struct : {P S : Type 0} → Struct P S → Part P → Part S
+struct s a = named s.make s.parts s.again a
 
 -- a key that has this number and no other
 abbrev pub fixed : List ℕ → ℕ → Part (Unit {0})

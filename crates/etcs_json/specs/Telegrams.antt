@@ -2,6 +2,7 @@
 -- small letters. NID_C and NID_BG are the identity of the balise's group. `user_bits` and `packets` are
 -- this project's. Keys are in the order in which they are looked for.
 use Rattle.std.specs.Prelude.{◌≡◌, ℕ, ◌==◌, ◌||◌, Bool, true, codes, if◌then◌else◌, refl}
+use Rattle.etcs_telegram.specs.Header.{header_struct, m_mcount, n_pig, n_total}
 use Rattle.etcs_telegram.specs.Record.{Telegram}
 use Rattle.etcs_telegram.specs.Sizes.{user_bits}
 use Rattle.etcs_telegram.specs.declared.header.Header.{Header}
@@ -9,7 +10,7 @@ use Rattle.etcs_telegram.specs.declared.size.Size.{Size}
 use Rattle.etcs_telegram.specs.declared.size.Size.TheVariants.{Short, Long}
 use Rattle.etcs_json.specs.Listed.{listed}
 use Rattle.etcs_json.specs.Report.{identity}
-use Rattle.etcs_json.specs.Shape.{Object, Part, Shape, key, named, names, ◌then◌}
+use Rattle.etcs_json.specs.Shape.{Object, Part, Shape, closed, key, named, names, struct, ◌then◌}
 use Rattle.etcs_json.specs.TrackPackets.{track_packet}
 use Rattle.etcs_json.specs.Variables.{duplicate, flag, number, version}
 
@@ -36,23 +37,17 @@ size = names is_size user_bits size_with is_one size_again
 -- the header
 unfoldable pub header : Part Header
 header =
-    named
-    (λ p. record { version = p.0; position = p.1.0; total = p.1.1.0; dup = p.1.1.1.0; counter = p.1.1.1.1.0; identity = p.1.1.1.1.1.0; linked = p.1.1.1.1.1.1 })
-    (λ h. (h.version, (h.position, (h.total, (h.dup, (h.counter, (h.identity, h.linked)))))))
-    (λ _. refl)
-    (key (codes "m_version") version then key (codes "n_pig") (number 3) then key (codes "n_total") (number 3)
-    then key (codes "m_dup") duplicate then key (codes "m_mcount") (number 8)
+    struct header_struct
+    (key (codes "m_version") version then key (codes "n_pig") (number n_pig.fields) then key (codes "n_total") (number n_total.fields)
+    then key (codes "m_dup") duplicate then key (codes "m_mcount") (number m_mcount.fields)
     then identity (codes "nid_c") (codes "nid_bg") then key (codes "q_link") flag)
 
 -- a telegram, with any number of packets: whether they fit its size is not asked here
 unfoldable pub telegram : Object Telegram
 unfolding header
-telegram = record {
-  apart = refl;
-  part =
-      named
-      (λ p. record { size = p.0; header = p.1.0; packets = p.1.1 })
-      (λ t. (t.size, (t.header, t.packets)))
-      (λ _. refl)
-      (key (codes "user_bits") size then header then key (codes "packets") (listed track_packet));
-}
+telegram =
+    closed (named
+    (λ p. record { size = p.0; header = p.1.0; packets = p.1.1 })
+    (λ t. (t.size, (t.header, t.packets)))
+    (λ _. refl)
+    (key (codes "user_bits") size then header then key (codes "packets") (listed track_packet))) refl

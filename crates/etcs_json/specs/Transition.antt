@@ -4,14 +4,14 @@ use Rattle.std.specs.Prelude.{◌≡◌, ℕ, ◌==◌, List, Option, Some, None
 use Rattle.etcs_bits.specs.declared.variables.direction.Dir.{Dir}
 use Rattle.etcs_bits.specs.declared.variables.level.Level.{Level}
 use Rattle.etcs_bits.specs.declared.variables.level.Level.TheVariants as levels
-use Rattle.etcs_bits.specs.variables.Level.{level_number}
+use Rattle.etcs_bits.specs.variables.Level.{level_number, nid_ntc}
 use Rattle.etcs_bits.specs.variables.Variables.{ranged}
-use Rattle.etcs_profile.specs.Transition.{Orders, orders}
+use Rattle.etcs_profile.specs.Transition.{Orders, d_leveltr, l_ackleveltr, level_order_struct, orders_struct}
 use Rattle.etcs_profile.specs.declared.transition.LevelOrder.{LevelOrder}
 use Rattle.etcs_json.specs.Choice.{decided}
 use Rattle.etcs_json.specs.Chosen.{behind}
-use Rattle.etcs_json.specs.Head.{Packet, headed}
-use Rattle.etcs_json.specs.Shape.{Object, Part, closed, key, list_from_one, named, object, ◌then◌}
+use Rattle.etcs_json.specs.Head.{Packet, headed, scaled}
+use Rattle.etcs_json.specs.Shape.{Object, Part, closed, key, list_from_one, object, struct, ◌then◌}
 use Rattle.etcs_json.specs.Variables.{is_allowed, number}
 
 -- the national system of level NTC
@@ -43,22 +43,16 @@ level_again levels.L3 = refl
 
 -- a level, 0 to 4, at this key; NID_NTC is wanted exactly at level NTC, 1
 abbrev pub level : List ℕ → Part Level
-level name = decided name (is_allowed (ranged 3 4 8)) (λ n. n == 1) (codes "nid_ntc") (number 8) level_number national_system level_with is_wanted level_again
+level name = decided name (is_allowed (ranged 3 4 8)) (λ n. n == 1) (codes "nid_ntc") (number nid_ntc.fields) level_number national_system level_with is_wanted level_again
 
 -- one level of the order
 unfoldable pub level_order : Object LevelOrder
 level_order =
-    closed (named
-    (λ p. record { level = p.0; acknowledge = p.1 })
-    (λ o. (o.level, o.acknowledge))
-    (λ _. refl)
-    (level (codes "m_leveltr") then key (codes "l_ackleveltr") (number 15))) refl
+    closed (struct level_order_struct
+    (level (codes "m_leveltr") then key (codes "l_ackleveltr") (number l_ackleveltr.fields))) refl
 
 -- packet 41
 unfoldable pub transition : Packet 41 (Dir × Orders)
 transition =
-    behind (named
-    (λ p. (p.0, orders p.1.0 p.1.1.0 p.1.1.1.0 p.1.1.1.1))
-    (λ p. (p.0, (p.1.scale, (p.1.d_leveltr, (p.1.first, p.1.further)))))
-    (λ _. refl)
-    (headed (key (codes "d_leveltr") (number 15) then key (codes "transitions") (list_from_one 32 (object level_order))))) refl
+    behind (headed (struct orders_struct (scaled
+    (key (codes "d_leveltr") (number d_leveltr.fields) then key (codes "transitions") (list_from_one 32 (object level_order)))))) refl

@@ -1,12 +1,13 @@
 -- The variables of the standard as whole numbers of JSON (SUBSET-026, 7.5.1).
 use Rattle.std.specs.Prelude.{ℕ, ◌^◌, ◌&&◌, Bool, true, false, ltb, refl}
 use Rattle.etcs_bits.specs.bits.Number.{worth}
+use Rattle.etcs_bits.specs.layout.Fields.{Fields, field}
 use Rattle.etcs_bits.specs.layout.Rows.{Variable}
 use Rattle.etcs_bits.specs.declared.variables.direction.Dir.{Dir}
 use Rattle.etcs_bits.specs.declared.variables.duplicate.Dup.{Dup}
 use Rattle.etcs_bits.specs.declared.variables.scale.Scale.{Scale}
 use Rattle.etcs_bits.specs.declared.variables.version.Version.{Version}
-use Rattle.etcs_bits.specs.variables.Variables.{dir_number, dir_variable, dup_number, duplicate_variable, plain, ranged, scale_number, scale_variable, version_number, version_variable}
+use Rattle.etcs_bits.specs.variables.Variables.{dir_number, dir_variable, dup_number, duplicate_variable, plain, scale_number, scale_variable, version_number, version_variable}
 use Rattle.etcs_bits.specs.variables.VariableLemmas.{AreNames, dir_names, dup_names, scale_names, version_names}
 use Rattle.etcs_bits.specs.variables.VariableValues.{dir_of, dup_of, flag_of, scale_of, version_of}
 use Rattle.etcs_json.specs.Shape.{Shape, names, numbers}
@@ -19,13 +20,10 @@ is_allowed x n = ltb n (2 ^ x.width) && x.allows n
 abbrev pub variable : Variable → Shape ℕ
 variable x = numbers (is_allowed x)
 
--- a number of w bits without a spare one
-abbrev pub number : ℕ → Shape ℕ
-number w = variable (plain w)
-
--- a number of w bits, up to `last` or at least `from`; the numbers between are spare
-abbrev pub ranges : ℕ → ℕ → ℕ → Shape ℕ
-ranges w last from = variable (ranged w last from)
+-- the variable that fields of bits begin with; where they begin with none, no number is in range
+abbrev pub number : Fields → Shape ℕ
+number (field x next) = variable x
+number other = numbers (λ _. false)
 
 -- a variable whose numbers have names
 abbrev pub named_numbers : {X : Type 0} (x : Variable) (tag : X → ℕ) (of : ℕ → X) → AreNames x tag of → Shape X

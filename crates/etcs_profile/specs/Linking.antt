@@ -1,6 +1,7 @@
 -- Packet 5, linking (SUBSET-026, 3.4.4 and 7.4.2): which balise groups come next, and where.
-use Rattle.std.specs.Prelude.{ℕ, Bool, refl}
-use Rattle.etcs_bits.specs.layout.Format.{Format, number, ranges, flag, ◌then◌, if_there, named}
+use Rattle.std.specs.Prelude.{ℕ, Bool, Option, refl}
+use Rattle.etcs_bits.specs.layout.Format.{Format, number, ranges, flag, ◌then◌, if_there, struct}
+use Rattle.etcs_bits.specs.layout.Struct.{Struct, two_ways}
 use Rattle.etcs_bits.specs.variables.VariableFormats.{nid_c, nid_bg}
 use Rattle.etcs_profile.specs.declared.linking.Link.{Link}
 
@@ -20,18 +21,16 @@ q_linkreaction = ranges 2 2 4
 abbrev pub q_locacc : Format ℕ
 q_locacc = number 6
 
+-- a link, and its fields in order
+abbrev pub link_struct : Struct (ℕ × (Option ℕ × (ℕ × (Bool × (ℕ × ℕ))))) Link
+link_struct =
+    two_ways
+    (λ p. record { distance = p.0; country = p.1.0; group = p.1.1.0; nominal = p.1.1.1.0; reaction = p.1.1.1.1.0; accuracy = p.1.1.1.1.1 })
+    (λ l. (l.distance, (l.country, (l.group, (l.nominal, (l.reaction, l.accuracy))))))
+    (λ _. refl) (λ _. refl)
+
 -- a link; Q_NEWCOUNTRY says whether NID_C follows
 abbrev pub link : Format Link
 link =
-    named
+    struct link_struct
     (d_link then if_there nid_c then nid_bg then q_linkorientation then q_linkreaction then q_locacc)
-    (λ p. record {
-      distance = p.0;
-      country = p.1.0;
-      group = p.1.1.0;
-      nominal = p.1.1.1.0;
-      reaction = p.1.1.1.1.0;
-      accuracy = p.1.1.1.1.1;
-    })
-    (λ l. (l.distance, (l.country, (l.group, (l.nominal, (l.reaction, l.accuracy))))))
-    (λ _. refl) (λ _. refl)

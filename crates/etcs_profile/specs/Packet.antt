@@ -1,8 +1,8 @@
 -- A packet: its number, its direction, its length and its body (SUBSET-026, 7.4).
-use Rattle.std.specs.Prelude.{ℕ, refl}
+use Rattle.std.specs.Prelude.{ℕ}
 use Rattle.etcs_bits.specs.declared.layout.fault.FaultKind.TheVariants.{Spare}
 use Rattle.etcs_bits.specs.declared.variables.direction.Dir.{Dir}
-use Rattle.etcs_bits.specs.layout.Format.{Format, fixed, ◌then◌, behind_length, named}
+use Rattle.etcs_bits.specs.layout.Format.{Format, fixed, ◌then◌, ◌before◌, behind_length}
 use Rattle.etcs_bits.specs.variables.VariableFormats.{q_dir}
 
 -- NID_PACKET of a known packet: the packet's own number
@@ -15,4 +15,4 @@ rest body = q_dir then behind_length 10 body
 
 -- packet k with this body
 abbrev pub packet : {X : Type 0} → ℕ → Format X → Format (Dir × X)
-packet k body = named (nid_packet k then rest body) (λ p. p.1) (λ p. (tt, p)) (λ _. refl) (λ _. refl)
+packet k body = nid_packet k before rest body

@@ -1,6 +1,7 @@
 -- Packet 27, static speed profile (SUBSET-026, 7.4.2): how fast trains may go, place by place.
-use Rattle.std.specs.Prelude.{ℕ, Bool, refl}
-use Rattle.etcs_bits.specs.layout.Format.{Format, number, ranges, flag, ◌then◌, several, named}
+use Rattle.std.specs.Prelude.{ℕ, Bool, List, refl}
+use Rattle.etcs_bits.specs.layout.Format.{Format, number, ranges, flag, ◌then◌, several, struct}
+use Rattle.etcs_bits.specs.layout.Struct.{Struct, two_ways}
 use Rattle.etcs_profile.specs.declared.speed.Difference.{Difference}
 use Rattle.etcs_profile.specs.declared.speed.SpeedElement.{SpeedElement}
 
@@ -29,18 +30,24 @@ nc_diff = number 4
 abbrev pub v_diff : Format ℕ
 v_diff = ranges 7 120 128
 
--- another speed for some trains
-abbrev pub difference : Format Difference
-difference =
-    named
-    (q_diff then nc_diff then v_diff)
+-- another speed, and its fields in order
+abbrev pub difference_struct : Struct (ℕ × (ℕ × ℕ)) Difference
+difference_struct =
+    two_ways
     (λ p. record { kind = p.0; category = p.1.0; speed = p.1.1 })
     (λ d. (d.kind, (d.category, d.speed))) (λ _. refl) (λ _. refl)
 
--- an element; N_ITER counts its differences
-abbrev pub speed_element : Format SpeedElement
-speed_element =
-    named
-    (d_static then v_static then q_front then several difference)
+-- another speed for some trains
+abbrev pub difference : Format Difference
+difference = struct difference_struct (q_diff then nc_diff then v_diff)
+
+-- an element, and its fields in order
+abbrev pub speed_struct : Struct (ℕ × (ℕ × (Bool × List Difference))) SpeedElement
+speed_struct =
+    two_ways
     (λ p. record { distance = p.0; speed = p.1.0; front = p.1.1.0; differences = p.1.1.1 })
     (λ e. (e.distance, (e.speed, (e.front, e.differences)))) (λ _. refl) (λ _. refl)
+
+-- an element; N_ITER counts its differences
+abbrev pub speed_element : Format SpeedElement
+speed_element = struct speed_struct (d_static then v_static then q_front then several difference)

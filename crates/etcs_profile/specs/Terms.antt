@@ -1,7 +1,8 @@
 -- What packets 12 and 15 have in common: how far a train may run, and under which conditions
 -- (SUBSET-026, 3.8 and 7.4.2).
 use Rattle.std.specs.Prelude.{ℕ, List, Option, refl}
-use Rattle.etcs_bits.specs.layout.Format.{Format, number, ranges, ◌then◌, if_there, several, named}
+use Rattle.etcs_bits.specs.layout.Format.{Format, number, ranges, ◌then◌, if_there, several, struct}
+use Rattle.etcs_bits.specs.layout.Struct.{Struct, two_ways}
 use Rattle.etcs_profile.specs.declared.section.Section.{Section}
 use Rattle.etcs_profile.specs.declared.section.SectionTimer.{SectionTimer}
 use Rattle.etcs_profile.specs.declared.end_timer.EndTimer.{EndTimer}
@@ -47,11 +48,21 @@ conditions end_speed end_timeout sections l_endsection section_timer end_timer d
   overlap = overlap;
 }
 
+-- conditions, and their fields in order
+abbrev pub conditions_struct : Struct (ℕ × (ℕ × (List Section × (ℕ × (Option SectionTimer
+    × (Option EndTimer × (Option DangerPoint × Option Overlap))))))) Conditions
+conditions_struct =
+    two_ways
+    (λ p. conditions p.0 p.1.0 p.1.1.0 p.1.1.1.0
+    p.1.1.1.1.0 p.1.1.1.1.1.0 p.1.1.1.1.1.1.0 p.1.1.1.1.1.1.1)
+    (λ c. (c.end_speed, (c.end_timeout, (c.sections, (c.l_endsection, (c.section_timer, (c.end_timer, (c.danger_point, c.overlap))))))))
+    (λ _. refl) (λ _. refl)
+
 -- The conditions. N_ITER counts the sections before the end section. Four qualifiers of one bit say
 -- what follows of the last four parts: Q_SECTIONTIMER, Q_ENDTIMER, Q_DANGERPOINT and Q_OVERLAP.
 abbrev pub terms : Format Conditions
 terms =
-    named
+    struct conditions_struct
     (v_loa
     then t_loa
     then several section
@@ -60,19 +71,3 @@ terms =
     then if_there end_timer
     then if_there danger_point
     then if_there overlap)
-    (λ p. conditions p.0 p.1.0 p.1.1.0 p.1.1.1.0
-    p.1.1.1.1.0 p.1.1.1.1.1.0 p.1.1.1.1.1.1.0 p.1.1.1.1.1.1.1)
-    (λ c. (
-      c.end_speed,
-      (
-        c.end_timeout,
-        (
-          c.sections,
-          (
-            c.l_endsection,
-            (c.section_timer, (c.end_timer, (c.danger_point, c.overlap))),
-          ),
-        ),
-      ),
-    ))
-    (λ _. refl) (λ _. refl)

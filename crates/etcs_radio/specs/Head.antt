@@ -5,7 +5,7 @@ use Rattle.etcs_bits.specs.declared.layout.fault.FaultKind.TheVariants.{Length, 
 use Rattle.etcs_bits.specs.declared.variables.identity.Identity.{Identity}
 use Rattle.etcs_bits.specs.layout.Rows.{Variable}
 use Rattle.etcs_bits.specs.layout.Choice.{Choice}
-use Rattle.etcs_bits.specs.layout.Format.{Format, number, flag, fixed, ◌then◌, last, either, chosen, named}
+use Rattle.etcs_bits.specs.layout.Format.{Format, number, flag, fixed, ◌then◌, ◌before◌, last, either, chosen}
 use Rattle.etcs_radio.specs.Lrbg.{nid_lrbg}
 
 -- L_MESSAGE, 10 bits: the message's count of bytes, here n; any other number has the fault Length
@@ -14,7 +14,7 @@ l_message n = fixed 10 n Length
 
 -- what follows L_MESSAGE
 abbrev pub after_length : {X : Type 0} → ℕ → Format X → Format X
-after_length n rest = named (l_message n then rest) (λ p. p.1) (λ p. (tt, p)) (λ _. refl) (λ _. refl)
+after_length n rest = l_message n before rest
 
 -- T_TRAIN, 32 bits: the time of the train's clock, in units of 10 ms
 abbrev pub t_train : Format ℕ

@@ -58,3 +58,7 @@ again lengths.Q3 = refl
 -- Q_LENGTH, with L_TRAININT
 abbrev pub q_length : Format Integrity
 q_length = named (chosen length_variable numbered (λ _. refl)) integrity_of numbered_of back again
+
+-- Q_LENGTH
+abbrev pub length_number : Integrity → ℕ
+length_number v = numbered.number (numbered_of v)

@@ -11,6 +11,7 @@ use Rattle.etcs_bits.specs.variables.Variables.{plain, free, only, ranged}
 use Rattle.etcs_bits.specs.variables.VariableValues.{flag_of}
 use Rattle.etcs_bits.specs.layout.Values.{HasValues}
 use Rattle.etcs_bits.specs.layout.Laid.{IsLayout}
+use Rattle.etcs_bits.specs.layout.Struct.{Struct}
 use Rattle.etcs_bits.specs.layout.Choice.{Choice, either_allows, either_next, either_number, either_rows}
 use Rattle.etcs_bits.specs.layout.Combined.{qualifier, n_iter, pair_rows, option_rows, counted_rows, body_rows, l_kept}
 use Rattle.etcs_bits.specs.layout.ChoiceLemmas.{is_itself, last_value, others_value, either_is_number, either_are_rows, either_is_value, either_has_value, chosen_laid}
@@ -182,3 +183,12 @@ named a make parts back again = record {
   of = λ r. make (a.of r);
   laid = parted_laid make parts back again a.laid;
 }
+
+-- the same layout for a struct
+abbrev pub struct : {P S : Type 0} → Struct P S → Format P → Format S
+struct s a = named a s.make s.parts s.back s.again
+
+infixr 5 ◌before◌
+-- a record that carries no information, such as a fixed number, and the one after it
+abbrev pub ◌before◌ : {A : Type 0} → Format (Unit {0}) → Format A → Format A
+a before b = named (a then b) (λ p. p.1) (λ p. (tt, p)) (λ _. refl) (λ _. refl)

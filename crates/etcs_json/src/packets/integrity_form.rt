@@ -1,8 +1,9 @@
 //! The form of a train's integrity, with the length that is confirmed.
 
 ghost use Rattle.std.specs.Prelude.{◌≡◌};
+ghost use Rattle.etcs_radio.specs.Integrity.{length_number as number_of_length};
 ghost use Rattle.etcs_json.specs.Fault.{Gives};
-ghost use Rattle.etcs_json.specs.Report.{confirmed, integrity, length_number as number_of_length};
+ghost use Rattle.etcs_json.specs.Report.{confirmed, integrity};
 
 use crate::error::FormError;
 use crate::form::{Form, InPieces};

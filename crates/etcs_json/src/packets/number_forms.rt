@@ -11,9 +11,10 @@ use std::alloc::Global;
 
 #[tactic(auto, unfolding(crate::specs::Reading::number_of))]
 impl<const W: u32> Form for Plain<W> {
-    ghost use Rattle.etcs_json.specs.Variables.{number};
+    ghost use Rattle.etcs_bits.specs.variables.Variables.{plain};
+    ghost use Rattle.etcs_json.specs.Variables.{variable};
 
-    ghost shape = { number W };
+    ghost shape = { variable (plain W) };
 
     ghost builds = { ⊥ };
 
@@ -46,9 +47,10 @@ impl<const W: u32> InPieces for Plain<W> {
 
 #[tactic(auto, unfolding(crate::specs::Reading::number_of))]
 impl<const W: u32, const LAST: u32, const FROM: u32> Form for Ranged<W, LAST, FROM> {
-    ghost use Rattle.etcs_json.specs.Variables.{ranges};
+    ghost use Rattle.etcs_bits.specs.variables.Variables.{ranged};
+    ghost use Rattle.etcs_json.specs.Variables.{variable};
 
-    ghost shape = { ranges W LAST FROM };
+    ghost shape = { variable (ranged W LAST FROM) };
 
     ghost builds = { ⊥ };
 
