@@ -14,5 +14,5 @@ few_at r xs few is =
     let few_xs = subst (λ (s : Result (List Section) Fault). IfOk s (λ ys. length ys ≤ 31)) is few in omega (arith, few_xs)
 
 -- at most 31 sections are read
-pub few_sections : (d : Data) (xs : List Section) → at_key (list_of (object section).of 0 31) (codes "sections") d ≡ Ok xs → length xs < 32
-few_sections d xs is = few_at _ xs (short_list (object section) (codes "sections") 0 31 d) is
+pub few_sections : (d : Data) (xs : List Section) → at_key (list_of (object section.form).of 0 31) (codes "sections") d ≡ Ok xs → length xs < 32
+few_sections d xs is = few_at _ xs (short_list (object section.form) (codes "sections") 0 31 d) is

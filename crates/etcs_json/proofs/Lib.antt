@@ -18,7 +18,5 @@ pub mod BodyTextLemmas
 pub mod RawLemmas
 pub mod PathLemmas
 pub mod AnyList
-pub mod RangeLemmas
-pub mod TrackRanges
 pub mod PacketRanges
 pub mod RadioRanges

@@ -82,6 +82,14 @@ fails_up view (Err y) e r s passed fails same = rw passed (fails_same e r s fail
 pub read_again : {X : Type 0} (s : Shape X) (x : X) (d : Data) → d ≡ s.to x → s.fits x ≡ true → s.of d ≡ Ok x
 read_again s x d is fits = ap s.of is ∙ s.again x fits
 
+-- what is read again has a form of its own
+pub own_form : {X : Type 0} (s : Shape X) (x y : X) → s.fits x ≡ true → s.fits y ≡ true → s.to x ≡ s.to y → x ≡ y
+own_form s x y first second same =
+    let one = s.again x first in
+    let other = s.again y second in
+    let read : s.of (s.to x) ≡ s.of (s.to y) = ap s.of same in
+    cc
+
 -- the same for what a call returned, unless it failed
 pub written_again : {X E : Type 0} → (s : Shape X) (x : X) (result : Result Value E) → s.fits x ≡ true → IfOk result (λ v. view v ≡ s.to x) → IfOk result (λ v. Unit {0} → s.of (view v) ≡ Ok x)
 written_again s x (Ok v) fits is = λ _. read_again s x (view v) is fits

@@ -32,9 +32,9 @@ use Rattle.etcs_json.specs.TrackPackets.{track_packet}
 use Rattle.etcs_json.specs.TrainPackets.{train_numbered, train_packet}
 use Rattle.etcs_json.specs.Variables.{is_allowed, scale}
 use Rattle.etcs_json.proofs.PacketRanges.{track_keeps}
-use Rattle.etcs_json.proofs.RangeLemmas.{Keeps, all_in_range, both_keep, chosen_keeps, either_keeps, last_keeps, names_keep, nid_range, number_range, parts_keep, variable_keeps}
+use Rattle.etcs_json.specs.RangeLemmas.{Keeps, all_in_range, both_keep, chosen_keeps, either_keeps, last_keeps, names_keep, nid_range, number_range, parts_keep, variable_keeps}
 use Rattle.etcs_json.proofs.RawLemmas.{raw_train_fits}
-use Rattle.etcs_json.proofs.TrackRanges.{level_keeps}
+use Rattle.etcs_json.specs.Transition.{level_beside}
 
 -- ---- parts
 
@@ -67,7 +67,7 @@ situation_keeps : Keeps situation_layout.rows situation.fits
 unfolding situation state
 situation_keeps =
     both_keep (variable_keeps (plain 15)) (both_keep side_keeps (both_keep side_keeps (both_keep (variable_keeps (plain 15)) (both_keep (variable_keeps (plain 15))
-    (both_keep integrity_keeps (both_keep (variable_keeps (plain 7)) (both_keep side_keeps (both_keep (variable_keeps (plain 4)) (level_keeps (codes "m_level"))))))))))
+    (both_keep integrity_keeps (both_keep (variable_keeps (plain 7)) (both_keep side_keeps (both_keep (variable_keeps (plain 4)) (level_beside (codes "m_level")).keeps))))))))
 
 scale_keeps : Keeps q_scale.rows scale.fits
 scale_keeps = names_keep scale_variable scale_number

@@ -116,16 +116,16 @@ abbrev Few : List Difference → Type 0
 Few xs = length xs ≤ 31
 
 -- an element of a speed profile has at most 31 differences
-pub few_differences : (d : Data) (e : SpeedElement) → (object speed_element).of d ≡ Ok e → length e.differences ≤ 31
+pub few_differences : (d : Data) (e : SpeedElement) → (object speed_element.form).of d ≡ Ok e → length e.differences ≤ 31
 unfolding speed_element
 few_differences d e is =
-    let several = key_part (codes "differences") (list 0 31 (object difference)) in
-    let last = short_list (object difference) (codes "differences") 0 31 d in
+    let several = key_part (codes "differences") (list 0 31 (object difference.form)) in
+    let last = short_list (object difference.form) (codes "differences") 0 31 d in
     let third = second Few (at_key flag.of (codes "q_front")) several.of d last in
     let two = second (of_second Few) (at_key (number v_static.fields).of (codes "v_static")) (both_of (at_key flag.of (codes "q_front")) several.of) d third in
     let all = second (of_second (of_second Few)) (at_key (number d_static.fields).of (codes "d_static")) (both_of (at_key (number v_static.fields).of (codes "v_static")) (both_of (at_key flag.of (codes "q_front")) several.of)) d two in
     found (λ (x : SpeedElement). length x.differences ≤ 31) _ e
-    (after (λ (x : SpeedElement). length x.differences ≤ 31) (object_with speed_element.part.keys d) (λ u. speed_element.part.of d) (λ u.
+    (after (λ (x : SpeedElement). length x.differences ≤ 31) (object_with speed_element.form.part.keys d) (λ u. speed_element.form.part.of d) (λ u.
     as_named (λ (x : SpeedElement). length x.differences ≤ 31) _ _ all)) is
 
 -- how many items stand after the first

@@ -34,10 +34,10 @@ made_of es old new d e in_order same none made is =
 
 -- ---- a movement authority
 
-authority_sent_by : (main : Option ℕ) (a : Permission) → object_data (members_of (sent_members (permission a.dir a.scale main a.terms))) ≡ either_authority.to (authority_by main a)
+authority_sent_by : (main : Option ℕ) (a : Permission) → object_data (members_of (sent_members (permission a.dir a.scale main a.terms))) ≡ either_authority.form.to (authority_by main a)
 unfolding first_members last_members with_main without_main terms end_parts
-authority_sent_by None a = ap object_data (sym (made_members ((with_number without_main).part.to (a.dir, (a.scale, a.terms))) refl))
-authority_sent_by (Some v) a = ap object_data (sym (made_members ((with_number with_main).part.to (a.dir, (a.scale, (v, a.terms)))) refl))
+authority_sent_by None a = ap object_data (sym (made_members ((with_number without_main.form).part.to (a.dir, (a.scale, a.terms))) refl))
+authority_sent_by (Some v) a = ap object_data (sym (made_members ((with_number with_main.form).part.to (a.dir, (a.scale, (v, a.terms)))) refl))
 
 pub authority_sent : (a : Permission) → object_data (members_of (sent_members a)) ≡ authority.to a
 unfolding authority
@@ -64,7 +64,7 @@ report_in_order r = made_members (sent_report r) refl
 
 -- ---- both as one of all packets
 
-authority_to_by : (main : Option ℕ) (a : Permission) → track_numbered.to (authority_in (authority_by main a)) ≡ either_authority.to (authority_by main a)
+authority_to_by : (main : Option ℕ) (a : Permission) → track_numbered.form.to (authority_in (authority_by main a)) ≡ either_authority.form.to (authority_by main a)
 authority_to_by None a = refl
 authority_to_by (Some v) a = refl
 
@@ -76,14 +76,14 @@ with_main_as : (r : Result WithMain Fault) → as_kind track_of (as_kind inr (as
 with_main_as (Ok p) = refl
 with_main_as (Err f) = refl
 
-pub with_main_read : (d : Data) → as_kind track_of (track_numbered.of 12 d) ≡ as_kind track.Authority (as_kind permission_of (either_authority.of 12 d))
+pub with_main_read : (d : Data) → as_kind track_of (track_numbered.form.of 12 d) ≡ as_kind track.Authority (as_kind permission_of (either_authority.form.of 12 d))
 with_main_read d = with_main_as _
 
 without_main_as : (r : Result WithoutMain Fault) → as_kind track_of (as_kind inr (as_kind inr (as_kind inr (as_kind inl r)))) ≡ as_kind track.Authority (as_kind permission_of (as_kind inr r))
 without_main_as (Ok p) = refl
 without_main_as (Err f) = refl
 
-pub without_main_read : (d : Data) → as_kind track_of (track_numbered.of 15 d) ≡ as_kind track.Authority (as_kind permission_of (either_authority.of 15 d))
+pub without_main_read : (d : Data) → as_kind track_of (track_numbered.form.of 15 d) ≡ as_kind track.Authority (as_kind permission_of (either_authority.form.of 15 d))
 without_main_read d = without_main_as _
 
 report_to_by : (previous : Option Identity) (r : Report) → train_numbered.to (report_in (report_by previous r)) ≡ either_report.to (report_by previous r)
@@ -118,6 +118,6 @@ cover_as : (r : Result ℕ Fault) → as_kind track_of (as_kind inl r) ≡ as_ki
 cover_as (Ok m) = refl
 cover_as (Err f) = refl
 
-pub cover_read : (d : Data) → as_kind track_of (track_numbered.of 0 d) ≡ as_kind track.Cover ((object cover_marker).of d)
+pub cover_read : (d : Data) → as_kind track_of (track_numbered.form.of 0 d) ≡ as_kind track.Cover ((object cover_marker.form).of d)
 unfolding cover_marker
-cover_read d = cover_as _ ∙ ap (as_kind track.Cover) (sym (cover_to_same (object_with (with_number cover).part.keys d) ((with_number cover).part.of d) _))
+cover_read d = cover_as _ ∙ ap (as_kind track.Cover) (sym (cover_to_same (object_with (with_number cover.form).part.keys d) ((with_number cover.form).part.of d) _))

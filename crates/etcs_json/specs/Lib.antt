@@ -11,6 +11,8 @@ pub mod Variables
 pub mod Choice
 pub mod Chosen
 pub mod Head
+pub mod RangeLemmas
+pub mod Beside
 pub mod Cover
 pub mod Profiles
 pub mod Transition

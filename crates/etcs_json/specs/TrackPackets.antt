@@ -1,16 +1,19 @@
 -- The form of a packet from track to train, by its number (SUBSET-026, 7.4.2).
-use Rattle.std.specs.Prelude.{codes, length, refl}
+use Rattle.std.specs.Prelude.{◌++◌, codes, length, refl}
+use Rattle.etcs_bits.specs.layout.Rows.{alone}
 use Rattle.etcs_bits.specs.variables.Variables.{ranged}
-use Rattle.etcs_packet.specs.PacketNumbers.{is_other}
-use Rattle.etcs_packet.specs.Raw.{other_of}
-use Rattle.etcs_packet.specs.Track.{Numbered, again, parts_of, track_of}
+use Rattle.etcs_packet.specs.PacketNumbers.{is_other, nid_track}
+use Rattle.etcs_packet.specs.Raw.{other_of, others as other_bits}
+use Rattle.etcs_packet.specs.Track.{again, parts_of, track_numbered as track_bits, track_of}
 use Rattle.etcs_packet.specs.declared.raw.RawPacket.{RawPacket}
 use Rattle.etcs_packet.specs.declared.track.TrackPacket.{TrackPacket}
 use Rattle.etcs_json.specs.Authority.{with_main, without_main}
-use Rattle.etcs_json.specs.Chosen.{Choice, HasNumber, begins_with, chosen, either, others}
+use Rattle.etcs_json.specs.Beside.{ChoiceBeside, either}
+use Rattle.etcs_json.specs.Chosen.{HasNumber, begins_with, chosen, others}
 use Rattle.etcs_json.specs.Cover.{cover}
 use Rattle.etcs_json.specs.Profiles.{gradient, linking, speed_profile}
-use Rattle.etcs_json.specs.Raw.{raw_packet}
+use Rattle.etcs_json.specs.RangeLemmas.{Keeps}
+use Rattle.etcs_json.specs.Raw.{raw_fits, raw_packet}
 use Rattle.etcs_json.specs.Shape.{Shape, object, renamed}
 use Rattle.etcs_json.specs.Transition.{transition}
 use Rattle.etcs_json.specs.Variables.{is_allowed}
@@ -19,11 +22,18 @@ pub raw_has : (p : RawPacket) → HasNumber (codes "nid_packet") p.number ((obje
 unfolding raw_packet
 raw_has p = begins_with (codes "nid_packet") p.number raw_packet p _ refl
 
--- a packet whose layout is not known
-abbrev pub raw : Choice (codes "nid_packet") RawPacket
-raw = others is_other (λ p. p.number) raw_packet (λ p. other_of p.number (length p.body) p.kept) raw_has
+pub raw_keeps : Keeps (λ p. alone nid_track p.number ++ other_bits.rows p) raw_packet.part.fits
+unfolding alone
+raw_keeps = record { range = λ p allowed. raw_fits p allowed.0.0 }
 
-abbrev pub track_numbered : Choice (codes "nid_packet") Numbered
+-- a packet whose layout is not known
+abbrev pub raw : ChoiceBeside nid_track other_bits.rows
+raw = record {
+  form = others is_other (λ p. p.number) raw_packet (λ p. other_of p.number (length p.body) p.kept) raw_has;
+  keeps = raw_keeps;
+}
+
+abbrev pub track_numbered : ChoiceBeside nid_track track_bits.rows
 track_numbered =
     either cover (
     either linking (
@@ -36,4 +46,4 @@ track_numbered =
 
 -- NID_PACKET is looked at first; 255, the end mark, is the number of no packet
 abbrev pub track_packet : Shape TrackPacket
-track_packet = renamed track_of parts_of again (chosen (codes "nid_packet") (is_allowed (ranged 8 254 256)) track_numbered)
+track_packet = renamed track_of parts_of again (chosen (codes "nid_packet") (is_allowed (ranged 8 254 256)) track_numbered.form)

@@ -1,6 +1,7 @@
 -- The variables of the standard as whole numbers of JSON (SUBSET-026, 7.5.1).
 use Rattle.std.specs.Prelude.{ℕ, ◌^◌, ◌&&◌, Bool, true, false, ltb, refl}
 use Rattle.etcs_bits.specs.bits.Number.{worth}
+use Rattle.etcs_bits.specs.declared.layout.fault.FaultKind.TheVariants.{Spare}
 use Rattle.etcs_bits.specs.layout.Fields.{Fields, field}
 use Rattle.etcs_bits.specs.layout.Rows.{Variable}
 use Rattle.etcs_bits.specs.declared.variables.direction.Dir.{Dir}
@@ -20,10 +21,13 @@ is_allowed x n = ltb n (2 ^ x.width) && x.allows n
 abbrev pub variable : Variable → Shape ℕ
 variable x = numbers (is_allowed x)
 
--- the variable that fields of bits begin with; where they begin with none, no number is in range
+-- the variable that fields of bits begin with; where they begin with none, no number is allowed
+abbrev pub variable_of : Fields → Variable
+variable_of (field x next) = x
+variable_of other = record { width = 0; allows = λ _. false; refusal = Spare; closes = false }
+
 abbrev pub number : Fields → Shape ℕ
-number (field x next) = variable x
-number other = numbers (λ _. false)
+number f = variable (variable_of f)
 
 -- a variable whose numbers have names
 abbrev pub named_numbers : {X : Type 0} (x : Variable) (tag : X → ℕ) (of : ℕ → X) → AreNames x tag of → Shape X

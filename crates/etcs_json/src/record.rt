@@ -30,6 +30,9 @@ pub trait Record: Drop {
 
 /// How the members of a record are sent and read.
 pub(crate) trait Members: Record {
+    /// What keeps the members in range, such as that each row of the record is allowed.
+    ghost limits: { Self → Type 0 };
+
     /// Its keys in byte order, in which most objects have them.
     fn keys() -> &'static [&'static str]
         ensures { map (λ l. l.now) result.now ≡ sorted_keys Self.object.part.keys };
@@ -42,9 +45,11 @@ pub(crate) trait Members: Record {
     fn of_members<N: Node>(alloc: Global, node: &N) -> Result<Self, FormError>
         ensures { Gives (λ x. x) result (Self.object.part.of (N.shows node.now)) };
 
-    /// For proofs alone: the members are in range.
+    /// For proofs alone: what keeps the members in range holds.
     fn stay_in_range(&self)
-        ensures { Self.bounded self.now → Self.object.part.fits self.now ≡ true };
+        ensures { Self.bounded self.now → limits self.now };
+
+    ghost keeps: { (x : Self) → limits x → Self.Record.object.part.fits x ≡ true };
 }
 
 /// For proofs alone: each number of a record is allowed, as far as the record's types say so.

@@ -1,6 +1,6 @@
 -- A packet's rows by itself and as one of a list have the same bits.
-use Rattle.std.proofs.Common.{◌≡◌, ◌∙◌, ℕ, ◌+◌, Bool, true, false, List, ◌++◌, Option, Some, None, Ok, ap, length, refl}
-use Rattle.std.specs.Prelude.{◌==◌, ◌||◌, not, if◌then◌else◌}
+use Rattle.std.proofs.Common.{◌≡◌, ◌∙◌, ℕ, ◌+◌, Bool, true, false, List, ◌++◌, Option, Some, None, Ok, ap, arith, length, refl}
+use Rattle.std.specs.Prelude.{◌==◌, ◌||◌, not}
 use Rattle.etcs_bits.specs.layout.Rows.{Row, Variable, Place, alone, AreAllowed, join, width}
 use Rattle.etcs_bits.specs.layout.Reading.{forward, field_at}
 use Rattle.etcs_bits.proofs.NumberLemmas.{length-num}
@@ -39,23 +39,13 @@ authority_allowed None a allowed = allowed
 
 pub track_join : (p : TrackPacket) → join (track_packet.rows p) ≡ join (own_rows p)
 unfolding alone
-track_join (packets.Cover p) = refl
-track_join (packets.Linking p) = refl
 track_join (packets.Authority p) = authority_join p.main p
-track_join (packets.Gradient p) = refl
-track_join (packets.Speed p) = refl
-track_join (packets.Transition p) = refl
-track_join (packets.Raw p) = refl
+track_join p = refl
 
 pub track_width : (p : TrackPacket) → width (track_packet.rows p) ≡ width (own_rows p)
 unfolding alone
-track_width (packets.Cover p) = refl
-track_width (packets.Linking p) = refl
 track_width (packets.Authority p) = authority_width p.main p
-track_width (packets.Gradient p) = refl
-track_width (packets.Speed p) = refl
-track_width (packets.Transition p) = refl
-track_width (packets.Raw p) = refl
+track_width p = refl
 
 not_mark : (known mark : Bool) → not (known || mark) ≡ true → not mark ≡ true
 not_mark true mark h = absurd cc
@@ -63,34 +53,16 @@ not_mark false mark h = h
 
 pub track_allowed : (p : TrackPacket) → AreAllowed (own_rows p) → AreAllowed (track_packet.rows p)
 unfolding alone
-track_allowed (packets.Cover p) allowed = allowed
-track_allowed (packets.Linking p) allowed = allowed
 track_allowed (packets.Authority p) allowed = authority_allowed p.main p allowed
-track_allowed (packets.Gradient p) allowed = allowed
-track_allowed (packets.Speed p) allowed = allowed
-track_allowed (packets.Transition p) allowed = allowed
 track_allowed (packets.Raw p) allowed =
     ((allowed.0.0, not_mark (is_known p.number) (p.number == 255) (other_of p.number (length p.body) p.kept)), allowed.1)
+track_allowed p allowed = allowed
 
 -- ---- reading
 
-next_by : {X : Type 0} (z o w v u t s rest : X) (a b c d e f g m : Bool)
-    → not ((a || (b || (c || (d || (e || (f || g)))))) || m) ≡ true
-    → (if a then z else (if b then o else (if c then w else (if d then v
-    else (if e then u else (if f then t else (if g then s else rest))))))) ≡ rest
-next_by z o w v u t s rest true b c d e f g m h = absurd cc
-next_by z o w v u t s rest false true c d e f g m h = absurd cc
-next_by z o w v u t s rest false false true d e f g m h = absurd cc
-next_by z o w v u t s rest false false false true e f g m h = absurd cc
-next_by z o w v u t s rest false false false false true f g m h = absurd cc
-next_by z o w v u t s rest false false false false false true g m h = absurd cc
-next_by z o w v u t s rest false false false false false false true m h = absurd cc
-next_by z o w v u t s rest false false false false false false false m h = refl
-
 -- what follows a number that is none of the known ones
 pub other_next : (n : ℕ) → is_other n ≡ true → track_numbered.next n ≡ raw_rest.fields
-other_next n other =
-    next_by _ _ _ _ _ _ _ raw_rest.fields (n == 0) (n == 5) (n == 12) (n == 15) (n == 21) (n == 27) (n == 41) (n == 255) other
+other_next n other = grind (arith, other)
 
 -- a field is passed by its width
 pub field_forward : (x : Variable) (p q : Place) (n : ℕ) → field_at x p ≡ Ok (n, q) → q ≡ forward p x.width

@@ -73,14 +73,8 @@ parts_of (packets.Transition p) = inr (inr (inr (inr (inr (inr (inl p))))))
 parts_of (packets.Raw p) = inr (inr (inr (inr (inr (inr (inr p))))))
 
 pub back : (n : Numbered) → parts_of (track_of n) ≡ n
-back (inl marker) = refl
-back (inr (inl p)) = refl
-back (inr (inr (inl p))) = refl
-back (inr (inr (inr (inl p)))) = refl
-back (inr (inr (inr (inr (inl p))))) = refl
-back (inr (inr (inr (inr (inr (inl p)))))) = refl
-back (inr (inr (inr (inr (inr (inr (inl p))))))) = refl
 back (inr (inr (inr (inr (inr (inr (inr p))))))) = refl
+back n = refl
 
 pub authority_again : (main : Option ℕ) (a : Permission)
     → track_of (authority_in (numbered_by main a)) ≡ packets.Authority (permission a.dir a.scale main a.terms)
@@ -88,13 +82,8 @@ authority_again (Some v) a = refl
 authority_again None a = refl
 
 pub again : (p : TrackPacket) → track_of (parts_of p) ≡ p
-again (packets.Cover p) = refl
-again (packets.Linking p) = refl
 again (packets.Authority p) = authority_again p.main p
-again (packets.Gradient p) = refl
-again (packets.Speed p) = refl
-again (packets.Transition p) = refl
-again (packets.Raw p) = refl
+again p = refl
 
 -- ---- any number but the end mark's has a packet
 

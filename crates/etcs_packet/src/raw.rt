@@ -6,6 +6,7 @@ ghost use Rattle.etcs_bits.specs.layout.Reading.{rows_at};
 ghost use Rattle.etcs_bits.specs.layout.Results.{Gives, IfMemory};
 ghost use Rattle.etcs_packet.specs.PacketNumbers.{is_kept, is_other};
 
+use crate::track::has_layout;
 use etcs_bits::{
     BitSlice, Bits, Cursor, DecodeError, Dir, FaultKind, Layout, Memory, Same, can_keep, put_kept,
     refused, scan_kept,
@@ -16,8 +17,8 @@ use std::alloc::Global;
 const BEFORE: u32 = 10;
 
 /// A packet whose layout is not known here: NID_PACKET, Q_DIR, L_PACKET and a body that is kept as
-/// it is. Its number is none of 0, 5, 12, 15, 21, 27, 41 and 255. Its body has at most 8,168 bits
-/// (SUBSET-026, 7.4.1).
+/// it is. Its number is neither 255 nor that of a packet whose layout is known. Its body has at most
+/// 8,168 bits (SUBSET-026, 7.4.1).
 #[derive(Debug, Drop)]
 pub struct RawPacket {
     number: u8,
@@ -33,7 +34,7 @@ impl RawPacket {
     pub fn has_number(number: u64) -> bool
         ensures { result ≡ is_other number }
     {
-        !matches!(number, 0 | 5 | 12 | 15 | 21 | 27 | 41 | 255)
+        number != 255 && !has_layout(number)
     }
 
     /// The packet of these parts.

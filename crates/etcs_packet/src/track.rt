@@ -33,6 +33,29 @@ pub enum TrackPacket {
     Raw(RawPacket),
 }
 
+/// Whether the layout of the packet of this number is known, so that it is read as one of the kinds.
+#[inline]
+pub(crate) fn has_layout(number: u64) -> bool
+    ensures { result ≡ is_known number }
+{
+    matches!(number, 0 | 5 | 12 | 15 | 21 | 27 | 41)
+}
+
+// What `$value` gives of the packet's own record, whichever kind it is.
+macro_rules! of_each {
+    ($this:expr, $packet:ident => $value:expr) => {
+        match $this {
+            TrackPacket::Cover($packet) => $value,
+            TrackPacket::Linking($packet) => $value,
+            TrackPacket::Authority($packet) => $value,
+            TrackPacket::Gradient($packet) => $value,
+            TrackPacket::Speed($packet) => $value,
+            TrackPacket::Transition($packet) => $value,
+            TrackPacket::Raw($packet) => $value,
+        }
+    };
+}
+
 // Appends the spelling of a packet whose type keeps it in range.
 fn put_fit<T: Layout>(packet: &T, out: &mut Bits) -> Result<(), Memory>
     requires { T.fit packet.now }
@@ -97,45 +120,21 @@ impl TrackPacket {
         ensures allowed { AreAllowed (own_rows self.now) }
         ensures always { result ≡ true }
     {
-        match self {
-            TrackPacket::Cover(packet) => packet.is_allowed(),
-            TrackPacket::Linking(packet) => packet.is_allowed(),
-            TrackPacket::Authority(packet) => packet.is_allowed(),
-            TrackPacket::Gradient(packet) => packet.is_allowed(),
-            TrackPacket::Speed(packet) => packet.is_allowed(),
-            TrackPacket::Transition(packet) => packet.is_allowed(),
-            TrackPacket::Raw(packet) => packet.is_allowed(),
-        }
+        of_each!(self, packet => packet.is_allowed())
     }
 
     /// How many bits the packet has.
     pub(crate) fn own_width(&self) -> u64
         ensures { result ≡ min (width (own_rows self.now)) u64.MAX }
     {
-        match self {
-            TrackPacket::Cover(packet) => packet.width(),
-            TrackPacket::Linking(packet) => packet.width(),
-            TrackPacket::Authority(packet) => packet.width(),
-            TrackPacket::Gradient(packet) => packet.width(),
-            TrackPacket::Speed(packet) => packet.width(),
-            TrackPacket::Transition(packet) => packet.width(),
-            TrackPacket::Raw(packet) => packet.width(),
-        }
+        of_each!(self, packet => packet.width())
     }
 
     /// Appends the spelling of the packet.
     pub(crate) fn put_own(&self, out: &mut Bits) -> Result<(), Memory>
         ensures { Puts (join (own_rows self.now)) result out.old out.new }
     {
-        match self {
-            TrackPacket::Cover(packet) => put_fit(packet, out),
-            TrackPacket::Linking(packet) => put_fit(packet, out),
-            TrackPacket::Authority(packet) => put_fit(packet, out),
-            TrackPacket::Gradient(packet) => put_fit(packet, out),
-            TrackPacket::Speed(packet) => put_fit(packet, out),
-            TrackPacket::Transition(packet) => put_fit(packet, out),
-            TrackPacket::Raw(packet) => put_fit(packet, out),
-        }
+        of_each!(self, packet => put_fit(packet, out))
     }
 }
 

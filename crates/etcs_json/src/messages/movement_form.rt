@@ -21,6 +21,15 @@ impl Record for MovementMessage {
 
 #[tactic(auto, unfolding(crate::specs::Messages::movement))]
 impl Members for MovementMessage {
+    ghost use Rattle.etcs_json.specs.Beside.{IsInRange};
+    ghost use Rattle.etcs_json.specs.Chosen.{with_number};
+    ghost use Rattle.etcs_json.specs.Messages.{movement};
+    ghost use Rattle.etcs_json.specs.TrackPackets.{track_packet};
+
+    ghost limits = { IsInRange (with_number (movement track_packet)) };
+
+    ghost keeps = { λ _ fits. fits };
+
     fn keys() -> &'static [&'static str] {
         &[
             "m_ack",

@@ -20,6 +20,15 @@ impl Record for PositionMessage {
 
 #[tactic(auto, unfolding(crate::specs::Messages::position))]
 impl Members for PositionMessage {
+    ghost use Rattle.etcs_json.specs.Beside.{IsInRange};
+    ghost use Rattle.etcs_json.specs.Chosen.{with_number};
+    ghost use Rattle.etcs_json.specs.Messages.{position};
+    ghost use Rattle.etcs_json.specs.TrainPackets.{train_packet};
+
+    ghost limits = { IsInRange (with_number (position train_packet)) };
+
+    ghost keeps = { λ _ fits. fits };
+
     fn keys() -> &'static [&'static str] {
         &["nid_engine", "nid_message", "packets", "t_train"]
     }

@@ -85,6 +85,13 @@ impl Record for Telegram {
 
 #[tactic(auto, unfolding(crate::specs::Telegrams::telegram))]
 impl Members for Telegram {
+    ghost use Rattle.etcs_json.specs.Beside.{IsInRange};
+    ghost use Rattle.etcs_json.specs.Telegrams.{telegram};
+
+    ghost limits = { IsInRange telegram };
+
+    ghost keeps = { λ _ fits. fits };
+
     #[tactic(auto, unfolding(crate::specs::Telegrams::telegram, crate::specs::Telegrams::header))]
     fn keys() -> &'static [&'static str] {
         &[

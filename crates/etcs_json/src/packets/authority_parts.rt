@@ -1,5 +1,8 @@
 //! The forms of the parts of movement authorities: sections and timers, danger point and overlap.
 
+ghost use Rattle.etcs_json.specs.Beside.{AreRowsAllowed};
+ghost use Rattle.etcs_json.specs.Authority.{danger_point, end_timer, overlap, section, section_timer};
+
 use crate::error::FormError;
 use crate::node::Node;
 use crate::node::reading::{read_key, read_key_if};
@@ -10,13 +13,15 @@ use etcs_profile::{DangerPoint, EndTimer, Overlap, Section, SectionTimer};
 use std::alloc::Global;
 
 impl Record for SectionTimer {
-    ghost use Rattle.etcs_json.specs.Authority.{section_timer};
-
-    ghost object = { section_timer };
+    ghost object = { section_timer.form };
 }
 
 #[tactic(auto, unfolding(crate::specs::Authority::section_timer))]
 impl Members for SectionTimer {
+    ghost limits = { AreRowsAllowed section_timer };
+
+    ghost keeps = { section_timer.keeps.range };
+
     fn keys() -> &'static [&'static str] {
         &["d_sectiontimerstoploc", "t_sectiontimer"]
     }
@@ -40,13 +45,15 @@ impl Members for SectionTimer {
 }
 
 impl Record for Section {
-    ghost use Rattle.etcs_json.specs.Authority.{section};
-
-    ghost object = { section };
+    ghost object = { section.form };
 }
 
 #[tactic(auto, unfolding(crate::specs::Authority::section))]
 impl Members for Section {
+    ghost limits = { AreRowsAllowed section };
+
+    ghost keeps = { section.keeps.range };
+
     fn keys() -> &'static [&'static str] {
         &["l_section", "section_timer"]
     }
@@ -70,13 +77,15 @@ impl Members for Section {
 }
 
 impl Record for EndTimer {
-    ghost use Rattle.etcs_json.specs.Authority.{end_timer};
-
-    ghost object = { end_timer };
+    ghost object = { end_timer.form };
 }
 
 #[tactic(auto, unfolding(crate::specs::Authority::end_timer))]
 impl Members for EndTimer {
+    ghost limits = { AreRowsAllowed end_timer };
+
+    ghost keeps = { end_timer.keeps.range };
+
     fn keys() -> &'static [&'static str] {
         &["d_endtimerstartloc", "t_endtimer"]
     }
@@ -100,13 +109,15 @@ impl Members for EndTimer {
 }
 
 impl Record for DangerPoint {
-    ghost use Rattle.etcs_json.specs.Authority.{danger_point};
-
-    ghost object = { danger_point };
+    ghost object = { danger_point.form };
 }
 
 #[tactic(auto, unfolding(crate::specs::Authority::danger_point))]
 impl Members for DangerPoint {
+    ghost limits = { AreRowsAllowed danger_point };
+
+    ghost keeps = { danger_point.keeps.range };
+
     fn keys() -> &'static [&'static str] {
         &["d_dp", "v_releasedp"]
     }
@@ -130,13 +141,15 @@ impl Members for DangerPoint {
 }
 
 impl Record for Overlap {
-    ghost use Rattle.etcs_json.specs.Authority.{overlap};
-
-    ghost object = { overlap };
+    ghost object = { overlap.form };
 }
 
 #[tactic(auto, unfolding(crate::specs::Authority::overlap))]
 impl Members for Overlap {
+    ghost limits = { AreRowsAllowed overlap };
+
+    ghost keeps = { overlap.keeps.range };
+
     fn keys() -> &'static [&'static str] {
         &["d_ol", "d_startol", "t_ol", "v_releaseol"]
     }

@@ -1,5 +1,8 @@
 //! The form of virtual balise cover markers, packet 0.
 
+ghost use Rattle.etcs_json.specs.Beside.{AreRowsAllowed};
+ghost use Rattle.etcs_json.specs.Cover.{cover_marker};
+
 use crate::error::FormError;
 use crate::node::Node;
 use crate::node::reading::{read_fixed, read_key};
@@ -10,13 +13,15 @@ use etcs_packet::CoverMarker;
 use std::alloc::Global;
 
 impl Record for CoverMarker {
-    ghost use Rattle.etcs_json.specs.Cover.{cover_marker};
-
-    ghost object = { cover_marker };
+    ghost object = { cover_marker.form };
 }
 
 #[tactic(auto, unfolding(crate::specs::Cover::cover_marker, crate::specs::Cover::cover))]
 impl Members for CoverMarker {
+    ghost limits = { AreRowsAllowed cover_marker };
+
+    ghost keeps = { cover_marker.keeps.range };
+
     fn keys() -> &'static [&'static str] {
         &["nid_packet", "nid_vbcmk"]
     }

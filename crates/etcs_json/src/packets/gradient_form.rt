@@ -1,5 +1,8 @@
 //! The form of gradient profiles, packet 21.
 
+ghost use Rattle.etcs_json.specs.Beside.{AreRowsAllowed, packet};
+ghost use Rattle.etcs_json.specs.Profiles.{gradient, gradient_element};
+
 use crate::error::FormError;
 use crate::node::Node;
 use crate::node::reading::{read_fixed, read_key};
@@ -11,13 +14,15 @@ use etcs_profile::{Gradient, GradientElement};
 use std::alloc::Global;
 
 impl Record for GradientElement {
-    ghost use Rattle.etcs_json.specs.Profiles.{gradient_element};
-
-    ghost object = { gradient_element };
+    ghost object = { gradient_element.form };
 }
 
 #[tactic(auto, unfolding(crate::specs::Profiles::gradient_element))]
 impl Members for GradientElement {
+    ghost limits = { AreRowsAllowed gradient_element };
+
+    ghost keeps = { gradient_element.keeps.range };
+
     fn keys() -> &'static [&'static str] {
         &["d_gradient", "g_a", "q_gdir"]
     }
@@ -43,14 +48,15 @@ impl Members for GradientElement {
 }
 
 impl Record for Gradient {
-    ghost use Rattle.etcs_json.specs.Chosen.{with_number};
-    ghost use Rattle.etcs_json.specs.Profiles.{gradient};
-
-    ghost object = { with_number gradient };
+    ghost object = { (packet gradient).form };
 }
 
 #[tactic(auto, unfolding(crate::specs::Profiles::gradient))]
 impl Members for Gradient {
+    ghost limits = { AreRowsAllowed (packet gradient) };
+
+    ghost keeps = { (packet gradient).keeps.range };
+
     fn keys() -> &'static [&'static str] {
         &["elements", "nid_packet", "q_dir", "q_scale"]
     }

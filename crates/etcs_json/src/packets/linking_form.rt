@@ -1,5 +1,8 @@
 //! The form of linking, packet 5.
 
+ghost use Rattle.etcs_json.specs.Beside.{AreRowsAllowed, packet};
+ghost use Rattle.etcs_json.specs.Profiles.{link, linking};
+
 use crate::error::FormError;
 use crate::node::Node;
 use crate::node::reading::{read_fixed, read_key, read_key_if};
@@ -11,13 +14,15 @@ use etcs_profile::{Link, Linking};
 use std::alloc::Global;
 
 impl Record for Link {
-    ghost use Rattle.etcs_json.specs.Profiles.{link};
-
-    ghost object = { link };
+    ghost object = { link.form };
 }
 
 #[tactic(auto, unfolding(crate::specs::Profiles::link))]
 impl Members for Link {
+    ghost limits = { AreRowsAllowed link };
+
+    ghost keeps = { link.keeps.range };
+
     fn keys() -> &'static [&'static str] {
         &[
             "d_link",
@@ -56,14 +61,15 @@ impl Members for Link {
 }
 
 impl Record for Linking {
-    ghost use Rattle.etcs_json.specs.Chosen.{with_number};
-    ghost use Rattle.etcs_json.specs.Profiles.{linking};
-
-    ghost object = { with_number linking };
+    ghost object = { (packet linking).form };
 }
 
 #[tactic(auto, unfolding(crate::specs::Profiles::linking))]
 impl Members for Linking {
+    ghost limits = { AreRowsAllowed (packet linking) };
+
+    ghost keeps = { (packet linking).keeps.range };
+
     fn keys() -> &'static [&'static str] {
         &["links", "nid_packet", "q_dir", "q_scale"]
     }

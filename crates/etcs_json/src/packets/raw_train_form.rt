@@ -5,6 +5,8 @@ ghost use Rattle.etcs_radio.specs.TrainNumbers.{is_other, nid_raw};
 ghost use Rattle.etcs_json.specs.Fault.{Gives};
 ghost use Rattle.etcs_json.specs.Reading.{at_key, number_of};
 ghost use Rattle.etcs_json.specs.Variables.{is_allowed};
+ghost use Rattle.etcs_json.specs.Beside.{IsInRange};
+ghost use Rattle.etcs_json.specs.RawTrain.{raw_train_packet};
 
 use crate::error::FormError;
 use crate::node::Node;
@@ -50,13 +52,15 @@ fn read_number<N: Node>(alloc: Global, node: &N) -> Result<u8, FormError>
 }
 
 impl Record for RawTrainPacket {
-    ghost use Rattle.etcs_json.specs.RawTrain.{raw_train_packet};
-
     ghost object = { raw_train_packet };
 }
 
 #[tactic(auto, unfolding(crate::specs::RawTrain::raw_train_packet))]
 impl Members for RawTrainPacket {
+    ghost limits = { IsInRange raw_train_packet };
+
+    ghost keeps = { λ _ fits. fits };
+
     fn keys() -> &'static [&'static str] {
         &["body", "l_packet", "nid_packet"]
     }

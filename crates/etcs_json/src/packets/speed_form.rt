@@ -1,5 +1,8 @@
 //! The form of static speed profiles, packet 27.
 
+ghost use Rattle.etcs_json.specs.Beside.{AreRowsAllowed, packet};
+ghost use Rattle.etcs_json.specs.Profiles.{difference, speed_element, speed_profile};
+
 use crate::error::FormError;
 use crate::node::Node;
 use crate::node::reading::{read_fixed, read_items_at, read_key};
@@ -11,13 +14,15 @@ use etcs_profile::{Difference, SpeedElement, SpeedProfile};
 use std::alloc::Global;
 
 impl Record for Difference {
-    ghost use Rattle.etcs_json.specs.Profiles.{difference};
-
-    ghost object = { difference };
+    ghost object = { difference.form };
 }
 
 #[tactic(auto, unfolding(crate::specs::Profiles::difference))]
 impl Members for Difference {
+    ghost limits = { AreRowsAllowed difference };
+
+    ghost keeps = { difference.keeps.range };
+
     fn keys() -> &'static [&'static str] {
         &["nc", "q_diff", "v_diff"]
     }
@@ -43,10 +48,9 @@ impl Members for Difference {
 }
 
 impl Record for SpeedElement {
-    ghost use Rattle.etcs_json.specs.Profiles.{speed_element};
     ghost use Rattle.std.specs.Prelude.{◌≤◌, length};
 
-    ghost object = { speed_element };
+    ghost object = { speed_element.form };
 
     // The types keep the numbers in range, except the count of differences.
     ghost bounded = { λ e. length e.differences ≤ 31 };
@@ -54,6 +58,10 @@ impl Record for SpeedElement {
 
 #[tactic(auto, unfolding(crate::specs::Profiles::speed_element))]
 impl Members for SpeedElement {
+    ghost limits = { AreRowsAllowed speed_element };
+
+    ghost keeps = { speed_element.keeps.range };
+
     fn keys() -> &'static [&'static str] {
         &["d_static", "differences", "q_front", "v_static"]
     }
@@ -81,14 +89,15 @@ impl Members for SpeedElement {
 }
 
 impl Record for SpeedProfile {
-    ghost use Rattle.etcs_json.specs.Chosen.{with_number};
-    ghost use Rattle.etcs_json.specs.Profiles.{speed_profile};
-
-    ghost object = { with_number speed_profile };
+    ghost object = { (packet speed_profile).form };
 }
 
 #[tactic(auto, using(crate::proofs::ReadLemmas::few_differences), unfolding(crate::specs::Profiles::speed_profile))]
 impl Members for SpeedProfile {
+    ghost limits = { AreRowsAllowed (packet speed_profile) };
+
+    ghost keeps = { (packet speed_profile).keeps.range };
+
     fn keys() -> &'static [&'static str] {
         &["elements", "nid_packet", "q_dir", "q_scale"]
     }

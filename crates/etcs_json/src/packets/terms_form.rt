@@ -50,7 +50,7 @@ impl Model for Terms {
 #[tactic(auto, unfolding(crate::specs::Authority::end_parts))]
 fn read_end_parts<N: Node>(alloc: Global, node: &N) -> Result<EndParts, FormError>
     ensures { Gives (λ e. (e.section_timer, (e.end_timer, (e.danger_point, e.overlap)))) result
-        (end_parts.of (N.shows node.now)) }
+        (end_parts.form.of (N.shows node.now)) }
 {
     Ok(EndParts {
         section_timer: read_key_if(alloc, node, "section_timer")?,
@@ -64,7 +64,7 @@ fn read_end_parts<N: Node>(alloc: Global, node: &N) -> Result<EndParts, FormErro
 #[tactic(auto, using(crate::proofs::AuthorityLemmas::few_sections))]
 fn read_sections<N: Node>(alloc: Global, node: &N) -> Result<Vec<Section>, FormError>
     ensures gives { Gives (λ v. v.items) result
-        (at_key (list_of (object section).of 0 31) (codes "sections") (N.shows node.now)) }
+        (at_key (list_of (object section.form).of 0 31) (codes "sections") (N.shows node.now)) }
     ensures few { IfOk result (λ v. length v.items < 32) }
 {
     read_list_at(alloc, node, "sections", 0, 31)
@@ -73,7 +73,7 @@ fn read_sections<N: Node>(alloc: Global, node: &N) -> Result<Vec<Section>, FormE
 /// Reads the conditions.
 #[tactic(auto, unfolding(crate::specs::Authority::terms))]
 pub(crate) fn read_terms<N: Node>(alloc: Global, node: &N) -> Result<Terms, FormError>
-    ensures { Gives (λ t. t) result (terms.of (N.shows node.now)) }
+    ensures { Gives (λ t. t) result (terms.form.of (N.shows node.now)) }
 {
     Ok(Terms {
         end_speed: read_key(alloc, node, "end_speed")?,

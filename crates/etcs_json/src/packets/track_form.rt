@@ -1,5 +1,9 @@
 //! The form of a packet from track to train, whose number decides it.
 
+ghost use Rattle.std.specs.Prelude.{◌≡◌, IfOk};
+ghost use Rattle.serde_json.specs.View.{view};
+ghost use Rattle.etcs_json.specs.TrackPackets.{track_packet};
+
 use crate::error::FormError;
 use crate::form::{Form, InPieces};
 use crate::node::Node;
@@ -12,11 +16,33 @@ use json::Writer;
 use serde_json::Value;
 use std::alloc::Global;
 
-#[tactic(auto, using(crate::proofs::SumLemmas::authority_to, crate::proofs::SumLemmas::with_main_read, crate::proofs::SumLemmas::without_main_read, crate::proofs::SumLemmas::cover_read), unfolding(crate::specs::Cover::cover_marker))]
+// What `$value` gives of the packet's own record, whichever kind it is.
+macro_rules! of_each {
+    ($this:expr, $packet:ident => $value:expr) => {
+        match $this {
+            TrackPacket::Cover($packet) => $value,
+            TrackPacket::Linking($packet) => $value,
+            TrackPacket::Authority($packet) => $value,
+            TrackPacket::Gradient($packet) => $value,
+            TrackPacket::Speed($packet) => $value,
+            TrackPacket::Transition($packet) => $value,
+            TrackPacket::Raw($packet) => $value,
+        }
+    };
+}
+
+// The form of a packet is that of its own record.
+#[tactic(auto, using(crate::proofs::SumLemmas::authority_to), unfolding(crate::specs::Cover::cover_marker))]
+fn form_of(alloc: Global, packet: &TrackPacket) -> Result<Value, Memory>
+    ensures { IfOk result (λ v. view v ≡ track_packet.to packet.now) }
+{
+    of_each!(packet, own => own.to_form(alloc))
+}
+
+#[tactic(auto, using(crate::proofs::SumLemmas::with_main_read, crate::proofs::SumLemmas::without_main_read, crate::proofs::SumLemmas::cover_read), unfolding(crate::specs::Cover::cover_marker))]
 impl Form for TrackPacket {
     ghost use Rattle.std.specs.Prelude.{IsOk};
     ghost use Rattle.etcs_json.specs.Chosen.{any_object};
-    ghost use Rattle.etcs_json.specs.TrackPackets.{track_packet};
 
     ghost shape = { track_packet };
 
@@ -25,15 +51,7 @@ impl Form for TrackPacket {
     fn to_form(&self, alloc: Global) -> Result<Value, Memory> {
         // For the proof alone: what is written is read again.
         stay_allowed(self);
-        match self {
-            TrackPacket::Cover(packet) => packet.to_form(alloc),
-            TrackPacket::Linking(packet) => packet.to_form(alloc),
-            TrackPacket::Authority(packet) => packet.to_form(alloc),
-            TrackPacket::Gradient(packet) => packet.to_form(alloc),
-            TrackPacket::Speed(packet) => packet.to_form(alloc),
-            TrackPacket::Transition(packet) => packet.to_form(alloc),
-            TrackPacket::Raw(packet) => packet.to_form(alloc),
-        }
+        form_of(alloc, self)
     }
 
     fn of_node<N: Node>(alloc: Global, node: &N) -> Result<Self, FormError> {
@@ -54,14 +72,6 @@ impl Form for TrackPacket {
 #[tactic(auto, using(crate::proofs::SumLemmas::authority_to), unfolding(crate::specs::Cover::cover_marker))]
 impl InPieces for TrackPacket {
     fn send(&self, out: &mut Writer) -> Result<(), Memory> {
-        match self {
-            TrackPacket::Cover(packet) => packet.send(out),
-            TrackPacket::Linking(packet) => packet.send(out),
-            TrackPacket::Authority(packet) => packet.send(out),
-            TrackPacket::Gradient(packet) => packet.send(out),
-            TrackPacket::Speed(packet) => packet.send(out),
-            TrackPacket::Transition(packet) => packet.send(out),
-            TrackPacket::Raw(packet) => packet.send(out),
-        }
+        of_each!(self, packet => packet.send(out))
     }
 }

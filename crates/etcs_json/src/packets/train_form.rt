@@ -1,5 +1,9 @@
 //! The form of a packet from train to track, whose number decides it.
 
+ghost use Rattle.std.specs.Prelude.{◌≡◌, IfOk};
+ghost use Rattle.serde_json.specs.View.{view};
+ghost use Rattle.etcs_json.specs.TrainPackets.{train_packet};
+
 use crate::error::FormError;
 use crate::form::{Form, InPieces};
 use crate::node::Node;
@@ -12,11 +16,21 @@ use json::Writer;
 use serde_json::Value;
 use std::alloc::Global;
 
-#[tactic(auto, using(crate::proofs::SumLemmas::report_to, crate::proofs::SumLemmas::with_one_read, crate::proofs::SumLemmas::with_two_read))]
+// The form of a packet is that of its own record.
+#[tactic(auto, using(crate::proofs::SumLemmas::report_to))]
+fn form_of(alloc: Global, packet: &TrainPacket) -> Result<Value, Memory>
+    ensures { IfOk result (λ v. view v ≡ train_packet.to packet.now) }
+{
+    match packet {
+        TrainPacket::Report(report) => report.to_form(alloc),
+        TrainPacket::Raw(packet) => packet.to_form(alloc),
+    }
+}
+
+#[tactic(auto, using(crate::proofs::SumLemmas::with_one_read, crate::proofs::SumLemmas::with_two_read))]
 impl Form for TrainPacket {
     ghost use Rattle.std.specs.Prelude.{IsOk};
     ghost use Rattle.etcs_json.specs.Chosen.{any_object};
-    ghost use Rattle.etcs_json.specs.TrainPackets.{train_packet};
 
     ghost shape = { train_packet };
 
@@ -25,10 +39,7 @@ impl Form for TrainPacket {
     fn to_form(&self, alloc: Global) -> Result<Value, Memory> {
         // For the proof alone: what is written is read again.
         stay_allowed(self);
-        match self {
-            TrainPacket::Report(report) => report.to_form(alloc),
-            TrainPacket::Raw(packet) => packet.to_form(alloc),
-        }
+        form_of(alloc, self)
     }
 
     fn of_node<N: Node>(alloc: Global, node: &N) -> Result<Self, FormError> {

@@ -1,5 +1,8 @@
 //! The form of level transition orders, packet 41.
 
+ghost use Rattle.etcs_json.specs.Beside.{AreRowsAllowed, packet};
+ghost use Rattle.etcs_json.specs.Transition.{level_order, transition};
+
 use crate::error::FormError;
 use crate::node::Node;
 use crate::node::reading::{read_first_and_at, read_fixed, read_key};
@@ -11,13 +14,15 @@ use etcs_profile::{LevelOrder, Transition};
 use std::alloc::Global;
 
 impl Record for LevelOrder {
-    ghost use Rattle.etcs_json.specs.Transition.{level_order};
-
-    ghost object = { level_order };
+    ghost object = { level_order.form };
 }
 
 #[tactic(auto, unfolding(crate::specs::Transition::level_order))]
 impl Members for LevelOrder {
+    ghost limits = { AreRowsAllowed level_order };
+
+    ghost keeps = { level_order.keeps.range };
+
     fn keys() -> &'static [&'static str] {
         &["l_ackleveltr", "m_leveltr", "nid_ntc"]
     }
@@ -43,14 +48,15 @@ impl Members for LevelOrder {
 }
 
 impl Record for Transition {
-    ghost use Rattle.etcs_json.specs.Chosen.{with_number};
-    ghost use Rattle.etcs_json.specs.Transition.{transition};
-
-    ghost object = { with_number transition };
+    ghost object = { (packet transition).form };
 }
 
 #[tactic(auto, unfolding(crate::specs::Transition::transition))]
 impl Members for Transition {
+    ghost limits = { AreRowsAllowed (packet transition) };
+
+    ghost keeps = { (packet transition).keeps.range };
+
     fn keys() -> &'static [&'static str] {
         &["d_leveltr", "nid_packet", "q_dir", "q_scale", "transitions"]
     }

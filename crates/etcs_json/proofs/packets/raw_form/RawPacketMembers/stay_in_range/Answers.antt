@@ -1,5 +1,5 @@
 use Rattle.std.proofs.Common.{arith}
-use Rattle.etcs_json.proofs.RawLemmas.{raw_fits}
+use Rattle.etcs_json.specs.Raw.{raw_fits}
 use Rattle.etcs_json.proofs.packets.raw_form.RawPacketMembers.stay_in_range.Goals as goal
 
 -- the number is a byte

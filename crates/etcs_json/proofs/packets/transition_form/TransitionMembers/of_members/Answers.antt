@@ -21,7 +21,7 @@ returns-in_err-first g c = fails_up (λ x. x) _ _ _ _ c.from_residual-in_err-fir
 -- the list is no longer than it may be
 pub returns-in-Err : goal.returns-in-Err
 returns-in-Err g c =
-    absurd (is_built _ _ c.in-Err.ensures (few_further (object level_order) 32 (codes "transitions") (g.N.Node.shows c.args.node.now) _ c.in_ok-first.ensures))
+    absurd (is_built _ _ c.in-Err.ensures (few_further (object level_order.form) 32 (codes "transitions") (g.N.Node.shows c.args.node.now) _ c.in_ok-first.ensures))
 
 -- the packet is that of what was read
 pub returns-in-Ok : goal.returns-in-Ok

@@ -1,18 +1,19 @@
 -- Whatever a layout allows, a form has in range: variables, records after one another, options, lists.
-use Rattle.std.proofs.Common.{◌≡◌, ◌∙◌, ◌++◌, ◌==◌, ◌⊎◌, inl, inr, ap, sym, not, ◌<◌, ◌≤◌, ◌^◌, ◌&&◌, ℕ, Bool, true, List, [], ◌∷◌, length, Option, Some, None, refl, arith}
+use Rattle.std.proofs.Common.{◌+◌, ◌≡◌, ◌∙◌, ◌++◌, ◌==◌, ◌⊎◌, inl, inr, ap, sym, not, ◌<◌, ◌≤◌, ◌^◌, ◌&&◌, ℕ, Bool, true, List, [], ◌∷◌, length, Option, Some, None, refl, arith}
 use Rattle.std.specs.List.{flat_map, list_all}
-use Rattle.std.proofs.lemmas.Bool.{and_from, le-leb, lt-ltb, true≢false}
+use Rattle.std.specs.Prelude.{nat_le}
+use Rattle.std.proofs.lemmas.Bool.{and_from, le-leb, leb-true, lt-ltb, true≢false}
 use Rattle.etcs_bits.specs.layout.Choice.{either_number, either_rows}
-use Rattle.etcs_bits.specs.layout.Combined.{counted_rows, option_rows, pair_rows}
+use Rattle.etcs_bits.specs.layout.Combined.{body_rows, counted_rows, option_rows, pair_rows}
 use Rattle.etcs_bits.specs.layout.Format.{Format}
 use Rattle.etcs_bits.specs.layout.RowLemmas.{allowed_first, allowed_second}
-use Rattle.etcs_bits.specs.layout.Rows.{AreAllowed, IsAllowed, Row, Variable, alone, row}
+use Rattle.etcs_bits.specs.layout.Rows.{AreAllowed, IsAllowed, Row, Variable, alone, row, width}
 use Rattle.etcs_bits.specs.variables.Variables.{ranged}
 use Rattle.etcs_profile.specs.Elements.{elements}
 use Rattle.etcs_profile.specs.Packet.{rest}
-use Rattle.etcs_json.specs.Chosen.{by_kind}
-use Rattle.etcs_json.specs.Profiles.{profile}
-use Rattle.etcs_json.specs.Shape.{Shape, list_fits, option_fits}
+use Rattle.etcs_json.specs.Chosen.{BehindNumber, by_kind, is_itself, with_number}
+use Rattle.etcs_json.specs.Measured.{is_length}
+use Rattle.etcs_json.specs.Shape.{list_fits, option_fits}
 use Rattle.etcs_json.specs.Variables.{is_allowed}
 
 -- where a record's rows are allowed, its form is in range
@@ -76,16 +77,38 @@ first_range x v vs first further =
     let one : 1 ≤ length (v ∷ vs) = omega arith in
     and_from _ _ (and_from _ _ (le-leb 1 (length (v ∷ vs)) one) (le-leb (length (v ∷ vs)) 32 few)) (and_from _ _ (x.range v first) (all_in_range x vs further.1))
 
--- ---- packets of elements
-
-pub profile_keeps : {X : Type 0} (name : List ℕ) (layout : Format X) (s : Shape X) → Keeps layout.rows s.fits → Keeps (rest (elements layout)).rows (profile name layout s).fits
-unfolding alone
-profile_keeps name layout s x = record {
-  range = λ p allowed.
-      let both = allowed.1.1.1 in
-      let items = first_range x p.1.first p.1.further (allowed_first (layout.rows p.1.first) (counted_rows layout.rows p.1.further) both) (allowed_second (layout.rows p.1.first) (counted_rows layout.rows p.1.further) both) in
-      and_from _ _ items (le-leb _ 8191 (omega (arith, allowed.1.0.0)));
+-- a first item and the others, after their count
+pub first_keeps : {X : Type 0} {rows : X → List Row} {fits : X → Bool} → Keeps rows fits → Keeps (pair_rows rows (counted_rows rows)) (λ p. list_fits fits 1 32 (p.0 ∷ p.1))
+first_keeps {rows = rows} x = record {
+  range = λ p allowed. first_range x p.0 p.1 (allowed_first (rows p.0) (counted_rows rows p.1) allowed) (allowed_second (rows p.0) (counted_rows rows p.1) allowed);
 }
+
+-- ---- packets
+
+-- what stands behind L_PACKET
+pub body_keeps : {X : Type 0} {rows : X → List Row} {fits : X → Bool} (before : ℕ) → Keeps rows fits → Keeps (body_rows before rows) fits
+unfolding alone
+body_keeps before x = record { range = λ v allowed. x.range v allowed.1 }
+
+-- a packet of elements has no more bits than L_PACKET counts
+pub profile_keeps : {X : Type 0} {fits : X → Bool} (layout : Format X) → Keeps layout.rows fits
+    → Keeps (rest (elements layout)).rows (λ p. list_fits fits 1 32 (p.1.first ∷ p.1.further) && nat_le (23 + width ((elements layout).rows p.1)) 8191)
+unfolding alone
+profile_keeps layout x = record {
+  range = λ p allowed. and_from _ _ ((first_keeps x).range (p.1.first, p.1.further) allowed.1.1.1) (le-leb _ 8191 (omega (arith, allowed.1.0.0)));
+}
+
+-- L_PACKET of a body that is short enough
+pub length_range : (head count : ℕ) → nat_le (head + count) 8191 ≡ true → is_length head (head + count) ≡ true
+length_range head count few =
+    let le = leb-true (head + count) 8191 few in
+    and_from _ _ (lt-ltb (head + count) 8192 (omega (arith, le))) (le-leb head (head + count) (omega arith))
+
+-- the packet's own number stands before
+pub number_keeps : {name : List ℕ} {k : ℕ} {X : Type 0} {rows : X → List Row} (x : Variable) (o : BehindNumber name k X) → Keeps rows o.part.fits
+    → Keeps (λ v. alone x k ++ rows v) (with_number o).part.fits
+unfolding alone
+number_keeps {k = k} x o keeps = record { range = λ v allowed. and_from _ _ (is_itself k) (keeps.range v allowed.1) }
 
 -- ---- values told apart by a number
 
@@ -120,12 +143,3 @@ nid_range n small is =
     let other : n ≡ 255 → ⊥ = λ end. true≢false (sym is ∙ ap (λ k. not (k == 255)) end) in
     let le : n ≤ 254 = omega (arith, other) in
     and_from _ _ (lt-ltb n 256 small) (rw (le-leb n 254 le) refl)
-
--- ---- what is read again has a form of its own
-
-pub own_form : {X : Type 0} (s : Shape X) (x y : X) → s.fits x ≡ true → s.fits y ≡ true → s.to x ≡ s.to y → x ≡ y
-own_form s x y first second same =
-    let one = s.again x first in
-    let other = s.again y second in
-    let read : s.of (s.to x) ≡ s.of (s.to y) = ap s.of same in
-    cc

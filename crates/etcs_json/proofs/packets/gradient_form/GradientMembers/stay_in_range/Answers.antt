@@ -1,9 +1,0 @@
-use Rattle.std.proofs.Common.{arith}
-use Rattle.etcs_bits.specs.layout.Rows.{alone}
-use Rattle.etcs_json.proofs.TrackRanges.{gradient_keeps}
-use Rattle.etcs_json.proofs.packets.gradient_form.GradientMembers.stay_in_range.Goals as goal
-
--- what follows NID_PACKET
-pub returns : goal.returns
-unfolding alone
-returns c = λ bounded. gradient_keeps.range c.args.self.now (c.stay_allowed.ensures (omega arith)).1
