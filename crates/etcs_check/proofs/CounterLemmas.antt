@@ -43,7 +43,7 @@ alone_are site aspects rule ne = for_each-same (alone_facts site aspects rule) (
 
 -- ---- the table
 
-taken_as : (table : List ℕ) (before : List (List Telegram)) (t : Telegram) → HasCounters table before → is_taken table t ≡ is_counter_taken before t
+pub taken_as : (table : List ℕ) (before : List (List Telegram)) (t : Telegram) → HasCounters table before → is_taken table t ≡ is_counter_taken before t
 taken_as table before t has = elim (cases_Bool (ltb t.header.counter 254)) [
   | inl low ↦
       let lt = ltb-true _ _ low in

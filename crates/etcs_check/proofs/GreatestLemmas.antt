@@ -53,7 +53,7 @@ max_past n a b = elim (cases_lt n a) [
   ]
 ]
 
-or_false : (a : Bool) → a ≡ (a || false)
+pub or_false : (a : Bool) → a ≡ (a || false)
 or_false true = refl
 or_false false = refl
 
@@ -125,7 +125,7 @@ any_end held test packets i le = ap (λ l. list_any test (filter held l)) (drop_
 abbrev pub said_from : Run → ℕ → ℕ → List Telegram → List TrackPacket
 said_from run n i group = flat_map (λ (e : ℕ × Telegram). said_at run n e.0 e.1) (enumerate_from i (drop i group))
 
-said_rest : (run : Run) (n : ℕ) (group : List Telegram) (i : ℕ) (t : Telegram) → At group i t → said_from run n i group ≡ said_at run n i t ++ said_from run n (i + 1) group
+pub said_rest : (run : Run) (n : ℕ) (group : List Telegram) (i : ℕ) (t : Telegram) → At group i t → said_from run n i group ≡ said_at run n i t ++ said_from run n (i + 1) group
 said_rest run n group i t at = ap (λ l. flat_map (λ (e : ℕ × Telegram). said_at run n e.0 e.1) (enumerate_from i l)) (rest_at group i t at)
 
 greatest-append : (xs ys : List TrackPacket) → greatest (xs ++ ys) ≡ greater (greatest xs) (greatest ys)

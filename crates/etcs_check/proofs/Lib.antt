@@ -17,6 +17,7 @@ pub mod NamedLemmas
 pub mod CompareLemmas
 pub mod NoteLemmas
 pub mod GreatestLemmas
+pub mod SummaryLemmas
 pub mod IdentityLemmas
 pub mod QuietLemmas
 pub mod TellingLemmas

@@ -1,6 +1,6 @@
 -- The greatest supervised location among packets, and which profiles end before it. The kind of a
 -- profile is gradient or speed.
-use Rattle.std.specs.Prelude.{ℕ, ◌&&◌, ◌||◌, Bool, false, is_some, max, List, [], ◌∷◌, Option, Some, None}
+use Rattle.std.specs.Prelude.{ℕ, ◌&&◌, Bool, false, is_some, max, List, [], ◌∷◌, Option, Some, None}
 use Rattle.std.specs.Option.{option_map_or}
 use Rattle.etcs_packet.specs.Track.{holds}
 use Rattle.etcs_packet.specs.declared.run.Run.{Run}
@@ -13,13 +13,15 @@ use Rattle.etcs_check.specs.declared.finding.Rule.{Rule}
 use Rattle.etcs_check.specs.declared.finding.Spot.{Spot}
 use Rattle.etcs_check.specs.declared.profile_rules.Kind.{Kind}
 use Rattle.etcs_check.specs.declared.profile_rules.Kind.TheVariants as kinds
-use Rattle.etcs_check.specs.declared.profile_rules.Sought.{Sought}
-use Rattle.etcs_check.specs.declared.profile_rules.Sought.TheVariants as soughts
 
 -- how far a profile of the kind reaches; no other packet does
 abbrev pub reach_of : Kind → TrackPacket → Option Reach
 reach_of kinds.Gradient = gradient_reach
 reach_of kinds.Speed = speed_reach
+
+-- a packet is a profile of the kind
+abbrev pub is_profile : Kind → TrackPacket → Bool
+is_profile kind p = is_some (reach_of kind p)
 
 -- the greater of two locations, either of which may be none
 abbrev pub greater : Option ℕ → Option ℕ → Option ℕ
@@ -35,11 +37,6 @@ greatest (p ∷ ps) = greater (limit_of p) (greatest ps)
 -- a profile of the kind ends before the location
 abbrev pub is_before : (TrackPacket → Option Reach) → Option ℕ → TrackPacket → Bool
 is_before reach limit p = option_map_or (λ r. option_map_or (lies_past r) limit false) (reach p) false
-
--- a packet is what is looked for: a profile of the kind, or one of either kind that ends before the location
-abbrev pub is_sought : Sought → TrackPacket → Bool
-is_sought (soughts.Profile kind) p = is_some (reach_of kind p)
-is_sought (soughts.Short limit) p = is_before gradient_reach limit p || is_before speed_reach limit p
 
 -- the finding of a packet that holds, if it is a profile of the kind that ends before the location
 abbrev pub before_at : Rule → Spot → (TrackPacket → Option Reach) → Option ℕ → Run → Option ℕ → ℕ → TrackPacket → List Finding

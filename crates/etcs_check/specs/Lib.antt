@@ -8,6 +8,7 @@ pub mod Identities
 pub mod LineChecker
 pub mod Counters
 pub mod Greatest
+pub mod Summary
 pub mod Meaning
 pub mod Harm
 pub mod Laws

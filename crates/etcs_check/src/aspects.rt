@@ -1,12 +1,14 @@
 //! The rules about how the aspects of a controlled group are told apart.
 
-ghost use Rattle.std.specs.Prelude.{◌≡◌, ◌≢◌, ◌<◌, ◌≤◌, ◌*◌, ◌++◌, ◌||◌, [], ℕ, false, length, slice_get, Some, OnOk, OnErr};
+ghost use Rattle.std.specs.Prelude.{◌≡◌, ◌≢◌, ◌<◌, ◌≤◌, ◌*◌, ◌++◌, ◌||◌, [], ℕ, false, length, slice_get, Some, IsTrue, OnOk, OnErr};
+ghost use Rattle.std.specs.List.{list_any};
 ghost use Rattle.std.specs.Option.{option_map_or};
 ghost use Rattle.etcs_telegram.specs.Record.{Telegram};
 ghost use Rattle.etcs_check.specs.Aspects.{all_at, aspect_facts, aspect_of, is_counted, is_steady, is_untold, whole};
 ghost use Rattle.etcs_check.specs.Counters.{is_taken, taken_facts};
 ghost use Rattle.etcs_check.specs.Findings.{balise_facts, for_each, has_counter};
 ghost use Rattle.etcs_check.specs.Identities.{is_marked};
+ghost use Rattle.etcs_check.specs.Quiet.{AreFresh, AreTold};
 ghost use Rattle.etcs_check.specs.Soundness.{first_aspect};
 ghost use Rattle.etcs_check.specs.declared.finding.Rule.TheVariants as rules;
 
@@ -190,4 +192,55 @@ pub(crate) fn note_taken(
         mark_counters(&mut table, group);
     }
     Ok(())
+}
+
+// Whether a balise of an aspect has a counter below 254 that is marked.
+fn has_taken(table: &[u64], group: &[Telegram]) -> bool
+    requires { length table.now ≡ 4 }
+    ensures { result ≡ list_any (is_taken table.now) group.now }
+{
+    'telegrams: for telegram in group {
+        if is_taken(table, telegram) {
+            return true;
+        }
+    }
+    false
+}
+
+// Whether no counter below 254 stands in an earlier aspect.
+fn are_fresh(aspects: &[Group]) -> bool
+    ensures { IsTrue result → AreFresh aspects.now }
+{
+    let mut counters = [0u64; 4];
+    'aspects: for place in 0..aspects.len() {
+        let group = aspects[place].telegrams();
+        if has_taken(&counters, group) {
+            return false;
+        }
+        mark_counters(&mut counters, group);
+    }
+    true
+}
+
+// Whether each place is told.
+fn are_told(aspects: &[Group]) -> bool
+    requires some { 0 < length aspects.now }
+    ensures { IsTrue result → AreTold aspects.now }
+{
+    let first = first_aspect(aspects);
+    'places: for place in 0..first.len() {
+        if is_untold(aspects, place, &first[place]) {
+            return false;
+        }
+    }
+    true
+}
+
+// Whether no fact stands about how the aspects are told apart. One aspect has nothing to be told from.
+pub(crate) fn are_told_apart(aspects: &[Group]) -> bool
+    requires some { 0 < length aspects.now }
+    ensures fresh { IsTrue result → AreFresh aspects.now }
+    ensures told { IsTrue result → AreTold aspects.now }
+{
+    aspects.len() == 1 || (are_fresh(aspects) && are_told(aspects))
 }

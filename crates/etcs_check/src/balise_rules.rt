@@ -7,9 +7,9 @@ ghost use Rattle.etcs_telegram.specs.Record.{Telegram};
 ghost use Rattle.etcs_group.specs.Group.{is_modelled, partner_of};
 ghost use Rattle.etcs_check.specs.Duplicates.{same_mark};
 ghost use Rattle.etcs_check.specs.Findings.{are_pair, balise_fact, balise_facts, counter_differs, first_counter, is_other, is_outside, is_unanswered, is_unlike, is_unmodelled, mark_differs, pair_differs, pair_facts, unmodelled_facts, unmodelled_in};
-ghost use Rattle.etcs_check.specs.Quiet.{IsQuietBalise};
+ghost use Rattle.etcs_check.specs.Quiet.{IsQuietBalise, are_same_pair};
 
-use crate::duplicates::same_held;
+use crate::duplicates::{same_content, same_held};
 use crate::finding::{Finding, Rule, Spot, note};
 use etcs_bits::{Dup, Memory};
 use etcs_packet::{Run, TrackPacket};
@@ -161,43 +161,45 @@ fn balise_fact(
     }
 }
 
-// Whether no fact stands about the balise at this place of a group of one aspect, about its packets, or
-// about the pair of it and the next balise. The rules are named one by one: a loop over all of them is
-// slower. F16 is not among them: a group of one aspect has nothing to be told apart from.
-pub(crate) fn is_quiet_balise(group: &[Telegram], place: usize, telegram: &Telegram) -> bool
+// Whether no fact stands about the balise at this place of an aspect, about its packets, or about the pair
+// of it and the next balise. The rules are named one by one: a loop over all of them is slower. F16 is not
+// among them, since earlier aspects are not looked at.
+pub(crate) fn is_quiet_balise(
+    first: &[Telegram],
+    group: &[Telegram],
+    place: usize,
+    telegram: &Telegram,
+) -> bool
     requires within { place < length group.now }
     requires few { length group.now ≤ 8 }
     requires at { slice_get group.now place ≡ Some telegram.now }
-    ensures { IsTrue result → IsQuietBalise group.now place telegram.now }
+    ensures { IsTrue result → IsQuietBalise first.now group.now place telegram.now }
 {
-    if balise_fact(group, group, Rule::PositionWrong, place, telegram) {
+    if balise_fact(first, group, Rule::PositionWrong, place, telegram) {
         return false;
     }
-    if balise_fact(group, group, Rule::TotalWrong, place, telegram) {
+    if balise_fact(first, group, Rule::TotalWrong, place, telegram) {
         return false;
     }
-    if balise_fact(group, group, Rule::HeaderDiffers, place, telegram) {
+    if balise_fact(first, group, Rule::HeaderDiffers, place, telegram) {
         return false;
     }
-    if balise_fact(group, group, Rule::MarkOutside, place, telegram) {
+    if balise_fact(first, group, Rule::MarkOutside, place, telegram) {
         return false;
     }
-    if balise_fact(group, group, Rule::MarkUnanswered, place, telegram) {
+    if balise_fact(first, group, Rule::MarkUnanswered, place, telegram) {
         return false;
     }
-    if balise_fact(group, group, Rule::CounterUnfit, place, telegram) {
+    if balise_fact(first, group, Rule::CounterUnfit, place, telegram) {
         return false;
     }
-    if balise_fact(group, group, Rule::CountersDiffer, place, telegram) {
+    if balise_fact(first, group, Rule::CountersDiffer, place, telegram) {
         return false;
     }
-    if balise_fact(group, group, Rule::MarksDiffer, place, telegram) {
+    if balise_fact(first, group, Rule::MarksDiffer, place, telegram) {
         return false;
     }
-    if pair_differs_at(group, Run::Nominal, place) {
-        return false;
-    }
-    if pair_differs_at(group, Run::Reverse, place) {
+    if !are_same_pair_at(group, place, telegram) {
         return false;
     }
     are_modelled(packets(telegram))
@@ -248,8 +250,7 @@ fn pair_differs(first: &Telegram, second: &Telegram, run: Run) -> bool
 }
 
 // Whether the balise at this place and the one after it are a pair of duplicates whose packets that hold
-// differ. It is inlined because the quick look at a group asks it of each balise for each direction.
-#[inline]
+// differ.
 fn pair_differs_at(group: &[Telegram], run: Run, place: usize) -> bool
     requires { place < length group.now }
     ensures { (t : Telegram) → slice_get group.now place ≡ Some t
@@ -258,6 +259,24 @@ fn pair_differs_at(group: &[Telegram], run: Run, place: usize) -> bool
     match group.get(place + 1) {
         Some(second) => pair_differs(&group[place], second, run),
         None => false,
+    }
+}
+
+// Whether two neighbours are no pair of duplicates, or have the same packets.
+fn are_same_pair(first: &Telegram, second: &Telegram) -> bool
+    ensures { result ≡ are_same_pair first.now (Some second.now) }
+{
+    !are_pair(first.header.dup, second.header.dup) || same_content(packets(first), packets(second))
+}
+
+// The same of this telegram, which is that of the balise at this place, and the next one.
+fn are_same_pair_at(group: &[Telegram], place: usize, telegram: &Telegram) -> bool
+    requires { place < length group.now }
+    ensures { result ≡ are_same_pair telegram.now (slice_get group.now (place + 1)) }
+{
+    match group.get(place + 1) {
+        Some(second) => are_same_pair(telegram, second),
+        None => true,
     }
 }
 

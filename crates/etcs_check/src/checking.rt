@@ -5,16 +5,15 @@ ghost use Rattle.etcs_check.specs.Aspects.{aspect_facts, group_facts, rule_facts
 ghost use Rattle.etcs_check.specs.Counters.{alone_facts};
 ghost use Rattle.etcs_check.specs.Findings.{all_rules, facts_in, facts_of, for_directions, for_each};
 ghost use Rattle.etcs_check.specs.Line.{message_facts, message_facts_in, message_findings};
-ghost use Rattle.etcs_check.specs.Quiet.{IsQuiet};
+ghost use Rattle.etcs_check.specs.Quiet.{IsQuiet, IsQuietAspect};
 
-use crate::aspects::{aspect_of, first_aspect, note_taken, note_untold, whole};
+use crate::aspects::{are_told_apart, aspect_of, first_aspect, note_taken, note_untold, whole};
 use crate::balise_rules::{
     is_quiet_balise, note_balises, note_group_unmodelled, note_pairs, note_unmodelled,
 };
 use crate::finding::{Finding, RULES, Rule, Site, Spot, note};
-use crate::profile_rules::{
-    Kind, is_quiet_in, note_lack, note_message_lack, note_message_short, note_short,
-};
+use crate::profile_rules::{Kind, note_lack, note_message_lack, note_message_short, note_short};
+use crate::summary::is_quiet_in;
 use etcs_bits::Memory;
 use etcs_group::Group;
 use etcs_packet::{Run, TrackPacket};
@@ -162,14 +161,13 @@ fn note_group_rule(
     note_aspects(found, rule, site, aspects)
 }
 
-// Whether the only fact that can stand against a group of this one aspect is that its identity is used. A
-// quick way: where it says no, nothing is known of the facts.
-fn is_quiet(group: &[Telegram]) -> bool
+// Whether no fact stands about an aspect, where no earlier aspect is looked at.
+fn is_quiet_aspect(first: &[Telegram], group: &[Telegram]) -> bool
     requires few { length group.now ≤ 8 }
-    ensures { IsTrue result → IsQuiet group.now }
+    ensures { IsTrue result → IsQuietAspect first.now group.now }
 {
     'places: for place in 0..group.len() {
-        if !is_quiet_balise(group, place, &group[place]) {
+        if !is_quiet_balise(first, group, place, &group[place]) {
             return false;
         }
     }
@@ -177,6 +175,22 @@ fn is_quiet(group: &[Telegram]) -> bool
         return false;
     }
     is_quiet_in(group, Run::Reverse)
+}
+
+// Whether the only fact that can stand against a group is that its identity is used. A quick way: where it
+// says no, nothing is known of the facts.
+fn is_quiet(aspects: &[Group]) -> bool
+    requires some { 0 < length aspects.now }
+    ensures { IsTrue result → IsQuiet aspects.now }
+{
+    let first = first_aspect(aspects);
+    'aspects: for place in 0..aspects.len() {
+        let group = aspects[place].telegrams();
+        if !is_quiet_aspect(first, group) {
+            return false;
+        }
+    }
+    are_told_apart(aspects)
 }
 
 // Appends the findings about a group, rule by rule.
@@ -196,8 +210,8 @@ fn note_all(
     Ok(())
 }
 
-// Appends the findings about a group. Most groups have one aspect and no finding, which `is_quiet` sees in
-// one look. Where it does not, `note_all` goes through all rules and tells all facts.
+// Appends the findings about a group. Most groups have no finding, which `is_quiet` sees in one look.
+// Where it does not, `note_all` goes through all rules and tells all facts.
 pub(crate) fn note_group(
     found: &mut Vec<Finding>,
     site: Site,
@@ -208,7 +222,7 @@ pub(crate) fn note_group(
     ensures ok { OnOk result (found.new.items ≡ found.old.items ++ group_facts site used aspects.now) }
     ensures memory { OnErr result (group_facts site used aspects.now ≢ []) }
 {
-    if aspects.len() == 1 && is_quiet(aspects[0].telegrams()) {
+    if is_quiet(aspects) {
         return note_whole(found, Rule::IdentityUsed, site, used, aspects);
     }
     note_all(found, site, used, aspects)

@@ -85,7 +85,7 @@ fn same_size(this: Size, that: Size) -> bool
 }
 
 // Whether two lists have the same packets.
-fn same_content(these: &[TrackPacket], those: &[TrackPacket]) -> bool
+pub(crate) fn same_content(these: &[TrackPacket], those: &[TrackPacket]) -> bool
     ensures { result ≡ pointwise same_packet these.now those.now }
 {
     are_same(these, those)

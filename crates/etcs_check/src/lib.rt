@@ -18,6 +18,7 @@ pub mod laws;
 mod line;
 mod line_checker;
 mod profile_rules;
+mod summary;
 
 pub use duplicates::same_packets;
 pub use finding::{Finding, Rule, Site};

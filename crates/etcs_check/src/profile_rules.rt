@@ -6,9 +6,9 @@ ghost use Rattle.etcs_packet.specs.Track.{holds};
 ghost use Rattle.etcs_telegram.specs.Record.{Telegram};
 ghost use Rattle.etcs_group.specs.Packets.{is_silent, said_at, said_by};
 ghost use Rattle.etcs_check.specs.Findings.{for_each, lack_facts, lacks, short_by, short_facts};
-ghost use Rattle.etcs_check.specs.Greatest.{before_at, greater, greatest, is_before, is_sought, reach_of};
+ghost use Rattle.etcs_check.specs.Greatest.{before_at, greater, greatest, is_before, is_profile, reach_of};
 ghost use Rattle.etcs_check.specs.Line.{message_lack, message_short};
-ghost use Rattle.etcs_check.specs.Profiles.{AreReached, limit_of};
+ghost use Rattle.etcs_check.specs.Profiles.{limit_of};
 
 use crate::balise_rules::packets;
 use crate::finding::{Finding, Rule, Spot, note};
@@ -24,15 +24,6 @@ pub(crate) enum Kind {
     Gradient,
     // Packet 27.
     Speed,
-}
-
-// What is looked for among packets.
-#[derive(Clone, Copy)]
-pub(crate) enum Sought {
-    // A profile of the kind.
-    Profile(Kind),
-    // A profile of either kind that ends before the location.
-    Short(Option<u64>),
 }
 
 // The supervised location of a packet, if it is an authority.
@@ -57,7 +48,7 @@ fn reach_of(kind: Kind, packet: &TrackPacket) -> Option<Reach>
 }
 
 // The greater of two supervised locations.
-fn greater(this: Option<u64>, that: Option<u64>) -> Option<u64>
+pub(crate) fn greater(this: Option<u64>, that: Option<u64>) -> Option<u64>
     ensures { result ≡ greater this that }
 {
     match (this, that) {
@@ -99,31 +90,19 @@ fn is_before(kind: Kind, limit: Option<u64>, packet: &TrackPacket) -> bool
     }
 }
 
-// Whether a packet is what is looked for.
-fn is_sought(sought: Sought, packet: &TrackPacket) -> bool
-    ensures { result ≡ is_sought sought packet.now }
+// Whether a packet holds and is a profile of the kind.
+fn is_held(packet: &TrackPacket, run: Run, kind: Kind) -> bool
+    ensures { result ≡ (holds run packet.now && is_profile kind packet.now) }
 {
-    match sought {
-        Sought::Profile(kind) => reach_of(kind, packet).is_some(),
-        Sought::Short(limit) => {
-            is_before(Kind::Gradient, limit, packet) || is_before(Kind::Speed, limit, packet)
-        }
-    }
+    packet.holds_in(run) && reach_of(kind, packet).is_some()
 }
 
-// Whether a packet holds and is what is looked for.
-fn is_held(packet: &TrackPacket, run: Run, sought: Sought) -> bool
-    ensures { result ≡ (holds run packet.now && is_sought sought packet.now) }
-{
-    packet.holds_in(run) && is_sought(sought, packet)
-}
-
-// Whether a packet that is looked for is among those that hold.
-fn has_held(packets: &[TrackPacket], run: Run, sought: Sought) -> bool
-    ensures { result ≡ list_any (is_sought sought) (filter (holds run) packets.now) }
+// Whether a profile of the kind is among the packets that hold.
+fn has_held(packets: &[TrackPacket], run: Run, kind: Kind) -> bool
+    ensures { result ≡ list_any (is_profile kind) (filter (holds run) packets.now) }
 {
     'packets: for packet in packets {
-        if is_held(packet, run, sought) {
+        if is_held(packet, run, kind) {
             return true;
         }
     }
@@ -142,7 +121,7 @@ fn lacks_held(packets: &[TrackPacket], run: Run, kind: Kind) -> bool
     ensures { result ≡ lacks (reach_of kind) (filter (holds run) packets.now) }
 {
     let limit = greatest_held(packets, run, None);
-    let has_profile = has_held(packets, run, Sought::Profile(kind));
+    let has_profile = has_held(packets, run, kind);
     lacks(limit, has_profile)
 }
 
@@ -211,7 +190,7 @@ pub(crate) fn note_message_short(
 }
 
 // Whether a balise of a group of this many is passed after the one that its mark names.
-fn is_silent(run: Run, telegram: &Telegram, count: usize, place: usize) -> bool
+pub(crate) fn is_silent(run: Run, telegram: &Telegram, count: usize, place: usize) -> bool
     requires { place < count }
     ensures { result ≡ is_silent run telegram.now.header.dup count place }
 {
@@ -247,22 +226,22 @@ fn greatest_said(group: &[Telegram], run: Run) -> Option<u64>
     limit
 }
 
-// Whether the balise at this place says a packet that is looked for.
-fn has_at(group: &[Telegram], run: Run, place: usize, sought: Sought) -> bool
+// Whether the balise at this place says a profile of the kind.
+fn has_at(group: &[Telegram], run: Run, place: usize, kind: Kind) -> bool
     requires { place < length group.now }
     ensures { (t : Telegram) → slice_get group.now place ≡ Some t
-        → result ≡ list_any (is_sought sought) (said_at run (length group.now) place t) }
+        → result ≡ list_any (is_profile kind) (said_at run (length group.now) place t) }
 {
     let telegram = &group[place];
-    !is_silent(run, telegram, group.len(), place) && has_held(packets(telegram), run, sought)
+    !is_silent(run, telegram, group.len(), place) && has_held(packets(telegram), run, kind)
 }
 
-// Whether a group says a packet that is looked for in a running direction.
-fn has_said(group: &[Telegram], run: Run, sought: Sought) -> bool
-    ensures { result ≡ list_any (is_sought sought) (said_by run group.now) }
+// Whether a group says a profile of the kind in a running direction.
+fn has_said(group: &[Telegram], run: Run, kind: Kind) -> bool
+    ensures { result ≡ list_any (is_profile kind) (said_by run group.now) }
 {
     'places: for place in 0..group.len() {
-        if has_at(group, run, place, sought) {
+        if has_at(group, run, place, kind) {
             return true;
         }
     }
@@ -274,7 +253,7 @@ fn lacks_said(group: &[Telegram], run: Run, kind: Kind) -> bool
     ensures { result ≡ lacks (reach_of kind) (said_by run group.now) }
 {
     let limit = greatest_said(group, run);
-    let has_profile = has_said(group, run, Sought::Profile(kind));
+    let has_profile = has_said(group, run, kind);
     lacks(limit, has_profile)
 }
 
@@ -356,22 +335,4 @@ pub(crate) fn note_short(
         )?;
     }
     Ok(())
-}
-
-// Whether the packets that a group says in a running direction are reached: there is no authority, or there
-// are both profiles, and none ends before the greatest location.
-pub(crate) fn is_quiet_in(group: &[Telegram], run: Run) -> bool
-    ensures { IsTrue result → AreReached (said_by run group.now) }
-{
-    let limit = greatest_said(group, run);
-    if limit.is_none() {
-        return true;
-    }
-    if !has_said(group, run, Sought::Profile(Kind::Gradient)) {
-        return false;
-    }
-    if !has_said(group, run, Sought::Profile(Kind::Speed)) {
-        return false;
-    }
-    !has_said(group, run, Sought::Short(limit))
 }

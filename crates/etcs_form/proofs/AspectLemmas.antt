@@ -1,10 +1,10 @@
 -- Aspects that were read are a controlled group: each has as many balises as the first.
-use Rattle.std.proofs.Common.{◌≡◌, ◌+◌, ◌<◌, ◌∙◌, ◌&&◌, arith, ℕ, zero, suc, List, [], ◌∷◌, length, Some, Ok, refl, ap, sym, subst}
+use Rattle.std.proofs.Common.{◌≡◌, ◌+◌, ◌<◌, ◌∙◌, ◌&&◌, arith, ℕ, zero, suc, List, [], ◌∷◌, codes, length, Option, Some, Ok, refl, ap, sym, subst}
 use Rattle.std.specs.Prelude.{nat_le, nat_lt}
 use Rattle.std.proofs.lemmas.Bool.{eqb-true}
 use Rattle.std.proofs.lemmas.Option.{none-some, same_Some}
 use Rattle.serde_json.specs.Data.{Data}
-use Rattle.etcs_form.specs.Document.{aspect_at, balises_of, each_from, has_count, in_aspect, in_group, others_of, telegram_at, telegrams_of, with_first}
+use Rattle.etcs_form.specs.Document.{aspect_at, each_from, has_count, in_form, only_values, others_of, path_of, telegram_at, telegrams_of, with_first}
 use Rattle.etcs_form.specs.DocumentFault.{bad_aspects, bad_count}
 use Rattle.etcs_form.proofs.DocumentLemmas.{read_count}
 use Rattle.etcs_form.proofs.ResultLemmas.{first_ok, if_ok, same_ok, then_ok}
@@ -13,29 +13,29 @@ use Rattle.etcs_group.specs.Places.{At}
 use Rattle.etcs_telegram.specs.Record.{Telegram}
 
 -- the balises of an aspect after the first are as many as in the first
-as_counted : (g a n : ℕ) (ds : List Data) (group : List Telegram) → telegrams_of g (Some a) (Some n) ds ≡ Ok group → length group ≡ n
+as_counted : (g : ℕ) (a : Option ℕ) (n : ℕ) (ds : List Data) (group : List Telegram) → telegrams_of g a (Some n) ds ≡ Ok group → length group ≡ n
 unfolding telegrams_of
 as_counted g a n ds group is =
     let few = if_ok (nat_lt 0 (length ds) && nat_le (length ds) 8) _ (bad_count g) group is in
-    let same = if_ok (has_count (Some n) (length ds)) (each_from (telegram_at g (Some a)) 0 ds) (bad_aspects g) group few.1 in
-    read_count (telegram_at g (Some a)) 0 ds group same.1 ∙ eqb-true (length ds) n same.0
+    let same = if_ok (has_count (Some n) (length ds)) (each_from (telegram_at g a) 0 ds) (bad_aspects g) group few.1 in
+    read_count (telegram_at g a) 0 ds group same.1 ∙ eqb-true (length ds) n same.0
 
-aspect_counted : (g n a : ℕ) (d : Data) (group : List Telegram) → aspect_at g (Some n) a d ≡ Ok group → length group ≡ n
+aspect_counted : (g n : ℕ) (a : Option ℕ) (d : Data) (group : List Telegram) → aspect_at g (Some n) a d ≡ Ok group → length group ≡ n
 unfolding aspect_at
 aspect_counted g n a d group is =
-    let form = then_ok (in_group g (in_aspect a (balises_of d))) (telegrams_of g (Some a) (Some n)) group is in
+    let form = then_ok (in_form (path_of g a) (only_values (codes "balises") d)) (telegrams_of g a (Some n)) group is in
     as_counted g a n form.0 group form.2
 
-each_counted : (g n i : ℕ) (ds : List Data) (xs : List (List Telegram)) → each_from (aspect_at g (Some n)) i ds ≡ Ok xs → (k : ℕ) (x : List Telegram) → At xs k x → length x ≡ n
+each_counted : (g n i : ℕ) (ds : List Data) (xs : List (List Telegram)) → each_from (λ a. aspect_at g (Some n) (Some a)) i ds ≡ Ok xs → (k : ℕ) (x : List Telegram) → At xs k x → length x ≡ n
 each_counted g n i [] xs is k x h = absurd (none-some x (subst (λ (l : List (List Telegram)). At l k x) (sym (same_ok [] xs (Ok []) refl is)) h))
 each_counted g n i (d ∷ ds) xs is zero x h =
-    let one = then_ok (aspect_at g (Some n) i d) (λ y. with_first y (each_from (aspect_at g (Some n)) (i + 1) ds)) xs is in
-    let rest = first_ok one.0 (each_from (aspect_at g (Some n)) (i + 1) ds) xs one.2 in
+    let one = then_ok (aspect_at g (Some n) (Some i) d) (λ y. with_first y (each_from (λ a. aspect_at g (Some n) (Some a)) (i + 1) ds)) xs is in
+    let rest = first_ok one.0 (each_from (λ a. aspect_at g (Some n) (Some a)) (i + 1) ds) xs one.2 in
     let here : At (one.0 ∷ rest.0) 0 x = subst (λ (l : List (List Telegram)). At l 0 x) (sym rest.2) h in
-    ap length (sym (same_Some one.0 x here)) ∙ aspect_counted g n i d one.0 one.1
+    ap length (sym (same_Some one.0 x here)) ∙ aspect_counted g n (Some i) d one.0 one.1
 each_counted g n i (d ∷ ds) xs is (suc k) x h =
-    let one = then_ok (aspect_at g (Some n) i d) (λ y. with_first y (each_from (aspect_at g (Some n)) (i + 1) ds)) xs is in
-    let rest = first_ok one.0 (each_from (aspect_at g (Some n)) (i + 1) ds) xs one.2 in
+    let one = then_ok (aspect_at g (Some n) (Some i) d) (λ y. with_first y (each_from (λ a. aspect_at g (Some n) (Some a)) (i + 1) ds)) xs is in
+    let rest = first_ok one.0 (each_from (λ a. aspect_at g (Some n) (Some a)) (i + 1) ds) xs one.2 in
     each_counted g n (i + 1) ds rest.0 rest.1 k x (subst (λ (l : List (List Telegram)). At l (suc k) x) (sym rest.2) h)
 
 pub as_first : (first : List Telegram) (others : List (List Telegram)) → ((k : ℕ) (x : List Telegram) → At others k x → length x ≡ length first)

@@ -1,37 +1,30 @@
 -- Each telegram that was read is that of its balise's text in the document.
-use Rattle.std.proofs.Common.{◌≡◌, ◌+◌, ◌∙◌, ◌&&◌, ℕ, zero, suc, List, [], ◌∷◌, length, Option, Some, None, Result, Ok, Err, refl, ap, sym, subst}
-use Rattle.std.specs.Prelude.{IsSomeAnd, codes, nat_le, nat_lt}
+use Rattle.std.proofs.Common.{◌≡◌, ◌+◌, ◌∙◌, ◌&&◌, ℕ, zero, suc, List, [], ◌∷◌, length, Option, Some, None, Ok, refl, ap, sym, subst}
+use Rattle.std.specs.Option.{is_some}
+use Rattle.std.specs.Prelude.{IsSomeAnd, codes, if◌then◌else◌, nat_le, nat_lt}
 use Rattle.std.proofs.lemmas.Option.{none-some, same_Some}
 use Rattle.serde_json.specs.Data.{Data}
 use Rattle.serde_json.specs.Find.{as_str, get}
-use Rattle.etcs_form.proofs.ResultLemmas.{first_ok, form_ok, if_ok, not_ok, part_ok, same_ok, then_ok, under_ok}
+use Rattle.etcs_form.proofs.ResultLemmas.{first_ok, form_ok, if_ok, not_ok, part_ok, same_ok, text_ok, then_ok}
 use Rattle.etcs_form.proofs.ValueLemmas.{each_at, list_read, stands}
-use Rattle.etcs_form.specs.Document.{◌then◌, as_balise, aspect_at, aspects_of, balises_of, controlled_at, each_from, group_at, group_or, groups_of, has_count, in_aspect, in_group, list_at, list_of_aspects, only_aspect, others_of, telegram_at, telegram_or, telegrams_of, values_of, with_first}
-use Rattle.etcs_form.specs.DocumentFault.{bad_aspects, bad_count}
-use Rattle.etcs_json.specs.Fault.{Fault, key, place, under}
+use Rattle.etcs_form.specs.Document.{◌then◌, aspect_at, aspects_of, controlled_at, each_from, group_at, groups_of, has_count, in_form, list_at, only_aspect, only_values, others_of, path_of, telegram_at, telegrams_of, values_of, with_first}
+use Rattle.etcs_form.specs.DocumentFault.{bad_aspects, bad_count, bad_telegram}
+use Rattle.etcs_json.specs.Fault.{Step}
 use Rattle.etcs_json.specs.Reading.{at_key, object_with}
-use Rattle.etcs_form.specs.Verdict.{IsOnlyTelegram, aspect_in, balise_in, balise_text}
+use Rattle.etcs_form.specs.Verdict.{IsOnlyTextOf, aspect_in, balise_text, text_in}
 use Rattle.etcs_group.specs.Places.{At}
 use Rattle.etcs_telegram.proofs.LawLemmas as telegrams
 use Rattle.etcs_telegram.specs.Record.{Telegram}
+use Rattle.etcs_telegram.specs.Text.{IsTelegramText}
 use Rattle.etcs_telegram.specs.TextMeaning.{telegram_of_text}
-use Rattle.etcs_telegram.specs.declared.error.TextError.{TextError}
 
 -- ---- texts of balises
 
-balise_ok : (g : ℕ) (a : Option ℕ) (b : ℕ) (r : Result Telegram TextError) (t : Telegram) → as_balise g a b r ≡ Ok t → r ≡ Ok t
-balise_ok g a b (Ok u) t is = ap Ok (same_ok u t (as_balise g a b (Ok u)) refl is)
-balise_ok g a b (Err e) t is = absurd (not_ok _ t (as_balise g a b (Err e)) refl is)
-
-telegram_found : (g : ℕ) (a : Option ℕ) (b : ℕ) (o : Option (List ℕ)) (t : Telegram) → telegram_or g a b o ≡ Ok t → (text : List ℕ) × (o ≡ Some text) × (telegram_of_text text ≡ Ok t)
-telegram_found g a b None t is = absurd (not_ok _ t (telegram_or g a b None) refl is)
-telegram_found g a b (Some text) t is = (text, refl, balise_ok g a b (telegram_of_text text) t is)
-
 telegram_in : (g : ℕ) (a : Option ℕ) (b : ℕ) (u : Data) (t : Telegram) → telegram_at g a b u ≡ Ok t → (text : List ℕ) × (as_str u ≡ Some text) × (telegram_of_text text ≡ Ok t)
 unfolding telegram_at
-telegram_in g a b u t is = telegram_found g a b (as_str u) t is
+telegram_in g a b u t is = text_ok _ telegram_of_text (bad_telegram g a b) (as_str u) t is
 
-only_telegram : (text : List ℕ) (t : Telegram) → telegram_of_text text ≡ Ok t → IsOnlyTelegram text t
+only_telegram : (text : List ℕ) (t : Telegram) → telegram_of_text text ≡ Ok t → IsOnlyTextOf IsTelegramText t text
 only_telegram text t is = record {
   is = telegrams.means_text t text is;
   only = λ u read. same_ok u t (telegram_of_text text) (telegrams.text_meaning u text read) is;
@@ -53,25 +46,15 @@ counted_ok g a first ds group is =
     let few = if_ok (nat_lt 0 (length ds) && nat_le (length ds) 8) _ (bad_count g) group is in
     (if_ok (has_count first (length ds)) (each_from (telegram_at g a) 0 ds) (bad_aspects g) group few.1).1
 
-group_ok : {A : Type 0} (g : ℕ) (r : Result A Fault) (x : A) → in_group g r ≡ Ok x → r ≡ Ok x
-group_ok g r x is = under_ok (place g) r x (under_ok (key (codes "groups")) (under (place g) r) x (form_ok _ x is))
+only_ok : (path : List Step) (name : List ℕ) (e : Data) (es : List Data) → in_form path (only_values name e) ≡ Ok es → at_key values_of name e ≡ Ok es
+unfolding only_values
+only_ok path name e es is = (part_ok (object_with (name ∷ []) e) (λ _. at_key values_of name e) es (form_ok path (only_values name e) es is)).2
 
-aspect_ok : {A : Type 0} (a : ℕ) (r : Result A Fault) (x : A) → in_aspect a r ≡ Ok x → r ≡ Ok x
-aspect_ok a r x is = under_ok (place a) r x (under_ok (key (codes "aspects")) (under (place a) r) x is)
-
-balises_ok : (e : Data) (es : List Data) → balises_of e ≡ Ok es → at_key values_of (codes "balises") e ≡ Ok es
-unfolding balises_of
-balises_ok e es is = (part_ok (object_with (codes "balises" ∷ []) e) (λ _. at_key values_of (codes "balises") e) es is).2
-
-aspects_ok : (e : Data) (es : List Data) → list_of_aspects e ≡ Ok es → at_key values_of (codes "aspects") e ≡ Ok es
-unfolding list_of_aspects
-aspects_ok e es is = (part_ok (object_with (codes "aspects" ∷ []) e) (λ _. at_key values_of (codes "aspects") e) es is).2
-
-aspect_read : (g : ℕ) (first : Option ℕ) (a : ℕ) (e : Data) (group : List Telegram) → aspect_at g first a e ≡ Ok group → IsReadOf g (Some a) e group
+aspect_read : (g : ℕ) (first a : Option ℕ) (e : Data) (group : List Telegram) → aspect_at g first a e ≡ Ok group → IsReadOf g a e group
 unfolding aspect_at
 aspect_read g first a e group is =
-    let form = then_ok (in_group g (in_aspect a (balises_of e))) (telegrams_of g (Some a) first) group is in
-    (form.0, balises_ok e form.0 (aspect_ok a (balises_of e) form.0 (group_ok g _ form.0 form.1)), counted_ok g (Some a) first form.0 group form.2)
+    let form = then_ok (in_form (path_of g a) (only_values (codes "balises") e)) (telegrams_of g a first) group is in
+    (form.0, only_ok (path_of g a) (codes "balises") e form.0 form.1, counted_ok g a first form.0 group form.2)
 
 -- the object of aspect a, among those of its group, of which a group was read
 abbrev IsAspectOf : ℕ → ℕ → List Data → List Telegram → Type 0
@@ -81,17 +64,17 @@ aspect_among : (g a : ℕ) (ds : List Data) (aspects : List (List Telegram)) (gr
 unfolding aspects_of
 aspect_among g a [] aspects group is h = absurd (not_ok _ aspects (aspects_of g []) refl is)
 aspect_among g zero (d ∷ ds) aspects group is h =
-    let one = then_ok (aspect_at g None 0 d) (λ first. with_first first (others_of g (length first) ds)) aspects is in
+    let one = then_ok (aspect_at g None (Some 0) d) (λ first. with_first first (others_of g (length first) ds)) aspects is in
     let rest = first_ok one.0 (others_of g (length one.0) ds) aspects one.2 in
     let here : At (one.0 ∷ rest.0) 0 group = subst (λ (l : List (List Telegram)). At l 0 group) (sym rest.2) h in
     let first : one.0 ≡ group = same_Some one.0 group here in
-    (Some 0, d, refl, aspect_read g None 0 d group (one.1 ∙ ap Ok first))
+    (Some 0, d, refl, aspect_read g None (Some 0) d group (one.1 ∙ ap Ok first))
 aspect_among g (suc a) (d ∷ ds) aspects group is h =
-    let one = then_ok (aspect_at g None 0 d) (λ first. with_first first (others_of g (length first) ds)) aspects is in
+    let one = then_ok (aspect_at g None (Some 0) d) (λ first. with_first first (others_of g (length first) ds)) aspects is in
     let rest = first_ok one.0 (others_of g (length one.0) ds) aspects one.2 in
     let later : At rest.0 a group = subst (λ (l : List (List Telegram)). At l (suc a) group) (sym rest.2) h in
-    let found = each_at (aspect_at g (Some (length one.0))) 1 ds rest.0 rest.1 a group later in
-    (Some (1 + a), found.0, found.1, aspect_read g (Some (length one.0)) (1 + a) found.0 group found.2)
+    let found = each_at (λ k. aspect_at g (Some (length one.0)) (Some k)) 1 ds rest.0 rest.1 a group later in
+    (Some (1 + a), found.0, found.1, aspect_read g (Some (length one.0)) (Some (1 + a)) found.0 group found.2)
 
 -- ---- groups
 
@@ -102,23 +85,22 @@ HasAspect g a e group = (which : Option ℕ) × (o : Data) × (aspect_in a e ≡
 only_read : (g a : ℕ) (e : Data) (aspects : List (List Telegram)) (group : List Telegram) → only_aspect g e ≡ Ok aspects → At aspects a group → IsReadOf g None e group
 unfolding only_aspect
 only_read g zero e aspects group is h =
-    let whole = then_ok (in_group g (balises_of e) then telegrams_of g None None) (λ only. Ok (only ∷ [])) aspects is in
-    let form = then_ok (in_group g (balises_of e)) (telegrams_of g None None) whole.0 whole.1 in
+    let whole = then_ok (aspect_at g None None e) (λ only. Ok (only ∷ [])) aspects is in
     let alone : whole.0 ∷ [] ≡ aspects = same_ok (whole.0 ∷ []) aspects (Ok (whole.0 ∷ [])) refl whole.2 in
     let here : At (whole.0 ∷ []) 0 group = subst (λ (l : List (List Telegram)). At l 0 group) (sym alone) h in
     let same : whole.0 ≡ group = same_Some whole.0 group here in
-    (form.0, balises_ok e form.0 (group_ok g _ form.0 form.1), counted_ok g None None form.0 group (form.2 ∙ ap Ok same))
+    aspect_read g None None e group (whole.1 ∙ ap Ok same)
 only_read g (suc a) e aspects group is h =
-    let whole = then_ok (in_group g (balises_of e) then telegrams_of g None None) (λ only. Ok (only ∷ [])) aspects is in
+    let whole = then_ok (aspect_at g None None e) (λ only. Ok (only ∷ [])) aspects is in
     let alone : whole.0 ∷ [] ≡ aspects = same_ok (whole.0 ∷ []) aspects (Ok (whole.0 ∷ [])) refl whole.2 in
     absurd (none-some group (subst (λ (l : List (List Telegram)). At l (suc a) group) (sym alone) h))
 
-aspect_or : (g a : ℕ) (e : Data) (aspects : List (List Telegram)) (group : List Telegram) (o : Option Data) → get (codes "aspects") e ≡ o → group_or g e o ≡ Ok aspects → At aspects a group → HasAspect g a e group
+aspect_or : (g a : ℕ) (e : Data) (aspects : List (List Telegram)) (group : List Telegram) (o : Option Data) → get (codes "aspects") e ≡ o → (if is_some o then controlled_at g e else only_aspect g e) ≡ Ok aspects → At aspects a group → HasAspect g a e group
 unfolding controlled_at
 aspect_or g a e aspects group None key_is is h = (None, e, rw key_is refl, only_read g a e aspects group is h)
 aspect_or g a e aspects group (Some list) key_is is h =
-    let form = then_ok (in_group g (list_of_aspects e)) (aspects_of g) aspects is in
-    let values = list_read (codes "aspects") e form.0 (aspects_ok e form.0 (group_ok g _ form.0 form.1)) in
+    let form = then_ok (in_form (path_of g None) (only_values (codes "aspects") e)) (aspects_of g) aspects is in
+    let values = list_read (codes "aspects") e form.0 (only_ok (path_of g None) (codes "aspects") e form.0 form.1) in
     let one = aspect_among g a form.0 aspects group form.2 h in
     let found = stands (codes "aspects") e form.0 a one.1 values one.2 in
     (one.0, one.1, rw (found.1, found.2) refl, one.3)
@@ -131,7 +113,7 @@ aspect_found g a e aspects group is h = aspect_or g a e aspects group (get (code
 
 -- a telegram that was read is that of its text in the object of its aspect
 balise_read : (g : ℕ) (which : Option ℕ) (b : ℕ) (o : Data) (group : List Telegram) (t : Telegram) → IsReadOf g which o group → At group b t
-    → (text : List ℕ) × (balise_in b o ≡ Some text) × (telegram_of_text text ≡ Ok t)
+    → (text : List ℕ) × (text_in (codes "balises") b o ≡ Some text) × (telegram_of_text text ≡ Ok t)
 balise_read g which b o group t read h =
     let values = list_read (codes "balises") o read.0 read.1 in
     let one = each_at (telegram_at g which) 0 read.0 group read.2 b t h in
@@ -141,11 +123,11 @@ balise_read g which b o group t read h =
 
 -- each telegram is the one of its text
 pub telegrams_read : (d : Data) (groups : List (List (List Telegram))) → groups_of d ≡ Ok groups → (g a b : ℕ) (aspects : List (List Telegram)) (group : List Telegram) (t : Telegram)
-    → At groups g aspects → At aspects a group → At group b t → IsSomeAnd (balise_text d g a b) (λ text. IsOnlyTelegram text t)
+    → At groups g aspects → At aspects a group → At group b t → IsSomeAnd (balise_text d g a b) (IsOnlyTextOf IsTelegramText t)
 unfolding groups_of
 telegrams_read d groups is g a b aspects group t here within inside =
     let list = then_ok (list_at (codes "groups") d) (each_from group_at 0) groups is in
-    let values = list_read (codes "groups") d list.0 (form_ok _ list.0 list.1) in
+    let values = list_read (codes "groups") d list.0 (form_ok [] _ list.0 list.1) in
     let one = each_at group_at 0 list.0 groups list.2 g aspects here in
     let found = stands (codes "groups") d list.0 g one.0 values one.1 in
     let aspect = aspect_found (0 + g) a one.0 aspects group one.2 within in

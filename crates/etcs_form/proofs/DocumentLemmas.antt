@@ -1,12 +1,13 @@
 -- What is read of a document's values, and when bytes are JSON.
 use Rattle.std.proofs.Common.{◌≡◌, ◌+◌, ℕ, suc, Bool, true, false, List, [], ◌∷◌, ◌++◌, length, Option, Some, None, Result, Ok, Err, refl, ap, sym, subst, ◌∙◌}
 use Rattle.std.specs.Prelude.{◌↔◌, IsTrue, if◌then◌else◌}
+use Rattle.std.specs.Option.{ok_or}
 use Rattle.std.specs.Str.{IsUtf8, is_utf8}
 use Rattle.std.proofs.lemmas.Str.{IsUtf8-from_is_utf8, is_utf8-from_IsUtf8}
 use Rattle.serde_json.specs.Data.{Data}
 use Rattle.serde_json.specs.Read.{read as read_text}
 use Rattle.etcs_form.proofs.ResultLemmas.{same_ok}
-use Rattle.etcs_form.specs.Document.{◌then◌, each_from, json_of, json_or, with_first}
+use Rattle.etcs_form.specs.Document.{◌then◌, each_from, json_of, with_first}
 use Rattle.etcs_form.specs.DocumentFault.{DocumentFault, no_json}
 
 abbrev OnlyFalse : Bool → Type 0
@@ -19,7 +20,7 @@ pub is_json : (bytes : List ℕ) (d : Data) → IsUtf8 bytes → read_text bytes
 unfolding json_of
 is_json bytes d utf8 is = rw (is_utf8-from_IsUtf8 bytes utf8, is) refl
 
-no_value : (utf8 : Bool) (value : Option Data) → (utf8 ≡ true → value ≡ None) → (if utf8 then json_or value else Err no_json) ≡ Err no_json
+no_value : (utf8 : Bool) (value : Option Data) → (utf8 ≡ true → value ≡ None) → (if utf8 then ok_or value no_json else Err no_json) ≡ Err no_json
 no_value false value none = refl
 no_value true value none = rw (none refl) refl
 

@@ -1,6 +1,8 @@
 -- A document's tokens, read and checked a step at a time.
-use Rattle.std.proofs.Common.{◌≡◌, ℕ, suc, ◌+◌, ◌-◌, ◌<◌, ◌≤◌, true, List, [], ◌∷◌, ◌++◌, length, codes, Option, Some, None, Result, Ok, Err, refl, ap, sym, ◌∙◌, arith}
-use Rattle.std.specs.Prelude.{◌&&◌, nat_le, nat_lt}
+use Rattle.std.proofs.Common.{◌≡◌, ℕ, suc, ◌+◌, ◌-◌, ◌<◌, ◌≤◌, true, List, [], ◌∷◌, ◌++◌, length, codes, Option, Some, None, Result, Ok, refl, ap, sym, ◌∙◌, arith}
+use Rattle.std.specs.Prelude.{◌&&◌, nat_le, nat_lt, option_map}
+use Rattle.std.specs.Option.{ok_or}
+use Rattle.std.specs.Result.{result_map_both}
 use Rattle.std.proofs.lemmas.Bool.{eq-eqb}
 use Rattle.std.proofs.lemmas.Bool.Decides.{nat_tests}
 use Rattle.json.proofs.Grammar.{members_end, value-begin_object, value_is}
@@ -9,16 +11,16 @@ use Rattle.json.specs.Token.{Token}
 use Rattle.serde_json.specs.Data.{Data, array, no_items, no_members, object, string}
 use Rattle.serde_json.specs.Find.{as_array}
 use Rattle.serde_json.specs.Read.{converted, of_json, of_members}
-use Rattle.etcs_form.proofs.TokenLemmas.{converted-object, form_record, item_more, key_stands, list_stands, no_items_yet, record_shorter, same_list}
-use Rattle.etcs_form.specs.Document.{◌then◌, as_balise, as_item, aspect_at, aspects_of, balises_of, controlled_at, each_from, group_at, has_count, in_aspect, in_group, list_of_aspects, message_at, only_aspect, telegram_at, telegrams_of, values_of, values_or}
-use Rattle.etcs_form.specs.DocumentFault.{DocumentFault}
+use Rattle.etcs_form.proofs.TokenLemmas.{converted-object, item_more, key_stands, list_stands, no_items_yet, same_list, value_shorter}
+use Rattle.etcs_form.specs.Document.{◌then◌, aspect_at, aspects_of, controlled_at, each_from, group_at, has_count, in_form, message_at, only_aspect, only_values, path_of, telegram_at, telegrams_of, values_of}
+use Rattle.etcs_form.specs.DocumentFault.{DocumentFault, bad_message, bad_telegram}
 use Rattle.etcs_form.specs.DocumentTokens.{AreBalises, AreEach, AreFirst, HasGroup, IsAspect, IsAspects, IsBalises, IsFirst, IsGroup, IsList, IsMessage, IsOnlyAspect, IsTelegram}
 use Rattle.etcs_json.specs.Entries.{Entry, members_onto, object_of}
-use Rattle.etcs_json.specs.Fault.{Fault, key as key_step, under}
-use Rattle.etcs_json.specs.Reading.{at_key, object_with}
+use Rattle.etcs_json.specs.Fault.{Kind, here, key as key_step, under}
+use Rattle.etcs_json.specs.Reading.{at_key, data_list, object_with}
 use Rattle.etcs_group.specs.Controlled.{IsControlled}
 use Rattle.etcs_group.specs.Places.{At}
-use Rattle.etcs_form.specs.Tokens.{AreForms, HasMembers, first_record, first_value, items_onto}
+use Rattle.etcs_form.specs.Tokens.{HasMembers, first_value, items_onto}
 use Rattle.etcs_radio.specs.TextMeaning.{message_of_text}
 use Rattle.etcs_radio.specs.declared.message.Message.{Message}
 use Rattle.etcs_telegram.specs.Record.{Telegram}
@@ -35,7 +37,7 @@ unfolding telegram_at
 telegram_taken depth text old new t begins is = record {
   found = string text;
   stands = text_stands depth text old new begins;
-  is = λ g a b. ap (as_balise g a b) is;
+  is = λ g a b. ap (result_map_both (λ x. x) (bad_telegram g a b)) is;
 }
 
 pub message_taken : (depth : ℕ) (text : List ℕ) (old new : List Token) (m : Message) → old ≡ Token.string text ∷ new → message_of_text text ≡ Ok m → IsFirst IsMessage depth old m new
@@ -43,22 +45,16 @@ unfolding message_at
 message_taken depth text old new m begins is = record {
   found = string text;
   stands = text_stands depth text old new begins;
-  is = λ i. ap (as_item i) is;
+  is = λ i. ap (result_map_both (λ x. x) (bad_message i)) is;
 }
 
 -- ---- values one after the other
 
-abbrev as_is : Data → Result Data Fault
-as_is d = Ok d
-
-as_record : (depth : ℕ) (old new : List Token) (d : Data) → first_value depth old ≡ Some (d, new) → first_record as_is depth old ≡ Some (d, new)
-as_record depth old new d is = form_record as_is depth old d new d is refl
-
 pub first_shorter : {X : Type 0} (Is : Data → X → Type 0) (depth : ℕ) (old : List Token) (x : X) (new : List Token) → IsFirst Is depth old x new → length new < length old
-first_shorter Is depth old x new one = record_shorter as_is depth old one.found new (as_record depth old new one.found one.stands)
+first_shorter Is depth old x new one = value_shorter depth old new one.found one.stands
 
 pub none_first : {X : Type 0} (Is : Data → X → Type 0) (depth : ℕ) (old : List Token) → AreFirst Is depth old [] old
-none_first Is depth old = record { found = []; stand = no_items_yet as_is depth old; are = tt }
+none_first Is depth old = record { found = []; stand = no_items_yet depth old; are = tt }
 
 each_and : {X : Type 0} (Is : Data → X → Type 0) (ds : List Data) (xs : List X) (d : Data) (x : X) → AreEach Is ds xs → Is d x → AreEach Is (ds ++ d ∷ []) (xs ++ x ∷ [])
 each_and Is [] [] d x are is = (is, tt)
@@ -71,33 +67,18 @@ pub first_more : {X : Type 0} (Is : Data → X → Type 0) (depth : ℕ) (old : 
     → IsFirst Is depth mid x new → ys ≡ xs ++ x ∷ [] → AreFirst Is depth old ys new
 first_more Is depth old xs ys x mid new some going one pushed = rw pushed record {
   found = some.found ++ one.found ∷ [];
-  stand = item_more as_is depth old some.found (some.found ++ one.found ∷ []) one.found mid new some.stand going (as_record depth mid new one.found one.stands) refl;
+  stand = item_more depth some.found one.found old mid new some.stand going one.stands;
   are = each_and Is some.found xs one.found x some.are one.is;
 }
-
-abbrev data_or : Data → Result Data Fault → Data
-data_or d (Ok e) = e
-data_or d (Err f) = d
-
-same_forms : (ds es : List Data) → AreForms as_is ds es → ds ≡ es
-same_forms [] [] are = refl
-same_forms [] (e ∷ es) are = absurd are
-same_forms (d ∷ ds) [] are = absurd are
-same_forms (d ∷ ds) (e ∷ es) are =
-    let one : d ≡ e = ap (data_or d) are.0 in
-    ap (λ x. x ∷ ds) one ∙ ap (λ xs. e ∷ xs) (same_forms ds es are.1)
 
 -- the values between the two marks of a list
 pub list_taken : {X : Type 0} (Is : Data → X → Type 0) (depth : ℕ) (old begun ended new : List Token) (xs : List X) → 0 < depth → old ≡ Token.begin_array ∷ begun
     → AreFirst Is (depth - 1) begun xs ended → after_end_array ended ≡ Some new → IsFirst (IsList Is) depth old xs new
-list_taken Is depth old begun ended new xs deep begins some ends =
-    let list = list_stands as_is depth old begun ended new some.found deep begins some.stand ends in
-    let same : list.found ≡ some.found = same_forms list.found some.found list.reads in
-    record {
-      found = array (items_onto some.found no_items);
-      stands = list.stands ∙ ap (λ ds. Some (array (items_onto ds no_items), new)) same;
-      is = (some.found, refl, some.are);
-    }
+list_taken Is depth old begun ended new xs deep begins some ends = record {
+  found = array (items_onto some.found no_items);
+  stands = list_stands depth some.found old begun ended new deep begins some.stand ends;
+  is = (some.found, refl, some.are);
+}
 
 -- ---- objects
 
@@ -119,7 +100,7 @@ with_key name d = object_of ((name, Some d) ∷ [])
 
 pub list_values : (ds : List Data) (d : Data) → d ≡ array (items_onto ds no_items) → values_of d ≡ Ok ds
 unfolding values_of
-list_values ds d is = ap (λ x. values_or (as_array x)) is ∙ ap (λ l. Ok l) (same_list ds)
+list_values ds d is = ap (λ x. ok_or (option_map data_list (as_array x)) (here Kind)) is ∙ ap (λ l. Ok l) (same_list ds)
 
 pub each_read : {X : Type 0} (Is : Data → X → Type 0) (read : ℕ → Data → Result X DocumentFault) → ((d : Data) (x : X) → Is d x → (n : ℕ) → read n d ≡ Ok x)
     → (n : ℕ) (ds : List Data) (xs : List X) → AreEach Is ds xs → each_from read n ds ≡ Ok xs
@@ -145,12 +126,12 @@ balises_taken depth old ts new one some few =
     let fits : (nat_lt 0 (length ts) && nat_le (length ts) 8) ≡ true = grind (arith, nat_tests) in
     record { found = one.found; stands = one.stands; is = (one.is.0, list_values one.is.0 one.found one.is.1, balises_are one.is.0 ts one.is.2 fits) }
 
-balises_key : (d : Data) (ds : List Data) → values_of d ≡ Ok ds → balises_of (with_key (codes "balises") d) ≡ Ok ds
-unfolding balises_of object_with at_key
+balises_key : (d : Data) (ds : List Data) → values_of d ≡ Ok ds → only_values (codes "balises") (with_key (codes "balises") d) ≡ Ok ds
+unfolding only_values object_with at_key
 balises_key d ds is = ap (under (key_step (codes "balises"))) is
 
-aspects_key : (d : Data) (ds : List Data) → values_of d ≡ Ok ds → list_of_aspects (with_key (codes "aspects") d) ≡ Ok ds
-unfolding list_of_aspects object_with at_key
+aspects_key : (d : Data) (ds : List Data) → values_of d ≡ Ok ds → only_values (codes "aspects") (with_key (codes "aspects") d) ≡ Ok ds
+unfolding only_values object_with at_key
 aspects_key d ds is = ap (under (key_step (codes "aspects"))) is
 
 -- an aspect
@@ -162,17 +143,17 @@ aspect_taken depth old begun mid after ts new deep begins named one ends = recor
   is = (one.is.0, balises_key one.found one.is.0 one.is.1, one.is.2);
 }
 
-aspect_reads : (d : Data) (ts : List Telegram) → IsAspect d ts → (g : ℕ) (first : Option ℕ) (a : ℕ) → has_count first (length ts) ≡ true → aspect_at g first a d ≡ Ok ts
+aspect_reads : (d : Data) (ts : List Telegram) → IsAspect d ts → (g : ℕ) (first a : Option ℕ) → has_count first (length ts) ≡ true → aspect_at g first a d ≡ Ok ts
 unfolding aspect_at
-aspect_reads d ts is g first a has = ap (λ r. in_group g (in_aspect a r) then telegrams_of g (Some a) first) is.1 ∙ is.2 g (Some a) first has
+aspect_reads d ts is g first a has = ap (λ r. in_form (path_of g a) r then telegrams_of g a first) is.1 ∙ is.2 g a first has
 
-others_read : (g n i : ℕ) (ds : List Data) (xs : List (List Telegram)) → AreEach IsAspect ds xs → ((k : ℕ) (x : List Telegram) → At xs k x → length x ≡ n) → each_from (aspect_at g (Some n)) i ds ≡ Ok xs
+others_read : (g n i : ℕ) (ds : List Data) (xs : List (List Telegram)) → AreEach IsAspect ds xs → ((k : ℕ) (x : List Telegram) → At xs k x → length x ≡ n) → each_from (λ a. aspect_at g (Some n) (Some a)) i ds ≡ Ok xs
 others_read g n i [] [] are counted = refl
 others_read g n i [] (x ∷ xs) are counted = absurd are
 others_read g n i (d ∷ ds) [] are counted = absurd are
 others_read g n i (d ∷ ds) (x ∷ xs) are counted =
     let has : has_count (Some n) (length x) ≡ true = eq-eqb (length x) n (counted 0 x refl) in
-    rw (aspect_reads d x are.0 g (Some n) i has, others_read g n (i + 1) ds xs are.1 (λ k y at. counted (suc k) y at)) refl
+    rw (aspect_reads d x are.0 g (Some n) (Some i) has, others_read g n (i + 1) ds xs are.1 (λ k y at. counted (suc k) y at)) refl
 
 aspects_read : (ds : List Data) (xs : List (List Telegram)) → AreEach IsAspect ds xs → IsControlled xs → (g : ℕ) → aspects_of g ds ≡ Ok xs
 unfolding aspects_of
@@ -180,7 +161,7 @@ aspects_read [] [] are is g = let some = is.some in absurd (omega arith)
 aspects_read [] (x ∷ xs) are is g = absurd are
 aspects_read (d ∷ ds) [] are is g = absurd are
 aspects_read (d ∷ ds) (x ∷ xs) are is g =
-    rw (aspect_reads d x are.0 g None 0 refl, others_read g (length x) 1 ds xs are.1 (λ k y at. is.counts (suc k) y at)) refl
+    rw (aspect_reads d x are.0 g None (Some 0) refl, others_read g (length x) 1 ds xs are.1 (λ k y at. is.counts (suc k) y at)) refl
 
 -- aspects that are a controlled group
 pub aspects_taken : (depth : ℕ) (old : List Token) (xs : List (List Telegram)) (new : List Token) → IsFirst (IsList IsAspect) depth old xs new → IsControlled xs → IsFirst IsAspects depth old xs new
@@ -198,12 +179,12 @@ only_taken depth old group aspects new one is = record { found = one.found; stan
 only_read : (d : Data) (aspects : List (List Telegram)) → IsOnlyAspect d aspects → IsGroup (with_key (codes "balises") d) aspects
 unfolding group_at only_aspect
 only_read d aspects is = λ g.
-    ap (λ r. in_group g r then telegrams_of g None None then λ only. Ok (only ∷ [])) (balises_key d is.2.0 is.2.1)
-    ∙ ap (λ r. r then λ only. Ok (only ∷ [])) (is.2.2 g None None refl) ∙ ap (λ l. Ok l) (sym is.1)
+    let one = aspect_reads (with_key (codes "balises") d) is.0 (is.2.0, balises_key d is.2.0 is.2.1, is.2.2) g None None refl in
+    ap (λ r. r then λ only. Ok (only ∷ [])) one ∙ ap (λ l. Ok l) (sym is.1)
 
 controlled_read : (d : Data) (aspects : List (List Telegram)) → IsAspects d aspects → IsGroup (with_key (codes "aspects") d) aspects
 unfolding group_at controlled_at
-controlled_read d aspects is = λ g. ap (λ r. in_group g r then aspects_of g) (aspects_key d is.0 is.1) ∙ is.2 g
+controlled_read d aspects is = λ g. ap (λ r. in_form (path_of g None) r then aspects_of g) (aspects_key d is.0 is.1) ∙ is.2 g
 
 pub only_member : (depth : ℕ) (old mid : List Token) (k : List ℕ) (aspects : List (List Telegram)) (new : List Token) → read_key old ≡ Some (Some k, mid) → k ≡ codes "balises" → IsFirst IsOnlyAspect depth mid aspects new
     → HasGroup depth old aspects new

@@ -53,13 +53,13 @@ document_of g m = object_of ((codes "groups", Some g) ∷ (codes "messages", Som
 groups_read : (d e : Data) (gs : List (List (List Telegram))) → IsList IsGroup d gs → groups_of (document_of d e) ≡ Ok gs
 unfolding groups_of at_key
 groups_read d e gs is =
-    ap (λ r. in_form (under (key_step (codes "groups")) r) then each_from group_at 0) (list_values is.0 d is.1)
+    ap (λ r. in_form [] (under (key_step (codes "groups")) r) then each_from group_at 0) (list_values is.0 d is.1)
     ∙ each_read IsGroup group_at (λ d g is n. is n) 0 is.0 gs is.2
 
 messages_read : (d e : Data) (ms : List Message) → IsList IsMessage e ms → messages_of (document_of d e) ≡ Ok ms
 unfolding messages_of at_key
 messages_read d e ms is =
-    ap (λ r. in_form (under (key_step (codes "messages")) r) then each_from message_at 0) (list_values is.0 e is.1)
+    ap (λ r. in_form [] (under (key_step (codes "messages")) r) then each_from message_at 0) (list_values is.0 e is.1)
     ∙ each_read IsMessage message_at (λ d m is n. is n) 0 is.0 ms is.2
 
 line_read : (d e : Data) (gs : List (List (List Telegram))) (ms : List Message) → IsList IsGroup d gs → IsList IsMessage e ms → line_of (document_of d e) ≡ Ok (gs, ms)

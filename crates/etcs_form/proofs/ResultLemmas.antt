@@ -1,9 +1,10 @@
 -- What was read, where reading went well in the end.
-use Rattle.std.proofs.Common.{◌≡◌, ◌∙◌, Bool, true, false, List, ◌∷◌, Result, Ok, Err, refl, ap, sym, subst}
+use Rattle.std.proofs.Common.{◌≡◌, ◌∙◌, ℕ, Bool, true, false, List, ◌∷◌, Option, Some, None, Result, Ok, Err, refl, ap, sym, subst}
 use Rattle.std.specs.Prelude.{if◌then◌else◌}
-use Rattle.etcs_form.specs.Document.{◌then◌, in_form, with_first}
+use Rattle.std.specs.Result.{result_map_both}
+use Rattle.etcs_form.specs.Document.{◌then◌, in_form, text_or, with_first}
 use Rattle.etcs_form.specs.DocumentFault.{DocumentFault}
-use Rattle.etcs_json.specs.Fault.{Fault, Step, under}
+use Rattle.etcs_json.specs.Fault.{Fault, Step}
 use Rattle.etcs_json.specs.Reading.{◌>>=◌}
 
 abbrev or_else : {A E : Type 0} → A → Result A E → A
@@ -28,13 +29,17 @@ pub part_ok : {A B : Type 0} (r : Result A Fault) (next : A → Result B Fault) 
 part_ok (Ok x) next y is = (x, refl, is)
 part_ok (Err f) next y is = absurd (not_ok f y (Err f) refl is)
 
-pub form_ok : {A : Type 0} (r : Result A Fault) (x : A) → in_form r ≡ Ok x → r ≡ Ok x
-form_ok (Ok y) x is = ap Ok (same_ok y x (in_form (Ok y)) refl is)
-form_ok (Err f) x is = absurd (not_ok _ x (in_form (Err f)) refl is)
+pub mapped_ok : {A E F : Type 0} (bad : E → F) (r : Result A E) (x : A) → result_map_both (λ y. y) bad r ≡ Ok x → r ≡ Ok x
+mapped_ok bad (Ok y) x is = ap Ok (same_ok y x (result_map_both (λ z. z) bad (Ok y)) refl is)
+mapped_ok bad (Err e) x is = absurd (not_ok (bad e) x (Err (bad e)) refl is)
 
-pub under_ok : {A : Type 0} (step : Step) (r : Result A Fault) (x : A) → under step r ≡ Ok x → r ≡ Ok x
-under_ok step (Ok y) x is = is
-under_ok step (Err f) x is = absurd (not_ok _ x (under step (Err f)) refl is)
+pub form_ok : {A : Type 0} (path : List Step) (r : Result A Fault) (x : A) → in_form path r ≡ Ok x → r ≡ Ok x
+form_ok path r x is = mapped_ok _ r x is
+
+pub text_ok : {A E : Type 0} (path : List Step) (read : List ℕ → Result A E) (bad : E → DocumentFault) (o : Option (List ℕ)) (x : A) → text_or path read bad o ≡ Ok x
+    → (text : List ℕ) × (o ≡ Some text) × (read text ≡ Ok x)
+text_ok path read bad None x is = absurd (not_ok _ x (text_or path read bad None) refl is)
+text_ok path read bad (Some text) x is = (text, refl, mapped_ok bad (read text) x is)
 
 pub first_ok : {A : Type 0} (x : A) (r : Result (List A) DocumentFault) (xs : List A) → with_first x r ≡ Ok xs → (ys : List A) × (r ≡ Ok ys) × (x ∷ ys ≡ xs)
 first_ok x (Ok ys) xs is = (ys, refl, same_ok (x ∷ ys) xs (with_first x (Ok ys)) refl is)

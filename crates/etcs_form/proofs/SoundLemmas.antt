@@ -1,6 +1,7 @@
 -- A document that was read has controlled groups. So it has no finding exactly where its line is sound.
 use Rattle.std.proofs.Common.{◌≡◌, ◌+◌, ◌<◌, ◌&&◌, arith, ℕ, List, [], ◌∷◌, length, Option, Some, None, Result, Ok, Err, refl, subst}
-use Rattle.std.specs.Prelude.{◌↔◌, IsOkAnd, codes, nat_le, nat_lt}
+use Rattle.std.specs.Option.{is_some}
+use Rattle.std.specs.Prelude.{◌↔◌, IsOkAnd, codes, if◌then◌else◌, nat_le, nat_lt}
 use Rattle.std.proofs.lemmas.Bool.{and_parts, ltb-true}
 use Rattle.std.proofs.lemmas.Option.{none-some}
 use Rattle.serde_json.specs.Data.{Data}
@@ -12,7 +13,7 @@ use Rattle.etcs_form.proofs.DocumentLemmas.{read_count}
 use Rattle.etcs_form.proofs.ResultLemmas.{if_ok, not_ok, same_ok, then_ok}
 use Rattle.etcs_form.proofs.ValueLemmas.{each_at}
 use Rattle.etcs_form.proofs.VerdictLemmas.{line_read, parts_read}
-use Rattle.etcs_form.specs.Document.{◌then◌, aspect_at, aspects_of, balises_of, controlled_at, each_from, group_at, group_or, groups_of, has_count, in_aspect, in_group, line_of_text, list_at, list_of_aspects, only_aspect, others_of, telegram_at, telegrams_of, with_first}
+use Rattle.etcs_form.specs.Document.{◌then◌, aspect_at, aspects_of, controlled_at, each_from, group_at, groups_of, has_count, in_form, line_of_text, list_at, only_aspect, only_values, others_of, path_of, telegram_at, telegrams_of, with_first}
 use Rattle.etcs_form.specs.DocumentFault.{DocumentFault, bad_aspects, bad_count}
 use Rattle.etcs_form.specs.Verdict.{IsSoundText, counted, counted_of_text, judged}
 use Rattle.etcs_group.specs.Controlled.{IsControlled}
@@ -29,11 +30,11 @@ some_balises g a first ds group is =
     let same = if_ok (has_count first (length ds)) (each_from (telegram_at g a) 0 ds) (bad_aspects g) group few.1 in
     rw (read_count (telegram_at g a) 0 ds group same.1) (ltb-true 0 (length ds) (and_parts _ _ few.0).0)
 
-first_balises : (g : ℕ) (d : Data) (group : List Telegram) → aspect_at g None 0 d ≡ Ok group → 0 < length group
+first_balises : (g : ℕ) (a : Option ℕ) (d : Data) (group : List Telegram) → aspect_at g None a d ≡ Ok group → 0 < length group
 unfolding aspect_at
-first_balises g d group is =
-    let form = then_ok (in_group g (in_aspect 0 (balises_of d))) (telegrams_of g (Some 0) None) group is in
-    some_balises g (Some 0) None form.0 group form.2
+first_balises g a d group is =
+    let form = then_ok (in_form (path_of g a) (only_values (codes "balises") d)) (telegrams_of g a None) group is in
+    some_balises g a None form.0 group form.2
 
 only_is_controlled : (only : List Telegram) → 0 < length only → IsControlled (only ∷ [])
 only_is_controlled only some = record {
@@ -45,23 +46,22 @@ only_is_controlled only some = record {
 only_controlled : (g : ℕ) (d : Data) (aspects : List (List Telegram)) → only_aspect g d ≡ Ok aspects → IsControlled aspects
 unfolding only_aspect
 only_controlled g d aspects is =
-    let read = then_ok (in_group g (balises_of d) then telegrams_of g None None) (λ only. Ok (only ∷ [])) aspects is in
-    let form = then_ok (in_group g (balises_of d)) (telegrams_of g None None) read.0 read.1 in
-    let one : IsControlled (read.0 ∷ []) = only_is_controlled read.0 (some_balises g None None form.0 read.0 form.2) in
+    let read = then_ok (aspect_at g None None d) (λ only. Ok (only ∷ [])) aspects is in
+    let one : IsControlled (read.0 ∷ []) = only_is_controlled read.0 (first_balises g None d read.0 read.1) in
     subst IsControlled (same_ok (read.0 ∷ []) aspects (Ok (read.0 ∷ [])) refl read.2) one
 
 list_controlled : (g : ℕ) (ds : List Data) (aspects : List (List Telegram)) → aspects_of g ds ≡ Ok aspects → IsControlled aspects
 unfolding aspects_of
 list_controlled g [] aspects is = absurd (not_ok (bad_aspects g) aspects (Err (bad_aspects g)) refl is)
 list_controlled g (d ∷ ds) aspects is =
-    let first = then_ok (aspect_at g None 0 d) (λ f. with_first f (others_of g (length f) ds)) aspects is in
-    controlled_first g first.0 ds aspects (first_balises g d first.0 first.1) first.2
+    let first = then_ok (aspect_at g None (Some 0) d) (λ f. with_first f (others_of g (length f) ds)) aspects is in
+    controlled_first g first.0 ds aspects (first_balises g (Some 0) d first.0 first.1) first.2
 
-or_controlled : (g : ℕ) (d : Data) (o : Option Data) (aspects : List (List Telegram)) → group_or g d o ≡ Ok aspects → IsControlled aspects
+or_controlled : (g : ℕ) (d : Data) (o : Option Data) (aspects : List (List Telegram)) → (if is_some o then controlled_at g d else only_aspect g d) ≡ Ok aspects → IsControlled aspects
 unfolding controlled_at
 or_controlled g d None aspects is = only_controlled g d aspects is
 or_controlled g d (Some list) aspects is =
-    let form = then_ok (in_group g (list_of_aspects d)) (aspects_of g) aspects is in
+    let form = then_ok (in_form (path_of g None) (only_values (codes "aspects") d)) (aspects_of g) aspects is in
     list_controlled g form.0 aspects form.2
 
 group_controlled : (g : ℕ) (d : Data) (aspects : List (List Telegram)) → group_at g d ≡ Ok aspects → IsControlled aspects

@@ -1,5 +1,5 @@
 -- A text's tokens, read as a value a step at a time.
-use Rattle.std.proofs.Common.{◌≡◌, ℕ, ◌-◌, ◌<◌, ◌≤◌, List, [], ◌∷◌, ◌++◌, length, Option, Some, None, Result, Ok, Err, option_map, option_and_then, refl, ap, ◌∙◌, arith}
+use Rattle.std.proofs.Common.{◌≡◌, ℕ, ◌-◌, ◌<◌, ◌≤◌, List, [], ◌∷◌, ◌++◌, length, Option, Some, None, option_map, refl, ap, ◌∙◌, arith}
 use Rattle.std.specs.Prelude.{IfSome}
 use Rattle.json.proofs.Grammar.{items_end, items_more, left, members_more, read_key-shorter, skip_value-shorter, value-begin_array}
 use Rattle.json.specs.Json as json
@@ -8,9 +8,8 @@ use Rattle.json.specs.Token.{Token}
 use Rattle.serde_json.specs.Data.{Data, Items, Members, array, item, no_items, no_members, object, put}
 use Rattle.serde_json.specs.Read.{converted, of_items, of_json, of_members}
 use Rattle.etcs_json.specs.Entries.{Entry, put_or}
-use Rattle.etcs_json.specs.Fault.{Fault}
 use Rattle.etcs_json.specs.Reading.{data_list}
-use Rattle.etcs_form.specs.Tokens.{AreForms, HasItems, HasList, HasMembers, before, first_record, first_value, items_after, items_onto}
+use Rattle.etcs_form.specs.Tokens.{HasItems, HasMembers, first_value, items_after, items_onto}
 
 -- ---- what was converted
 
@@ -49,32 +48,9 @@ with_member k j d old e (Some p) = rw e
 
 -- ---- one value
 
-read_before : {X : Type 0} (r : Result X Fault) (x : X) (rest new : List Token) → before rest r ≡ Some (x, new) → (rest ≡ new) × (r ≡ Ok x)
-read_before (Ok y) x rest new e = let same = ap (pick (y, rest)) e in (ap (λ p. p.1) same, ap (λ p. Ok p.0) same)
-read_before (Err f) x rest new e = absurd (cc)
-
-taken : {X : Type 0} (of : Data → Result X Fault) (o : Option (Data × List Token)) (x : X) (new : List Token) → option_and_then (λ p. before p.1 (of p.0)) o ≡ Some (x, new)
-    → (d : Data) × (o ≡ Some (d, new)) × (of d ≡ Ok x)
-taken of None x new e = absurd (cc)
-taken of (Some p) x new e = let both = read_before (of p.0) x p.1 new e in (p.0, ap (λ s. Some (p.0, s)) both.0, both.1)
-
--- the value behind a record
-pub record_form : {X : Type 0} (of : Data → Result X Fault) (depth : ℕ) (old : List Token) (x : X) (new : List Token) → first_record of depth old ≡ Some (x, new)
-    → (d : Data) × (first_value depth old ≡ Some (d, new)) × (of d ≡ Ok x)
-unfolding first_record
-record_form of depth old x new e = taken of (first_value depth old) x new e
-
-pub form_record : {X : Type 0} (of : Data → Result X Fault) (depth : ℕ) (old : List Token) (x : X) (new : List Token) (d : Data) → first_value depth old ≡ Some (d, new) → of d ≡ Ok x
-    → first_record of depth old ≡ Some (x, new)
-unfolding first_record
-form_record of depth old x new d e is = ap (option_and_then (λ p. before p.1 (of p.0))) e ∙ ap (before new) is
-
-value_shorter : (depth : ℕ) (old new : List Token) (d : Data) → first_value depth old ≡ Some (d, new) → length new < length old
+pub value_shorter : (depth : ℕ) (old new : List Token) (d : Data) → first_value depth old ≡ Some (d, new) → length new < length old
 value_shorter depth old new d e =
     let j = converted_some of_json (value depth old) d new e in skip_value-shorter depth old new (ap left j.1)
-
-pub record_shorter : {X : Type 0} (of : Data → Result X Fault) (depth : ℕ) (old : List Token) (x : X) (new : List Token) → first_record of depth old ≡ Some (x, new) → length new < length old
-record_shorter of depth old x new e = let f = record_form of depth old x new e in value_shorter depth old new f.0 f.1
 
 -- ---- members
 
@@ -105,12 +81,8 @@ nothing_after : (o : Option (Items × List Token)) → o ≡ items_after [] o
 nothing_after None = refl
 nothing_after (Some p) = refl
 
-pub no_items_yet : {X : Type 0} (of : Data → Result X Fault) (depth : ℕ) (old : List Token) → HasItems of depth old [] old
-no_items_yet of depth old = record {
-  found = [];
-  one_by_one = λ turns enough. (turns, enough, nothing_after (converted of_items (items (value depth) turns old)));
-  reads = tt;
-}
+pub no_items_yet : (depth : ℕ) (old : List Token) → HasItems depth [] old old
+no_items_yet depth old = record { one_by_one = λ turns enough. (turns, enough, nothing_after (converted of_items (items (value depth) turns old))) }
 
 onto_more : (ds : List Data) (d : Data) (rest : Items) → items_onto ds (item d rest) ≡ items_onto (ds ++ d ∷ []) rest
 onto_more [] d rest = refl
@@ -120,48 +92,32 @@ after_more : (ds : List Data) (d : Data) (o : Option (Items × List Token)) → 
 after_more ds d None = refl
 after_more ds d (Some p) = ap (λ is. Some (is, p.1)) (onto_more ds d p.0)
 
-forms_more : {X : Type 0} (of : Data → Result X Fault) (ds : List Data) (xs : List X) (d : Data) (x : X) → AreForms of ds xs → of d ≡ Ok x → AreForms of (ds ++ d ∷ []) (xs ++ x ∷ [])
-forms_more of [] [] d x are is = (is, tt)
-forms_more of [] (y ∷ ys) d x are is = absurd are
-forms_more of (e ∷ ds) [] d x are is = absurd are
-forms_more of (e ∷ ds) (y ∷ ys) d x are is = (are.0, forms_more of ds ys d x are.1 is)
-
 -- one item more
-pub item_more : {X : Type 0} (of : Data → Result X Fault) (depth : ℕ) (old : List Token) (xs ys : List X) (x : X) (mid new : List Token) → HasItems of depth old xs mid → after_end_array mid ≡ None
-    → first_record of depth mid ≡ Some (x, new) → ys ≡ xs ++ x ∷ [] → HasItems of depth old ys new
-item_more of depth old xs ys x mid new some going e pushed =
-    let form = record_form of depth mid x new e in
-    let d = form.0 in
-    let j = converted_some of_json (value depth mid) d new form.1 in
-    let fewer : length new < length mid = value_shorter depth mid new d form.1 in
-    rw pushed record {
-      found = some.found ++ d ∷ [];
+pub item_more : (depth : ℕ) (ds : List Data) (d : Data) (old mid new : List Token) → HasItems depth ds old mid → after_end_array mid ≡ None → first_value depth mid ≡ Some (d, new)
+    → HasItems depth (ds ++ d ∷ []) old new
+item_more depth ds d old mid new some going e =
+    let j = converted_some of_json (value depth mid) d new e in
+    let fewer : length new < length mid = value_shorter depth mid new d e in
+    record {
       one_by_one = λ turns enough.
           let a = some.one_by_one turns enough in
           let more : 0 < a.0 = omega (arith, a.1) in
           let rest : length new ≤ a.0 - 1 = omega (arith, a.1) in (
             a.0 - 1,
             rest,
-            a.2 ∙ ap (items_after some.found) (ap (converted of_items) (items_more (value depth) a.0 mid new j.0 more going j.1) ∙ with_item j.0 d j.2 _)
-                ∙ after_more some.found d _,
+            a.2 ∙ ap (items_after ds) (ap (converted of_items) (items_more (value depth) a.0 mid new j.0 more going j.1) ∙ with_item j.0 d j.2 _) ∙ after_more ds d _,
           );
-      reads = forms_more of some.found xs d x some.reads form.2;
     }
 
 -- the items between the two marks of a list
-pub list_stands : {X : Type 0} (of : Data → Result X Fault) (depth : ℕ) (old begun ended new : List Token) (xs : List X) → 0 < depth → old ≡ Token.begin_array ∷ begun
-    → HasItems of (depth - 1) begun xs ended → after_end_array ended ≡ Some new → HasList of depth old xs new
-list_stands of depth old begun ended new xs deep begins some ends =
+pub list_stands : (depth : ℕ) (ds : List Data) (old begun ended new : List Token) → 0 < depth → old ≡ Token.begin_array ∷ begun
+    → HasItems (depth - 1) ds begun ended → after_end_array ended ≡ Some new → first_value depth old ≡ Some (array (items_onto ds no_items), new)
+list_stands depth ds old begun ended new deep begins some ends =
     let p = value (depth - 1) in
     let turn = some.one_by_one (length begun) (omega arith) in
-    let over = ap (λ o. items_after some.found (converted of_items o)) (items_end p turn.0 ended new turn.1 ends) in
-    record {
-      found = some.found;
-      stands =
-          ap (λ ts. first_value depth ts) begins ∙ ap (converted of_json) (value-begin_array depth begun deep)
-          ∙ converted-array (items p (length begun) begun) ∙ ap (parse_map array) (turn.2 ∙ over);
-      reads = some.reads;
-    }
+    let over = ap (λ o. items_after ds (converted of_items o)) (items_end p turn.0 ended new turn.1 ends) in
+    ap (λ ts. first_value depth ts) begins ∙ ap (converted of_json) (value-begin_array depth begun deep)
+    ∙ converted-array (items p (length begun) begun) ∙ ap (parse_map array) (turn.2 ∙ over)
 
 pub same_list : (ds : List Data) → data_list (items_onto ds no_items) ≡ ds
 same_list [] = refl

@@ -1,20 +1,22 @@
 -- What was read stands in the values of a document.
-use Rattle.std.proofs.Common.{◌≡◌, ◌+◌, ◌∙◌, ℕ, zero, suc, List, [], ◌∷◌, Option, Some, None, Result, Ok, refl, ap, sym, subst, arith, add-zero}
+use Rattle.std.proofs.Common.{◌≡◌, ◌+◌, ◌∙◌, ℕ, zero, suc, List, [], ◌∷◌, Option, Some, None, Result, Ok, Err, refl, ap, sym, subst, arith, add-zero}
+use Rattle.std.specs.Option.{ok_or}
+use Rattle.std.specs.Prelude.{option_map}
 use Rattle.std.proofs.lemmas.Option.{none-some, same_Some}
 use Rattle.serde_json.specs.Data.{Data, Items, array, boolean, item, no_items, null, number, object, string}
 use Rattle.serde_json.specs.Find.{as_array, at, get, get_item}
 use Rattle.etcs_form.proofs.ResultLemmas.{first_ok, not_ok, same_ok, then_ok}
-use Rattle.etcs_form.specs.Document.{each_from, values_of, values_or, with_first}
+use Rattle.etcs_form.specs.Document.{each_from, values_of, with_first}
 use Rattle.etcs_form.specs.DocumentFault.{DocumentFault}
-use Rattle.etcs_json.specs.Fault.{Step, key, under}
+use Rattle.etcs_json.specs.Fault.{Kind, Step, here, key, under}
 use Rattle.etcs_json.specs.Reading.{at_key, data_list, key_or}
 use Rattle.etcs_group.specs.Places.{At}
 
 -- ---- lists at keys
 
-values_in : (step : Step) (o : Option Items) (ds : List Data) → under step (values_or o) ≡ Ok ds → (items : Items) × (o ≡ Some items) × (data_list items ≡ ds)
-values_in step None ds is = absurd (not_ok _ ds (under step (values_or None)) refl is)
-values_in step (Some items) ds is = (items, refl, same_ok (data_list items) ds (under step (values_or (Some items))) refl is)
+values_in : (step : Step) (o : Option Items) (ds : List Data) → under step (ok_or (option_map data_list o) (here Kind)) ≡ Ok ds → (items : Items) × (o ≡ Some items) × (data_list items ≡ ds)
+values_in step None ds is = absurd (not_ok _ ds (under step (Err (here Kind))) refl is)
+values_in step (Some items) ds is = (items, refl, same_ok (data_list items) ds (under step (Ok (data_list items))) refl is)
 
 abbrev pub IsListAt : List ℕ → Option Data → List Data → Type 0
 IsListAt name o ds = (v : Data) × (items : Items) × (o ≡ Some v) × (as_array v ≡ Some items) × (data_list items ≡ ds)

@@ -1,53 +1,46 @@
 -- What a yes says follows from the soundness of the line, and from how its document was read.
-use Rattle.std.proofs.Common.{◌≡◌, ◌+◌, ◌∙◌, ℕ, Bool, List, [], ◌∷◌, Option, Some, None, Result, Ok, Err, refl, ap}
+use Rattle.std.proofs.Common.{◌≡◌, ◌+◌, ◌∙◌, ℕ, Bool, List, [], ◌∷◌, Some, Ok, refl, ap}
 use Rattle.std.specs.Prelude.{IsSomeAnd, codes}
 use Rattle.serde_json.specs.Data.{Data}
 use Rattle.serde_json.specs.Find.{as_str}
 use Rattle.etcs_check.specs.Soundness.{IsSoundLine, IsSoundMessage}
 use Rattle.etcs_form.proofs.BaliseLemmas.{some_and, telegrams_read}
-use Rattle.etcs_form.proofs.ResultLemmas.{form_ok, not_ok, same_ok, then_ok}
+use Rattle.etcs_form.proofs.ResultLemmas.{form_ok, same_ok, text_ok, then_ok}
 use Rattle.etcs_form.proofs.ValueLemmas.{each_at, list_read, stands}
-use Rattle.etcs_form.specs.Document.{◌then◌, as_item, each_from, groups_of, in_form, json_of, line_of, line_of_text, list_at, message_at, message_or, messages_of}
+use Rattle.etcs_form.specs.Document.{◌then◌, each_from, groups_of, in_form, json_of, line_of, line_of_text, list_at, message_at, messages_of}
+use Rattle.etcs_form.specs.DocumentFault.{bad_message}
 use Rattle.etcs_json.specs.Reading.{object_with}
-use Rattle.etcs_form.specs.Verdict.{AreMixturesDecided, IsOnlyMessage, IsReachedMessage, SaysYes, message_text}
+use Rattle.etcs_form.specs.Verdict.{AreMixturesDecided, IsOnlyTextOf, IsReachedMessage, SaysYes, message_text}
 use Rattle.etcs_group.specs.Laws.{IsDecided}
 use Rattle.etcs_group.specs.Missed.{IsSetOf}
 use Rattle.etcs_group.specs.Places.{At}
 use Rattle.etcs_group.specs.Reading.{reading_of}
 use Rattle.etcs_packet.specs.declared.run.Run.{Run}
 use Rattle.etcs_radio.proofs.TextLemmas.{means_text, text_meaning}
+use Rattle.etcs_radio.specs.Text.{IsMessageText}
 use Rattle.etcs_radio.specs.TextMeaning.{message_of_text}
-use Rattle.etcs_radio.specs.declared.error.RadioTextError.{RadioTextError}
 use Rattle.etcs_radio.specs.declared.message.Message.{Message}
 use Rattle.etcs_radio.specs.declared.message.Message.TheVariants as messages
 use Rattle.etcs_telegram.specs.Record.{Telegram}
 
 -- ---- messages
 
-item_ok : (m : ℕ) (r : Result Message RadioTextError) (x : Message) → as_item m r ≡ Ok x → r ≡ Ok x
-item_ok m (Ok y) x is = ap Ok (same_ok y x (as_item m (Ok y)) refl is)
-item_ok m (Err e) x is = absurd (not_ok _ x (as_item m (Err e)) refl is)
-
-message_found : (m : ℕ) (o : Option (List ℕ)) (x : Message) → message_or m o ≡ Ok x → (text : List ℕ) × (o ≡ Some text) × (message_of_text text ≡ Ok x)
-message_found m None x is = absurd (not_ok _ x (message_or m None) refl is)
-message_found m (Some text) x is = (text, refl, item_ok m (message_of_text text) x is)
-
 message_in : (m : ℕ) (u : Data) (x : Message) → message_at m u ≡ Ok x → (text : List ℕ) × (as_str u ≡ Some text) × (message_of_text text ≡ Ok x)
 unfolding message_at
-message_in m u x is = message_found m (as_str u) x is
+message_in m u x is = text_ok _ message_of_text (bad_message m) (as_str u) x is
 
-only_message : (text : List ℕ) (m : Message) → message_of_text text ≡ Ok m → IsOnlyMessage text m
+only_message : (text : List ℕ) (m : Message) → message_of_text text ≡ Ok m → IsOnlyTextOf IsMessageText m text
 only_message text m is = record {
   is = means_text m text is;
   only = λ u read. same_ok u m (message_of_text text) (text_meaning u text read) is;
 }
 
 -- each message is the one of its text
-pub messages_read : (d : Data) (ms : List Message) → messages_of d ≡ Ok ms → (i : ℕ) (m : Message) → At ms i m → IsSomeAnd (message_text d i) (λ text. IsOnlyMessage text m)
+pub messages_read : (d : Data) (ms : List Message) → messages_of d ≡ Ok ms → (i : ℕ) (m : Message) → At ms i m → IsSomeAnd (message_text d i) (IsOnlyTextOf IsMessageText m)
 unfolding messages_of
 messages_read d ms is i m here =
     let list = then_ok (list_at (codes "messages") d) (each_from message_at 0) ms is in
-    let values = list_read (codes "messages") d list.0 (form_ok _ list.0 list.1) in
+    let values = list_read (codes "messages") d list.0 (form_ok [] _ list.0 list.1) in
     let one = each_at message_at 0 list.0 ms list.2 i m here in
     let place_of = stands (codes "messages") d list.0 i one.0 values one.1 in
     let text = message_in (0 + i) one.0 m one.2 in
@@ -62,7 +55,7 @@ line_read bytes line is = then_ok (json_of bytes) line_of line is
 pub parts_read : (d : Data) (groups : List (List (List Telegram))) (ms : List Message) → line_of d ≡ Ok (groups, ms) → (groups_of d ≡ Ok groups) × (messages_of d ≡ Ok ms)
 unfolding line_of
 parts_read d groups ms is =
-    let form = in_form (object_with (codes "groups" ∷ codes "messages" ∷ []) d) in
+    let form = in_form [] (object_with (codes "groups" ∷ codes "messages" ∷ []) d) in
     let first = then_ok (form then λ _. groups_of d) (λ gs. messages_of d then λ xs. Ok (gs, xs)) (groups, ms) is in
     let before = then_ok form (λ _. groups_of d) first.0 first.1 in
     let last = then_ok (messages_of d) (λ xs. Ok (first.0, xs)) (groups, ms) first.2 in
@@ -90,9 +83,9 @@ says_yes bytes groups ms is sound decided mixtures =
       line = whole.2;
       telegrams = telegrams_read whole.0 groups parts.0;
       messages_read = messages_read whole.0 ms parts.1;
-      accepted = λ g a aspects group run missed here within set. let d = decided g a aspects group run missed here within set in (d.accepted.1, d.accepted.0);
-      same = λ g a aspects group run missed here within set covered. (((sound.sound g aspects here).sound a group within).readings run missed set covered).same;
-      reached = λ g a aspects group run missed here within set covered. (((sound.sound g aspects here).sound a group within).readings run missed set covered).reached;
+      readings = λ g a aspects group run missed here within set.
+          let same = (decided g a aspects group run missed here within set).accepted in
+          record { accepted = (same.1, same.0); sound = ((sound.sound g aspects here).sound a group within).readings run missed set };
       mixtures = mixtures;
       messages_reached = λ i m here. reached m (sound.messages_sound i m here);
       sound = sound;

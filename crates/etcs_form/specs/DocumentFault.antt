@@ -1,6 +1,6 @@
 -- What is wrong with bytes that are no document of a railway line, and where. Groups, aspects, balises
 -- and messages count from 0.
-use Rattle.std.specs.Prelude.{◌≡◌, ℕ, Result, Ok, Err, IsSomeAnd}
+use Rattle.std.specs.Prelude.{◌≡◌, ℕ, Option, Some, None, Result, Ok, Err, IsSomeAnd}
 use Rattle.etcs_json.specs.Fault.{Fault, fault_of}
 use Rattle.etcs_json.specs.declared.error.FormError.{FormError}
 use Rattle.etcs_json.specs.declared.error.FormError.TheVariants as forms
@@ -11,16 +11,19 @@ use Rattle.etcs_radio.specs.declared.error.RadioTextError.TheVariants as radio
 use Rattle.etcs_telegram.specs.declared.error.TextError.{TextError}
 use Rattle.etcs_telegram.specs.declared.error.TextError.TheVariants as texts
 
--- the bytes are no JSON, the value has not the form of a line, a group has no balise or too many, it has
--- no aspect or two whose counts of balises differ, the text of a balise in a group or in an aspect of
--- one is no telegram, or the text of a message is no message
+-- what is wrong with the bytes
 pub data DocumentFault : Type 0 where
+  -- they are no JSON
   no_json : DocumentFault
+  -- the value has not the form of a line
   bad_form : Fault → DocumentFault
+  -- this group has no balise, or more than eight
   bad_count : ℕ → DocumentFault
+  -- this group has an empty list of aspects, or aspects whose counts of balises differ
   bad_aspects : ℕ → DocumentFault
-  bad_telegram : ℕ → ℕ → TextError → DocumentFault
-  bad_aspect_telegram : ℕ → ℕ → ℕ → TextError → DocumentFault
+  -- in this group, and in this aspect of it if it has such a list, the text of this balise is no telegram
+  bad_telegram : ℕ → Option ℕ → ℕ → TextError → DocumentFault
+  -- the text of this message is no message
   bad_message : ℕ → RadioTextError → DocumentFault
 
 -- ---- the fault of an error
@@ -34,15 +37,11 @@ Fails (errors.Form e) reading = IsSomeAnd (fault_of e) (λ f. reading ≡ Err (b
 Fails (errors.Count g) reading = reading ≡ Err (bad_count g)
 Fails (errors.Aspects g) reading = reading ≡ Err (bad_aspects g)
 Fails (errors.Telegram g b texts.Memory) reading = ⊥
-Fails (errors.Telegram g b e) reading = reading ≡ Err (bad_telegram g b e)
+Fails (errors.Telegram g b e) reading = reading ≡ Err (bad_telegram g None b e)
 Fails (errors.AspectTelegram g a b texts.Memory) reading = ⊥
-Fails (errors.AspectTelegram g a b e) reading = reading ≡ Err (bad_aspect_telegram g a b e)
+Fails (errors.AspectTelegram g a b e) reading = reading ≡ Err (bad_telegram g (Some a) b e)
 Fails (errors.Message m radio.Memory) reading = ⊥
 Fails (errors.Message m e) reading = reading ≡ Err (bad_message m e)
-
--- the error is this fault, unless memory ran out
-abbrev pub IsFault : LineError → DocumentFault → Type 0
-IsFault e f = Fails {Y = Unit {0}} e (Err f)
 
 -- the error of a document whose form has this error
 abbrev pub IsOfForm : FormError → LineError → Type 0

@@ -1,10 +1,10 @@
 -- The document of a railway line read from the tokens of its text, and checked group by group and message by
 -- message, with no value and no line built for it. A text that this reader does not know is left to that of values.
-use Rattle.std.specs.Prelude.{◌≡◌, ℕ, true, List, [], ◌∷◌, length, Option, Some, Ok}
+use Rattle.std.specs.Prelude.{◌≡◌, ℕ, true, List, [], ◌∷◌, codes, length, Option, Some, Ok}
 use Rattle.json.specs.Token.{Token}
 use Rattle.serde_json.specs.Data.{Data, array, no_items}
 use Rattle.etcs_check.specs.LineChecker.{HasChecked, Kept}
-use Rattle.etcs_form.specs.Document.{aspects_of, balises_of, group_at, has_count, line_of, message_at, telegram_at, telegrams_of, values_of}
+use Rattle.etcs_form.specs.Document.{aspects_of, group_at, has_count, line_of, message_at, only_values, telegram_at, telegrams_of, values_of}
 use Rattle.etcs_json.specs.Entries.{Entry, object_of}
 use Rattle.etcs_form.specs.Tokens.{HasItems, HasMembers, first_value, items_onto}
 use Rattle.etcs_radio.specs.declared.message.Message.{Message}
@@ -35,7 +35,7 @@ IsOnlyAspect d aspects = (group : List Telegram) × (aspects ≡ group ∷ []) �
 
 -- the object with these balises
 abbrev pub IsAspect : Data → List Telegram → Type 0
-IsAspect d group = (ds : List Data) × (balises_of d ≡ Ok ds) × AreBalises ds group
+IsAspect d group = (ds : List Data) × (only_values (codes "balises") d ≡ Ok ds) × AreBalises ds group
 
 -- the list of these aspects
 abbrev pub IsAspects : Data → List (List Telegram) → Type 0
@@ -63,7 +63,7 @@ AreEach Is (d ∷ ds) (x ∷ xs) = Is d x × AreEach Is ds xs
 -- the first items that the tokens have are those of xs
 pub record AreFirst {X : Type 0} (Is : Data → X → Type 0) (depth : ℕ) (old : List Token) (xs : List X) (new : List Token) : Type 0 where
   pub found : List Data
-  pub stand : HasItems (λ d. Ok d) depth old found new
+  pub stand : HasItems depth found old new
   pub are : AreEach Is found xs
 
 -- the list of these

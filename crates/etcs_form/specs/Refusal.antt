@@ -1,14 +1,14 @@
 -- The lines that tell why an input is refused. The words are this project's. Want of memory is no reason
 -- to refuse an input, and has no words.
-use Rattle.std.specs.Prelude.{◌++◌, ℕ, List, [], codes, decimal, map, Option, Some, None}
+use Rattle.std.specs.Prelude.{◌++◌, ℕ, List, [], codes, decimal}
+use Rattle.std.specs.Option.{option_map_or}
 use Rattle.etcs_bits.specs.layout.FaultWords.{fault_words}
 use Rattle.etcs_telegram.specs.declared.error.TextError.{TextError}
 use Rattle.etcs_telegram.specs.declared.error.TextError.TheVariants as texts
 use Rattle.etcs_radio.specs.declared.error.RadioTextError.{RadioTextError}
 use Rattle.etcs_radio.specs.declared.error.RadioTextError.TheVariants as radio
-use Rattle.etcs_json.specs.Fault.{Fault, Reason, Missing, Unknown, Kind, Range, fault_of, step_of}
+use Rattle.etcs_json.specs.Fault.{Fault, Reason, Missing, Unknown, Kind, Range, fault_of}
 use Rattle.etcs_json.specs.Path.{path_words}
-use Rattle.etcs_json.specs.declared.error.Step.{Step as CodeStep}
 use Rattle.etcs_json.specs.declared.error.FormError.{FormError}
 use Rattle.etcs_form.specs.declared.line_error.LineError.{LineError}
 use Rattle.etcs_form.specs.declared.line_error.LineError.TheVariants as documents
@@ -47,17 +47,9 @@ reason_words Range = codes "range"
 abbrev pub fault_told : Fault → List ℕ
 fault_told f = codes "form " ++ (reason_words f.reason ++ (codes " at " ++ path_words f.path))
 
--- a form's refusal, by the words of the reason and the path
-abbrev pub form_fault : List ℕ → List CodeStep → List ℕ
-form_fault reason path = codes "form " ++ (reason ++ (codes " at " ++ path_words (map step_of path)))
-
--- the words of the fault, if there is one
-abbrev pub told_if : Option Fault → List ℕ
-told_if None = []
-told_if (Some f) = fault_told f
-
+-- the words of the error's fault, if it has one
 abbrev pub form_words : FormError → List ℕ
-form_words e = told_if (fault_of e)
+form_words e = option_map_or fault_told (fault_of e) []
 
 -- ---- the lines
 

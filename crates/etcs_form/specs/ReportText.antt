@@ -11,43 +11,24 @@ use Rattle.etcs_check.specs.declared.finding.Site.TheVariants as sites
 
 -- ---- the rules
 
--- the number of a rule
-unfoldable pub rule_number : Rule → List ℕ
-rule_number rules.PositionWrong = codes "F1"
-rule_number rules.TotalWrong = codes "F2"
-rule_number rules.HeaderDiffers = codes "F3"
-rule_number rules.MarkOutside = codes "F4"
-rule_number rules.MarkUnanswered = codes "F5"
-rule_number rules.CounterUnfit = codes "F6"
-rule_number rules.CountersDiffer = codes "F7"
-rule_number rules.DuplicatesDiffer = codes "F8"
-rule_number rules.NotModelled = codes "F9"
-rule_number rules.NoGradient = codes "F10"
-rule_number rules.GradientShort = codes "F11"
-rule_number rules.NoSpeed = codes "F12"
-rule_number rules.SpeedShort = codes "F13"
-rule_number rules.IdentityUsed = codes "F14"
-rule_number rules.MarksDiffer = codes "F15"
-rule_number rules.NotToldApart = codes "F16"
-
--- the name of what a rule finds
-unfoldable pub rule_name : Rule → List ℕ
-rule_name rules.PositionWrong = codes "position wrong"
-rule_name rules.TotalWrong = codes "total wrong"
-rule_name rules.HeaderDiffers = codes "version, identity or link flag differs"
-rule_name rules.MarkOutside = codes "mark points outside"
-rule_name rules.MarkUnanswered = codes "mark not answered"
-rule_name rules.CounterUnfit = codes "counter 254"
-rule_name rules.CountersDiffer = codes "counters differ"
-rule_name rules.DuplicatesDiffer = codes "packets of duplicates differ"
-rule_name rules.NotModelled = codes "packet not modelled"
-rule_name rules.NoGradient = codes "no gradient"
-rule_name rules.GradientShort = codes "gradient short"
-rule_name rules.NoSpeed = codes "no speed profile"
-rule_name rules.SpeedShort = codes "speed profile short"
-rule_name rules.IdentityUsed = codes "identity used before"
-rule_name rules.MarksDiffer = codes "marks differ between aspects"
-rule_name rules.NotToldApart = codes "aspects not told apart"
+-- the number of a rule, and the name of what it finds
+unfoldable pub rule_words : Rule → List ℕ × List ℕ
+rule_words rules.PositionWrong = (codes "F1", codes "position wrong")
+rule_words rules.TotalWrong = (codes "F2", codes "total wrong")
+rule_words rules.HeaderDiffers = (codes "F3", codes "version, identity or link flag differs")
+rule_words rules.MarkOutside = (codes "F4", codes "mark points outside")
+rule_words rules.MarkUnanswered = (codes "F5", codes "mark not answered")
+rule_words rules.CounterUnfit = (codes "F6", codes "counter 254")
+rule_words rules.CountersDiffer = (codes "F7", codes "counters differ")
+rule_words rules.DuplicatesDiffer = (codes "F8", codes "packets of duplicates differ")
+rule_words rules.NotModelled = (codes "F9", codes "packet not modelled")
+rule_words rules.NoGradient = (codes "F10", codes "no gradient")
+rule_words rules.GradientShort = (codes "F11", codes "gradient short")
+rule_words rules.NoSpeed = (codes "F12", codes "no speed profile")
+rule_words rules.SpeedShort = (codes "F13", codes "speed profile short")
+rule_words rules.IdentityUsed = (codes "F14", codes "identity used before")
+rule_words rules.MarksDiffer = (codes "F15", codes "marks differ between aspects")
+rule_words rules.NotToldApart = (codes "F16", codes "aspects not told apart")
 
 -- ---- where a finding stands
 
@@ -56,20 +37,10 @@ unfoldable pub site_words : Site → List ℕ
 site_words (sites.Group g) = codes " group " ++ decimal g
 site_words (sites.Message m) = codes " message " ++ decimal m
 
--- the aspect, where the finding has one
-unfoldable pub aspect_words : Option ℕ → List ℕ
-aspect_words None = []
-aspect_words (Some a) = codes " aspect " ++ decimal a
-
--- the balise, where the finding has one
-unfoldable pub balise_words : Option ℕ → List ℕ
-balise_words None = []
-balise_words (Some b) = codes " balise " ++ decimal b
-
--- the packet, where the finding has one
-unfoldable pub packet_words : Option ℕ → List ℕ
-packet_words None = []
-packet_words (Some k) = codes " packet " ++ decimal k
+-- the aspect, the balise or the packet, where the finding has one: its word, and its number
+unfoldable pub part_words : List ℕ → Option ℕ → List ℕ
+part_words word None = []
+part_words word (Some n) = codes " " ++ (word ++ (codes " " ++ decimal n))
 
 -- the running direction, where the finding has one
 unfoldable pub direction_words : Option Run → List ℕ
@@ -81,14 +52,15 @@ direction_words (Some runs.Reverse) = codes " reverse"
 unfoldable pub place_words : Finding → List ℕ
 place_words f =
     site_words f.site
-    ++ (aspect_words f.aspect ++ (balise_words f.balise ++ (packet_words f.packet ++ direction_words f.dir)))
+    ++ (part_words (codes "aspect") f.aspect ++ (part_words (codes "balise") f.balise
+    ++ (part_words (codes "packet") f.packet ++ direction_words f.dir)))
 
 -- ---- the lines
 
 -- the line that tells a finding: its number, where it stands, and its name
 unfoldable pub finding_words : Finding → List ℕ
 finding_words f =
-    rule_number f.rule ++ (place_words f ++ (codes ": " ++ (rule_name f.rule ++ codes "\n")))
+    (rule_words f.rule).0 ++ (place_words f ++ (codes ": " ++ ((rule_words f.rule).1 ++ codes "\n")))
 
 -- the lines that tell findings
 abbrev pub findings_words : List Finding → List ℕ

@@ -6,7 +6,7 @@ use Rattle.serde_json.specs.Find.{as_str, at, get}
 use Rattle.etcs_check.specs.Laws.{NamesTheUnsound}
 use Rattle.etcs_check.specs.Line.{findings}
 use Rattle.etcs_check.specs.Profiles.{AreReached}
-use Rattle.etcs_check.specs.Soundness.{IsSoundLine}
+use Rattle.etcs_check.specs.Soundness.{IsSoundLine, IsSoundReading}
 use Rattle.etcs_check.specs.declared.finding.Finding.{Finding}
 use Rattle.etcs_form.specs.Document.{◌then◌, json_of, line_of, line_of_text}
 use Rattle.etcs_form.specs.DocumentFault.{DocumentFault}
@@ -14,9 +14,8 @@ use Rattle.etcs_form.specs.declared.line_error.LineError.{LineError}
 use Rattle.etcs_form.specs.declared.verdict.Verdict.{Verdict}
 use Rattle.etcs_group.specs.Assembly.{IsAccepted}
 use Rattle.etcs_group.specs.Laws.{IsMixtureDecided}
-use Rattle.etcs_group.specs.Missed.{IsCovered, IsSetOf, none_missed}
+use Rattle.etcs_group.specs.Missed.{IsCovered, IsSetOf}
 use Rattle.etcs_group.specs.Mixture.{Fits}
-use Rattle.etcs_group.specs.Packets.{packets_of}
 use Rattle.etcs_group.specs.Places.{At}
 use Rattle.etcs_group.specs.Reading.{reading_of}
 use Rattle.etcs_packet.specs.Track.{holds}
@@ -71,29 +70,24 @@ NamesTheUnsoundIn bytes found = IsOkAnd (line_of_text bytes) (λ line. NamesTheU
 abbrev pub aspect_in : ℕ → Data → Option Data
 aspect_in a group = option_map_or (at a) (get (codes "aspects") group) (Some group)
 
--- the text of balise b in an object with balises, if there is one
-abbrev pub balise_in : ℕ → Data → Option (List ℕ)
-balise_in b aspect = option_and_then as_str (option_and_then (at b) (get (codes "balises") aspect))
+-- the text of item i of the list at a key of an object, if there is one
+abbrev pub text_in : List ℕ → ℕ → Data → Option (List ℕ)
+text_in name i d = option_and_then as_str (option_and_then (at i) (get name d))
 
 -- the text of balise b in aspect a of group g in a document, if there is one
 abbrev pub balise_text : Data → ℕ → ℕ → ℕ → Option (List ℕ)
 balise_text d g a b =
-    option_and_then (balise_in b)
+    option_and_then (text_in (codes "balises") b)
     (option_and_then (aspect_in a) (option_and_then (at g) (get (codes "groups") d)))
 
 -- the text of message m in a document, if there is one
 abbrev pub message_text : Data → ℕ → Option (List ℕ)
-message_text d m = option_and_then as_str (option_and_then (at m) (get (codes "messages") d))
+message_text d m = text_in (codes "messages") m d
 
--- the text is this telegram, and no other
-pub record IsOnlyTelegram (text : List ℕ) (t : Telegram) : Type 0 where
-  pub is : IsTelegramText t text
-  pub only : (u : Telegram) → IsTelegramText u text → u ≡ t
-
--- the text is this message, and no other
-pub record IsOnlyMessage (text : List ℕ) (m : Message) : Type 0 where
-  pub is : IsMessageText m text
-  pub only : (u : Message) → IsMessageText u text → u ≡ m
+-- the text is that of this record, and of no other
+pub record IsOnlyTextOf {X : Type 0} (Is : X → List ℕ → Type 0) (x : X) (text : List ℕ) : Type 0 where
+  pub is : Is x text
+  pub only : (y : X) → Is y text → y ≡ x
 
 -- ---- what a yes says
 
@@ -109,6 +103,12 @@ abbrev pub AreMixturesDecided : List (List (List Telegram)) → Type 0
 AreMixturesDecided groups = (g : ℕ) (aspects : List (List Telegram)) (run : Run) (shown : ℕ → Option ℕ)
     → At groups g aspects → Fits aspects shown → IsMixtureDecided run aspects shown
 
+-- The message assembled from an aspect, where a train has missed these balises: it is accepted exactly where
+-- their declared duplicates are read. It then equals that with nothing missed, and is reached.
+pub record IsSoundIfCovered (group : List Telegram) (run : Run) (missed : ℕ → Bool) : Type 0 where
+  pub accepted : IsCovered group missed ↔ IsAccepted run (reading_of run missed group)
+  pub sound : IsCovered group missed → IsSoundReading group run missed
+
 -- Every telegram and message of the line has exactly one record. For each aspect of every group, running
 -- direction and set of missed balises whose declared duplicates are read, the assembled message is
 -- accepted and equals that with nothing missed, every other set being refused. There, as in each radio
@@ -120,20 +120,12 @@ pub record SaysYes (bytes : List ℕ) (groups : List (List (List Telegram))) (me
   pub line : line_of document ≡ Ok (groups, messages)
   pub telegrams : (g a b : ℕ) (aspects : List (List Telegram)) (group : List Telegram) (t : Telegram)
       → At groups g aspects → At aspects a group → At group b t
-      → IsSomeAnd (balise_text document g a b) (λ text. IsOnlyTelegram text t)
+      → IsSomeAnd (balise_text document g a b) (IsOnlyTextOf IsTelegramText t)
   pub messages_read : (i : ℕ) (m : Message) → At messages i m
-      → IsSomeAnd (message_text document i) (λ text. IsOnlyMessage text m)
-  pub accepted : (g a : ℕ) (aspects : List (List Telegram)) (group : List Telegram)
+      → IsSomeAnd (message_text document i) (IsOnlyTextOf IsMessageText m)
+  pub readings : (g a : ℕ) (aspects : List (List Telegram)) (group : List Telegram)
       → (run : Run) (missed : ℕ → Bool) → At groups g aspects → At aspects a group → IsSetOf group missed
-      → IsCovered group missed ↔ IsAccepted run (reading_of run missed group)
-  pub same : (g a : ℕ) (aspects : List (List Telegram)) (group : List Telegram)
-      → (run : Run) (missed : ℕ → Bool) → At groups g aspects → At aspects a group → IsSetOf group missed
-      → IsCovered group missed
-      → packets_of run (reading_of run missed group) ≡ packets_of run (reading_of run none_missed group)
-  pub reached : (g a : ℕ) (aspects : List (List Telegram)) (group : List Telegram)
-      → (run : Run) (missed : ℕ → Bool) → At groups g aspects → At aspects a group → IsSetOf group missed
-      → IsCovered group missed
-      → AreReached (packets_of run (reading_of run missed group))
+      → IsSoundIfCovered group run missed
   pub mixtures : AreMixturesDecided groups
   pub messages_reached : (i : ℕ) (m : Message) → At messages i m → IsReachedMessage m
   pub sound : IsSoundLine groups messages

@@ -2,15 +2,13 @@
 
 ghost use Rattle.std.specs.Prelude.{◌∷◌, [], ◌<◌, map};
 ghost use Rattle.serde_json.specs.View.{view};
-ghost use Rattle.etcs_form.specs.Document.{aspects_of, controlled_at, each_from, group_at, groups_of, list_of_aspects, only_aspect, others_of, with_first};
+ghost use Rattle.etcs_form.specs.Document.{aspects_of, controlled_at, each_from, group_at, groups_of, only_aspect, others_of, with_first};
 ghost use Rattle.etcs_form.specs.DocumentFault.{Gives};
-ghost use Rattle.etcs_json.specs.Fault.{Gives as GivesForm};
 
-use crate::document_aspects::{balises_in, read_aspect, read_counted};
-use crate::document_values::values_at;
-use crate::line_error::LineError;
+use crate::document_aspects::read_aspect;
+use crate::document_values::{only_values, values_at};
+use crate::line_error::{LineError, in_group};
 use etcs_group::{Controlled, Group};
-use etcs_json::{FormError, Step, check_keys};
 use serde_json::Value;
 use std::alloc::Global;
 
@@ -29,7 +27,7 @@ fn read_others(
         return Err(LineError::Memory);
     }
     'aspects: for (index, value) in values.iter().enumerate() {
-        let aspect = read_aspect(alloc, group, Some(count), index + 1, value)?;
+        let aspect = read_aspect(alloc, group, Some(count), Some(index + 1), value)?;
         if aspects.push(aspect).is_err() {
             return Err(LineError::Memory);
         }
@@ -45,7 +43,7 @@ fn read_aspects(alloc: Global, group: usize, values: &[Value]) -> Result<Control
     if values.is_empty() {
         return Err(LineError::Aspects(group));
     }
-    let first = read_aspect(alloc, group, None, 0, &values[0])?;
+    let first = read_aspect(alloc, group, None, Some(0), &values[0])?;
     let count = first.telegrams().len();
     let aspects = read_others(alloc, group, count, first, &values[1..])?;
     match Controlled::new(aspects) {
@@ -54,26 +52,14 @@ fn read_aspects(alloc: Global, group: usize, values: &[Value]) -> Result<Control
     }
 }
 
-// The aspects of a group, none of which is looked at.
-#[tactic(auto, unfolding(crate::specs::Document::list_of_aspects))]
-fn aspects_in<'a>(alloc: Global, value: &'a Value) -> Result<&'a [Value], FormError>
-    ensures { GivesForm (λ vs. map view vs.now) result (list_of_aspects (view value.now)) }
-{
-    check_keys(alloc, &value, &["aspects"])?;
-    values_at(alloc, value, "aspects")
-}
-
 // Reads the group at this place, which has a list of aspects.
 #[tactic(auto, unfolding(crate::specs::Document::controlled_at))]
 fn read_controlled(alloc: Global, place: usize, value: &Value) -> Result<Controlled, LineError>
     ensures { Gives (λ c. c) result (controlled_at place (view value.now)) }
 {
-    match aspects_in(alloc, value) {
+    match only_values(alloc, value, "aspects") {
         Ok(aspects) => read_aspects(alloc, place, aspects),
-        Err(error) => {
-            let error = error.under(Step::Place(place)).under(Step::Key("groups"));
-            Err(LineError::from(error))
-        }
+        Err(error) => Err(LineError::from(in_group(error, place, None))),
     }
 }
 
@@ -90,21 +76,13 @@ pub(crate) fn alone(alloc: Global, group: Group) -> Result<Controlled, LineError
     }
 }
 
-// Reads the group at this place, which has balises: its form, their count, and then each of them.
+// Reads the group at this place, which has balises.
 #[tactic(auto, unfolding(crate::specs::Document::only_aspect))]
 fn read_uncontrolled(alloc: Global, place: usize, value: &Value) -> Result<Controlled, LineError>
     ensures { Gives (λ c. c) result (only_aspect place (view value.now)) }
 {
-    match balises_in(alloc, value) {
-        Ok(balises) => {
-            let group = read_counted(alloc, place, None, None, balises)?;
-            alone(alloc, group)
-        }
-        Err(error) => {
-            let error = error.under(Step::Place(place)).under(Step::Key("groups"));
-            Err(LineError::from(error))
-        }
-    }
+    let group = read_aspect(alloc, place, None, None, value)?;
+    alone(alloc, group)
 }
 
 // Reads the group at this place: one with the key `aspects` if it is there, and else one with balises.

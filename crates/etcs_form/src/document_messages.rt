@@ -6,8 +6,8 @@ ghost use Rattle.etcs_form.specs.Document.{each_from, message_at, messages_of};
 ghost use Rattle.etcs_form.specs.DocumentFault.{Gives};
 
 use crate::document_values::values_at;
-use crate::line_error::{LineError, kind_at};
-use etcs_json::Step;
+use crate::line_error::LineError;
+use etcs_json::{FormError, Step};
 use etcs_radio::{Message, RadioTextError, from_hex};
 use serde_json::Value;
 use std::alloc::Global;
@@ -18,7 +18,8 @@ fn read_message(alloc: Global, place: usize, value: &Value) -> Result<Message, L
     ensures { Gives (λ m. m) result (message_at place (view value.now)) }
 {
     let Some(text) = value.as_str() else {
-        return Err(kind_at(alloc, &[Step::Key("messages"), Step::Place(place)]));
+        let error = FormError::kind(alloc).under(Step::Place(place));
+        return Err(LineError::from(error.under(Step::Key("messages"))));
     };
     match from_hex(alloc, text.as_bytes()) {
         Ok(message) => Ok(message),

@@ -2,11 +2,11 @@
 
 ghost use Rattle.std.specs.Prelude.{map};
 ghost use Rattle.serde_json.specs.View.{view};
-ghost use Rattle.etcs_form.specs.Document.{values_of};
+ghost use Rattle.etcs_form.specs.Document.{only_values, values_of};
 ghost use Rattle.etcs_json.specs.Fault.{Gives};
 ghost use Rattle.etcs_json.specs.Reading.{at_key};
 
-use etcs_json::{FormError, Step};
+use etcs_json::{FormError, Step, check_keys};
 use serde_json::Value;
 use std::alloc::Global;
 
@@ -37,4 +37,17 @@ pub(crate) fn values_at<'a>(
             Err(error) => Err(error.under(Step::Key(name))),
         },
     }
+}
+
+/// The values in the list at this key of an object that has no other key.
+#[tactic(auto, unfolding(crate::specs::Document::only_values))]
+pub(crate) fn only_values<'a>(
+    alloc: Global,
+    value: &'a Value,
+    name: &'static str,
+) -> Result<&'a [Value], FormError>
+    ensures { Gives (λ vs. map view vs.now) result (only_values name.now (view value.now)) }
+{
+    check_keys(alloc, &value, &[name])?;
+    values_at(alloc, value, name)
 }

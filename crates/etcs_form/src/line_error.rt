@@ -1,15 +1,15 @@
 //! Why bytes are no line document.
 
-ghost use Rattle.std.specs.Prelude.{◌≡◌, map};
-ghost use Rattle.etcs_form.specs.DocumentFault.{IsFault, IsOfForm, bad_form};
-ghost use Rattle.etcs_json.specs.Fault.{Kind, fault, step_of};
+ghost use Rattle.std.specs.Prelude.{◌≡◌, ◌++◌, IfSome, IsSomeAnd};
+ghost use Rattle.etcs_form.specs.Document.{path_of};
+ghost use Rattle.etcs_form.specs.DocumentFault.{IsOfForm};
+ghost use Rattle.etcs_json.specs.Fault.{fault, fault_of};
 ghost use Rattle.etcs_form.specs.declared.line_error.LineError.TheVariants as errors;
 
 use etcs_bits::Memory;
 use etcs_json::{FormError, Step};
 use etcs_radio::RadioTextError;
 use etcs_telegram::TextError;
-use std::alloc::Global;
 use thiserror::Error;
 
 /// Why bytes are not the document of a railway line: their first fault, depth first. Groups,
@@ -64,12 +64,17 @@ impl From<FormError> for LineError {
     }
 }
 
-/// What stands at this path is of another kind.
-pub(crate) fn kind_at(alloc: Global, path: &[Step]) -> LineError
-    ensures { IsFault result (bad_form (fault Kind (map step_of path.now))) }
+/// The same fault, as the document has it: the way to it leads through this group, or this aspect of the
+/// group.
+pub(crate) fn in_group(error: FormError, group: usize, aspect: Option<usize>) -> FormError
+    ensures { IfSome (fault_of result) (λ f. IsSomeAnd (fault_of error)
+        (λ inner. f ≡ fault inner.reason (path_of group aspect ++ inner.path))) }
 {
-    match Vec::from_slice(alloc, path) {
-        Ok(path) => LineError::Form(FormError::Kind(path)),
-        Err(_) => LineError::Memory,
+    match aspect {
+        None => error.under(Step::Place(group)).under(Step::Key("groups")),
+        Some(aspect) => {
+            let error = error.under(Step::Place(aspect)).under(Step::Key("aspects"));
+            error.under(Step::Place(group)).under(Step::Key("groups"))
+        }
     }
 }

@@ -1,7 +1,9 @@
 //! `Refusal`: why an input is refused, and the line that tells it.
 
-ghost use Rattle.std.specs.Prelude.{◌≡◌, string_bytes, IfOk};
-ghost use Rattle.etcs_form.specs.Refusal.{document_words, form_fault, form_words, line_words, radio_words, refusal_words, stream_words, text_words};
+ghost use Rattle.std.specs.Prelude.{◌≡◌, ◌++◌, codes, map, string_bytes, IfOk};
+ghost use Rattle.etcs_json.specs.Fault.{step_of};
+ghost use Rattle.etcs_json.specs.Path.{path_words};
+ghost use Rattle.etcs_form.specs.Refusal.{document_words, form_words, line_words, radio_words, refusal_words, stream_words, text_words};
 
 use crate::line_error::LineError;
 use etcs_bits::{Fault, Memory};
@@ -73,7 +75,8 @@ fn radio_reason(alloc: Global, why: &RadioTextError) -> Result<String, AllocErro
 
 // What is wrong with a form, and where.
 fn form_text(alloc: Global, reason: &str, path: &[Step]) -> Result<String, AllocError>
-    ensures { IfOk result (λ s. string_bytes s ≡ form_fault reason.now path.now) }
+    ensures { IfOk result (λ s. string_bytes s
+        ≡ codes "form " ++ (reason.now ++ (codes " at " ++ path_words (map step_of path.now)))) }
 {
     let path = Path(path);
     format!(in alloc; "form {reason} at {path}")

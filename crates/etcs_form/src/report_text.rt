@@ -1,60 +1,35 @@
 //! `report`: what a check of a line found, as text.
 
 ghost use Rattle.std.specs.Prelude.{◌≡◌, ◌++◌, length, string_bytes, IfOk, OnOk};
-ghost use Rattle.etcs_form.specs.ReportText.{aspect_words, balise_words, direction_words, finding_words, findings_words, packet_words, place_words, report_words, rule_name, rule_number, site_words};
+ghost use Rattle.etcs_form.specs.ReportText.{direction_words, finding_words, findings_words, part_words, place_words, report_words, rule_words, site_words};
 
 use etcs_bits::Memory;
 use etcs_check::{Finding, Line, Rule, Site};
 use etcs_packet::Run;
 use std::alloc::{AllocError, Global};
 
-// The number of a rule.
-#[tactic(auto, unfolding(crate::specs::ReportText::rule_number))]
-fn number_of(rule: Rule) -> &'static str
-    ensures { result.now ≡ rule_number rule }
+// The number of a rule, and the name of what it finds.
+#[tactic(auto, unfolding(crate::specs::ReportText::rule_words))]
+fn words_of(rule: Rule) -> (&'static str, &'static str)
+    ensures { (result.0.now, result.1.now) ≡ rule_words rule }
 {
     match rule {
-        Rule::PositionWrong => "F1",
-        Rule::TotalWrong => "F2",
-        Rule::HeaderDiffers => "F3",
-        Rule::MarkOutside => "F4",
-        Rule::MarkUnanswered => "F5",
-        Rule::CounterUnfit => "F6",
-        Rule::CountersDiffer => "F7",
-        Rule::DuplicatesDiffer => "F8",
-        Rule::NotModelled => "F9",
-        Rule::NoGradient => "F10",
-        Rule::GradientShort => "F11",
-        Rule::NoSpeed => "F12",
-        Rule::SpeedShort => "F13",
-        Rule::IdentityUsed => "F14",
-        Rule::MarksDiffer => "F15",
-        Rule::NotToldApart => "F16",
-    }
-}
-
-// The name of what a rule finds.
-#[tactic(auto, unfolding(crate::specs::ReportText::rule_name))]
-fn name_of(rule: Rule) -> &'static str
-    ensures { result.now ≡ rule_name rule }
-{
-    match rule {
-        Rule::PositionWrong => "position wrong",
-        Rule::TotalWrong => "total wrong",
-        Rule::HeaderDiffers => "version, identity or link flag differs",
-        Rule::MarkOutside => "mark points outside",
-        Rule::MarkUnanswered => "mark not answered",
-        Rule::CounterUnfit => "counter 254",
-        Rule::CountersDiffer => "counters differ",
-        Rule::DuplicatesDiffer => "packets of duplicates differ",
-        Rule::NotModelled => "packet not modelled",
-        Rule::NoGradient => "no gradient",
-        Rule::GradientShort => "gradient short",
-        Rule::NoSpeed => "no speed profile",
-        Rule::SpeedShort => "speed profile short",
-        Rule::IdentityUsed => "identity used before",
-        Rule::MarksDiffer => "marks differ between aspects",
-        Rule::NotToldApart => "aspects not told apart",
+        Rule::PositionWrong => ("F1", "position wrong"),
+        Rule::TotalWrong => ("F2", "total wrong"),
+        Rule::HeaderDiffers => ("F3", "version, identity or link flag differs"),
+        Rule::MarkOutside => ("F4", "mark points outside"),
+        Rule::MarkUnanswered => ("F5", "mark not answered"),
+        Rule::CounterUnfit => ("F6", "counter 254"),
+        Rule::CountersDiffer => ("F7", "counters differ"),
+        Rule::DuplicatesDiffer => ("F8", "packets of duplicates differ"),
+        Rule::NotModelled => ("F9", "packet not modelled"),
+        Rule::NoGradient => ("F10", "no gradient"),
+        Rule::GradientShort => ("F11", "gradient short"),
+        Rule::NoSpeed => ("F12", "no speed profile"),
+        Rule::SpeedShort => ("F13", "speed profile short"),
+        Rule::IdentityUsed => ("F14", "identity used before"),
+        Rule::MarksDiffer => ("F15", "marks differ between aspects"),
+        Rule::NotToldApart => ("F16", "aspects not told apart"),
     }
 }
 
@@ -69,36 +44,14 @@ fn site_text(alloc: Global, site: Site) -> Result<String, AllocError>
     }
 }
 
-// The aspect, where there is one.
-#[tactic(auto, unfolding(crate::specs::ReportText::aspect_words))]
-fn aspect_text(alloc: Global, aspect: Option<usize>) -> Result<String, AllocError>
-    ensures { IfOk result (λ s. string_bytes s ≡ aspect_words aspect) }
+// The aspect, the balise or the packet, where there is one: its word, and its number.
+#[tactic(auto, unfolding(crate::specs::ReportText::part_words))]
+fn part_text(alloc: Global, word: &str, part: Option<usize>) -> Result<String, AllocError>
+    ensures { IfOk result (λ s. string_bytes s ≡ part_words word.now part) }
 {
-    match aspect {
+    match part {
         None => format!(in alloc; ""),
-        Some(place) => format!(in alloc; " aspect {place}"),
-    }
-}
-
-// The balise, where there is one.
-#[tactic(auto, unfolding(crate::specs::ReportText::balise_words))]
-fn balise_text(alloc: Global, balise: Option<usize>) -> Result<String, AllocError>
-    ensures { IfOk result (λ s. string_bytes s ≡ balise_words balise) }
-{
-    match balise {
-        None => format!(in alloc; ""),
-        Some(place) => format!(in alloc; " balise {place}"),
-    }
-}
-
-// The packet, where there is one.
-#[tactic(auto, unfolding(crate::specs::ReportText::packet_words))]
-fn packet_text(alloc: Global, packet: Option<usize>) -> Result<String, AllocError>
-    ensures { IfOk result (λ s. string_bytes s ≡ packet_words packet) }
-{
-    match packet {
-        None => format!(in alloc; ""),
-        Some(place) => format!(in alloc; " packet {place}"),
+        Some(number) => format!(in alloc; " {word} {number}"),
     }
 }
 
@@ -120,9 +73,9 @@ fn place_text(alloc: Global, finding: &Finding) -> Result<String, AllocError>
     ensures { IfOk result (λ s. string_bytes s ≡ place_words finding.now) }
 {
     let site = site_text(alloc, finding.site)?;
-    let aspect = aspect_text(alloc, finding.aspect)?;
-    let balise = balise_text(alloc, finding.balise)?;
-    let packet = packet_text(alloc, finding.packet)?;
+    let aspect = part_text(alloc, "aspect", finding.aspect)?;
+    let balise = part_text(alloc, "balise", finding.balise)?;
+    let packet = part_text(alloc, "packet", finding.packet)?;
     let direction = direction_text(finding.dir);
     format!(in alloc; "{site}{aspect}{balise}{packet}{direction}")
 }
@@ -133,9 +86,8 @@ fn push_finding(alloc: Global, text: &mut String, finding: &Finding) -> Result<(
     ensures { OnOk result (string_bytes text.new
         ≡ string_bytes text.old ++ finding_words finding.now) }
 {
-    let number = number_of(finding.rule);
+    let (number, name) = words_of(finding.rule);
     let place = place_text(alloc, finding)?;
-    let name = name_of(finding.rule);
     let line = format!(in alloc; "{number}{place}: {name}\n")?;
     text.push_str(line.as_str())
 }

@@ -1,10 +1,8 @@
 -- Forms beside the bits. A value has rows in the bits and a form in JSON, and where its rows are allowed, its
 -- form is in range. The words are those of `Shape` and `Chosen`, each with that proof.
-use Rattle.std.specs.Prelude.{◌≡◌, ℕ, ◌++◌, ◌⊎◌, false, true, List, ◌∷◌, Option, codes}
+use Rattle.std.specs.Prelude.{◌≡◌, ℕ, ◌++◌, false, true, List, ◌∷◌, codes}
 use Rattle.etcs_bits.specs.bits.Number.{worth}
 use Rattle.etcs_bits.specs.declared.layout.fault.FaultKind.TheVariants.{Spare}
-use Rattle.etcs_bits.specs.declared.variables.direction.Dir.{Dir}
-use Rattle.etcs_bits.specs.declared.variables.scale.Scale.{Scale}
 use Rattle.etcs_bits.specs.layout.Choice.{either_rows}
 use Rattle.etcs_bits.specs.layout.Combined.{body_rows, counted_rows, option_rows, pair_rows}
 use Rattle.etcs_bits.specs.layout.Fields.{Fields}

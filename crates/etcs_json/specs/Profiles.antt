@@ -13,10 +13,6 @@ use Rattle.etcs_profile.specs.Linking.{d_link, link as link_layout, link_struct,
 use Rattle.etcs_profile.specs.Packet.{rest}
 use Rattle.etcs_profile.specs.Profile.{Profile}
 use Rattle.etcs_profile.specs.Speed.{d_static, difference as difference_layout, difference_struct, nc_diff, q_diff, speed_element as speed_layout, speed_struct, v_diff, v_static}
-use Rattle.etcs_profile.specs.declared.gradient.GradientElement.{GradientElement}
-use Rattle.etcs_profile.specs.declared.linking.Link.{Link}
-use Rattle.etcs_profile.specs.declared.speed.Difference.{Difference}
-use Rattle.etcs_profile.specs.declared.speed.SpeedElement.{SpeedElement}
 use Rattle.etcs_json.specs.Beside.{ObjectBeside, PacketBeside, PartBeside, ShapeBeside, behind, closed, flag, key, key_if, list, number, object, struct, ◌then◌}
 use Rattle.etcs_json.specs.Head.{headed, scaled}
 use Rattle.etcs_json.specs.RangeLemmas.{profile_keeps}

@@ -1,8 +1,8 @@
 -- What `check` writes for the document of a railway line: the report on the line, or why the bytes are
 -- no document.
-use Rattle.std.specs.Prelude.{◌++◌, ℕ, List, [], ◌∷◌, codes, Result, Ok, Err}
+use Rattle.std.specs.Prelude.{◌++◌, ℕ, List, [], ◌∷◌, codes, Some, None, Result, Ok, Err}
 use Rattle.etcs_check.specs.declared.finding.Finding.{Finding}
-use Rattle.etcs_form.specs.DocumentFault.{DocumentFault, bad_aspect_telegram, bad_aspects, bad_count, bad_form, bad_message, bad_telegram, no_json}
+use Rattle.etcs_form.specs.DocumentFault.{DocumentFault, bad_aspects, bad_count, bad_form, bad_message, bad_telegram, no_json}
 use Rattle.etcs_form.specs.Refusal.{fault_told, refusal_words}
 use Rattle.etcs_form.specs.ReportText.{report_words}
 use Rattle.etcs_form.specs.Verdict.{Counted, counted_of_text}
@@ -22,8 +22,8 @@ refusal_for no_json = refusal_words (Document errors.NotJson)
 refusal_for (bad_form f) = codes "refused: " ++ (fault_told f ++ codes "\n")
 refusal_for (bad_count g) = refusal_words (Document (errors.Count g))
 refusal_for (bad_aspects g) = refusal_words (Document (errors.Aspects g))
-refusal_for (bad_telegram g b why) = refusal_words (Document (errors.Telegram g b why))
-refusal_for (bad_aspect_telegram g a b why) = refusal_words (Document (errors.AspectTelegram g a b why))
+refusal_for (bad_telegram g None b why) = refusal_words (Document (errors.Telegram g b why))
+refusal_for (bad_telegram g (Some a) b why) = refusal_words (Document (errors.AspectTelegram g a b why))
 refusal_for (bad_message m why) = refusal_words (Document (errors.Message m why))
 
 -- the refusal of a document with this error, and the status

@@ -2,11 +2,11 @@
 
 ghost use Rattle.std.specs.Prelude.{◌≡◌, codes, true, IfOk};
 ghost use Rattle.etcs_radio.specs.TrainNumbers.{is_other, nid_raw};
+ghost use Rattle.etcs_json.specs.Beside.{IsInRange};
 ghost use Rattle.etcs_json.specs.Fault.{Gives};
+ghost use Rattle.etcs_json.specs.RawTrain.{raw_train_packet};
 ghost use Rattle.etcs_json.specs.Reading.{at_key, number_of};
 ghost use Rattle.etcs_json.specs.Variables.{is_allowed};
-ghost use Rattle.etcs_json.specs.Beside.{IsInRange};
-ghost use Rattle.etcs_json.specs.RawTrain.{raw_train_packet};
 
 use crate::error::FormError;
 use crate::node::Node;

@@ -1,15 +1,13 @@
-use Rattle.std.proofs.Common.{◌≡◌, ◌+◌, false, slice_get, sym, subst, ◌∙◌}
+use Rattle.std.proofs.Common.{◌+◌, slice_get, sym, subst, ◌∙◌}
 use Rattle.std.specs.List.{AllPass}
-use Rattle.etcs_packet.specs.declared.run.Run.{Run}
 use Rattle.etcs_group.specs.Group.{is_modelled}
-use Rattle.etcs_check.specs.Findings.{pair_differs}
-use Rattle.etcs_check.proofs.QuietLemmas.{by_rule, by_run}
+use Rattle.etcs_check.proofs.QuietLemmas.{by_rule, paired-from_same}
 use Rattle.etcs_check.proofs.balise_rules.is_quiet_balise.Goals as goal
 
--- All rules that can be broken were asked, and both running directions.
+-- All rules that can be broken were asked.
 pub returns : goal.returns
 returns c = λ yes. record {
-  alone = by_rule c.args.group.now c.args.place c.args.telegram.now
+  alone = by_rule c.args.first.now c.args.group.now c.args.place c.args.telegram.now
       (sym c.balise_fact.ensures ∙ c.if-balise_fact.false)
       (sym c.balise_fact-2.ensures ∙ c.if-balise_fact-2.false)
       (sym c.balise_fact-3.ensures ∙ c.if-balise_fact-3.false)
@@ -19,9 +17,6 @@ returns c = λ yes. record {
       (sym c.balise_fact-7.ensures ∙ c.if-balise_fact-7.false)
       (sym c.balise_fact-8.ensures ∙ c.if-balise_fact-8.false);
   modelled = subst (AllPass is_modelled) c.packets.ensures (c.are_modelled.ensures yes);
-  paired =
-      let next = slice_get c.args.group.now (c.args.place + 1) in
-      by_run (λ (run : Run). pair_differs run c.args.telegram.now next ≡ false)
-      (sym (c.pair_differs_at.ensures _ c.requires.at) ∙ c.if-pair_differs_at.false)
-      (sym (c.pair_differs_at-2.ensures _ c.requires.at) ∙ c.if-pair_differs_at-2.false);
+  paired = paired-from_same c.args.telegram.now (slice_get c.args.group.now (c.args.place + 1))
+      (sym c.are_same_pair_at.ensures ∙ c.if-not-are_same_pair_at.false);
 }

@@ -1,30 +1,27 @@
-use Rattle.std.proofs.Common.{arith}
+use Rattle.std.proofs.Common.{arith, ◌∙◌, subst}
 use Rattle.std.proofs.lemmas.Option.{slice_get_within}
-use Rattle.etcs_packet.specs.declared.run.Run.{Run}
-use Rattle.etcs_group.specs.Packets.{said_by}
-use Rattle.etcs_check.specs.Profiles.{AreReached}
-use Rattle.etcs_check.specs.Quiet.{IsQuietBalise}
+use Rattle.etcs_check.specs.Quiet.{IsQuietAspect}
+use Rattle.etcs_check.specs.Soundness.{first_aspect}
 use Rattle.etcs_check.proofs.NoteLemmas.{each_more, index_at}
-use Rattle.etcs_check.proofs.QuietLemmas.{by_run, quiet-from_parts}
+use Rattle.etcs_check.proofs.QuietLemmas.{quiet-from_parts}
 use Rattle.etcs_check.proofs.checking.is_quiet.Goals as goal
 
-pub places-init : goal.places-init
-places-init c = λ b t lt at. absurd (omega (arith, lt))
+pub aspects-init : goal.aspects-init
+aspects-init c = λ a group lt at. absurd (omega (arith, lt))
 
--- This balise is quiet too.
-pub places-preserved : goal.places-preserved
-places-preserved c =
-    let telegram = c.index-group-place.result in
-    let at = index_at c.args.group.now c.places.place _ telegram c.places-test.true c.index-group-place.is in
-    each_more (IsQuietBalise c.args.group.now) c.args.group.now c.places.place telegram at c.places.invariant
-    (c.is_quiet_balise.ensures c.if-not-is_quiet_balise.false)
+-- This aspect is quiet too.
+pub aspects-preserved : goal.aspects-preserved
+aspects-preserved c =
+    let group = c.telegrams-group.result.now in
+    let at = index_at c.args.aspects.now c.aspects.place _ group c.aspects-test.true (c.telegrams-group.ensures.value ∙ c.index-aspects-place.is) in
+    each_more (λ a g. IsQuietAspect (first_aspect c.args.aspects.now) g) c.args.aspects.now c.aspects.place group at c.aspects.invariant
+    (subst (λ first. IsQuietAspect first group) c.first_aspect-first.ensures.value (c.is_quiet_aspect.ensures c.if-not-is_quiet_aspect.false))
 
--- All balises are quiet, and both running directions.
+-- All aspects are quiet, and they are told apart.
 pub returns : goal.returns
 returns c = λ yes.
-    quiet-from_parts c.args.group.now
-    (λ b t at.
-    let within = slice_get_within c.args.group.now b t at in
-    c.places.invariant b t (omega (arith, within, c.places-test.false)) at)
-    (by_run (λ (run : Run). AreReached (said_by run c.args.group.now))
-    (c.is_quiet_in.ensures c.if-not-is_quiet_in.false) (c.is_quiet_in-2.ensures yes))
+    quiet-from_parts c.args.aspects.now
+    (λ a group at.
+    let within = slice_get_within c.args.aspects.now a group at in
+    c.aspects.invariant a group (omega (arith, within, c.aspects-test.false)) at)
+    (c.are_told_apart.ensures.fresh yes) (c.are_told_apart.ensures.told yes)

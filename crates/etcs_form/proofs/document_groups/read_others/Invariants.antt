@@ -8,5 +8,5 @@ use Rattle.etcs_form.proofs.document_groups.read_others.Given as goal
 -- what was read, and then what is read of the values that are left
 abbrev pub invariant-aspects : goal.invariant-aspects
 invariant-aspects l =
-    with_front l.aspects.items (each_from (aspect_at l.group (Some l.count)) (l.index + 1) (map view (drop l.index l.values)))
+    with_front l.aspects.items (each_from (λ a. aspect_at l.group (Some l.count) (Some a)) (l.index + 1) (map view (drop l.index l.values)))
     ≡ with_first l.fn.first (others_of l.group l.count (map view l.values))
