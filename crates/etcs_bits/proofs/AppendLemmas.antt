@@ -91,7 +91,7 @@ cut_within bs len q u whole used odd h fits =
     ∙ sym (ap (λ ys. ys ++ num p 0) f ∙ append_assoc (bits_of_bytes (take q bs)) (num u x) (num p 0)) in
     packed_from (set (take (q + 1) bs) q (v % 256)) (take len (bits_of_bytes bs)) len p (ap bits_of_bytes e ∙ g) (length-view bs len h) (omega arith)
 
--- the same of bytes that are cut first, and of their last byte as it is read
+-- bytes that are cut first keep their first `len` bits, and zeros fill the last byte
 pub cut_read : (bs front : List ℕ) (len q u byte : ℕ) → q ≡ len / 8 → u ≡ len % 8 → (u ≡ 0 → ⊥) → len ≤ 8 * length bs → front ≡ take (q + 1) bs
     → byte < 256 → byte ≡ get_or front q byte
     → let new = set front q (byte / 2 ^ (8 - u) * 2 ^ (8 - u) % 256) in

@@ -10,7 +10,7 @@ use Rattle.etcs_bits.proofs.NumberLemmas.{num_of_bits-lt}
 pub kept_fit : (before : ℕ) (bits : List Bool) → AreAllowed ((kept_bits before).rows bits) → is_countable before (length bits) ≡ true
 kept_fit before bits allowed = le-leb (before + 13 + length bits) 8191 (omega (arith, allowed.0.0))
 
--- and bits that can be counted have such rows
+-- bits that can be counted have rows that are allowed
 pub kept_allowed : (before : ℕ) (bits : List Bool) → is_countable before (length bits) ≡ true → AreAllowed ((kept_bits before).rows bits)
 kept_allowed before bits fit =
     let few = leb-true (before + 13 + length bits) 8191 fit in

@@ -26,11 +26,11 @@ none_begins rows errors.Memory fields p within are_rows fails = tt
 none_begins rows (errors.Fault f) fields p within are_rows fails =
     λ bits len front x to spelled. none_stands fields p f bits (rows x) to within len front (read_is_fault fields p f within fails) (are_rows x) spelled
 
--- records with the same rows are equal
+-- records with equal rows are equal
 pub same_record : {X : Type 0} (x : Format X) (v w : X) → x.rows v ≡ x.rows w → v ≡ w
 same_record x v w e = sym (x.laid.is_record v) ∙ ap x.of e ∙ x.laid.is_record w
 
--- so the laws hold for each layout
+-- the laws hold for each layout
 pub laid_out : {X : Type 0} (x : Format X) → AreLaidOut x
 laid_out x = record {
   -- both lists of rows are what reading gives there
@@ -64,7 +64,7 @@ read_as_spelled x p q v within = (
       rw (sym (rows_again x r here.whole here.spelled.allowed) ∙ ap x.rows is) at here.spelled,
 )
 
--- the rows that are read are those of the record that they make
+-- the rows that are read are the rows of the record that they make
 pub read_rows_again : {X : Type 0} (x : Format X) (p q : Place) (r : List Row) → p.at ≤ length p.bits
     → rows_at x.fields p ≡ Ok (r, q) → x.rows (x.of r) ≡ r
 read_rows_again x p q r within read =

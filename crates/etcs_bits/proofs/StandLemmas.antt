@@ -69,7 +69,7 @@ number_stands w p fits =
       past = rw length-num refl;
     }
 
--- and only that number
+-- only the number whose bits stand at a place is taken there
 pub standing_number : (w n : ℕ) (p q : Place) → n < 2 ^ w → Stands (num w n) p q → num_of_bits (take w (drop p.at p.bits)) ≡ n
 standing_number w n p q small s =
     ap (λ (bits : List Bool). num_of_bits (take w bits)) s.here ∙ ap num_of_bits (take_at (num w n) (drop q.at p.bits) w (length-num w n)) ∙ num_of_bits-small w n small

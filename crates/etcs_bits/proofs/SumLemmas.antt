@@ -23,7 +23,7 @@ rest_read x next n k p q to rows number is read =
     let here : rows_at (next n) q ≡ Ok (rows, to) = rw is read in
     rw (number, here) (ap (λ (m : ℕ). Ok (row x m ∷ rows, to)) is)
 
--- the same where the record says its number
+-- the number that the record says, and the rows that follow it
 pub chosen_read : {X : Type 0} (x : Variable) (c : Choice X) (next : ℕ → Fields) (n : ℕ) (p q to : Place)
     (more : ℕ × List Row) → field_at x p ≡ Ok (n, q) → next n ≡ c.next n → chosen_at c n q ≡ Ok (more, to)
     → rows_at (field x next) p ≡ Ok (row x more.0 ∷ more.1, to)

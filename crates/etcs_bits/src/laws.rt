@@ -35,7 +35,7 @@ use crate::variables::version::Version;
 // ---- every record
 
 /// A record is spelled at a place exactly if reading, as a function of the bits, gives it there.
-/// The spelling ends where reading ends. The rows that are read are those of the record.
+/// The spelling ends where reading ends. The rows that are read are the rows of the record.
 pub fn a_record_is_read_as_it_is_spelled<T: Layout>()
     ensures spelled { (p q : Place) (v : T) → p.at ≤ length p.bits
         → IsSpelled (T.format.rows v) p q
@@ -146,8 +146,8 @@ pub fn plain_variables_have_all_numbers<const W: u32>()
     records_are_laid_out::<Plain<W>>();
 }
 
-/// A variable with two ranges has the numbers up to `LAST` and those from `FROM` on that fit in its
-/// `W` bits, if `W` is 1 to 32.
+/// A variable with two ranges has the numbers up to `LAST`, and the numbers from `FROM` on that its `W`
+/// bits hold, if `W` is 1 to 32.
 #[tactic(auto, using(crate::proofs::ValueLemmas::ranged_has_numbers))]
 pub fn ranged_variables_have_two_ranges<const W: u32, const LAST: u32, const FROM: u32>()
     ensures numbers { HasNumbers (ranged W LAST FROM) W

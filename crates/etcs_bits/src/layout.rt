@@ -85,7 +85,7 @@ pub trait Layout: Drop {
         ensures none { IfFault result (λ f. NoneBegins format.rows cur.old f) }
         ensures err { OnErr result (cur.new ≡ cur.old) }
 
-        // Reading a record that does not grow never reports that memory ran out.
+        // Reading a record that does not grow never answers that memory ran out.
         ensures memory { IfMemory result grows }
     {
         let mut ahead = cur.fork();

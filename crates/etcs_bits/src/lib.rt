@@ -5,7 +5,7 @@
 //! variables, such as [`Version`] or [`Identity`]. Pairs, options, [`Items`] and [`Body`] make
 //! records of others (`specs/layout/Combined.antt`). [`scan_kept`] and [`put_kept`] read and write a
 //! body that is kept as bits. Layers above rely on the contract of [`Layout::scan`]: it reads the
-//! record at the cursor, or reports the first [`Fault`] if no record stands there. [`Same`] compares
+//! record at the cursor, or answers the first [`Fault`] if no record stands there. [`Same`] compares
 //! two values. Read `layout.rt` first, with `Rows.antt`, `Fields.antt` and `Fault.antt` of
 //! `specs/layout/`. The laws of every record and variable are in [`laws`]. This crate leaves out
 //! packets, whole telegrams and their text, and the channel coding of the user bits (SUBSET-036,

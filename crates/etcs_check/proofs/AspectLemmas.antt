@@ -14,7 +14,7 @@ use Rattle.etcs_group.proofs.PlaceLemmas.{some_at, one_at, at_list_any, list_any
 use Rattle.etcs_group.proofs.MixtureLemmas.{mixtures_are_decided}
 use Rattle.etcs_check.specs.Soundness.{IsSoundGroup, IsSoundControlled, first_aspect}
 use Rattle.etcs_check.specs.Findings.{has_counter, is_counter_taken, mark_differs, finding_of, for_each}
-use Rattle.etcs_check.specs.Aspects.{whole, aspect_of, is_used, all_at, is_steady, is_counted, is_untold, whole_facts, aspect_facts, rule_facts, group_facts}
+use Rattle.etcs_check.specs.Aspects.{site_spot, aspect_of, is_used, all_at, is_steady, has_aspect_counter, is_ambiguous, group_wide_facts, aspect_facts, rule_facts, group_facts}
 use Rattle.etcs_check.specs.Laws.{NoFindingMeansSoundGroup, SoundMixturesAreDecided}
 use Rattle.etcs_check.specs.declared.finding.Rule.{Rule}
 use Rattle.etcs_check.specs.declared.finding.Rule.TheVariants as rules
@@ -78,14 +78,14 @@ module _ (aspects : List (List Telegram)) (controlled : IsControlled aspects) wh
       let z : a ≡ 0 = elim (cases_lt 1 (length aspects)) [ inl many ↦ absurd (few many) | inr le ↦ omega arith ] in
       one_at aspects 0 group (first_aspect aspects) (subst (λ k. At aspects k group) z at) first_here
 
-  -- a place that is fixed or switched is told
-  told-is : (b : ℕ) (t : Telegram) → At (first_aspect aspects) b t → IsFixed aspects b ⊎ IsSwitched aspects b → (all_at (is_steady t) b aspects || all_at is_counted b aspects) ≡ true
+  -- at a place that is fixed or switched the counters distinguish the aspects
+  told-is : (b : ℕ) (t : Telegram) → At (first_aspect aspects) b t → IsFixed aspects b ⊎ IsSwitched aspects b → (all_at (is_steady t) b aspects || all_at has_aspect_counter b aspects) ≡ true
   told-is b t at told = elim told [
     | inl fixed ↦ or_left _ _ (all_at-is (is_steady t) b aspects (λ a group at'.
         let u = here a group at' in
         let e = fixed 0 a t u.0 (first_aspect aspects, first_here, at) (group, at', u.1) in
         (u.0, u.1, and_from _ _ (eq-eqb _ _ (ap (λ (x : Telegram). x.header.counter) (sym e.0) ∙ e.1)) ((Decides-same_telegram t u.0).1 e.0))))
-    | inr switched ↦ or_right _ _ (all_at-is is_counted b aspects (λ a group at'.
+    | inr switched ↦ or_right _ _ (all_at-is has_aspect_counter b aspects (λ a group at'.
         let u = here a group at' in
         (u.0, u.1, lt-ltb _ _ (switched a u.0 (group, at', u.1)))))
   ]
@@ -96,7 +96,7 @@ module _ (aspects : List (List Telegram)) (controlled : IsControlled aspects) wh
           let w = slice_get_within (first_aspect aspects) b t at in
           some_at group b (omega arith)
 
-  pub untold-is : (b : ℕ) (t : Telegram) → At (first_aspect aspects) b t → (1 < length aspects → IsFixed aspects b ⊎ IsSwitched aspects b) → is_untold aspects b t ≡ false
+  pub untold-is : (b : ℕ) (t : Telegram) → At (first_aspect aspects) b t → (1 < length aspects → IsFixed aspects b ⊎ IsSwitched aspects b) → is_ambiguous aspects b t ≡ false
   untold-is b t at told = elim (cases_lt 1 (length aspects)) [
     | inl many ↦ and_right (ltb 1 (length aspects)) _ (not_from_true _ (told-is b t at (told many)))
     | inr few ↦ and_left _ _ (le-ltb _ _ few)
@@ -108,18 +108,18 @@ module _ (aspects : List (List Telegram)) (controlled : IsControlled aspects) wh
       ((Decides-same_telegram f t).0 s.1, eqb-true _ _ s.0)
 
   -- a place that is not untold is fixed or switched
-  pub told_place : 1 < length aspects → (p : ℕ) → ((f : Telegram) → At (first_aspect aspects) p f → is_untold aspects p f ≡ false) → IsFixed aspects p ⊎ IsSwitched aspects p
+  pub told_place : 1 < length aspects → (p : ℕ) → ((f : Telegram) → At (first_aspect aspects) p f → is_ambiguous aspects p f ≡ false) → IsFixed aspects p ⊎ IsSwitched aspects p
   told_place many p told_at = elim (cases_lt p (length (first_aspect aspects))) [
     | inl lt ↦
         let f = some_at (first_aspect aspects) p lt in
         elim (and_cases (ltb 1 (length aspects)) _ (told_at f.0 f.1)) [
           | inl one ↦ absurd (both_ways _ one (lt-ltb _ _ many))
-          | inr told ↦ elim (or_cases (all_at (is_steady f.0) p aspects) (all_at is_counted p aspects) (not-false _ told)) [
+          | inr told ↦ elim (or_cases (all_at (is_steady f.0) p aspects) (all_at has_aspect_counter p aspects) (not-false _ told)) [
             | inl steady ↦ inl (λ a b t u ht hu.
                 let x = steady_at p f.0 steady a t ht in
                 let y = steady_at p f.0 steady b u hu in
                 (sym x.0 ∙ y.0, x.1))
-            | inr counted ↦ inr (λ a t has. ltb-true _ _ (all_at-says is_counted p aspects counted a t has))
+            | inr counted ↦ inr (λ a t has. ltb-true _ _ (all_at-says has_aspect_counter p aspects counted a t has))
           ]
         ]
     | inr ge ↦ inr (λ a t has.
@@ -160,7 +160,7 @@ fresh-says aspects a u fresh k q t lt ht low same = elim (and_cases (ltb u.heade
 -- ---- no finding, so sound
 
 module _ (site : Site) (used : Bool) (aspects : List (List Telegram)) (controlled : IsControlled aspects) (none : group_facts site used aspects ≡ []) where
-  none_of : (rule : Rule) → (whole_facts site used aspects rule ≡ []) × (for_each aspects (aspect_facts site aspects rule) ≡ [])
+  none_of : (rule : Rule) → (group_wide_facts site used aspects rule ≡ []) × (for_each aspects (aspect_facts site aspects rule) ≡ [])
   none_of rule = append_parts _ _ (rules-say (rule_facts site used aspects) none rule)
 
   clean_at : (a : ℕ) (group : List Telegram) → At aspects a group → IsClean (first_aspect aspects) (take a aspects) group
@@ -168,10 +168,10 @@ module _ (site : Site) (used : Bool) (aspects : List (List Telegram)) (controlle
       clean-from_facts (aspect_of site aspects a) (first_aspect aspects) (take a aspects) group (λ rule. for_each-says aspects (aspect_facts site aspects rule) (none_of rule).1 a group at)
 
   new_identity : used ≡ false
-  new_identity = noted-false used (finding_of rules.IdentityUsed (whole site) None None None) (none_of rules.IdentityUsed).0
+  new_identity = noted-false used (finding_of rules.IdentityUsed (site_spot site) None None None) (none_of rules.IdentityUsed).0
 
-  told_at : (b : ℕ) (t : Telegram) → At (first_aspect aspects) b t → is_untold aspects b t ≡ false
-  told_at = balises_clean rules.NotToldApart (whole site) (is_untold aspects) (first_aspect aspects) (none_of rules.NotToldApart).0
+  told_at : (b : ℕ) (t : Telegram) → At (first_aspect aspects) b t → is_ambiguous aspects b t ≡ false
+  told_at = balises_clean rules.NotToldApart (site_spot site) (is_ambiguous aspects) (first_aspect aspects) (none_of rules.NotToldApart).0
 
   alike_at : (a p : ℕ) (t f : Telegram) → HasAt aspects a p t → At (first_aspect aspects) 0 f → AreAlike t f
   alike_at a p t f has at0 =
@@ -195,7 +195,7 @@ module _ (site : Site) (used : Bool) (aspects : List (List Telegram)) (controlle
         let f = some_at (first_aspect aspects) 0 (first_long aspects controlled) in
         alike_both t u f.0 (alike_at a p t f.0 ht f.1) (alike_at b q u f.0 hu f.1);
     marks = one_mark;
-    told = λ p. told_place aspects controlled many p (told_at p);
+    fixed_or_switched = λ p. told_place aspects controlled many p (told_at p);
     distinct = λ a b p q t u ne ht hu low low'. elim (cases_lt a b) [
       | inl lt ↦ earlier_differs a b p q t u lt ht hu low'
       | inr ge ↦ λ same. earlier_differs b a q p u t (omega arith) hu ht low (sym same)
@@ -246,9 +246,9 @@ module _ (aspects : List (List Telegram)) (controlled : IsControlled aspects) (s
       (λ b t at'. mark_all a b t (group, at, at'))
       (λ b t at'. fresh_all a b t (group, at, at'))
 
-  whole_none : (site : Site) (used : Bool) → used ≡ false → (rule : Rule) → whole_facts site used aspects rule ≡ []
-  whole_none site used new rules.IdentityUsed = noted-empty used (finding_of rules.IdentityUsed (whole site) None None None) new
-  whole_none site used new rules.NotToldApart = balises_empty rules.NotToldApart (whole site) (is_untold aspects) (first_aspect aspects) (λ b t at. untold-is aspects controlled b t at (λ many. (sound.one many).told b))
+  whole_none : (site : Site) (used : Bool) → used ≡ false → (rule : Rule) → group_wide_facts site used aspects rule ≡ []
+  whole_none site used new rules.IdentityUsed = noted-empty used (finding_of rules.IdentityUsed (site_spot site) None None None) new
+  whole_none site used new rules.NotToldApart = balises_empty rules.NotToldApart (site_spot site) (is_ambiguous aspects) (first_aspect aspects) (λ b t at. untold-is aspects controlled b t at (λ many. (sound.one many).fixed_or_switched b))
   whole_none site used new rule = refl
 
   no_facts : (site : Site) (used : Bool) → used ≡ false → group_facts site used aspects ≡ []

@@ -9,7 +9,7 @@ use Rattle.etcs_radio.specs.declared.message.Message.{Message}
 use Rattle.etcs_telegram.specs.Record.{Telegram}
 use Rattle.etcs_group.specs.Controlled.{IsControlled}
 use Rattle.etcs_check.specs.Aspects.{group_facts, is_used}
-use Rattle.etcs_check.specs.Identities.{IsNumbered, identity_number}
+use Rattle.etcs_check.specs.Identities.{HasIdentity, identity_number}
 use Rattle.etcs_check.specs.Line.{findings, message_at}
 use Rattle.etcs_check.specs.LineChecker.{HasChecked, Kept, TakesGroups, TakesMessages}
 use Rattle.etcs_check.specs.declared.finding.Finding.{Finding}
@@ -25,7 +25,7 @@ pub unless_refused : {A E : Type 0} (r : Result A E) (P : Type 0) → is_err r �
 unless_refused (Ok x) P fine p = p
 unless_refused (Err e) P fine p = absurd (both_ways _ fine refl)
 
-taken : (old new : Kept) (g : List (List Telegram)) → IsControlled g → IsNumbered g
+taken : (old new : Kept) (g : List (List Telegram)) → IsControlled g → HasIdentity g
     → new.about_groups ≡ old.about_groups ++ group_facts (sites.Group old.groups) (contains nat_cmp old.identities (identity_number g)) g → new.about_messages ≡ old.about_messages
     → new.groups ≡ old.groups + 1 → new.messages ≡ old.messages → ((n : ℕ) → contains nat_cmp new.identities n ≡ (eqb (identity_number g) n || contains nat_cmp old.identities n))
     → TakesGroups old (g ∷ []) new
@@ -38,12 +38,12 @@ taken old new g controlled numbered found others count counted kept gs ms was =
       groups_counted = count ∙ ap (λ n. n + 1) was.groups_counted ∙ sym (length-append gs (g ∷ []));
       messages_counted = counted ∙ was.messages_counted;
       seen = kept_and gs g (contains nat_cmp old.identities) (contains nat_cmp new.identities) kept was.seen;
-      numbered = each_and IsNumbered gs g was.numbered numbered;
+      numbered = each_and HasIdentity gs g was.numbered numbered;
       controlled = each_and IsControlled gs g was.controlled controlled;
     }
 
--- the same of a group that is known as another one, too
-pub group_taken : (old new : Kept) (h g : List (List Telegram)) → h ≡ g → IsControlled h → IsNumbered h
+-- a checker takes a group, where its identity and findings are known of an equal one
+pub group_taken : (old new : Kept) (h g : List (List Telegram)) → h ≡ g → IsControlled h → HasIdentity h
     → new.about_groups ≡ old.about_groups ++ group_facts (sites.Group old.groups) (contains nat_cmp old.identities (identity_number h)) h → new.about_messages ≡ old.about_messages
     → new.groups ≡ old.groups + 1 → new.messages ≡ old.messages → ((n : ℕ) → contains nat_cmp new.identities n ≡ (eqb (identity_number h) n || contains nat_cmp old.identities n))
     → TakesGroups old (g ∷ []) new

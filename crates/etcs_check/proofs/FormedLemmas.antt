@@ -1,4 +1,4 @@
--- The facts about positions, marks and counters against a well-formed group whose counters fit.
+-- The facts about positions, marks and counters against a well-formed group whose counters agree.
 use Rattle.std.proofs.Common.{◌≡◌, ◌≢◌, ℕ, zero, suc, ◌+◌, ◌<◌, ◌≤◌, true, false, cond, eqb, ltb, List, [], ◌∷◌, length, get_or, slice_get, Option, Some, None, refl, sym, ap, subst, ◌∙◌, arith, IsSome, IsTrue}
 use Rattle.std.specs.Bool.{beq}
 use Rattle.std.specs.Cmp.{booleans_Decides}
@@ -16,7 +16,7 @@ use Rattle.etcs_group.specs.Group.{is_modelled, named_by, partner_of, AreAlike, 
 use Rattle.etcs_group.proofs.PlaceLemmas.{some_at, one_at}
 use Rattle.etcs_group.proofs.MarkLemmas.{partner-says, partner-is}
 use Rattle.etcs_check.specs.Duplicates.{same_identity}
-use Rattle.etcs_check.specs.Findings.{is_misplaced, is_miscounted, is_unlike, is_outside, is_other, is_unanswered, is_unfit, first_counter, counter_differs, is_unmodelled}
+use Rattle.etcs_check.specs.Findings.{is_misplaced, is_miscounted, is_unlike, is_outside, differs_from, is_unanswered, is_unfit, first_counter, counter_differs, is_unmodelled}
 use Rattle.etcs_check.proofs.NumberLemmas.{version_same, same_identity-says, same_identity-is}
 use Rattle.etcs_check.specs.Harm.{IsFirstCounted}
 use Rattle.etcs_check.proofs.CleanLemmas.{IsClean}
@@ -50,11 +50,11 @@ alike-is t first a =
 
 -- ---- marks
 
-is_other-false : (o : Option ℕ) (b : ℕ) → is_other o b ≡ false → o ≡ Some b
-is_other-false None b h = cc
-is_other-false (Some q) b h = ap Some (eqb-true q b (not-false _ h))
+differs_from-false : (o : Option ℕ) (b : ℕ) → differs_from o b ≡ false → o ≡ Some b
+differs_from-false None b h = cc
+differs_from-false (Some q) b h = ap Some (eqb-true q b (not-false _ h))
 
-other-is_false : (o : Option ℕ) (b : ℕ) → o ≡ Some b → is_other o b ≡ false
+other-is_false : (o : Option ℕ) (b : ℕ) → o ≡ Some b → differs_from o b ≡ false
 other-is_false o b e = rw e (not_from_true _ (eq-eqb b b refl))
 
 -- a mark that lies inside has a partner
@@ -80,13 +80,13 @@ pub answered-says : (group : List Telegram) (b : ℕ) → ((t : Telegram) → At
 answered-says group b answered q e =
     let r = partner-says group b q e in
     let h : is_unanswered group (Some q) b ≡ false = ap (λ o. is_unanswered group o b) (sym e) ∙ answered r.0 r.1 in
-    is_other-false (partner_of group q) b h
+    differs_from-false (partner_of group q) b h
 
 -- a counter below 254 that does not differ is the first one
 pub counter-says : (group : List Telegram) (t : Telegram) → counter_differs group t ≡ false → t.header.counter < 254 → first_counter group ≡ Some t.header.counter
-counter-says group t one lt = elim (and_cases (ltb t.header.counter 254) (is_other (first_counter group) t.header.counter) one) [
+counter-says group t one lt = elim (and_cases (ltb t.header.counter 254) (differs_from (first_counter group) t.header.counter) one) [
   | inl no' ↦ absurd (both_ways _ no' (lt-ltb _ _ lt))
-  | inr same ↦ is_other-false (first_counter group) t.header.counter same
+  | inr same ↦ differs_from-false (first_counter group) t.header.counter same
 ]
 
 -- ---- no fact, so well formed
@@ -121,11 +121,11 @@ module _ (first : List Telegram) (before : List (List Telegram)) (group : List T
 
   pub fitting-from_clean : HasOneCounter group
   fitting-from_clean = record {
-    fits = λ b t at. eqb-false _ _ (clean.fit b t at);
+    agrees = λ b t at. eqb-false _ _ (clean.fit b t at);
     equal = λ b c t u at au m n. same_Some t.header.counter u.header.counter (sym (counter-says group t (clean.one_counter b t at) m) ∙ counter-says group u (clean.one_counter c u au) n);
   }
 
--- ---- and back
+-- ---- well formed, so no fact
 
 -- a telegram like balise 0 of aspect 0, if there is one
 pub alike_first : (first : List Telegram) (t : Telegram) → ((f : Telegram) → At first 0 f → AreAlike t f) → is_unlike (slice_get first 0) t ≡ false
@@ -212,7 +212,7 @@ first_counted (x ∷ ts) (suc b) t at lt = go (cases_lt x.header.counter 254) (f
         before (suc i) v less at' = r.2.2 i v (omega arith) at'
 
 pub fitting_254 : (group : List Telegram) → HasOneCounter group → (b : ℕ) (t : Telegram) → At group b t → is_unfit t ≡ false
-fitting_254 group fit b t at = ne_eqb _ _ (fit.fits b t at)
+fitting_254 group fit b t at = ne_eqb _ _ (fit.agrees b t at)
 
 -- a counter that is the first one below 254
 pub equal-is : (group : List Telegram) (b : ℕ) (t : Telegram) → At group b t → ((j : ℕ) (u : Telegram) → t.header.counter < 254 → IsFirstCounted group j u → t.header.counter ≡ u.header.counter) → counter_differs group t ≡ false

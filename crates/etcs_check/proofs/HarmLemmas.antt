@@ -17,10 +17,10 @@ use Rattle.etcs_group.specs.Packets.{said_by}
 use Rattle.etcs_group.proofs.SaidLemmas.{said-packets}
 use Rattle.etcs_check.specs.Profiles.{gradient_reach, speed_reach}
 use Rattle.etcs_check.specs.Soundness.{first_aspect}
-use Rattle.etcs_check.specs.Aspects.{told_aspect}
+use Rattle.etcs_check.specs.Aspects.{named_aspect}
 use Rattle.etcs_check.specs.Findings.{mark_differs}
-use Rattle.etcs_check.specs.Meaning.{AspectFact, WholeFact, GroupFact, PacketFact, MessageFact}
-use Rattle.etcs_check.specs.Harm.{full_packets, HurtsReadings, AspectPart, WholePart, PacketsPart, IsTold, HurtsGroup, HurtsMessage}
+use Rattle.etcs_check.specs.Meaning.{AspectFact, GroupWideFact, GroupFact, PacketFact, MessageFact}
+use Rattle.etcs_check.specs.Harm.{full_packets, HurtsReadings, AspectPart, GroupWidePart, PacketsPart, NamesAspect, HurtsGroup, HurtsMessage}
 use Rattle.etcs_check.specs.declared.finding.Rule.{Rule}
 use Rattle.etcs_check.specs.declared.finding.Rule.TheVariants as rules
 use Rattle.etcs_check.proofs.ProfileLemmas.{HaveProfiles, lacks-from_one, lacks-from_profiles, long-said, long-at, long-in}
@@ -95,20 +95,20 @@ readings_hurt aspects a group rule run b k h = first_of (search, cc)
 
 -- ---- groups
 
--- how an aspect is told, in two cases
-pub told-is : (aspects : List (List Telegram)) (a : ℕ) (told : Option ℕ) → told ≡ told_aspect aspects a → IsTold aspects a told
+-- how a finding names an aspect, in two cases
+pub told-is : (aspects : List (List Telegram)) (a : ℕ) (told : Option ℕ) → told ≡ named_aspect aspects a → NamesAspect aspects a told
 told-is aspects a told e = (
   λ many. e ∙ ap (λ b. if b then Some a else None) (lt-ltb _ _ many),
   λ few. e ∙ ap (λ b. if b then Some a else None) (le-ltb _ _ few),
 )
 
-pub told-says : (aspects : List (List Telegram)) (a : ℕ) (told : Option ℕ) → IsTold aspects a told → told ≡ told_aspect aspects a
+pub told-says : (aspects : List (List Telegram)) (a : ℕ) (told : Option ℕ) → NamesAspect aspects a told → told ≡ named_aspect aspects a
 told-says aspects a told is = elim (cases_lt 1 (length aspects)) [
   | inl many ↦ is.0 many ∙ ap (λ b. if b then Some a else None) (sym (lt-ltb _ _ many))
   | inr few ↦ is.1 few ∙ ap (λ b. if b then Some a else None) (sym (le-ltb _ _ few))
 ]
 
-whole_breaks : (new : Type 0) (used : Bool) (aspects : List (List Telegram)) → IsControlled aspects → (new → used ≡ false) → (rule : Rule) (run : Option Run) (b k : Option ℕ) → WholeFact used aspects rule run b k → WholePart new aspects rule run b k → ⊥
+whole_breaks : (new : Type 0) (used : Bool) (aspects : List (List Telegram)) → IsControlled aspects → (new → used ≡ false) → (rule : Rule) (run : Option Run) (b k : Option ℕ) → GroupWideFact used aspects rule run b k → GroupWidePart new aspects rule run b k → ⊥
 whole_breaks new used aspects controlled unused rules.IdentityUsed None None None h part = both_ways _ (unused part) h
 whole_breaks new used aspects controlled unused rules.NotToldApart None (Some b) None h part = both_ways _ (untold-is aspects controlled b h.0 h.1 part) h.2
 whole_breaks new used aspects controlled unused rule run b k h part = first_of (search, cc)

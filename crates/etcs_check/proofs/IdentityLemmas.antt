@@ -1,4 +1,4 @@
--- One more mark in a table, one more group that was seen, and what the marks tell.
+-- One more mark in a table, one more group that was seen, and what the marks say.
 use Rattle.std.proofs.Common.{◌≡◌, ◌≢◌, ℕ, suc, ◌+◌, ◌*◌, ◌/◌, ◌%◌, ◌^◌, ◌<◌, ◌≤◌, Bool, true, false, ◌&&◌, ◌||◌, eqb, List, [], ◌∷◌, ◌++◌, length, get_or, set, replicate, take, Option, Some, None, bit_or, slice_get, refl, sym, ap, ap₂, subst, ◌∙◌, arith}
 use Rattle.std.specs.Int.{w64}
 use Rattle.std.specs.Option.{option_map_or}
@@ -14,43 +14,43 @@ use Rattle.etcs_telegram.specs.Record.{Telegram}
 use Rattle.etcs_group.specs.Places.{At}
 use Rattle.etcs_group.proofs.PlaceLemmas.{At-take, at_list_any, list_any-none}
 use Rattle.etcs_check.specs.Duplicates.{same_identity}
-use Rattle.etcs_check.specs.Aspects.{group_facts, whole, have_one_identity, is_used, rule_facts}
+use Rattle.etcs_check.specs.Aspects.{group_facts, site_spot, have_one_identity, is_used, rule_facts}
 use Rattle.etcs_check.specs.Findings.{finding_of}
 use Rattle.etcs_check.specs.Line.{group_at, group_list}
 use Rattle.etcs_check.specs.LineChecker.{HasKept}
 use Rattle.etcs_check.specs.declared.finding.Rule.TheVariants as rules
 use Rattle.etcs_check.specs.declared.finding.Site.TheVariants as sites
 use Rattle.etcs_check.proofs.FindingLemmas.{rules-say, for_each-says, noted-false, append_parts}
-use Rattle.etcs_check.specs.Identities.{number_of, identity_number, IsNumbered, AreNumbered, has_bit, is_marked, is_among, HasSeen, HasNoRepeat, HasRepeat}
+use Rattle.etcs_check.specs.Identities.{number_of_identity, identity_number, HasIdentity, HaveIdentities, has_bit, is_marked, is_among, HasSeen, HasNoRepeat, HasRepeat}
 use Rattle.etcs_check.specs.Soundness.{identity_of, group_identity}
 use Rattle.etcs_check.proofs.NoteLemmas.{each_stands}
 use Rattle.etcs_check.proofs.NumberLemmas.{identity_same, same_identity-says, same_identity-is}
 
 -- ---- identities and their numbers
 
-pub number-is : (g : List (List Telegram)) (i : Identity) → group_identity g ≡ Some i → identity_number g ≡ number_of i
-number-is g i e = ap (λ o. option_map_or number_of o 0) e
+pub number-is : (g : List (List Telegram)) (i : Identity) → group_identity g ≡ Some i → identity_number g ≡ number_of_identity i
+number-is g i e = ap (λ o. option_map_or number_of_identity o 0) e
 
-same_number : (i j : Identity) → i.group < 16384 → j.group < 16384 → number_of i ≡ number_of j → i ≡ j
+same_number : (i j : Identity) → i.group < 16384 → j.group < 16384 → number_of_identity i ≡ number_of_identity j → i ≡ j
 same_number i j a b e = identity_same i j (omega arith) (omega arith)
 
-one_number : (g h : List (List Telegram)) → IsNumbered g → IsNumbered h → have_one_identity g h ≡ eqb (identity_number g) (identity_number h)
+one_number : (g h : List (List Telegram)) → HasIdentity g → HasIdentity h → have_one_identity g h ≡ eqb (identity_number g) (identity_number h)
 one_number g h a b =
     ap₂ (λ o p. option_map_or (λ i. option_map_or (same_identity i) p false) o false) a.1 b.1
     ∙ test ∙ sym (ap₂ eqb (number-is g a.0 a.1) (number-is h b.0 b.1))
   where
-    test : same_identity a.0 b.0 ≡ eqb (number_of a.0) (number_of b.0)
-    test = elim (cases_eq (number_of a.0) (number_of b.0)) [
-      | inl e ↦ same_identity-is a.0 b.0 (same_number a.0 b.0 a.3 b.3 e) ∙ sym (eq-eqb (number_of a.0) (number_of b.0) e)
-      | inr ne ↦ false_from_ne_true _ (λ same. ne (ap number_of (same_identity-says a.0 b.0 same))) ∙ sym (ne_eqb (number_of a.0) (number_of b.0) ne)
+    test : same_identity a.0 b.0 ≡ eqb (number_of_identity a.0) (number_of_identity b.0)
+    test = elim (cases_eq (number_of_identity a.0) (number_of_identity b.0)) [
+      | inl e ↦ same_identity-is a.0 b.0 (same_number a.0 b.0 a.3 b.3 e) ∙ sym (eq-eqb (number_of_identity a.0) (number_of_identity b.0) e)
+      | inr ne ↦ false_from_ne_true _ (λ same. ne (ap number_of_identity (same_identity-says a.0 b.0 same))) ∙ sym (ne_eqb (number_of_identity a.0) (number_of_identity b.0) ne)
     ]
 
 -- an earlier group has the identity where one has its number
-pub used-among : (earlier : List (List (List Telegram))) (g : List (List Telegram)) → AreNumbered earlier → IsNumbered g → is_used earlier g ≡ is_among earlier (identity_number g)
+pub used-among : (earlier : List (List (List Telegram))) (g : List (List Telegram)) → HaveIdentities earlier → HasIdentity g → is_used earlier g ≡ is_among earlier (identity_number g)
 used-among [] g all own = refl
 used-among (h ∷ hs) g all own = ap₂ ◌||◌ (one_number h g (all 0 h refl) own) (used-among hs g (λ k x at. all (suc k) x at) own)
 
-pub numbered_before : (groups : List (List (List Telegram))) (i : ℕ) → ((k : ℕ) (h : List (List Telegram)) → k < i → At groups k h → IsNumbered h) → AreNumbered (take i groups)
+pub numbered_before : (groups : List (List (List Telegram))) (i : ℕ) → ((k : ℕ) (h : List (List Telegram)) → k < i → At groups k h → HasIdentity h) → HaveIdentities (take i groups)
 numbered_before groups i before k h at = let t = At-take i groups k h at in before k h t.0 t.1
 
 -- the word of place q with its bit set
@@ -123,7 +123,7 @@ pub seen_other : (base n : ℕ) (table : List ℕ) (groups : List (List (List Te
 seen_other base n table groups i g at other seen p lt =
     seen p lt ∙ sym (among_more groups i g (base + p) at ∙ or_false _ _ (ne_eqb _ _ (other p lt)))
 
--- the mark of its identity tells whether it was used
+-- the mark of its identity says whether it was used
 pub used_mark : (base n : ℕ) (table : List ℕ) (groups : List (List (List Telegram))) (g : List (List Telegram)) (q : ℕ) → identity_number g ≡ base + q → q < n → HasSeen base n table groups → is_used groups g ≡ is_among groups (identity_number g) → is_used groups g ≡ is_marked table q
 used_mark base n table groups g q is lt seen numbered = numbered ∙ sym (seen q lt ∙ ap (is_among groups) (sym is))
 
@@ -164,8 +164,8 @@ kept_and groups g was is now before n =
     let own = eqb (identity_number g) n in
     now n ∙ ap (λ b. own || b) (before n) ∙ or_swap own (is_among groups n) ∙ ap (λ b. is_among groups n || b) (sym (or_false own false refl)) ∙ sym (list_any-append (λ h. eqb (identity_number h) n) groups (g ∷ []))
 
--- what is told of one more group is whether its identity was used
-pub used_told : (groups : List (List (List Telegram))) (i : ℕ) (g : List (List Telegram)) (again : Bool) (is_kept : ℕ → Bool) → At groups i g → IsNumbered g → AreNumbered (take i groups)
+-- what is noted of one more group is whether its identity was used
+pub used_told : (groups : List (List (List Telegram))) (i : ℕ) (g : List (List Telegram)) (again : Bool) (is_kept : ℕ → Bool) → At groups i g → HasIdentity g → HaveIdentities (take i groups)
     → (again ≡ false → HasNoRepeat 0 16777216 groups) → (again ≡ true → HasKept is_kept (take i groups)) → (again && is_kept (identity_number g)) ≡ is_used (take i groups) g
 used_told groups i g true is_kept at own before none kept = kept refl (identity_number g) ∙ sym (used-among (take i groups) g before own)
 used_told groups i g false is_kept at own before none kept =
@@ -178,10 +178,10 @@ used_told groups i g false is_kept at own before none kept =
 pub repeat_stands : (groups : List (List (List Telegram))) → HasRepeat groups → group_list groups ≢ []
 repeat_stands groups r h =
     let none = rules-say (rule_facts (sites.Group r.0) (is_used (take r.0 groups) r.1) r.1) (for_each-says groups (group_at groups) h r.0 r.1 r.2) rules.IdentityUsed in
-    both_ways _ (noted-false _ (finding_of rules.IdentityUsed (whole (sites.Group r.0)) None None None) (append_parts _ _ none).0) r.3
+    both_ways _ (noted-false _ (finding_of rules.IdentityUsed (site_spot (sites.Group r.0)) None None None) (append_parts _ _ none).0) r.3
 
 -- where memory was asked for there is a finding: that of a repeat, or one about this group
-pub next_stands : (groups : List (List (List Telegram))) (i : ℕ) (g : List (List Telegram)) (again : Bool) → At groups i g → IsNumbered g → (again ≡ true → HasRepeat groups) → (again ≡ false → HasNoRepeat 0 16777216 groups)
+pub next_stands : (groups : List (List (List Telegram))) (i : ℕ) (g : List (List Telegram)) (again : Bool) → At groups i g → HasIdentity g → (again ≡ true → HasRepeat groups) → (again ≡ false → HasNoRepeat 0 16777216 groups)
     → (again ≡ false → group_facts (sites.Group i) false g ≢ []) → group_list groups ≢ []
 next_stands groups i g true at own repeat none some = repeat_stands groups (repeat refl)
 next_stands groups i g false at own repeat none some =

@@ -20,5 +20,5 @@ pub mod GreatestLemmas
 pub mod SummaryLemmas
 pub mod IdentityLemmas
 pub mod QuietLemmas
-pub mod TellingLemmas
+pub mod SayingLemmas
 pub mod CheckerLemmas

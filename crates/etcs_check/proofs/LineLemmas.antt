@@ -14,7 +14,7 @@ use Rattle.etcs_group.specs.Places.{At}
 use Rattle.etcs_group.proofs.PlaceLemmas.{At-take, at_take}
 use Rattle.etcs_check.specs.Profiles.{gradient_reach, speed_reach}
 use Rattle.etcs_check.specs.Soundness.{IsSoundMessage}
-use Rattle.etcs_check.specs.Aspects.{group_facts, is_used, whole}
+use Rattle.etcs_check.specs.Aspects.{group_facts, is_used, site_spot}
 use Rattle.etcs_check.specs.Findings.{each_from, finding_of, for_directions}
 use Rattle.etcs_check.specs.Line.{message_lack, message_short_at, message_short, message_facts, message_findings, group_at, group_list, message_at, message_list}
 use Rattle.etcs_check.specs.Laws.{NoFindingMeansSoundLine}
@@ -81,11 +81,11 @@ no_finding_means_sound_line groups messages some = (
       record {
         sound = λ i g at. (each i g at).0;
         distinct = λ i j g h lt at at'. (each j h at').1 i g (at_take j groups i g lt at);
-        messages_sound = λ i m at. message_sound (whole (sites.Message i)) m (for_each-says messages message_at p.1 i m at);
+        messages_sound = λ i m at. message_sound (site_spot (sites.Message i)) m (for_each-says messages message_at p.1 i m at);
       },
   λ sound. append_empty (group_list groups) (message_list messages)
       (for_each-empty groups (group_at groups) (λ i g at. (no_finding_means_sound_group (sites.Group i) (take i groups) g (some i g at)).1 (sound.sound i g at, λ j h at'. let t = At-take i groups j h at' in sound.distinct j i h g t.0 t.1 at)))
-      (for_each-empty messages message_at (λ i m at. sound_message (whole (sites.Message i)) m (sound.messages_sound i m at))),
+      (for_each-empty messages message_at (λ i m at. sound_message (site_spot (sites.Message i)) m (sound.messages_sound i m at))),
 )
 
 -- ---- one group or one message more

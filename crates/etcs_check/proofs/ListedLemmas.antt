@@ -15,8 +15,8 @@ use Rattle.etcs_check.specs.Profiles.{gradient_reach, speed_reach}
 use Rattle.etcs_check.specs.Findings.{noted, finding_of, for_each, for_directions, balise_fact, balise_at, balise_facts, pair_at, pair_facts, unmodelled_at, unmodelled_by, lack_facts, short_at, short_by, short_facts, is_short_at, facts_of, all_rules}
 use Rattle.etcs_check.specs.Line.{group_at, group_list, message_at, message_list, message_findings, is_short_in, message_lack, message_short_at, message_short, message_facts, findings}
 use Rattle.etcs_check.specs.Soundness.{first_aspect}
-use Rattle.etcs_check.specs.Aspects.{whole, aspect_of, is_used, is_untold, whole_facts, aspect_facts, rule_facts, group_facts}
-use Rattle.etcs_check.specs.Meaning.{HasPacket, IsPacket, AspectFact, WholeFact, GroupFact, PacketFact, MessageFact, StatesAt, States}
+use Rattle.etcs_check.specs.Aspects.{site_spot, aspect_of, is_used, is_ambiguous, group_wide_facts, aspect_facts, rule_facts, group_facts}
+use Rattle.etcs_check.specs.Meaning.{HasPacket, IsPacket, AspectFact, GroupWideFact, GroupFact, PacketFact, MessageFact, StatesAt, States}
 use Rattle.etcs_check.specs.declared.finding.Finding.{Finding}
 use Rattle.etcs_check.specs.declared.finding.Rule.{Rule}
 use Rattle.etcs_check.specs.declared.finding.Rule.TheVariants as rules
@@ -99,11 +99,11 @@ module _ (spot : Spot) (first : List Telegram) (before : List (List Telegram)) (
   rule_listed rule run b k h = first_of (search, cc)
 
 -- each fact about the whole group has its finding
-whole_listed : (site : Site) (used : Bool) (aspects : List (List Telegram)) (rule : Rule) (run : Option Run) (b k : Option ℕ) → WholeFact used aspects rule run b k → IsListed (finding_of rule (whole site) run b k) (whole_facts site used aspects rule)
-whole_listed site used aspects rules.IdentityUsed None None None h = noted-listed used (finding_of rules.IdentityUsed (whole site) None None None) h
+whole_listed : (site : Site) (used : Bool) (aspects : List (List Telegram)) (rule : Rule) (run : Option Run) (b k : Option ℕ) → GroupWideFact used aspects rule run b k → IsListed (finding_of rule (site_spot site) run b k) (group_wide_facts site used aspects rule)
+whole_listed site used aspects rules.IdentityUsed None None None h = noted-listed used (finding_of rules.IdentityUsed (site_spot site) None None None) h
 whole_listed site used aspects rules.NotToldApart None (Some b) None h =
-    each-listed (balise_at rules.NotToldApart (whole site) (is_untold aspects)) (first_aspect aspects) b h.0 (finding_of rules.NotToldApart (whole site) None (Some b) None) h.1
-    (noted-listed (is_untold aspects b h.0) (finding_of rules.NotToldApart (whole site) None (Some b) None) h.2)
+    each-listed (balise_at rules.NotToldApart (site_spot site) (is_ambiguous aspects)) (first_aspect aspects) b h.0 (finding_of rules.NotToldApart (site_spot site) None (Some b) None) h.1
+    (noted-listed (is_ambiguous aspects b h.0) (finding_of rules.NotToldApart (site_spot site) None (Some b) None) h.2)
 whole_listed site used aspects rule run b k h = first_of (search, cc)
 
 -- a finding is made of its parts
@@ -116,16 +116,16 @@ pub group_listed : (site : Site) (used : Bool) (aspects : List (List Telegram)) 
 unfolding facts
 group_listed site used aspects f e fact = rules-listed (rule_facts site used aspects) f.rule f (elim fact [
   | inl w ↦
-      let n = finding_of f.rule (whole site) f.dir f.balise f.packet in
+      let n = finding_of f.rule (site_spot site) f.dir f.balise f.packet in
       let l = whole_listed site used aspects f.rule f.dir f.balise f.packet w.1 in
-      let here : IsListed n (rule_facts site used aspects f.rule) = (l.0, At-append_left (whole_facts site used aspects f.rule) (for_each aspects (aspect_facts site aspects f.rule)) l.0 n l.1) in
-      subst (λ n. IsListed n (rule_facts site used aspects f.rule)) (made_of f (whole site) e w.0) here
+      let here : IsListed n (rule_facts site used aspects f.rule) = (l.0, At-append_left (group_wide_facts site used aspects f.rule) (for_each aspects (aspect_facts site aspects f.rule)) l.0 n l.1) in
+      subst (λ n. IsListed n (rule_facts site used aspects f.rule)) (made_of f (site_spot site) e w.0) here
   | inr r ↦
       let spot = aspect_of site aspects r.0 in
       let n = finding_of f.rule spot f.dir f.balise f.packet in
       let l = rule_listed spot (first_aspect aspects) (take r.0 aspects) r.1 f.rule f.dir f.balise f.packet r.4 in
       let each = each-listed (aspect_facts site aspects f.rule) aspects r.0 r.1 n r.2 l in
-      let here = At-append_right (whole_facts site used aspects f.rule) (for_each aspects (aspect_facts site aspects f.rule)) each.0 n each.1 in
+      let here = At-append_right (group_wide_facts site used aspects f.rule) (for_each aspects (aspect_facts site aspects f.rule)) each.0 n each.1 in
       subst (λ n. IsListed n (rule_facts site used aspects f.rule)) (made_of f spot e r.3) here
 ])
 
@@ -152,12 +152,12 @@ module _ (spot : Spot) (packets : List TrackPacket) where
   packets_listed rule run b k h = first_of (search, cc)
 
 -- each fact about a message has its finding
-pub message_listed : (site : Site) (m : Message) (f : Finding) → f.site ≡ site → f.aspect ≡ None → MessageFact m f.rule f.dir f.balise f.packet → IsListed f (message_findings (whole site) m)
+pub message_listed : (site : Site) (m : Message) (f : Finding) → f.site ≡ site → f.aspect ≡ None → MessageFact m f.rule f.dir f.balise f.packet → IsListed f (message_findings (site_spot site) m)
 message_listed site (messages.Position m) f e g h = absurd h
 message_listed site (messages.Movement m) f e g h =
-    let r = packets_listed (whole site) m.packets f.rule f.dir f.balise f.packet h in
-    let s = rules-listed (message_facts (whole site) m.packets) f.rule (finding_of f.rule (whole site) f.dir f.balise f.packet) r in
-    subst (λ n. IsListed n (message_findings (whole site) (messages.Movement m))) (made_of f (whole site) e g) s
+    let r = packets_listed (site_spot site) m.packets f.rule f.dir f.balise f.packet h in
+    let s = rules-listed (message_facts (site_spot site) m.packets) f.rule (finding_of f.rule (site_spot site) f.dir f.balise f.packet) r in
+    subst (λ n. IsListed n (message_findings (site_spot site) (messages.Movement m))) (made_of f (site_spot site) e g) s
 
 -- ---- the line
 

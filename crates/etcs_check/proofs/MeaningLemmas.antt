@@ -18,8 +18,8 @@ use Rattle.etcs_check.specs.Profiles.{gradient_reach, speed_reach}
 use Rattle.etcs_check.specs.Findings.{noted, finding_of, for_each, for_directions, balise_fact, balise_at, balise_facts, pair_differs, pair_at, pair_facts, is_unmodelled, unmodelled_at, unmodelled_by, unmodelled_facts, lacks, is_short_at, lack_facts, short_at, short_by, short_facts, facts_of, all_rules}
 use Rattle.etcs_check.specs.Line.{group_at, group_list, message_at, message_list, message_findings, is_short_in, message_lack, message_short_at, message_short, message_facts, findings}
 use Rattle.etcs_check.specs.Soundness.{first_aspect}
-use Rattle.etcs_check.specs.Aspects.{whole, aspect_of, is_used, is_untold, whole_facts, aspect_facts, rule_facts, group_facts}
-use Rattle.etcs_check.specs.Meaning.{AspectFact, WholeFact, GroupFact, PacketFact, MessageFact, StatesAt, States}
+use Rattle.etcs_check.specs.Aspects.{site_spot, aspect_of, is_used, is_ambiguous, group_wide_facts, aspect_facts, rule_facts, group_facts}
+use Rattle.etcs_check.specs.Meaning.{AspectFact, GroupWideFact, GroupFact, PacketFact, MessageFact, StatesAt, States}
 use Rattle.etcs_check.specs.Harm.{IsNew, HurtsSite, Hurts}
 use Rattle.etcs_check.specs.Laws.{AreControlled, FindingsAreFacts}
 use Rattle.etcs_check.specs.declared.finding.Finding.{Finding}
@@ -120,21 +120,21 @@ module _ (spot : Spot) (first : List Telegram) (before : List (List Telegram)) (
   rule_stands rules.NotToldApart i h = balise_stands rules.NotToldApart (fact rules.NotToldApart) (λ b t at e. (refl, refl, (t, at, e))) i h
 
 -- a finding about the whole group states its fact
-whole_stands : (site : Site) (used : Bool) (aspects : List (List Telegram)) (f : Finding) (rule : Rule) (i : ℕ) → At (whole_facts site used aspects rule) i f → (f.site ≡ site) × (f.aspect ≡ None) × WholeFact used aspects f.rule f.dir f.balise f.packet
+whole_stands : (site : Site) (used : Bool) (aspects : List (List Telegram)) (f : Finding) (rule : Rule) (i : ℕ) → At (group_wide_facts site used aspects rule) i f → (f.site ≡ site) × (f.aspect ≡ None) × GroupWideFact used aspects f.rule f.dir f.balise f.packet
 whole_stands site used aspects f rules.IdentityUsed i h =
-    let n = noted-at used (finding_of rules.IdentityUsed (whole site) None None None) i f h in
-    subst (λ n. (n.site ≡ site) × (n.aspect ≡ None) × WholeFact used aspects n.rule n.dir n.balise n.packet) n.1 (refl, refl, n.0)
+    let n = noted-at used (finding_of rules.IdentityUsed (site_spot site) None None None) i f h in
+    subst (λ n. (n.site ≡ site) × (n.aspect ≡ None) × GroupWideFact used aspects n.rule n.dir n.balise n.packet) n.1 (refl, refl, n.0)
 whole_stands site used aspects f rules.NotToldApart i h =
-    let r = each-at (balise_at rules.NotToldApart (whole site) (is_untold aspects)) (first_aspect aspects) i f h in
-    let n = noted-at (is_untold aspects r.0 r.1) (finding_of rules.NotToldApart (whole site) None (Some r.0) None) r.2 f r.4 in
-    subst (λ n. (n.site ≡ site) × (n.aspect ≡ None) × WholeFact used aspects n.rule n.dir n.balise n.packet) n.1 (refl, refl, (r.1, r.3, n.0))
+    let r = each-at (balise_at rules.NotToldApart (site_spot site) (is_ambiguous aspects)) (first_aspect aspects) i f h in
+    let n = noted-at (is_ambiguous aspects r.0 r.1) (finding_of rules.NotToldApart (site_spot site) None (Some r.0) None) r.2 f r.4 in
+    subst (λ n. (n.site ≡ site) × (n.aspect ≡ None) × GroupWideFact used aspects n.rule n.dir n.balise n.packet) n.1 (refl, refl, (r.1, r.3, n.0))
 whole_stands site used aspects f rule i h = absurd (none-some f h)
 
 pub group_states : (site : Site) (used : Bool) (aspects : List (List Telegram)) (i : ℕ) (f : Finding) → At (group_facts site used aspects) i f → (f.site ≡ site) × GroupFact used aspects f.rule f.aspect f.dir f.balise f.packet
 unfolding Stands
 group_states site used aspects i f h =
     let r = flat_map-at (rule_facts site used aspects) all_rules i f h in
-    elim (At-append_cases (whole_facts site used aspects r.1) (for_each aspects (aspect_facts site aspects r.1)) r.2 f r.4) [
+    elim (At-append_cases (group_wide_facts site used aspects r.1) (for_each aspects (aspect_facts site aspects r.1)) r.2 f r.4) [
       | inl p ↦ let s = whole_stands site used aspects f r.1 r.2 p in (s.0, inl (s.1, s.2))
       | inr q ↦
           let e = each-at (aspect_facts site aspects r.1) aspects q.0 f q.1 in
@@ -175,12 +175,12 @@ module _ (spot : Spot) (packets : List TrackPacket) (f : Finding) where
   rule_noted rules.SpeedShort i h = short_noted rules.SpeedShort speed_reach (λ run k p at e. (refl, refl, (p, at, e))) i h
   rule_noted rule i h = absurd (none-some f h)
 
-pub message_states : (site : Site) (m : Message) (i : ℕ) (f : Finding) → At (message_findings (whole site) m) i f → (f.site ≡ site) × (f.aspect ≡ None) × MessageFact m f.rule f.dir f.balise f.packet
+pub message_states : (site : Site) (m : Message) (i : ℕ) (f : Finding) → At (message_findings (site_spot site) m) i f → (f.site ≡ site) × (f.aspect ≡ None) × MessageFact m f.rule f.dir f.balise f.packet
 unfolding Noted
 message_states site (messages.Position m) i f h = absurd (none-some f h)
 message_states site (messages.Movement m) i f h =
-    let r = flat_map-at (message_facts (whole site) m.packets) all_rules i f h in
-    rule_noted (whole site) m.packets f r.1 r.2 r.4
+    let r = flat_map-at (message_facts (site_spot site) m.packets) all_rules i f h in
+    rule_noted (site_spot site) m.packets f r.1 r.2 r.4
 
 -- ---- the whole list
 

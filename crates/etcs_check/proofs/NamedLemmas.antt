@@ -7,7 +7,7 @@ use Rattle.etcs_group.specs.Places.{At}
 use Rattle.etcs_group.proofs.PlaceLemmas.{one_at, At-take, at_take}
 use Rattle.etcs_check.specs.Harm.{IsNew}
 use Rattle.etcs_check.specs.Soundness.{IsSoundControlled, IsSoundMessage, group_identity}
-use Rattle.etcs_check.specs.Aspects.{whole, is_used}
+use Rattle.etcs_check.specs.Aspects.{site_spot, is_used}
 use Rattle.etcs_check.specs.Line.{group_at, message_at, findings, IsUnnamed}
 use Rattle.etcs_check.specs.Meaning.{GroupFact, MessageFact, StatesAt}
 use Rattle.etcs_check.specs.Laws.{AreControlled, UnnamedMeansSound}
@@ -53,13 +53,13 @@ module _ (groups : List (List (List Telegram))) (messages : List Message) (contr
 
 module _ (groups : List (List (List Telegram))) (messages : List Message) (i : ℕ) (m : Message) (at : At messages i m) where
   unnamed_message : IsUnnamed (findings groups messages) (sites.Message i) → IsSoundMessage m
-  unnamed_message unnamed = message_sound (whole (sites.Message i)) m (nothing_here (findings groups messages) (sites.Message i) unnamed (message_at i m) (λ k f here.
+  unnamed_message unnamed = message_sound (site_spot (sites.Message i)) m (nothing_here (findings groups messages) (sites.Message i) unnamed (message_at i m) (λ k f here.
       let s = message_states (sites.Message i) m k f here in
       (s.0, each_fact_is_listed groups messages f (subst (StatesAt groups messages f) (sym s.0) (m, at, s.1, s.2)))))
 
   sound_message_unnamed : IsSoundMessage m → IsUnnamed (findings groups messages) (sites.Message i)
   sound_message_unnamed sound k f here e =
-      let empty = sound_message (whole (sites.Message i)) m sound in
+      let empty = sound_message (site_spot (sites.Message i)) m sound in
       let s = subst (StatesAt groups messages f) e (findings_are_facts groups messages k f here).0 in
       let same = one_at messages i s.0 m s.1 at in
       let r = message_listed (sites.Message i) m f e s.2 (subst (λ x. MessageFact x f.rule f.dir f.balise f.packet) same s.3) in

@@ -31,7 +31,7 @@ each_pushed f xs b x found more all at e h =
 pub each_stands : {X : Type 0} (f : ℕ → X → List Finding) (xs : List X) (b : ℕ) (x : X) → At xs b x → f b x ≢ [] → for_each xs f ≢ []
 each_stands f xs b x at some h = some (for_each-says xs f h b x at)
 
--- ---- the same without the places
+-- ---- one step of a loop over items without their places, and one that has a finding
 
 pub flat_pushed : {X : Type 0} (f : X → List Finding) (xs : List X) (i : ℕ) (x : X) (found more all : List Finding) → At xs i x → more ≡ found ++ f x → found ++ flat_map f (drop i xs) ≡ all → more ++ flat_map f (drop (i + 1) xs) ≡ all
 flat_pushed f xs i x found more all at e h =

@@ -60,7 +60,7 @@ rows_decided (sized before body) xs ys us vs p q e =
     headed : (rows more : List Row) (ws : List ℕ) → rows ≡ row l_packet (before + width rows) ∷ more → numbers rows ++ ws ≡ (before + width rows) ∷ (numbers more ++ ws)
     headed rows more ws is = ap (λ l. numbers l ++ ws) is
 
--- packets with the same numbers are equal
+-- packets with equal numbers are equal
 packet_decided : (p q : TrackPacket) → packet_numbers p ≡ packet_numbers q → p ≡ q
 unfolding numbers
 packet_decided p q e =
@@ -74,7 +74,7 @@ Decides-same_packet p q =
     let d = slice_eq-Decides Decides-eqb (packet_numbers p) (packet_numbers q) (same_packet p q) refl in
     (λ h. packet_decided p q (d.0 h), λ e. d.1 (ap packet_numbers e))
 
--- the same of lists of packets
+-- two lists of packets are equal exactly where the numbers of their packets are
 pub Decides-same_packets : (xs ys : List TrackPacket) → Decides (pointwise same_packet xs ys) (xs ≡ ys)
 Decides-same_packets xs ys = slice_eq-Decides Decides-same_packet xs ys (pointwise same_packet xs ys) refl
 

@@ -19,8 +19,8 @@ use Rattle.etcs_check.specs.Soundness.{first_aspect}
 use Rattle.etcs_check.specs.Findings.{is_unlike, mark_differs, pair_differs}
 use Rattle.etcs_check.specs.Aspects.{is_used}
 use Rattle.etcs_check.specs.Line.{findings}
-use Rattle.etcs_check.specs.Meaning.{AspectFact, WholeFact, PacketFact, MessageFact, StatesAt}
-use Rattle.etcs_check.specs.Harm.{AspectPart, WholePart, PacketsPart, MessagePart, IsNew, HurtsSite, HasPartsAt}
+use Rattle.etcs_check.specs.Meaning.{AspectFact, GroupWideFact, PacketFact, MessageFact, StatesAt}
+use Rattle.etcs_check.specs.Harm.{AspectPart, GroupWidePart, PacketsPart, MessagePart, IsNew, HurtsSite, HasPartsAt}
 use Rattle.etcs_check.specs.Laws.{PartsHoldUnlessFound, NothingHurtsASoundLine}
 use Rattle.etcs_check.specs.declared.finding.Rule.{Rule}
 use Rattle.etcs_check.specs.declared.finding.Rule.TheVariants as rules
@@ -61,7 +61,7 @@ aspect_holds aspects a group rules.NotToldApart None (Some b) None none = λ c q
     fresh-says aspects a t (false_from_ne_true _ (λ e. none (t, at, e))) c q u lt has low (sym same)
 aspect_holds aspects a group rule run b k none = tt
 
-whole_holds : (new : Type 0) (used : Bool) (aspects : List (List Telegram)) → IsControlled aspects → (used ≡ false → new) → (rule : Rule) (run : Option Run) (b k : Option ℕ) → (WholeFact used aspects rule run b k → ⊥) → WholePart new aspects rule run b k
+whole_holds : (new : Type 0) (used : Bool) (aspects : List (List Telegram)) → IsControlled aspects → (used ≡ false → new) → (rule : Rule) (run : Option Run) (b k : Option ℕ) → (GroupWideFact used aspects rule run b k → ⊥) → GroupWidePart new aspects rule run b k
 whole_holds new used aspects controlled is_new rules.IdentityUsed None None None none = is_new (false_from_ne_true _ none)
 whole_holds new used aspects controlled is_new rules.NotToldApart None (Some b) None none = λ many.
     told_place aspects controlled many b (λ f at. false_from_ne_true _ (λ e. none (f, at, e)))

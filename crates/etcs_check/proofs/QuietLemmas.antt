@@ -1,4 +1,4 @@
--- A group is quiet where each aspect is and where its aspects are told apart.
+-- A group is quiet where each aspect is and where its aspects are distinguished.
 use Rattle.std.proofs.Common.{◌≡◌, ℕ, zero, suc, Bool, true, false, not, ltb, List, [], ◌∷◌, ◌++◌, length, filter, take, Option, Some, None, arith, sym, ap, ◌∙◌, refl}
 use Rattle.std.proofs.lemmas.Bool.{and_left, and_right, both_ways, false_from_ne_true, not-true, not_from_true, or_cases}
 use Rattle.std.proofs.lemmas.Option.{none-some}
@@ -12,11 +12,11 @@ use Rattle.etcs_telegram.specs.Record.{Telegram}
 use Rattle.etcs_group.specs.Packets.{held_by, said_by}
 use Rattle.etcs_group.specs.Places.{At}
 use Rattle.etcs_group.proofs.PlaceLemmas.{at_list_any}
-use Rattle.etcs_check.specs.Aspects.{aspect_facts, aspect_of, group_facts, is_untold, rule_facts, whole, whole_facts}
+use Rattle.etcs_check.specs.Aspects.{aspect_facts, aspect_of, group_facts, is_ambiguous, rule_facts, site_spot, group_wide_facts}
 use Rattle.etcs_check.specs.Counters.{HasCounters, is_taken}
 use Rattle.etcs_check.specs.Findings.{all_rules, are_pair, balise_fact, is_counter_taken, pair_differs}
 use Rattle.etcs_check.specs.Profiles.{gradient_reach, speed_reach}
-use Rattle.etcs_check.specs.Quiet.{AreFresh, AreTold, IsQuiet, IsQuietAspect, are_same_pair}
+use Rattle.etcs_check.specs.Quiet.{AreFresh, AreUnambiguous, IsQuiet, IsQuietAspect, are_same_pair}
 use Rattle.etcs_check.specs.Soundness.{first_aspect}
 use Rattle.etcs_check.specs.declared.finding.Rule.{Rule}
 use Rattle.etcs_check.specs.declared.finding.Rule.TheVariants as rules
@@ -114,8 +114,8 @@ fresh-one [] one = cc one
 fresh-one (group ∷ []) one = fresh-alone group
 fresh-one (group ∷ other ∷ rest) one = absurd (omega (arith, one))
 
-pub told-one : (aspects : List (List Telegram)) → length aspects ≡ 1 → AreTold aspects
-told-one aspects one b t at = and_left _ _ (ap (ltb 1) one)
+pub unambiguous-one : (aspects : List (List Telegram)) → length aspects ≡ 1 → AreUnambiguous aspects
+unambiguous-one aspects one b t at = and_left _ _ (ap (ltb 1) one)
 
 -- an aspect none of whose counters is in the table of the earlier ones
 pub fresh-from_table : (table : List ℕ) (before : List (List Telegram)) (group : List Telegram)
@@ -128,22 +128,22 @@ fresh-from_table table before group has none b t at =
 module _
     (aspects : List (List Telegram))
     (quiet : (a : ℕ) (group : List Telegram) → At aspects a group → IsQuietAspect (first_aspect aspects) group)
-    (fresh : AreFresh aspects) (told : AreTold aspects) where
+    (fresh : AreFresh aspects) (told : AreUnambiguous aspects) where
   -- the facts of a rule are those about the group as a whole
   whole_alone : (site : Site) (used : Bool) (rule : Rule)
-      → rule_facts site used aspects rule ≡ whole_facts site used aspects rule
+      → rule_facts site used aspects rule ≡ group_wide_facts site used aspects rule
   whole_alone site used rule =
       let none = for_each-empty aspects (aspect_facts site aspects rule) (λ a group at.
       facts-from_clean (aspect_of site aspects a) (first_aspect aspects) (take a aspects) group
       (clean (first_aspect aspects) (take a aspects) group (quiet a group at) (fresh a group at)) rule) in
-      ap (λ l. whole_facts site used aspects rule ++ l) none
-      ∙ append-nil (whole_facts site used aspects rule)
+      ap (λ l. group_wide_facts site used aspects rule ++ l) none
+      ∙ append-nil (group_wide_facts site used aspects rule)
 
   -- the facts about the group as a whole are those about its identity
   pub quiet-from_parts : IsQuiet aspects
   quiet-from_parts site used =
-      let identity = whole_facts site used aspects rules.IdentityUsed in
-      let none = balises_empty rules.NotToldApart (whole site) (is_untold aspects) (first_aspect aspects) told in
-      let all : group_facts site used aspects ≡ flat_map (whole_facts site used aspects) all_rules =
+      let identity = group_wide_facts site used aspects rules.IdentityUsed in
+      let none = balises_empty rules.NotToldApart (site_spot site) (is_ambiguous aspects) (first_aspect aspects) told in
+      let all : group_facts site used aspects ≡ flat_map (group_wide_facts site used aspects) all_rules =
       λ i. flat_map (λ rule. whole_alone site used rule i) all_rules in
       all ∙ ap (λ l. identity ++ (l ++ [])) none ∙ append-nil identity

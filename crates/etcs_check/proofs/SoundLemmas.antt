@@ -135,10 +135,10 @@ none_set group p h = absurd (both_ways false refl h)
 none_covered : (group : List Telegram) → IsCovered group none_missed
 none_covered group p h = absurd (both_ways false refl h)
 
--- the counters fit where the reading with nothing missed is accepted
+-- the counters agree where the reading with nothing missed is accepted
 fitting-from_accepted : (group : List Telegram) (run : Run) → IsAccepted run (reading_of run none_missed group) → HasOneCounter group
 fitting-from_accepted group run accepted = record {
-  fits = λ b t at. let r = at-reading group none_missed run b t at refl in accepted.one_counter.fits r.0 t r.1;
+  agrees = λ b t at. let r = at-reading group none_missed run b t at refl in accepted.one_counter.agrees r.0 t r.1;
   equal = λ b c t u at au m n.
       let r = at-reading group none_missed run b t at refl in
       let s = at-reading group none_missed run c u au refl in
@@ -163,7 +163,7 @@ module _ (group : List Telegram) (sound : IsSoundGroup group) where
       let w = slice_get_within group (suc b) n.1 n.2 in
       omega arith
 
-  -- an aspect that is like aspect 0, and told apart from those before
+  -- an aspect that is like aspect 0, and that its counters distinguish from the aspects before it
   pub clean-from_sound : (first : List Telegram) (before : List (List Telegram))
       → ((b : ℕ) (t f : Telegram) → At group b t → At first 0 f → AreAlike t f)
       → ((b : ℕ) (t : Telegram) → At group b t → mark_differs (slice_get first b) t ≡ false)

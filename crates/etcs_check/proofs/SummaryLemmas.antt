@@ -70,7 +70,7 @@ fold_limit : (s : Summary) (packets : List TrackPacket)
 fold_limit s [] = sym (greater-none s.limit)
 fold_limit s (p ∷ ps) = fold_limit (with_packet s p) ps ∙ greater-assoc s.limit (limit_of p) (greatest ps)
 
--- a part of a summary that tells whether any packet passes a test
+-- a part of a summary that says whether any packet passes a test
 fold_any : (part : Summary → Bool) (test : TrackPacket → Bool)
     → ((s : Summary) (p : TrackPacket) → part (with_packet s p) ≡ (part s || test p))
     → (s : Summary) (packets : List TrackPacket) → part (fold with_packet s packets) ≡ (part s || list_any test packets)

@@ -3,6 +3,7 @@
 use Rattle.std.specs.Prelude.{◌≡◌, ℕ, ◌<◌, ◌&&◌, nat_lt, Bool, List, []}
 use Rattle.std.specs.List.{list_any}
 use Rattle.etcs_telegram.specs.Record.{Telegram}
+use Rattle.etcs_group.specs.Group.{Telegrams, Aspects}
 use Rattle.etcs_check.specs.Aspects.{aspect_of}
 use Rattle.etcs_check.specs.Findings.{balise_facts, facts_of, has_counter}
 use Rattle.etcs_check.specs.Identities.{is_marked}
@@ -17,15 +18,15 @@ use Rattle.etcs_check.specs.declared.finding.Spot.{Spot}
 abbrev pub is_taken : List ℕ → Telegram → Bool
 is_taken table t = nat_lt t.header.counter 254 && is_marked table t.header.counter
 
--- the findings of the balises whose counters are
-abbrev pub taken_facts : Spot → List ℕ → List Telegram → List Finding
+-- the findings about the balises whose counters, below 254, are marked
+abbrev pub taken_facts : Spot → List ℕ → Telegrams → List Finding
 taken_facts spot table group = balise_facts rules.NotToldApart spot (λ b t. is_taken table t) group
 
 -- Just the counters of these aspects are marked.
-abbrev pub HasCounters : List ℕ → List (List Telegram) → Type 0
+abbrev pub HasCounters : List ℕ → Aspects → Type 0
 HasCounters table aspects = (n : ℕ) → n < 256 → is_marked table n ≡ list_any (has_counter n) aspects
 
--- the findings of a rule about aspect a, where no earlier aspect is looked at
-abbrev pub alone_facts : Site → List (List Telegram) → Rule → ℕ → List Telegram → List Finding
-alone_facts site aspects rule a group =
+-- the findings of a rule about aspect a, as if no aspect came before it
+abbrev pub facts_without_earlier : Site → Aspects → Rule → ℕ → Telegrams → List Finding
+facts_without_earlier site aspects rule a group =
     facts_of (aspect_of site aspects a) (first_aspect aspects) [] group rule

@@ -1,5 +1,5 @@
 -- Equal packets and equal telegrams. A packet is the numbers in the rows of its table, one after the
--- other (SUBSET-026, 7.4.2), so two packets are the same where these numbers are.
+-- other (SUBSET-026, 7.4.2), so two packets are equal where these numbers are.
 use Rattle.std.specs.Prelude.{ℕ, ◌==◌, ◌&&◌, Bool, true, false, List, map}
 use Rattle.std.specs.Bool.{beq}
 use Rattle.std.specs.Cmp.Lexicographic.{pointwise}
@@ -23,47 +23,47 @@ packet_numbers p = map (λ r. r.number) (track_packet.rows p)
 -- ---- two packets
 -- Pinned by the law packets_are_their_numbers.
 
--- whether two packets have the same numbers
+-- whether two packets have equal numbers
 abbrev pub same_packet : TrackPacket → TrackPacket → Bool
 same_packet p q = pointwise (λ m n. m == n) (packet_numbers p) (packet_numbers q)
 
 -- ---- two telegrams
 
--- whether two telegrams have the same packets that hold in the running direction, in the same order
+-- whether two telegrams have equal lists of packets that hold in the running direction
 abbrev pub same_held : Run → Telegram → Telegram → Bool
 same_held run t u = pointwise same_packet (held_by run t) (held_by run u)
 
 -- ---- sizes and headers
 
--- whether two identities are the same
+-- whether two identities are equal
 abbrev pub same_identity : Identity → Identity → Bool
 same_identity i j = (i.country == j.country) && (i.group == j.group)
 
--- whether two marks are the same
+-- whether two marks are equal
 abbrev pub same_mark : Dup → Dup → Bool
 same_mark dups.Single dups.Single = true
 same_mark dups.Next dups.Next = true
 same_mark dups.Previous dups.Previous = true
 same_mark m n = false
 
--- whether two sizes are the same
+-- whether two sizes are equal
 abbrev pub same_size : Size → Size → Bool
 same_size sizes.Short sizes.Short = true
 same_size sizes.Long sizes.Long = true
 same_size m n = false
 
--- whether two headers are the same
+-- whether two headers are equal
 abbrev pub same_header : Header → Header → Bool
 same_header g h =
     (version_number g.version == version_number h.version) && ((g.position == h.position)
     && ((g.total == h.total) && (same_mark g.dup h.dup && ((g.counter == h.counter)
     && (same_identity g.identity h.identity && beq g.linked h.linked)))))
 
--- ---- one and the same telegram
+-- ---- equal telegrams
 -- Pinned by the law telegrams_are_their_parts.
 
--- Whether two telegrams have the same size, the same header and the same packets. The fill after the end
--- mark is no part of a telegram.
+-- Whether two telegrams have equal sizes, headers and packets. The fill after the end mark is no part of a
+-- telegram.
 abbrev pub same_telegram : Telegram → Telegram → Bool
 same_telegram t u =
     same_size t.size u.size && (same_header t.header u.header && pointwise same_packet t.packets u.packets)

@@ -16,7 +16,7 @@ use Rattle.etcs_packet.specs.declared.track.TrackPacket.{TrackPacket}
 use Rattle.etcs_profile.specs.declared.reach.Reach.{Reach}
 use Rattle.etcs_profile.specs.declared.reach.Reach.TheVariants.{Ends, Open}
 use Rattle.etcs_telegram.specs.Record.{Telegram}
-use Rattle.etcs_group.specs.Group.{is_modelled, partner_of}
+use Rattle.etcs_group.specs.Group.{is_modelled, partner_of, Telegrams, Aspects}
 use Rattle.etcs_group.specs.Packets.{is_silent, said_by}
 use Rattle.etcs_check.specs.Duplicates.{same_identity, same_mark, same_held}
 use Rattle.etcs_check.specs.Profiles.{limit_of, gradient_reach, speed_reach}
@@ -32,7 +32,7 @@ abbrev pub is_misplaced : ℕ → Telegram → Bool
 is_misplaced b t = not (t.header.position == b)
 
 -- F2: its total and one is not the number of balises
-abbrev pub is_miscounted : List Telegram → Telegram → Bool
+abbrev pub is_miscounted : Telegrams → Telegram → Bool
 is_miscounted group t = not ((t.header.total + 1) == length group)
 
 -- F3: the telegram's version, identity or link flag is not that of the other one. It is no fact where
@@ -50,26 +50,26 @@ is_outside n dups.Next b = (b + 1) == n
 is_outside n dups.Previous b = b == 0
 
 -- there is no number, or another one
-abbrev pub is_other : Option ℕ → ℕ → Bool
-is_other o n = not (option_map_or (λ m. m == n) o false)
+abbrev pub differs_from : Option ℕ → ℕ → Bool
+differs_from o n = not (option_map_or (λ m. m == n) o false)
 
 -- F5: the balise has a partner, whose partner is another balise or none
-abbrev pub is_unanswered : List Telegram → Option ℕ → ℕ → Bool
-is_unanswered group partner b = option_map_or (λ p. is_other (partner_of group p) b) partner false
+abbrev pub is_unanswered : Telegrams → Option ℕ → ℕ → Bool
+is_unanswered group partner b = option_map_or (λ p. differs_from (partner_of group p) b) partner false
 
 -- F6: its counter is 254
 abbrev pub is_unfit : Telegram → Bool
 is_unfit t = t.header.counter == 254
 
 -- the first counter below 254
-abbrev pub first_counter : List Telegram → Option ℕ
+abbrev pub first_counter : Telegrams → Option ℕ
 first_counter [] = None
 first_counter (t ∷ ts) = if nat_lt t.header.counter 254 then Some t.header.counter else first_counter ts
 
 -- F7: its counter is below 254, and is not the first one below 254
-abbrev pub counter_differs : List Telegram → Telegram → Bool
+abbrev pub counter_differs : Telegrams → Telegram → Bool
 counter_differs group t =
-    nat_lt t.header.counter 254 && is_other (first_counter group) t.header.counter
+    nat_lt t.header.counter 254 && differs_from (first_counter group) t.header.counter
 
 -- F15: the telegram's mark is not that of the other one. It is no fact where there is no other one.
 abbrev pub mark_differs : Option Telegram → Telegram → Bool
@@ -77,17 +77,17 @@ mark_differs None t = false
 mark_differs (Some u) t = not (same_mark t.header.dup u.header.dup)
 
 -- the list has a telegram with this counter
-abbrev pub has_counter : ℕ → List Telegram → Bool
+abbrev pub has_counter : ℕ → Telegrams → Bool
 has_counter n group = list_any (λ t. t.header.counter == n) group
 
 -- F16: its counter is below 254, and stands in one of these aspects
-abbrev pub is_counter_taken : List (List Telegram) → Telegram → Bool
+abbrev pub is_counter_taken : Aspects → Telegram → Bool
 is_counter_taken before t =
     nat_lt t.header.counter 254 && list_any (has_counter t.header.counter) before
 
 -- Whether the telegram t, of balise b of an aspect, breaks a rule about single balises. It is compared
 -- with its own aspect, with `first`, which is aspect 0, and with the aspects before its own.
-abbrev pub balise_fact : List Telegram → List (List Telegram) → List Telegram → Rule → ℕ → Telegram → Bool
+abbrev pub balise_fact : Telegrams → Aspects → Telegrams → Rule → ℕ → Telegram → Bool
 balise_fact first before group rules.PositionWrong b t = is_misplaced b t
 balise_fact first before group rules.TotalWrong b t = is_miscounted group t
 balise_fact first before group rules.HeaderDiffers b t = is_unlike (slice_get first 0) t
@@ -130,12 +130,13 @@ abbrev pub goes_past : Reach → TrackPacket → Bool
 goes_past r a = option_map_or (lies_past r) (limit_of a) false
 
 -- F11 and F13: the packet is a profile of the kind, and the supervised location of some authority
--- among the packets, and so the greatest, lies past its reach
+-- among the packets lies past its reach
 abbrev pub is_short : (TrackPacket → Option Reach) → List TrackPacket → TrackPacket → Bool
 is_short reach packets p = option_map_or (λ r. list_any (goes_past r) packets) (reach p) false
 
--- the same of a packet of the balise at place b: the balise is not silent, and the packet holds
-abbrev pub is_short_at : (TrackPacket → Option Reach) → List Telegram → Run → ℕ → Telegram → TrackPacket → Bool
+-- F11 and F13 of packet p of the balise at place b: the balise is not silent, the packet holds, and it is
+-- a profile that ends before a supervised location that the group says
+abbrev pub is_short_at : (TrackPacket → Option Reach) → Telegrams → Run → ℕ → Telegram → TrackPacket → Bool
 is_short_at reach group run b t p =
     not (is_silent run t.header.dup (length group) b) && (holds run p && is_short reach (said_by run group) p)
 
@@ -150,15 +151,15 @@ finding_of rule spot run b k =
 abbrev pub noted : Bool → Finding → List Finding
 noted fact finding = if fact then finding ∷ [] else []
 
--- those of each item with its place, in order, where the first item stands at place b
+-- the findings of each item with its place, in order, where the first item stands at place b
 abbrev pub each_from : {X : Type 0} → (ℕ → X → List Finding) → ℕ → List X → List Finding
 each_from f b xs = flat_map (λ e. f e.0 e.1) (enumerate_from b xs)
 
--- those of each item with its place, in order
+-- the findings of each item with its place, in order, from place 0 on
 abbrev pub for_each : {X : Type 0} → List X → (ℕ → X → List Finding) → List Finding
 for_each xs f = each_from f 0 xs
 
--- those of each running direction, nominal first
+-- the findings of each running direction, nominal first
 abbrev pub for_directions : (Run → List Finding) → List Finding
 for_directions f = f runs.Nominal ++ f runs.Reverse
 
@@ -168,16 +169,16 @@ for_directions f = f runs.Nominal ++ f runs.Reverse
 abbrev pub balise_at : Rule → Spot → (ℕ → Telegram → Bool) → ℕ → Telegram → List Finding
 balise_at rule spot fact b t = noted (fact b t) (finding_of rule spot None (Some b) None)
 
-abbrev pub balise_facts : Rule → Spot → (ℕ → Telegram → Bool) → List Telegram → List Finding
+abbrev pub balise_facts : Rule → Spot → (ℕ → Telegram → Bool) → Telegrams → List Finding
 balise_facts rule spot fact group = for_each group (balise_at rule spot fact)
 
 -- F8: each pair, named by its lower balise
-abbrev pub pair_at : Spot → List Telegram → Run → ℕ → Telegram → List Finding
+abbrev pub pair_at : Spot → Telegrams → Run → ℕ → Telegram → List Finding
 pair_at spot group run b t =
     noted (pair_differs run t (slice_get group (b + 1)))
     (finding_of rules.DuplicatesDiffer spot (Some run) (Some b) None)
 
-abbrev pub pair_facts : Spot → List Telegram → Run → List Finding
+abbrev pub pair_facts : Spot → Telegrams → Run → List Finding
 pair_facts spot group run = for_each group (pair_at spot group run)
 
 -- F9: each packet of a balise, or of a message
@@ -190,29 +191,29 @@ unmodelled_in spot b packets = for_each packets (unmodelled_at spot b)
 abbrev pub unmodelled_by : Spot → ℕ → Telegram → List Finding
 unmodelled_by spot b t = unmodelled_in spot (Some b) t.packets
 
-abbrev pub unmodelled_facts : Spot → List Telegram → List Finding
+abbrev pub unmodelled_facts : Spot → Telegrams → List Finding
 unmodelled_facts spot group = for_each group (unmodelled_by spot)
 
 -- F10 and F12: what is said
-abbrev pub lack_facts : Rule → Spot → (TrackPacket → Option Reach) → List Telegram → Run → List Finding
+abbrev pub lack_facts : Rule → Spot → (TrackPacket → Option Reach) → Telegrams → Run → List Finding
 lack_facts rule spot reach group run =
     noted (lacks reach (said_by run group)) (finding_of rule spot (Some run) None None)
 
 -- F11 and F13: each packet of each balise
-abbrev pub short_at : Rule → Spot → (TrackPacket → Option Reach) → List Telegram → Run → ℕ → Telegram → ℕ → TrackPacket → List Finding
+abbrev pub short_at : Rule → Spot → (TrackPacket → Option Reach) → Telegrams → Run → ℕ → Telegram → ℕ → TrackPacket → List Finding
 short_at rule spot reach group run b t k p =
     noted (is_short_at reach group run b t p) (finding_of rule spot (Some run) (Some b) (Some k))
 
-abbrev pub short_by : Rule → Spot → (TrackPacket → Option Reach) → List Telegram → Run → ℕ → Telegram → List Finding
+abbrev pub short_by : Rule → Spot → (TrackPacket → Option Reach) → Telegrams → Run → ℕ → Telegram → List Finding
 short_by rule spot reach group run b t = for_each t.packets (short_at rule spot reach group run b t)
 
-abbrev pub short_facts : Rule → Spot → (TrackPacket → Option Reach) → List Telegram → Run → List Finding
+abbrev pub short_facts : Rule → Spot → (TrackPacket → Option Reach) → Telegrams → Run → List Finding
 short_facts rule spot reach group run = for_each group (short_by rule spot reach group run)
 
 -- ---- all facts about an aspect
 
--- those of a rule in one running direction
-abbrev pub facts_in : Spot → List Telegram → Rule → Run → List Finding
+-- the findings of a rule about an aspect, in one running direction
+abbrev pub facts_in : Spot → Telegrams → Rule → Run → List Finding
 facts_in spot group rules.DuplicatesDiffer run = pair_facts spot group run
 facts_in spot group rules.NoGradient run = lack_facts rules.NoGradient spot gradient_reach group run
 facts_in spot group rules.GradientShort run = short_facts rules.GradientShort spot gradient_reach group run
@@ -220,8 +221,9 @@ facts_in spot group rules.NoSpeed run = lack_facts rules.NoSpeed spot speed_reac
 facts_in spot group rules.SpeedShort run = short_facts rules.SpeedShort spot speed_reach group run
 facts_in spot group r run = []
 
--- Those of a rule. The balises are compared with `first`, aspect 0, and with the aspects before.
-abbrev pub facts_of : Spot → List Telegram → List (List Telegram) → List Telegram → Rule → List Finding
+-- The findings of a rule about an aspect. Its balises are compared with `first`, which is aspect 0, and
+-- with the aspects before its own.
+abbrev pub facts_of : Spot → Telegrams → Aspects → Telegrams → Rule → List Finding
 facts_of spot first before group rules.PositionWrong =
     balise_facts rules.PositionWrong spot (balise_fact first before group rules.PositionWrong) group
 facts_of spot first before group rules.TotalWrong =

@@ -14,7 +14,7 @@ use Rattle.etcs_check.specs.declared.finding.Spot.{Spot}
 use Rattle.etcs_check.specs.declared.profile_rules.Kind.{Kind}
 use Rattle.etcs_check.specs.declared.profile_rules.Kind.TheVariants as kinds
 
--- how far a profile of the kind reaches; no other packet does
+-- how far a profile of the kind describes the track, and None for any other packet
 abbrev pub reach_of : Kind → TrackPacket → Option Reach
 reach_of kinds.Gradient = gradient_reach
 reach_of kinds.Speed = speed_reach
@@ -34,7 +34,8 @@ abbrev pub greatest : List TrackPacket → Option ℕ
 greatest [] = None
 greatest (p ∷ ps) = greater (limit_of p) (greatest ps)
 
--- a profile of the kind ends before the location
+-- a profile of the kind ends before the location; the code asks this of the greatest location, in place of
+-- F11 and F13 for each authority
 abbrev pub is_before : (TrackPacket → Option Reach) → Option ℕ → TrackPacket → Bool
 is_before reach limit p = option_map_or (λ r. option_map_or (lies_past r) limit false) (reach p) false
 

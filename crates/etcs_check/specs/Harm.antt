@@ -13,7 +13,7 @@ use Rattle.etcs_radio.specs.declared.message.Message.{Message}
 use Rattle.etcs_radio.specs.declared.message.Message.TheVariants as messages
 use Rattle.etcs_telegram.specs.Record.{Telegram}
 use Rattle.etcs_group.specs.Places.{At}
-use Rattle.etcs_group.specs.Group.{AreAlike, IsWellFormed, is_modelled, partner_of}
+use Rattle.etcs_group.specs.Group.{AreAlike, IsWellFormed, is_modelled, partner_of, Telegrams, Aspects}
 use Rattle.etcs_group.specs.Missed.{IsCovered, none_missed}
 use Rattle.etcs_group.specs.Reading.{reading_of}
 use Rattle.etcs_group.specs.Assembly.{IsAccepted}
@@ -39,27 +39,27 @@ passed_first runs.Nominal b = b
 passed_first runs.Reverse b = suc b
 
 -- in each direction the reading with nothing missed is refused
-abbrev pub IsNeverAccepted : List Telegram → Type 0
+abbrev pub IsNeverAccepted : Telegrams → Type 0
 IsNeverAccepted group = (run : Run) → IsAccepted run (reading_of run none_missed group) → ⊥
 
 -- the packets of the reading with nothing missed
-abbrev pub full_packets : List Telegram → Run → List TrackPacket
+abbrev pub full_packets : Telegrams → Run → List TrackPacket
 full_packets group run = packets_of run (reading_of run none_missed group)
 
--- the balise of a pair that is passed first may be missed, and the packets are then others than those of
--- the reading with nothing missed
-abbrev pub DependsOnMissed : List Telegram → Run → ℕ → Type 0
+-- the balise of a pair that is passed first may be missed, and the packets are then not those of the
+-- reading with nothing missed
+abbrev pub DependsOnMissed : Telegrams → Run → ℕ → Type 0
 DependsOnMissed group run b =
     IsCovered group (only (passed_first run b))
     × (packets_of run (reading_of run (only (passed_first run b)) group) ≢ full_packets group run)
 
 -- the packets of the reading with nothing missed are not reached
-abbrev pub IsNotReached : List Telegram → Run → Type 0
+abbrev pub IsNotReached : Telegrams → Run → Type 0
 IsNotReached group run = AreReached (full_packets group run) → ⊥
 
 -- What a finding of a rule means for the readings of its aspect. That of a pair or of profiles is said of
 -- well-formed aspects alone.
-abbrev pub HurtsReadings : List Telegram → Rule → Option Run → Option ℕ → Type 0
+abbrev pub HurtsReadings : Telegrams → Rule → Option Run → Option ℕ → Type 0
 HurtsReadings group rules.CounterUnfit run b = IsNeverAccepted group
 HurtsReadings group rules.CountersDiffer run b = IsNeverAccepted group
 HurtsReadings group rules.DuplicatesDiffer (Some run) (Some b) = IsWellFormed group → DependsOnMissed group run b
@@ -67,6 +67,7 @@ HurtsReadings group rules.NoGradient (Some run) b = IsWellFormed group → IsNot
 HurtsReadings group rules.GradientShort (Some run) b = IsWellFormed group → IsNotReached group run
 HurtsReadings group rules.NoSpeed (Some run) b = IsWellFormed group → IsNotReached group run
 HurtsReadings group rules.SpeedShort (Some run) b = IsWellFormed group → IsNotReached group run
+-- of the readings the other rules claim nothing
 HurtsReadings group rule run b = ⊤
 
 -- ---- the part of soundness that a rule asks for at a place
@@ -81,20 +82,20 @@ abbrev pub IsLong : (TrackPacket → Option Reach) → List TrackPacket → Trac
 IsLong reach packets p = (r : Reach) → reach p ≡ Some r
     → (i : ℕ) (a : TrackPacket) (limit : ℕ) → At packets i a → limit_of a ≡ Some limit → Reaches r limit
 
--- the same of packet k of the balise at place b, among what is said, if the balise is not silent and the
--- packet holds
-abbrev pub IsLongAt : (TrackPacket → Option Reach) → List Telegram → Run → ℕ → ℕ → Type 0
+-- If packet k of the balise at place b is a profile of the kind, the balise is not silent and the packet
+-- holds, then it reaches the supervised location of each authority that the group says.
+abbrev pub IsLongAt : (TrackPacket → Option Reach) → Telegrams → Run → ℕ → ℕ → Type 0
 IsLongAt reach group run b k = (t : Telegram) (p : TrackPacket) → At group b t → At t.packets k p
     → IsFalse (is_silent run t.header.dup (length group) b) → IsTrue (holds run p)
     → IsLong reach (said_by run group) p
 
 -- u, at place j, is the first with a counter below 254
-abbrev pub IsFirstCounted : List Telegram → ℕ → Telegram → Type 0
+abbrev pub IsFirstCounted : Telegrams → ℕ → Telegram → Type 0
 IsFirstCounted group j u = At group j u × (u.header.counter < 254)
     × ((i : ℕ) (v : Telegram) → i < j → At group i v → 254 ≤ v.header.counter)
 
 -- the part of an aspect, at a running direction, a balise and a packet; `group` is aspect a
-abbrev pub AspectPart : List (List Telegram) → ℕ → List Telegram → Rule → Option Run → Option ℕ → Option ℕ → Type 0
+abbrev pub AspectPart : Aspects → ℕ → Telegrams → Rule → Option Run → Option ℕ → Option ℕ → Type 0
 -- placed
 AspectPart aspects a group rules.PositionWrong None (Some b) None =
     (t : Telegram) → At group b t → t.header.position ≡ b
@@ -110,7 +111,7 @@ AspectPart aspects a group rules.MarkOutside None (Some b) None =
 -- answered
 AspectPart aspects a group rules.MarkUnanswered None (Some b) None =
     (p : ℕ) → partner_of group b ≡ Some p → partner_of group p ≡ Some b
--- fits
+-- agrees
 AspectPart aspects a group rules.CounterUnfit None (Some b) None =
     (t : Telegram) → At group b t → t.header.counter ≢ 254
 -- equal
@@ -132,20 +133,20 @@ AspectPart aspects a group rules.SpeedShort (Some run) (Some b) (Some k) = IsLon
 -- marks
 AspectPart aspects a group rules.MarksDiffer None (Some b) None =
     (t first : Telegram) → At group b t → At (first_aspect aspects) b first → t.header.dup ≡ first.header.dup
--- distinct, of this aspect and those before it
+-- distinct, of this aspect and the aspects before it
 AspectPart aspects a group rules.NotToldApart None (Some b) None =
     (c q : ℕ) (t u : Telegram) → c < a → At group b t → HasAt aspects c q u
     → t.header.counter < 254 → t.header.counter ≢ u.header.counter
 AspectPart aspects a group rule run b k = ⊤
 
 -- The part of a controlled group as a whole; `new` says that no earlier group has its identity.
-abbrev pub WholePart : Type 0 → List (List Telegram) → Rule → Option Run → Option ℕ → Option ℕ → Type 0
+abbrev pub GroupWidePart : Type 0 → Aspects → Rule → Option Run → Option ℕ → Option ℕ → Type 0
 -- distinct, of the line
-WholePart new aspects rules.IdentityUsed None None None = new
--- told
-WholePart new aspects rules.NotToldApart None (Some b) None =
+GroupWidePart new aspects rules.IdentityUsed None None None = new
+-- fixed or switched
+GroupWidePart new aspects rules.NotToldApart None (Some b) None =
     1 < length aspects → IsFixed aspects b ⊎ IsSwitched aspects b
-WholePart new aspects rule run b k = ⊤
+GroupWidePart new aspects rule run b k = ⊤
 
 -- the part of the packets of a message 3, at a running direction and a packet
 abbrev pub PacketsPart : List TrackPacket → Rule → Option Run → Option ℕ → Option ℕ → Type 0
@@ -165,16 +166,16 @@ MessagePart (messages.Position m) rule run b k = ⊤
 
 -- ---- what a finding means
 
--- aspect a is told by its place where the group has two or more, and else not
-abbrev pub IsTold : List (List Telegram) → ℕ → Option ℕ → Type 0
-IsTold aspects a told = (1 < length aspects → told ≡ Some a) × (length aspects ≤ 1 → told ≡ None)
+-- a finding names aspect a by its place where the group has two or more, and else names none
+abbrev pub NamesAspect : Aspects → ℕ → Option ℕ → Type 0
+NamesAspect aspects a named = (1 < length aspects → named ≡ Some a) × (length aspects ≤ 1 → named ≡ None)
 
--- A finding about a controlled group: its part of the whole does not hold; or that of the aspect that is
--- told does not, and its readings are hurt.
-abbrev pub HurtsGroup : Type 0 → List (List Telegram) → Rule → Option ℕ → Option Run → Option ℕ → Option ℕ → Type 0
+-- A finding about a controlled group: the part of the group as a whole does not hold; or the part of the
+-- aspect that is named does not, and its readings are hurt.
+abbrev pub HurtsGroup : Type 0 → Aspects → Rule → Option ℕ → Option Run → Option ℕ → Option ℕ → Type 0
 HurtsGroup new aspects rule aspect run b k =
-    ((aspect ≡ None) × (WholePart new aspects rule run b k → ⊥))
-    ⊎ ((a : ℕ) × (group : List Telegram) × At aspects a group × IsTold aspects a aspect
+    ((aspect ≡ None) × (GroupWidePart new aspects rule run b k → ⊥))
+    ⊎ ((a : ℕ) × (group : Telegrams) × At aspects a group × NamesAspect aspects a aspect
     × (AspectPart aspects a group rule run b k → ⊥) × HurtsReadings group rule run b)
 
 -- a finding about a message: its part does not hold
@@ -182,31 +183,31 @@ abbrev pub HurtsMessage : Message → Rule → Option Run → Option ℕ → Opt
 HurtsMessage m rule run b k = MessagePart m rule run b k → ⊥
 
 -- no earlier group has the identity of the group at place g
-abbrev pub IsNew : List (List (List Telegram)) → ℕ → List (List Telegram) → Type 0
-IsNew groups g aspects = (i : ℕ) (h : List (List Telegram)) → i < g → At groups i h
+abbrev pub IsNew : List Aspects → ℕ → Aspects → Type 0
+IsNew groups g aspects = (i : ℕ) (h : Aspects) → i < g → At groups i h
     → group_identity h ≢ group_identity aspects
 
-abbrev pub HurtsSite : List (List (List Telegram)) → List Message → Finding → Site → Type 0
+abbrev pub HurtsSite : List Aspects → List Message → Finding → Site → Type 0
 HurtsSite groups messages f (sites.Group g) =
-    (aspects : List (List Telegram)) × At groups g aspects
+    (aspects : Aspects) × At groups g aspects
     × HurtsGroup (IsNew groups g aspects) aspects f.rule f.aspect f.dir f.balise f.packet
 HurtsSite groups messages f (sites.Message i) =
     (m : Message) × At messages i m × (f.aspect ≡ None) × HurtsMessage m f.rule f.dir f.balise f.packet
 
 -- what a finding means at its site
-abbrev pub Hurts : List (List (List Telegram)) → List Message → Finding → Type 0
+abbrev pub Hurts : List Aspects → List Message → Finding → Type 0
 Hurts groups messages f = HurtsSite groups messages f f.site
 
 -- ---- what no finding means
 
-abbrev pub HasPartsAt : List (List (List Telegram)) → List Message → Finding → Site → Type 0
-HasPartsAt groups messages f (sites.Group g) = (aspects : List (List Telegram)) → At groups g aspects
-    → (f.aspect ≡ None → WholePart (IsNew groups g aspects) aspects f.rule f.dir f.balise f.packet)
-    × ((a : ℕ) (group : List Telegram) → At aspects a group → IsTold aspects a f.aspect
+abbrev pub HasPartsAt : List Aspects → List Message → Finding → Site → Type 0
+HasPartsAt groups messages f (sites.Group g) = (aspects : Aspects) → At groups g aspects
+    → (f.aspect ≡ None → GroupWidePart (IsNew groups g aspects) aspects f.rule f.dir f.balise f.packet)
+    × ((a : ℕ) (group : Telegrams) → At aspects a group → NamesAspect aspects a f.aspect
     → AspectPart aspects a group f.rule f.dir f.balise f.packet)
 HasPartsAt groups messages f (sites.Message i) = (m : Message) → At messages i m → f.aspect ≡ None
     → MessagePart m f.rule f.dir f.balise f.packet
 
 -- the parts that the rule of f asks for hold at its site, aspect, running direction, balise and packet
-abbrev pub HasParts : List (List (List Telegram)) → List Message → Finding → Type 0
+abbrev pub HasParts : List Aspects → List Message → Finding → Type 0
 HasParts groups messages f = HasPartsAt groups messages f f.site

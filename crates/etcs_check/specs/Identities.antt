@@ -5,26 +5,26 @@ use Rattle.std.specs.Int.{bit_at}
 use Rattle.std.specs.List.{list_any}
 use Rattle.std.specs.Option.{option_map_or}
 use Rattle.etcs_bits.specs.declared.variables.identity.Identity.{Identity}
-use Rattle.etcs_telegram.specs.Record.{Telegram}
 use Rattle.etcs_group.specs.Places.{At}
+use Rattle.etcs_group.specs.Group.{Aspects}
 use Rattle.etcs_check.specs.Aspects.{is_used}
 use Rattle.etcs_check.specs.Soundness.{group_identity}
 
 -- the number of an identity
-abbrev pub number_of : Identity → ℕ
-number_of i = i.country * 16384 + i.group
+abbrev pub number_of_identity : Identity → ℕ
+number_of_identity i = i.country * 16384 + i.group
 
 -- the number of a group's identity
-abbrev pub identity_number : List (List Telegram) → ℕ
-identity_number g = option_map_or number_of (group_identity g) 0
+abbrev pub identity_number : Aspects → ℕ
+identity_number g = option_map_or number_of_identity (group_identity g) 0
 
--- a group with an identity whose numbers are in range
-abbrev pub IsNumbered : List (List Telegram) → Type 0
-IsNumbered g = (i : Identity) × (group_identity g ≡ Some i) × (i.country < 1024) × (i.group < 16384)
+-- a group has an identity, whose numbers are in range
+abbrev pub HasIdentity : Aspects → Type 0
+HasIdentity g = (i : Identity) × (group_identity g ≡ Some i) × (i.country < 1024) × (i.group < 16384)
 
--- each group is
-abbrev pub AreNumbered : List (List (List Telegram)) → Type 0
-AreNumbered groups = (i : ℕ) (g : List (List Telegram)) → At groups i g → IsNumbered g
+-- every group has an identity whose numbers are in range
+abbrev pub HaveIdentities : List Aspects → Type 0
+HaveIdentities groups = (i : ℕ) (g : Aspects) → At groups i g → HasIdentity g
 
 -- whether a bit of a number is set, and the bit of this place in a table
 abbrev pub has_bit : ℕ → ℕ → Bool
@@ -34,18 +34,18 @@ abbrev pub is_marked : List ℕ → ℕ → Bool
 is_marked table p = has_bit (slice_index table (p / 64)) (p % 64)
 
 -- whether some group has the identity of this number
-abbrev pub is_among : List (List (List Telegram)) → ℕ → Bool
+abbrev pub is_among : List Aspects → ℕ → Bool
 is_among groups n = list_any (λ h. identity_number h == n) groups
 
 -- Of the n identities from base on, just those of these groups are marked.
-abbrev pub HasSeen : ℕ → ℕ → List ℕ → List (List (List Telegram)) → Type 0
+abbrev pub HasSeen : ℕ → ℕ → List ℕ → List Aspects → Type 0
 HasSeen base n table groups = (p : ℕ) → p < n → is_marked table p ≡ is_among groups (base + p)
 
--- No group whose identity is one of the n from base on has that of an earlier one.
-abbrev pub HasNoRepeat : ℕ → ℕ → List (List (List Telegram)) → Type 0
-HasNoRepeat base n groups = (i : ℕ) (g : List (List Telegram)) → At groups i g
+-- No group, its identity being one of the n from base on, has the identity of an earlier group.
+abbrev pub HasNoRepeat : ℕ → ℕ → List Aspects → Type 0
+HasNoRepeat base n groups = (i : ℕ) (g : Aspects) → At groups i g
     → base ≤ identity_number g → identity_number g < base + n → is_used (take i groups) g ≡ false
 
--- Some group has the identity of an earlier one.
-abbrev pub HasRepeat : List (List (List Telegram)) → Type 0
-HasRepeat groups = (i : ℕ) × (g : List (List Telegram)) × At groups i g × (is_used (take i groups) g ≡ true)
+-- Some group has the identity of an earlier group.
+abbrev pub HasRepeat : List Aspects → Type 0
+HasRepeat groups = (i : ℕ) × (g : Aspects) × At groups i g × (is_used (take i groups) g ≡ true)

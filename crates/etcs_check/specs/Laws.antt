@@ -11,6 +11,7 @@ use Rattle.etcs_group.specs.Reading.{reading_of}
 use Rattle.etcs_group.specs.Laws.{IsDecided, IsMixtureDecided}
 use Rattle.etcs_group.specs.Controlled.{IsControlled}
 use Rattle.etcs_group.specs.Mixture.{Fits}
+use Rattle.etcs_group.specs.Group.{Telegrams, Aspects}
 use Rattle.etcs_check.specs.Duplicates.{same_packet, same_telegram}
 use Rattle.etcs_check.specs.Profiles.{gradient_reach, speed_reach}
 use Rattle.etcs_check.specs.Soundness.{IsSoundGroup, IsSoundControlled, IsSoundMessage, IsSoundLine, group_identity}
@@ -38,65 +39,65 @@ ProfilesAreTheirPackets =
 
 -- A controlled group has no finding exactly where it is sound and no earlier group has its identity.
 abbrev pub NoFindingMeansSoundGroup : Type 0
-NoFindingMeansSoundGroup = (site : Site) (earlier : List (List (List Telegram))) (aspects : List (List Telegram))
+NoFindingMeansSoundGroup = (site : Site) (earlier : List Aspects) (aspects : Aspects)
     → IsControlled aspects
     → (group_findings site earlier aspects ≡ [])
-    ↔ (IsSoundControlled aspects × ((i : ℕ) (h : List (List Telegram)) → At earlier i h
+    ↔ (IsSoundControlled aspects × ((i : ℕ) (h : Aspects) → At earlier i h
     → group_identity h ≢ group_identity aspects))
 
 -- each group has aspects, all of one count, which is not 0
-abbrev pub AreControlled : List (List (List Telegram)) → Type 0
-AreControlled groups = (i : ℕ) (aspects : List (List Telegram)) → At groups i aspects → IsControlled aspects
+abbrev pub AreControlled : List Aspects → Type 0
+AreControlled groups = (i : ℕ) (aspects : Aspects) → At groups i aspects → IsControlled aspects
 
 -- A line has no finding exactly where it is sound.
 abbrev pub NoFindingMeansSoundLine : Type 0
-NoFindingMeansSoundLine = (groups : List (List (List Telegram))) (messages : List Message) → AreControlled groups
+NoFindingMeansSoundLine = (groups : List Aspects) (messages : List Message) → AreControlled groups
     → (findings groups messages ≡ []) ↔ IsSoundLine groups messages
 
 -- The findings of the list name exactly the groups that are not sound, or have the identity of an earlier
 -- group, and the messages that are not sound.
-abbrev pub NamesTheUnsound : List (List (List Telegram)) → List Message → List Finding → Type 0
+abbrev pub NamesTheUnsound : List Aspects → List Message → List Finding → Type 0
 NamesTheUnsound groups messages found =
-    ((g : ℕ) (aspects : List (List Telegram)) → At groups g aspects
+    ((g : ℕ) (aspects : Aspects) → At groups g aspects
     → IsUnnamed found (sites.Group g) ↔ (IsSoundControlled aspects × IsNew groups g aspects))
     × ((i : ℕ) (m : Message) → At messages i m → IsUnnamed found (sites.Message i) ↔ IsSoundMessage m)
 
--- The findings of a line do.
+-- The findings of a line name exactly what is not sound in it, and the groups whose identity was used before.
 abbrev pub UnnamedMeansSound : Type 0
-UnnamedMeansSound = (groups : List (List (List Telegram))) (messages : List Message) → AreControlled groups
+UnnamedMeansSound = (groups : List Aspects) (messages : List Message) → AreControlled groups
     → NamesTheUnsound groups messages (findings groups messages)
 
 -- Each finding states a fact at its place, where its part of soundness does not hold.
 abbrev pub FindingsAreFacts : Type 0
-FindingsAreFacts = (groups : List (List (List Telegram))) (messages : List Message) (i : ℕ) (f : Finding)
+FindingsAreFacts = (groups : List Aspects) (messages : List Message) (i : ℕ) (f : Finding)
     → At (findings groups messages) i f
     → States groups messages f × (AreControlled groups → Hurts groups messages f)
 
 -- At each place where a rule has no finding, its part of soundness holds.
 abbrev pub PartsHoldUnlessFound : Type 0
-PartsHoldUnlessFound = (groups : List (List (List Telegram))) (messages : List Message) (f : Finding)
+PartsHoldUnlessFound = (groups : List Aspects) (messages : List Message) (f : Finding)
     → AreControlled groups → ((i : ℕ) → At (findings groups messages) i f → ⊥) → HasParts groups messages f
 
 -- In a sound line each part of soundness holds at each place, so nothing hurts.
 abbrev pub NothingHurtsASoundLine : Type 0
-NothingHurtsASoundLine = (groups : List (List (List Telegram))) (messages : List Message) (f : Finding)
+NothingHurtsASoundLine = (groups : List Aspects) (messages : List Message) (f : Finding)
     → AreControlled groups → IsSoundLine groups messages
     → HasParts groups messages f × (Hurts groups messages f → ⊥)
 
 -- Each fact has its finding.
 abbrev pub FactsAreFindings : Type 0
-FactsAreFindings = (groups : List (List (List Telegram))) (messages : List Message) (f : Finding)
+FactsAreFindings = (groups : List Aspects) (messages : List Message) (f : Finding)
     → States groups messages f → (i : ℕ) × At (findings groups messages) i f
 
 -- Of a sound group exactly the covered readings are accepted. Of each other set of its places the
 -- reading is refused: as Nothing if all are missed, else as Absent at the least place that is lost.
 abbrev pub SoundGroupsAreDecided : Type 0
-SoundGroupsAreDecided = (group : List Telegram) (run : Run) (missed : ℕ → Bool)
+SoundGroupsAreDecided = (group : Telegrams) (run : Run) (missed : ℕ → Bool)
     → IsSoundGroup group → 0 < length group → IsSetOf group missed
     → IsDecided run group missed (reading_of run missed group)
 
 -- In a sound controlled group a mixture is accepted exactly where it is covered and one aspect has all
 -- that it shows. Its message is then that of this aspect with nothing missed.
 abbrev pub SoundMixturesAreDecided : Type 0
-SoundMixturesAreDecided = (run : Run) (aspects : List (List Telegram)) (shown : ℕ → Option ℕ)
+SoundMixturesAreDecided = (run : Run) (aspects : Aspects) (shown : ℕ → Option ℕ)
     → IsControlled aspects → IsSoundControlled aspects → Fits aspects shown → IsMixtureDecided run aspects shown

@@ -7,11 +7,11 @@ use Rattle.etcs_packet.specs.declared.track.TrackPacket.{TrackPacket}
 use Rattle.etcs_profile.specs.declared.reach.Reach.{Reach}
 use Rattle.etcs_radio.specs.declared.message.Message.{Message}
 use Rattle.etcs_radio.specs.declared.message.Message.TheVariants as messages
-use Rattle.etcs_telegram.specs.Record.{Telegram}
 use Rattle.etcs_group.specs.Places.{At}
+use Rattle.etcs_group.specs.Group.{Aspects}
 use Rattle.etcs_check.specs.Profiles.{gradient_reach, speed_reach}
 use Rattle.etcs_check.specs.Findings.{finding_of, noted, for_each, for_directions, unmodelled_in, lacks, is_short, all_rules}
-use Rattle.etcs_check.specs.Aspects.{whole, is_used, group_facts}
+use Rattle.etcs_check.specs.Aspects.{site_spot, is_used, group_facts}
 use Rattle.etcs_check.specs.declared.finding.Finding.{Finding}
 use Rattle.etcs_check.specs.declared.finding.Rule.{Rule}
 use Rattle.etcs_check.specs.declared.finding.Rule.TheVariants as rules
@@ -21,7 +21,7 @@ use Rattle.etcs_check.specs.declared.finding.Spot.{Spot}
 
 -- ---- the facts about the packets of a message 3
 
--- F10 and F12: among the packets that hold in the direction
+-- F10 and F12: the packets that hold in the direction have an authority, and no profile of the kind
 abbrev pub message_lack : Rule → Spot → (TrackPacket → Option Reach) → List TrackPacket → Run → List Finding
 message_lack rule spot reach packets run =
     noted (lacks reach (filter (holds run) packets)) (finding_of rule spot (Some run) None None)
@@ -37,7 +37,7 @@ message_short_at rule spot reach packets run k p =
 abbrev pub message_short : Rule → Spot → (TrackPacket → Option Reach) → List TrackPacket → Run → List Finding
 message_short rule spot reach packets run = for_each packets (message_short_at rule spot reach packets run)
 
--- those of a rule in one running direction
+-- the findings of a rule about the packets of a message, in one running direction
 abbrev pub message_facts_in : Spot → List TrackPacket → Rule → Run → List Finding
 message_facts_in spot packets rules.NoGradient run = message_lack rules.NoGradient spot gradient_reach packets run
 message_facts_in spot packets rules.GradientShort run =
@@ -46,38 +46,38 @@ message_facts_in spot packets rules.NoSpeed run = message_lack rules.NoSpeed spo
 message_facts_in spot packets rules.SpeedShort run = message_short rules.SpeedShort spot speed_reach packets run
 message_facts_in spot packets r run = []
 
--- those of a rule; F9 is about all packets
+-- the findings of a rule about the packets of a message; F9 is about all packets
 abbrev pub message_facts : Spot → List TrackPacket → Rule → List Finding
 message_facts spot packets rules.NotModelled = unmodelled_in spot None packets
 message_facts spot packets r = for_directions (message_facts_in spot packets r)
 
--- those of all rules about a message; a message 136 has none
+-- the findings of all rules about a message; a message 136 has none
 abbrev pub message_findings : Spot → Message → List Finding
 message_findings spot (messages.Movement m) = flat_map (message_facts spot m.packets) all_rules
 message_findings spot (messages.Position m) = []
 
 -- ---- the findings of a line
 
--- those of a controlled group that comes after others
-abbrev pub group_findings : Site → List (List (List Telegram)) → List (List Telegram) → List Finding
+-- the findings about one group, given the groups before it
+abbrev pub group_findings : Site → List Aspects → Aspects → List Finding
 group_findings site earlier aspects = group_facts site (is_used earlier aspects) aspects
 
--- those of the group at place i, and of all groups
-abbrev pub group_at : List (List (List Telegram)) → ℕ → List (List Telegram) → List Finding
+-- the findings about the group at place i, and about all groups
+abbrev pub group_at : List Aspects → ℕ → Aspects → List Finding
 group_at groups i aspects = group_findings (sites.Group i) (take i groups) aspects
 
-abbrev pub group_list : List (List (List Telegram)) → List Finding
+abbrev pub group_list : List Aspects → List Finding
 group_list groups = for_each groups (group_at groups)
 
--- those of the message at place i, and of all messages
+-- the findings about the message at place i, and about all messages
 abbrev pub message_at : ℕ → Message → List Finding
-message_at i m = message_findings (whole (sites.Message i)) m
+message_at i m = message_findings (site_spot (sites.Message i)) m
 
 abbrev pub message_list : List Message → List Finding
 message_list messages = for_each messages message_at
 
 -- the findings of a line
-abbrev pub findings : List (List (List Telegram)) → List Message → List Finding
+abbrev pub findings : List Aspects → List Message → List Finding
 findings groups messages = group_list groups ++ message_list messages
 
 -- no finding of the list names the site

@@ -4,8 +4,8 @@ use Rattle.std.specs.Prelude.{◌≡◌, ℕ, Bool, List, ◌++◌, length}
 use Rattle.std.specs.BTreeSet.{BTreeSet, contains}
 use Rattle.std.specs.Ordering.{nat_cmp}
 use Rattle.etcs_radio.specs.declared.message.Message.{Message}
-use Rattle.etcs_telegram.specs.Record.{Telegram}
-use Rattle.etcs_check.specs.Identities.{AreNumbered, is_among}
+use Rattle.etcs_group.specs.Group.{Aspects}
+use Rattle.etcs_check.specs.Identities.{HaveIdentities, is_among}
 use Rattle.etcs_check.specs.Laws.{AreControlled}
 use Rattle.etcs_check.specs.Line.{group_list, message_list}
 use Rattle.etcs_check.specs.declared.finding.Finding.{Finding}
@@ -19,30 +19,30 @@ pub record Kept : Type 0 where
   pub identities : BTreeSet ℕ
 
 -- the numbers of these groups' identities are kept, and no others
-abbrev pub HasKept : (ℕ → Bool) → List (List (List Telegram)) → Type 0
+abbrev pub HasKept : (ℕ → Bool) → List Aspects → Type 0
 HasKept is_kept groups = (n : ℕ) → is_kept n ≡ is_among groups n
 
--- A checker holds this after it has taken these groups and messages, each kind in this order. It may hold the same
--- after others: as many of each kind, with the same findings and identities.
-pub record HasChecked (kept : Kept) (groups : List (List (List Telegram))) (messages : List Message) : Type 0 where
+-- A checker holds this after it has taken these groups and messages, each kind in this order. It may hold this after
+-- others too: as many of each kind, with equal findings and identities.
+pub record HasChecked (kept : Kept) (groups : List Aspects) (messages : List Message) : Type 0 where
   pub about_groups : kept.about_groups ≡ group_list groups
   pub about_messages : kept.about_messages ≡ message_list messages
   pub groups_counted : kept.groups ≡ length groups
   pub messages_counted : kept.messages ≡ length messages
   pub seen : HasKept (contains nat_cmp kept.identities) groups
-  pub numbered : AreNumbered groups
+  pub numbered : HaveIdentities groups
   pub controlled : AreControlled groups
 
--- Whatever a checker had taken, it takes these groups besides, and holds the other then.
-abbrev pub TakesGroups : Kept → List (List (List Telegram)) → Kept → Type 0
-TakesGroups old groups new = (gs : List (List (List Telegram))) (ms : List Message)
+-- Whatever a checker had taken when it held `old`, it takes these groups besides, and then holds `new`.
+abbrev pub TakesGroups : Kept → List Aspects → Kept → Type 0
+TakesGroups old groups new = (gs : List Aspects) (ms : List Message)
     → HasChecked old gs ms → HasChecked new (gs ++ groups) ms
 
--- the same of these messages
+-- Whatever a checker had taken when it held `old`, it takes these messages besides, and then holds `new`.
 abbrev pub TakesMessages : Kept → List Message → Kept → Type 0
-TakesMessages old messages new = (gs : List (List (List Telegram))) (ms : List Message)
+TakesMessages old messages new = (gs : List Aspects) (ms : List Message)
     → HasChecked old gs ms → HasChecked new gs (ms ++ messages)
 
--- Whatever a checker had taken, it takes nothing besides, and holds the other then.
+-- Whatever a checker had taken when it held `old`, it takes nothing besides, and then holds `new`.
 abbrev pub HasStill : Kept → Kept → Type 0
-HasStill old new = (gs : List (List (List Telegram))) (ms : List Message) → HasChecked old gs ms → HasChecked new gs ms
+HasStill old new = (gs : List Aspects) (ms : List Message) → HasChecked old gs ms → HasChecked new gs ms

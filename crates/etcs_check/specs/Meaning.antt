@@ -8,10 +8,11 @@ use Rattle.etcs_radio.specs.declared.message.Message.TheVariants as messages
 use Rattle.etcs_telegram.specs.Record.{Telegram}
 use Rattle.etcs_group.specs.Places.{At}
 use Rattle.etcs_group.specs.Packets.{said_by}
+use Rattle.etcs_group.specs.Group.{Telegrams, Aspects}
 use Rattle.etcs_check.specs.Profiles.{gradient_reach, speed_reach}
 use Rattle.etcs_check.specs.Soundness.{first_aspect}
 use Rattle.etcs_check.specs.Findings.{balise_fact, pair_differs, is_unmodelled, lacks, is_short_at}
-use Rattle.etcs_check.specs.Aspects.{told_aspect, is_used, is_untold}
+use Rattle.etcs_check.specs.Aspects.{named_aspect, is_used, is_ambiguous}
 use Rattle.etcs_check.specs.Line.{is_short_in}
 use Rattle.etcs_check.specs.declared.finding.Finding.{Finding}
 use Rattle.etcs_check.specs.declared.finding.Rule.{Rule}
@@ -21,14 +22,14 @@ use Rattle.etcs_check.specs.declared.finding.Site.TheVariants as sites
 
 -- ---- facts
 
--- a telegram stands at place b of the group, and packet k of it passes the test
-abbrev pub HasPacket : List Telegram → ℕ → ℕ → (Telegram → TrackPacket → Bool) → Type 0
+-- a telegram stands at place b of the group, and the packet at index k of its list passes the test
+abbrev pub HasPacket : Telegrams → ℕ → ℕ → (Telegram → TrackPacket → Bool) → Type 0
 HasPacket group b k test =
     (t : Telegram) × (p : TrackPacket) × At group b t × At t.packets k p × IsTrue (test t p)
 
 -- the fact of a rule about an aspect, at a running direction, a balise and a packet; `first` is aspect 0,
 -- and `before` are the aspects before this one
-abbrev pub AspectFact : List Telegram → List (List Telegram) → List Telegram → Rule → Option Run → Option ℕ → Option ℕ → Type 0
+abbrev pub AspectFact : Telegrams → Aspects → Telegrams → Rule → Option Run → Option ℕ → Option ℕ → Type 0
 AspectFact first before group rules.DuplicatesDiffer (Some run) (Some b) None =
     (t : Telegram) × At group b t × IsTrue (pair_differs run t (slice_get group (b + 1)))
 AspectFact first before group rules.NotModelled None (Some b) (Some k) =
@@ -46,17 +47,17 @@ AspectFact first before group rule None (Some b) None =
 AspectFact first before group rule run b k = ⊥
 
 -- the fact of a rule about a controlled group as a whole
-abbrev pub WholeFact : Bool → List (List Telegram) → Rule → Option Run → Option ℕ → Option ℕ → Type 0
-WholeFact used aspects rules.IdentityUsed None None None = IsTrue used
-WholeFact used aspects rules.NotToldApart None (Some b) None =
-    (t : Telegram) × At (first_aspect aspects) b t × IsTrue (is_untold aspects b t)
-WholeFact used aspects rule run b k = ⊥
+abbrev pub GroupWideFact : Bool → Aspects → Rule → Option Run → Option ℕ → Option ℕ → Type 0
+GroupWideFact used aspects rules.IdentityUsed None None None = IsTrue used
+GroupWideFact used aspects rules.NotToldApart None (Some b) None =
+    (t : Telegram) × At (first_aspect aspects) b t × IsTrue (is_ambiguous aspects b t)
+GroupWideFact used aspects rule run b k = ⊥
 
--- the fact of a rule about a controlled group: about the whole, or about the aspect that is told
-abbrev pub GroupFact : Bool → List (List Telegram) → Rule → Option ℕ → Option Run → Option ℕ → Option ℕ → Type 0
+-- the fact of a rule about a controlled group: about the whole, or about the aspect that is named
+abbrev pub GroupFact : Bool → Aspects → Rule → Option ℕ → Option Run → Option ℕ → Option ℕ → Type 0
 GroupFact used aspects rule aspect run b k =
-    ((aspect ≡ None) × WholeFact used aspects rule run b k)
-    ⊎ ((a : ℕ) × (group : List Telegram) × At aspects a group × (aspect ≡ told_aspect aspects a)
+    ((aspect ≡ None) × GroupWideFact used aspects rule run b k)
+    ⊎ ((a : ℕ) × (group : Telegrams) × At aspects a group × (aspect ≡ named_aspect aspects a)
     × AspectFact (first_aspect aspects) (take a aspects) group rule run b k)
 
 -- packet k passes the test
@@ -78,13 +79,13 @@ abbrev pub MessageFact : Message → Rule → Option Run → Option ℕ → Opti
 MessageFact (messages.Movement m) rule run b k = PacketFact m.packets rule run b k
 MessageFact (messages.Position m) rule run b k = ⊥
 
-abbrev pub StatesAt : List (List (List Telegram)) → List Message → Finding → Site → Type 0
+abbrev pub StatesAt : List Aspects → List Message → Finding → Site → Type 0
 StatesAt groups messages f (sites.Group g) =
-    (aspects : List (List Telegram)) × At groups g aspects
+    (aspects : Aspects) × At groups g aspects
     × GroupFact (is_used (take g groups) aspects) aspects f.rule f.aspect f.dir f.balise f.packet
 StatesAt groups messages f (sites.Message i) =
     (m : Message) × At messages i m × (f.aspect ≡ None) × MessageFact m f.rule f.dir f.balise f.packet
 
 -- the fact of the finding's rule stands at its site, aspect, direction, balise and packet
-abbrev pub States : List (List (List Telegram)) → List Message → Finding → Type 0
+abbrev pub States : List Aspects → List Message → Finding → Type 0
 States groups messages f = StatesAt groups messages f f.site

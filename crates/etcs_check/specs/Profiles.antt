@@ -1,4 +1,4 @@
--- How far a train may run, and how far the track before it is described (SUBSET-026, 3.8 and 7.4.2).
+-- How far a train may run, and how far profiles describe the track (SUBSET-026, 3.8 and 7.4.2).
 -- A movement authority has a supervised location, up to which gradients and speeds have to be known.
 use Rattle.std.specs.Prelude.{◌≡◌, ℕ, ◌≤◌, ◌==◌, List, Option, Some, None, is_some, IsTrue, ⊤}
 use Rattle.etcs_packet.specs.declared.track.TrackPacket.{TrackPacket}
@@ -16,13 +16,14 @@ abbrev pub limit_of : TrackPacket → Option ℕ
 limit_of (packets.Authority a) = Some (authority_limit a)
 limit_of p = None
 
--- how far a gradient profile reaches; no other packet does. The gradient 255 marks its end.
+-- how far a gradient profile describes the track, and None for any other packet; the gradient 255 marks
+-- its end
 abbrev pub gradient_reach : TrackPacket → Option Reach
 gradient_reach (packets.Gradient p) =
     Some (elements_reach (λ (e : GradientElement). e.distance) (λ e. e.gradient == 255) p.1)
 gradient_reach p = None
 
--- how far a speed profile reaches; no other packet does. The speed 127 marks its end.
+-- how far a speed profile describes the track, and None for any other packet; the speed 127 marks its end
 abbrev pub speed_reach : TrackPacket → Option Reach
 speed_reach (packets.Speed p) =
     Some (elements_reach (λ (e : SpeedElement). e.distance) (λ e. e.speed == 127) p.1)
@@ -38,8 +39,8 @@ pub record HasProfiles (reach : TrackPacket → Option Reach) (packets : List Tr
   pub one : (i : ℕ) × (p : TrackPacket) × At packets i p × IsTrue (is_some (reach p))
   pub each : (i : ℕ) (p : TrackPacket) (r : Reach) → At packets i p → reach p ≡ Some r → Reaches r limit
 
--- Packets are reached: for each authority among them there are gradient and speed profiles, and all
--- profiles reach its supervised location.
+-- The authorities among the packets are reached by profiles: for each there are gradient and speed
+-- profiles, and all profiles reach its supervised location.
 abbrev pub AreReached : List TrackPacket → Type 0
 AreReached packets =
     (i : ℕ) (a : TrackPacket) (limit : ℕ) → At packets i a → limit_of a ≡ Some limit

@@ -6,9 +6,8 @@ use Rattle.std.specs.List.{AllPass}
 use Rattle.etcs_bits.specs.declared.variables.identity.Identity.{Identity}
 use Rattle.etcs_packet.specs.Track.{holds}
 use Rattle.etcs_packet.specs.declared.run.Run.{Run}
-use Rattle.etcs_telegram.specs.Record.{Telegram}
 use Rattle.etcs_group.specs.Places.{At}
-use Rattle.etcs_group.specs.Group.{IsWellFormed, is_modelled}
+use Rattle.etcs_group.specs.Group.{IsWellFormed, is_modelled, Telegrams, Aspects}
 use Rattle.etcs_group.specs.Missed.{IsSetOf, IsCovered, none_missed}
 use Rattle.etcs_group.specs.Reading.{reading_of}
 use Rattle.etcs_group.specs.Assembly.{IsAccepted}
@@ -18,40 +17,39 @@ use Rattle.etcs_radio.specs.declared.message.Message.{Message}
 use Rattle.etcs_radio.specs.declared.message.Message.TheVariants as messages
 use Rattle.etcs_check.specs.Profiles.{AreReached}
 
--- A reading is sound: it makes a message, which is that of the reading with nothing missed, and whose
--- packets are reached.
-pub record IsSoundReading (group : List Telegram) (run : Run) (missed : ℕ → Bool) : Type 0 where
+-- A reading is sound: it makes the message of the reading with nothing missed, whose packets are reached.
+pub record IsSoundReading (group : Telegrams) (run : Run) (missed : ℕ → Bool) : Type 0 where
   pub accepted : IsAccepted run (reading_of run missed group)
   pub same : packets_of run (reading_of run missed group) ≡ packets_of run (reading_of run none_missed group)
   pub reached : AreReached (packets_of run (reading_of run missed group))
 
 -- A sound group is well formed, and in each running direction each covered reading of it is sound.
-pub record IsSoundGroup (group : List Telegram) : Type 0 where
+pub record IsSoundGroup (group : Telegrams) : Type 0 where
   pub formed : IsWellFormed group
   pub readings : (run : Run) (missed : ℕ → Bool) → IsSetOf group missed → IsCovered group missed
       → IsSoundReading group run missed
 
 -- A sound controlled group has sound aspects. If there are two or more, they are contents of one group
--- and told apart.
-pub record IsSoundControlled (aspects : List (List Telegram)) : Type 0 where
-  pub sound : (a : ℕ) (group : List Telegram) → At aspects a group → IsSoundGroup group
+-- and distinguished by their counters.
+pub record IsSoundControlled (aspects : Aspects) : Type 0 where
+  pub sound : (a : ℕ) (group : Telegrams) → At aspects a group → IsSoundGroup group
   pub one : 1 < length aspects → AreOneGroup aspects
 
 -- the identity of an aspect: that of its balise 0
-abbrev pub identity_of : List Telegram → Option Identity
+abbrev pub identity_of : Telegrams → Option Identity
 identity_of [] = None
 identity_of (t ∷ _) = Some t.header.identity
 
 -- the first aspect of a controlled group
-abbrev pub first_aspect : List (List Telegram) → List Telegram
+abbrev pub first_aspect : Aspects → Telegrams
 first_aspect [] = []
 first_aspect (first ∷ _) = first
 
 -- the identity of a controlled group: that of its first aspect
-abbrev pub group_identity : List (List Telegram) → Option Identity
+abbrev pub group_identity : Aspects → Option Identity
 group_identity aspects = identity_of (first_aspect aspects)
 
--- A sound message 3 has modelled packets alone, and those that hold in a running direction are
+-- A sound message 3 has modelled packets alone, and in each running direction the packets that hold are
 -- reached. A message 136 is always sound.
 abbrev pub IsSoundMessage : Message → Type 0
 IsSoundMessage (messages.Movement m) =
@@ -59,8 +57,8 @@ IsSoundMessage (messages.Movement m) =
 IsSoundMessage (messages.Position m) = ⊤
 
 -- In a sound line the groups and the messages are sound, and no two groups have one identity.
-pub record IsSoundLine (groups : List (List (List Telegram))) (messages : List Message) : Type 0 where
-  pub sound : (i : ℕ) (aspects : List (List Telegram)) → At groups i aspects → IsSoundControlled aspects
-  pub distinct : (i j : ℕ) (g h : List (List Telegram)) → i < j → At groups i g → At groups j h
+pub record IsSoundLine (groups : List Aspects) (messages : List Message) : Type 0 where
+  pub sound : (i : ℕ) (aspects : Aspects) → At groups i aspects → IsSoundControlled aspects
+  pub distinct : (i j : ℕ) (g h : Aspects) → i < j → At groups i g → At groups j h
       → group_identity g ≢ group_identity h
   pub messages_sound : (i : ℕ) (m : Message) → At messages i m → IsSoundMessage m

@@ -1,14 +1,14 @@
-//! The rules about how the aspects of a controlled group are told apart.
+//! The rules by which the aspects of a controlled group are distinguished.
 
 ghost use Rattle.std.specs.Prelude.{◌≡◌, ◌≢◌, ◌<◌, ◌≤◌, ◌*◌, ◌++◌, ◌||◌, [], ℕ, false, length, slice_get, Some, IsTrue, OnOk, OnErr};
 ghost use Rattle.std.specs.List.{list_any};
 ghost use Rattle.std.specs.Option.{option_map_or};
 ghost use Rattle.etcs_telegram.specs.Record.{Telegram};
-ghost use Rattle.etcs_check.specs.Aspects.{all_at, aspect_facts, aspect_of, is_counted, is_steady, is_untold, whole};
+ghost use Rattle.etcs_check.specs.Aspects.{all_at, aspect_facts, aspect_of, has_aspect_counter, is_steady, is_ambiguous, site_spot};
 ghost use Rattle.etcs_check.specs.Counters.{is_taken, taken_facts};
 ghost use Rattle.etcs_check.specs.Findings.{balise_facts, for_each, has_counter};
 ghost use Rattle.etcs_check.specs.Identities.{is_marked};
-ghost use Rattle.etcs_check.specs.Quiet.{AreFresh, AreTold};
+ghost use Rattle.etcs_check.specs.Quiet.{AreFresh, AreUnambiguous};
 ghost use Rattle.etcs_check.specs.Soundness.{first_aspect};
 ghost use Rattle.etcs_check.specs.declared.finding.Rule.TheVariants as rules;
 
@@ -20,13 +20,13 @@ use etcs_group::Group;
 use etcs_telegram::Telegram;
 
 // Where the facts about a whole group or a message stand.
-pub(crate) fn whole(site: Site) -> Spot
-    ensures { result ≡ whole site }
+pub(crate) fn site_spot(site: Site) -> Spot
+    ensures { result ≡ site_spot site }
 {
     Spot { site, aspect: None }
 }
 
-// Where the facts about an aspect stand. It is told where there are two or more.
+// Where the facts about an aspect stand. It is named where there are two or more.
 pub(crate) fn aspect_of(site: Site, aspects: &[Group], place: usize) -> Spot
     ensures { result ≡ aspect_of site aspects.now place }
 {
@@ -56,7 +56,7 @@ fn is_steady_in(wanted: &Telegram, group: &[Telegram], place: usize) -> bool
     }
 }
 
-// Whether all aspects have.
+// Whether every aspect has this very telegram at the place, with counter 255.
 fn is_steady(wanted: &Telegram, aspects: &[Group], place: usize) -> bool
     ensures { result ≡ all_at (is_steady wanted.now) place aspects.now }
 {
@@ -69,8 +69,8 @@ fn is_steady(wanted: &Telegram, aspects: &[Group], place: usize) -> bool
 }
 
 // Whether an aspect has a counter below 254 at the place.
-fn is_counted_in(group: &[Telegram], place: usize) -> bool
-    ensures { result ≡ option_map_or is_counted (slice_get group.now place) false }
+fn has_aspect_counter_in(group: &[Telegram], place: usize) -> bool
+    ensures { result ≡ option_map_or has_aspect_counter (slice_get group.now place) false }
 {
     match group.get(place) {
         Some(telegram) => telegram.header.counter.number() < 254,
@@ -78,42 +78,42 @@ fn is_counted_in(group: &[Telegram], place: usize) -> bool
     }
 }
 
-// Whether all aspects have.
-fn is_counted(aspects: &[Group], place: usize) -> bool
-    ensures { result ≡ all_at is_counted place aspects.now }
+// Whether every aspect has a counter below 254 at the place.
+fn has_aspect_counter(aspects: &[Group], place: usize) -> bool
+    ensures { result ≡ all_at has_aspect_counter place aspects.now }
 {
     'aspects: for aspect in aspects {
-        if !is_counted_in(aspect.telegrams(), place) {
+        if !has_aspect_counter_in(aspect.telegrams(), place) {
             return false;
         }
     }
     true
 }
 
-// Whether there are two or more aspects, and the place is neither steady nor counted in all of them.
-// Aspect 0 has this telegram there.
-fn is_untold(aspects: &[Group], place: usize, wanted: &Telegram) -> bool
-    ensures { result ≡ is_untold aspects.now place wanted.now }
+// Whether there are two or more aspects, and no counter at the place distinguishes them: they neither all
+// have `wanted` there, the telegram of aspect 0, with counter 255, nor all a counter below 254.
+fn is_ambiguous(aspects: &[Group], place: usize, wanted: &Telegram) -> bool
+    ensures { result ≡ is_ambiguous aspects.now place wanted.now }
 {
-    aspects.len() > 1 && !(is_steady(wanted, aspects, place) || is_counted(aspects, place))
+    aspects.len() > 1 && !(is_steady(wanted, aspects, place) || has_aspect_counter(aspects, place))
 }
 
-// Appends a finding for each place that is.
-pub(crate) fn note_untold(
+// Appends a finding for each place whose counters do not distinguish the aspects.
+pub(crate) fn note_ambiguous(
     found: &mut Vec<Finding>,
     site: Site,
     aspects: &[Group],
 ) -> Result<(), Memory>
     requires some { 0 < length aspects.now }
     ensures ok { OnOk result (found.new.items ≡ found.old.items
-        ++ balise_facts rules.NotToldApart (whole site) (is_untold aspects.now) (first_aspect aspects.now)) }
-    ensures memory { OnErr result (balise_facts rules.NotToldApart (whole site) (is_untold aspects.now)
+        ++ balise_facts rules.NotToldApart (site_spot site) (is_ambiguous aspects.now) (first_aspect aspects.now)) }
+    ensures memory { OnErr result (balise_facts rules.NotToldApart (site_spot site) (is_ambiguous aspects.now)
         (first_aspect aspects.now) ≢ []) }
 {
     let first = first_aspect(aspects);
-    let spot = whole(site);
+    let spot = site_spot(site);
     'places: for place in 0..first.len() {
-        let fact = is_untold(aspects, place, &first[place]);
+        let fact = is_ambiguous(aspects, place, &first[place]);
         note(
             found,
             fact,
@@ -222,25 +222,25 @@ fn are_fresh(aspects: &[Group]) -> bool
     true
 }
 
-// Whether each place is told.
-fn are_told(aspects: &[Group]) -> bool
+// Whether each balise is fixed or switched, as aspect 0 shows.
+fn are_unambiguous(aspects: &[Group]) -> bool
     requires some { 0 < length aspects.now }
-    ensures { IsTrue result → AreTold aspects.now }
+    ensures { IsTrue result → AreUnambiguous aspects.now }
 {
     let first = first_aspect(aspects);
     'places: for place in 0..first.len() {
-        if is_untold(aspects, place, &first[place]) {
+        if is_ambiguous(aspects, place, &first[place]) {
             return false;
         }
     }
     true
 }
 
-// Whether no fact stands about how the aspects are told apart. One aspect has nothing to be told from.
-pub(crate) fn are_told_apart(aspects: &[Group]) -> bool
+// Whether no fact stands about how a train distinguishes the aspects. One aspect is always distinguished.
+pub(crate) fn are_distinguished(aspects: &[Group]) -> bool
     requires some { 0 < length aspects.now }
     ensures fresh { IsTrue result → AreFresh aspects.now }
-    ensures told { IsTrue result → AreTold aspects.now }
+    ensures told { IsTrue result → AreUnambiguous aspects.now }
 {
-    aspects.len() == 1 || (are_fresh(aspects) && are_told(aspects))
+    aspects.len() == 1 || (are_fresh(aspects) && are_unambiguous(aspects))
 }

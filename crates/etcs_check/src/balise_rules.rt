@@ -6,7 +6,7 @@ ghost use Rattle.std.specs.List.{AllPass};
 ghost use Rattle.etcs_telegram.specs.Record.{Telegram};
 ghost use Rattle.etcs_group.specs.Group.{is_modelled, partner_of};
 ghost use Rattle.etcs_check.specs.Duplicates.{same_mark};
-ghost use Rattle.etcs_check.specs.Findings.{are_pair, balise_fact, balise_facts, counter_differs, first_counter, is_other, is_outside, is_unanswered, is_unlike, is_unmodelled, mark_differs, pair_differs, pair_facts, unmodelled_facts, unmodelled_in};
+ghost use Rattle.etcs_check.specs.Findings.{are_pair, balise_fact, balise_facts, counter_differs, first_counter, differs_from, is_outside, is_unanswered, is_unlike, is_unmodelled, mark_differs, pair_differs, pair_facts, unmodelled_facts, unmodelled_in};
 ghost use Rattle.etcs_check.specs.Quiet.{IsQuietBalise, are_same_pair};
 
 use crate::duplicates::{same_content, same_held};
@@ -32,8 +32,8 @@ fn partner(group: &[Telegram], place: usize) -> Option<usize>
 }
 
 // Whether a number is not this one, or is not there.
-fn is_other(number: Option<usize>, wanted: usize) -> bool
-    ensures { result ≡ is_other number wanted }
+fn differs_from(number: Option<usize>, wanted: usize) -> bool
+    ensures { result ≡ differs_from number wanted }
 {
     match number {
         Some(number) => number != wanted,
@@ -47,7 +47,7 @@ fn is_unanswered(group: &[Telegram], place: usize) -> bool
     ensures { result ≡ is_unanswered group.now (partner_of group.now place) place }
 {
     match partner(group, place) {
-        Some(named) => is_other(partner(group, named), place),
+        Some(named) => differs_from(partner(group, named), place),
         None => false,
     }
 }
@@ -60,7 +60,7 @@ fn is_unlike(first: &Telegram, telegram: &Telegram) -> bool
     !(this.version == that.version && this.identity == that.identity && this.linked == that.linked)
 }
 
-// The same of balise 0 of aspect 0.
+// Whether a telegram has another version, identity or link flag than balise 0 of aspect 0.
 fn is_unlike_first(first: &[Telegram], telegram: &Telegram) -> bool
     ensures { result ≡ is_unlike (slice_get first.now 0) telegram.now }
 {
@@ -269,7 +269,8 @@ fn are_same_pair(first: &Telegram, second: &Telegram) -> bool
     !are_pair(first.header.dup, second.header.dup) || same_content(packets(first), packets(second))
 }
 
-// The same of this telegram, which is that of the balise at this place, and the next one.
+// Whether a telegram, which is that of the balise at this place, and the next one are no pair of duplicates,
+// or have the same packets.
 fn are_same_pair_at(group: &[Telegram], place: usize, telegram: &Telegram) -> bool
     requires { place < length group.now }
     ensures { result ≡ are_same_pair telegram.now (slice_get group.now (place + 1)) }

@@ -1,13 +1,15 @@
 //! All rules, looked for in one group and in one message.
 
 ghost use Rattle.std.specs.Prelude.{◌≡◌, ◌≢◌, ◌<◌, ◌≤◌, ◌++◌, [], false, length, flat_map, IsTrue, OnOk, OnErr};
-ghost use Rattle.etcs_check.specs.Aspects.{aspect_facts, group_facts, rule_facts, whole, whole_facts};
-ghost use Rattle.etcs_check.specs.Counters.{alone_facts};
+ghost use Rattle.etcs_check.specs.Aspects.{aspect_facts, group_facts, rule_facts, site_spot, group_wide_facts};
+ghost use Rattle.etcs_check.specs.Counters.{facts_without_earlier};
 ghost use Rattle.etcs_check.specs.Findings.{all_rules, facts_in, facts_of, for_directions, for_each};
 ghost use Rattle.etcs_check.specs.Line.{message_facts, message_facts_in, message_findings};
 ghost use Rattle.etcs_check.specs.Quiet.{IsQuiet, IsQuietAspect};
 
-use crate::aspects::{are_told_apart, aspect_of, first_aspect, note_taken, note_untold, whole};
+use crate::aspects::{
+    are_distinguished, aspect_of, first_aspect, note_ambiguous, note_taken, site_spot,
+};
 use crate::balise_rules::{
     is_quiet_balise, note_balises, note_group_unmodelled, note_pairs, note_unmodelled,
 };
@@ -41,7 +43,7 @@ fn note_in(
     }
 }
 
-// The same in both directions, nominal first.
+// Appends the findings of a rule about an aspect in both running directions, nominal first.
 fn note_directions(
     found: &mut Vec<Finding>,
     rule: Rule,
@@ -97,8 +99,8 @@ fn note_each(
 ) -> Result<(), Memory>
     requires some { 0 < length aspects.now }
     ensures ok { OnOk result (found.new.items ≡ found.old.items
-        ++ for_each aspects.now (alone_facts site aspects.now rule)) }
-    ensures memory { OnErr result (for_each aspects.now (alone_facts site aspects.now rule) ≢ []) }
+        ++ for_each aspects.now (facts_without_earlier site aspects.now rule)) }
+    ensures memory { OnErr result (for_each aspects.now (facts_without_earlier site aspects.now rule) ≢ []) }
 {
     let first = first_aspect(aspects);
     'aspects: for place in 0..aspects.len() {
@@ -127,7 +129,7 @@ fn note_aspects(
 }
 
 // Appends the findings of a rule about a group as a whole.
-fn note_whole(
+fn note_group_wide(
     found: &mut Vec<Finding>,
     rule: Rule,
     site: Site,
@@ -135,12 +137,12 @@ fn note_whole(
     aspects: &[Group],
 ) -> Result<(), Memory>
     requires some { 0 < length aspects.now }
-    ensures ok { OnOk result (found.new.items ≡ found.old.items ++ whole_facts site used aspects.now rule) }
-    ensures memory { OnErr result (whole_facts site used aspects.now rule ≢ []) }
+    ensures ok { OnOk result (found.new.items ≡ found.old.items ++ group_wide_facts site used aspects.now rule) }
+    ensures memory { OnErr result (group_wide_facts site used aspects.now rule ≢ []) }
 {
     match rule {
-        Rule::IdentityUsed => note(found, used, rule, whole(site), None, None, None),
-        Rule::NotToldApart => note_untold(found, site, aspects),
+        Rule::IdentityUsed => note(found, used, rule, site_spot(site), None, None, None),
+        Rule::NotToldApart => note_ambiguous(found, site, aspects),
         _ => Ok(()),
     }
 }
@@ -157,7 +159,7 @@ fn note_group_rule(
     ensures ok { OnOk result (found.new.items ≡ found.old.items ++ rule_facts site used aspects.now rule) }
     ensures memory { OnErr result (rule_facts site used aspects.now rule ≢ []) }
 {
-    note_whole(found, rule, site, used, aspects)?;
+    note_group_wide(found, rule, site, used, aspects)?;
     note_aspects(found, rule, site, aspects)
 }
 
@@ -190,7 +192,7 @@ fn is_quiet(aspects: &[Group]) -> bool
             return false;
         }
     }
-    are_told_apart(aspects)
+    are_distinguished(aspects)
 }
 
 // Appends the findings about a group, rule by rule.
@@ -211,7 +213,7 @@ fn note_all(
 }
 
 // Appends the findings about a group. Most groups have no finding, which `is_quiet` sees in one look.
-// Where it does not, `note_all` goes through all rules and tells all facts.
+// Where it does not, `note_all` goes through all rules and names all facts.
 pub(crate) fn note_group(
     found: &mut Vec<Finding>,
     site: Site,
@@ -223,7 +225,7 @@ pub(crate) fn note_group(
     ensures memory { OnErr result (group_facts site used aspects.now ≢ []) }
 {
     if is_quiet(aspects) {
-        return note_whole(found, Rule::IdentityUsed, site, used, aspects);
+        return note_group_wide(found, Rule::IdentityUsed, site, used, aspects);
     }
     note_all(found, site, used, aspects)
 }
@@ -248,7 +250,7 @@ fn note_message_in(
     }
 }
 
-// The same in both directions, nominal first.
+// Appends the findings of a rule about the packets of a message in both running directions, nominal first.
 fn note_message_directions(
     found: &mut Vec<Finding>,
     rule: Rule,
@@ -308,11 +310,11 @@ pub(crate) fn note_message(
     site: Site,
     message: &Message,
 ) -> Result<(), Memory>
-    ensures ok { OnOk result (found.new.items ≡ found.old.items ++ message_findings (whole site) message.now) }
-    ensures memory { OnErr result (message_findings (whole site) message.now ≢ []) }
+    ensures ok { OnOk result (found.new.items ≡ found.old.items ++ message_findings (site_spot site) message.now) }
+    ensures memory { OnErr result (message_findings (site_spot site) message.now ≢ []) }
 {
     match message {
-        Message::Movement(movement) => note_packets(found, whole(site), movement.packets()),
+        Message::Movement(movement) => note_packets(found, site_spot(site), movement.packets()),
         Message::Position(_) => Ok(()),
     }
 }

@@ -80,7 +80,7 @@ pub enum Site {
     Message(usize),
 }
 
-// Where facts stand: the group or message, and the aspect if one is told.
+// Where a finding stands: its group or message, and its aspect if the group has two or more.
 #[derive(Clone, Copy)]
 pub(crate) struct Spot {
     pub(crate) site: Site,

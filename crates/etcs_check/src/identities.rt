@@ -4,7 +4,7 @@
 ghost use Rattle.std.specs.Prelude.{◌≡◌, ℕ, ◌+◌, ◌*◌, ◌^◌, ◌<◌, ◌≤◌, ◌||◌, ◌==◌, length, IsTrue, IsFalse, OnOk, OnErr};
 ghost use Rattle.std.specs.BTreeSet.{IsUnchanged, contains};
 ghost use Rattle.std.specs.Ordering.{nat_cmp};
-ghost use Rattle.etcs_check.specs.Identities.{AreNumbered, HasNoRepeat, HasRepeat, IsNumbered, identity_number, is_marked, number_of};
+ghost use Rattle.etcs_check.specs.Identities.{HaveIdentities, HasNoRepeat, HasRepeat, HasIdentity, identity_number, is_marked, number_of_identity};
 
 use crate::aspects::first_aspect;
 use etcs_bits::Memory;
@@ -16,8 +16,8 @@ use std::collections::BTreeSet;
 const PART: u32 = 2_097_152;
 
 // The number of the identity in a telegram.
-fn number_of(telegram: &Telegram) -> u32
-    ensures value { result ≡ number_of telegram.now.header.identity }
+fn number_of_identity(telegram: &Telegram) -> u32
+    ensures value { result ≡ number_of_identity telegram.now.header.identity }
     ensures country { telegram.now.header.identity.country < 1024 }
     ensures group { telegram.now.header.identity.group < 16384 }
     ensures small { result < 16777216 }
@@ -32,10 +32,10 @@ pub(crate) fn identity_number(aspects: &[Group]) -> u32
     requires { 0 < length aspects.now }
     ensures value { result ≡ identity_number aspects.now }
     ensures small { result < 16777216 }
-    ensures numbered { IsNumbered aspects.now }
+    ensures numbered { HasIdentity aspects.now }
 {
     let first = first_aspect(aspects);
-    number_of(&first[0])
+    number_of_identity(&first[0])
 }
 
 // Keeps the number of an identity. Memory is asked for only where it was not kept. If it runs out, nothing changes.
@@ -57,7 +57,7 @@ pub(crate) fn is_marked(table: &[u64], place: usize) -> bool
     (table[place / 64] >> (place % 64)) & 1 == 1
 }
 
-// Marks the place, and tells whether it was marked before.
+// Marks the place, and returns whether it was marked before.
 pub(crate) fn mark(table: &mut [u64], place: usize) -> bool
     requires { place < 64 * length table.old }
     ensures before { result ≡ is_marked table.old place }
@@ -68,12 +68,12 @@ pub(crate) fn mark(table: &mut [u64], place: usize) -> bool
     marked
 }
 
-// Whether a group whose identity is one of those from `base` on has that of an earlier one.
+// Whether a group, its identity being one of `PART` from `base` on, has the identity of an earlier group.
 fn repeats_in(groups: &[Controlled], base: u32) -> bool
     requires { base + PART < 2 ^ 32 }
     ensures found { IsTrue result → HasRepeat groups.now }
     ensures none { IsFalse result → HasNoRepeat base PART groups.now }
-    ensures numbered { IsFalse result → AreNumbered groups.now }
+    ensures numbered { IsFalse result → HaveIdentities groups.now }
 {
     let mut table = [0u64; 32_768];
     'groups: for i in 0..groups.len() {
@@ -91,7 +91,7 @@ fn repeats_in(groups: &[Controlled], base: u32) -> bool
 pub(crate) fn has_repeat(groups: &[Controlled]) -> bool
     ensures found { IsTrue result → HasRepeat groups.now }
     ensures none { IsFalse result → HasNoRepeat 0 16777216 groups.now }
-    ensures numbered { IsFalse result → AreNumbered groups.now }
+    ensures numbered { IsFalse result → HaveIdentities groups.now }
 {
     'parts: for part in 0..8 {
         if repeats_in(groups, part * PART) {

@@ -70,7 +70,7 @@ pub fn sound_groups_are_decided()
 
 /// Of a sound group whose aspects are mixed, because it was switched while a train passed, what is read is
 /// accepted exactly if what is missed is covered and one aspect has all that is shown. Its packets are then
-/// those of this aspect with nothing missed.
+/// the packets of this aspect with nothing missed.
 pub fn sound_mixtures_are_decided()
     ensures { SoundMixturesAreDecided }
 {}

@@ -1,18 +1,18 @@
 //! A railway line, and all facts against it.
 
-ghost use Rattle.std.specs.Prelude.{◌≡◌, ◌≢◌, ◌↔◌, ◌<◌, ◌++◌, ◌&&◌, ◌||◌, ◌==◌, [], ℕ, Bool, true, false, List, length, Option, IfOk, OnOk, OnErr};
+ghost use Rattle.std.specs.Prelude.{◌≡◌, ◌≢◌, ◌↔◌, ◌<◌, ◌++◌, ◌&&◌, ◌||◌, ◌==◌, [], ℕ, Bool, true, false, length, Option, IfOk, OnOk, OnErr};
 ghost use Rattle.std.specs.BTreeSet.{contains};
 ghost use Rattle.std.specs.Ordering.{nat_cmp};
 ghost use Rattle.etcs_packet.specs.declared.run.Run.{Run};
-ghost use Rattle.etcs_telegram.specs.Record.{Telegram};
 ghost use Rattle.etcs_group.specs.Places.{At};
 ghost use Rattle.etcs_group.specs.Missed.{IsSetOf};
 ghost use Rattle.etcs_group.specs.Reading.{reading_of};
 ghost use Rattle.etcs_group.specs.Laws.{IsDecided, IsMixtureDecided};
 ghost use Rattle.etcs_group.specs.Mixture.{Fits};
+ghost use Rattle.etcs_group.specs.Group.{Telegrams, Aspects};
 ghost use Rattle.etcs_check.specs.Aspects.{group_facts};
 ghost use Rattle.etcs_check.specs.Harm.{Hurts};
-ghost use Rattle.etcs_check.specs.Identities.{IsNumbered, identity_number};
+ghost use Rattle.etcs_check.specs.Identities.{HasIdentity, identity_number};
 ghost use Rattle.etcs_check.specs.Laws.{AreControlled, NamesTheUnsound};
 ghost use Rattle.etcs_check.specs.Line.{findings, group_list, message_list};
 ghost use Rattle.etcs_check.specs.Meaning.{States};
@@ -54,7 +54,7 @@ fn note_next(
     ensures kept { OnOk result (again ≡ true → (n : ℕ) → contains nat_cmp kept.new n
         ≡ (identity_number aspects.now == n || contains nat_cmp kept.old n)) }
     ensures memory { OnErr result (again ≡ false → group_facts (sites.Group place) false aspects.now ≢ []) }
-    ensures numbered { IsNumbered aspects.now }
+    ensures numbered { HasIdentity aspects.now }
 {
     let identity = identity_number(aspects);
     let used = again && kept.contains(&identity);
@@ -100,7 +100,7 @@ fn note_messages(found: &mut Vec<Finding>, messages: &[Message]) -> Result<(), M
 ///   it misses, as long as it reads the duplicate of each missed balise.
 /// - In that message, and in each message 3 for either direction, every movement authority has a gradient
 ///   and a speed profile, and all such profiles reach its supervised location.
-/// - The aspects of a group are contents of one group, and their counters tell them apart. So a train
+/// - The aspects of a group are contents of one group, and their counters distinguish them. So a train
 ///   that passes while the group is switched refuses what it reads, unless one aspect has all of it.
 ///
 /// Memory is asked for only if there is a finding. An identity that repeats is one, and then the number of each
@@ -129,13 +129,13 @@ pub fn check(alloc: Global, line: &Line) -> Result<Vec<Finding>, Memory>
 
     // What was missed alone decides whether a reading of a sound aspect is accepted. This clause and the
     // next one are laws of the line, whatever is found.
-    ensures decided { OnOk result ((g a : ℕ) (aspects : List (List Telegram)) (group : List Telegram) (run : Run)
+    ensures decided { OnOk result ((g a : ℕ) (aspects : Aspects) (group : Telegrams) (run : Run)
         (missed : ℕ → Bool) → At line.now.groups.items g aspects → At aspects a group → IsSoundGroup group
         → IsSetOf group missed → IsDecided run group missed (reading_of run missed group)) }
 
     // A mixture of aspects of a sound group is accepted exactly where it is covered and one aspect has all
     // that it shows. Its packets are then those of that aspect.
-    ensures mixtures { OnOk result ((g : ℕ) (aspects : List (List Telegram)) (run : Run) (shown : ℕ → Option ℕ)
+    ensures mixtures { OnOk result ((g : ℕ) (aspects : Aspects) (run : Run) (shown : ℕ → Option ℕ)
         → At line.now.groups.items g aspects → IsSoundControlled aspects → Fits aspects shown
         → IsMixtureDecided run aspects shown) }
 {

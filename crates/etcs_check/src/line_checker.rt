@@ -2,8 +2,8 @@
 
 ghost use Rattle.std.specs.Prelude.{◌≡◌, ◌≢◌, ◌↔◌, ◌∷◌, ◌++◌, [], ℕ, List, length, IfOk, IsErrOf, OnOk, OnErr};
 ghost use Rattle.etcs_radio.specs.declared.message.Message.{Message as SomeMessage};
-ghost use Rattle.etcs_telegram.specs.Record.{Telegram};
 ghost use Rattle.etcs_group.specs.Places.{At};
+ghost use Rattle.etcs_group.specs.Group.{Aspects};
 ghost use Rattle.etcs_check.specs.Harm.{Hurts};
 ghost use Rattle.etcs_check.specs.Laws.{NamesTheUnsound};
 ghost use Rattle.etcs_check.specs.Line.{findings, group_list, message_at, message_list};
@@ -100,7 +100,7 @@ impl LineChecker {
         ensures ok { OnOk result (TakesGroups self.old (group.now ∷ []) self.new) }
 
         // Found before memory is asked for.
-        ensures too_many { (gs : List (List (List Telegram))) (ms : List SomeMessage) → HasChecked self.old gs ms
+        ensures too_many { (gs : List Aspects) (ms : List SomeMessage) → HasChecked self.old gs ms
             → IsErrOf result CheckError.TooMany ↔ (length gs ≡ usize.MAX) }
 
         // A refused group changes nothing.
@@ -129,12 +129,12 @@ impl LineChecker {
         ensures ok { OnOk result (TakesMessages self.old (message.now ∷ []) self.new) }
 
         // Found before memory is asked for.
-        ensures too_many { (gs : List (List (List Telegram))) (ms : List SomeMessage) → HasChecked self.old gs ms
+        ensures too_many { (gs : List Aspects) (ms : List SomeMessage) → HasChecked self.old gs ms
             → IsErrOf result CheckError.TooMany ↔ (length ms ≡ usize.MAX) }
 
         // A refused message changes nothing. One without a finding is never refused for want of memory.
         ensures kept { OnErr result (HasStill self.old self.new) }
-        ensures memory { IsErrOf result CheckError.Memory → (gs : List (List (List Telegram))) (ms : List SomeMessage)
+        ensures memory { IsErrOf result CheckError.Memory → (gs : List Aspects) (ms : List SomeMessage)
             → HasChecked self.old gs ms → message_at (length ms) message.now ≢ [] }
     {
         let Some(messages) = self.messages.checked_add(1) else {
@@ -149,7 +149,7 @@ impl LineChecker {
 
     /// How many groups were taken.
     pub fn groups(&self) -> usize
-        ensures { (gs : List (List (List Telegram))) (ms : List SomeMessage) → HasChecked self.now gs ms
+        ensures { (gs : List Aspects) (ms : List SomeMessage) → HasChecked self.now gs ms
             → result ≡ length gs }
     {
         self.groups
@@ -157,7 +157,7 @@ impl LineChecker {
 
     /// How many messages were taken.
     pub fn messages(&self) -> usize
-        ensures { (gs : List (List (List Telegram))) (ms : List SomeMessage) → HasChecked self.now gs ms
+        ensures { (gs : List Aspects) (ms : List SomeMessage) → HasChecked self.now gs ms
             → result ≡ length ms }
     {
         self.messages
@@ -167,24 +167,24 @@ impl LineChecker {
     /// asked for only if there are findings both about groups and about messages. If it runs out, no finding is
     /// returned.
     pub fn finish(self) -> Result<Vec<Finding>, Memory>
-        ensures ok { IfOk result (λ found. (gs : List (List (List Telegram))) (ms : List SomeMessage)
+        ensures ok { IfOk result (λ found. (gs : List Aspects) (ms : List SomeMessage)
             → HasChecked self gs ms → found.items ≡ findings gs ms) }
-        ensures memory { OnErr result ((gs : List (List (List Telegram))) (ms : List SomeMessage)
+        ensures memory { OnErr result ((gs : List Aspects) (ms : List SomeMessage)
             → HasChecked self gs ms → (group_list gs ≢ []) × (message_list ms ≢ [])) }
 
         // No finding means sound.
-        ensures sound { IfOk result (λ found. (gs : List (List (List Telegram))) (ms : List SomeMessage)
+        ensures sound { IfOk result (λ found. (gs : List Aspects) (ms : List SomeMessage)
             → HasChecked self gs ms → (found.items ≡ []) ↔ IsSoundLine gs ms) }
 
         // A group or a message is sound exactly where no finding names it, whatever is found elsewhere. Of two
         // groups with one identity the later one is named.
-        ensures unnamed { IfOk result (λ found. (gs : List (List (List Telegram))) (ms : List SomeMessage)
+        ensures unnamed { IfOk result (λ found. (gs : List Aspects) (ms : List SomeMessage)
             → HasChecked self gs ms → NamesTheUnsound gs ms found.items) }
 
         // A finding is there exactly where its fact stands, and its own part of soundness does not hold there.
-        ensures facts { IfOk result (λ found. (gs : List (List (List Telegram))) (ms : List SomeMessage)
+        ensures facts { IfOk result (λ found. (gs : List Aspects) (ms : List SomeMessage)
             → HasChecked self gs ms → (f : SomeFinding) → ((i : ℕ) × At found.items i f) ↔ States gs ms f) }
-        ensures hurts { IfOk result (λ found. (gs : List (List (List Telegram))) (ms : List SomeMessage)
+        ensures hurts { IfOk result (λ found. (gs : List Aspects) (ms : List SomeMessage)
             → HasChecked self gs ms → (i : ℕ) (f : SomeFinding) → At found.items i f → Hurts gs ms f) }
     {
         let LineChecker {

@@ -60,7 +60,7 @@ fn with_packet(so_far: Summary, packet: &TrackPacket) -> Summary
     }
 }
 
-// The same, if the packet holds.
+// The summary with one packet more, if it holds.
 #[inline]
 fn with_held(so_far: Summary, packet: &TrackPacket, run: Run) -> Summary
     ensures { result ≡ (if holds run packet.now then with_packet so_far packet.now else so_far) }

@@ -47,7 +47,7 @@ pair_at a b i ha hb sa sb =
     let vb : value_at b (i + 1) ≡ Ok (slice_index table b) = ap (digit_or_error b (i + 1)) (digit_at b hb sb) in
     rw (va, vb) refl
 
--- the bytes so far are those of the digits so far
+-- the bytes so far are the bytes that the digits so far spell
 abbrev pub IsDecoded : List ℕ → List ℕ → ℕ → Type 0
 IsDecoded s out i = decode_pairs 0 s ≡ prepend (take i out) (decode_pairs (2 * i) (drop (2 * i) s))
 

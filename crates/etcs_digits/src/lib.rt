@@ -1,9 +1,9 @@
 //! Digits as text, quickly: pairs of hexadecimal digits to bytes, and numbers to decimal digits.
 //!
 //! [`decode`] and [`decode_to_vec`] read digits by a table. A text with anything else in it is left to
-//! `hex`, which alone tells what is wrong, so their contracts are those of its calls. [`send_decimal`]
-//! writes a number as `json`'s writer does. Read `hexadecimal.rt`, then `decimal.rt`. The crate knows
-//! nothing of telegrams and messages.
+//! `hex`, which alone says what is wrong, so their contracts are the contracts of its calls.
+//! [`send_decimal`] writes a number as `json`'s writer does. Read `hexadecimal.rt`, then `decimal.rt`. The
+//! crate knows nothing of telegrams and messages.
 #![tactic(auto)]
 
 mod decimal;

@@ -10,7 +10,7 @@ use Rattle.etcs_form.proofs.DocumentLemmas.{is_no_json, not_readable}
 use Rattle.etcs_form.proofs.ResultLemmas.{not_ok}
 use Rattle.etcs_form.specs.Document.{◌then◌, json_of, line_of, line_of_text}
 use Rattle.etcs_form.specs.DocumentFault.{no_json}
-use Rattle.etcs_form.specs.Verdict.{Counted, counted_of_text}
+use Rattle.etcs_form.specs.Verdict.{Summary, summary_of_text}
 
 read_none : read_text [] ≡ None
 unfolding lex punctuate value
@@ -26,11 +26,11 @@ no_line : (bytes : List ℕ) → json_of bytes ≡ Err no_json → line_of_text 
 unfolding line_of_text
 no_line bytes bad = ap (λ r. r then line_of) bad
 
-not_counted : (bytes : List ℕ) (c : Counted) → json_of bytes ≡ Err no_json → counted_of_text bytes ≡ Ok c → ⊥
-not_counted bytes c bad is = not_ok no_json c (counted_of_text bytes) (rw (no_line bytes bad) refl) is
+not_counted : (bytes : List ℕ) (c : Summary) → json_of bytes ≡ Err no_json → summary_of_text bytes ≡ Ok c → ⊥
+not_counted bytes c bad is = not_ok no_json c (summary_of_text bytes) (rw (no_line bytes bad) refl) is
 
-pub none_counted : (bytes : List ℕ) (c : Counted) → bytes ≡ [] → counted_of_text bytes ≡ Ok c → ⊥
+pub none_counted : (bytes : List ℕ) (c : Summary) → bytes ≡ [] → summary_of_text bytes ≡ Ok c → ⊥
 none_counted bytes c none is = not_counted bytes c (is_no_json bytes (λ _. nothing_read bytes none)) is
 
-pub unreadable_counted : (bytes : List ℕ) (c : Counted) → is_utf8 bytes ≡ false → counted_of_text bytes ≡ Ok c → ⊥
+pub unreadable_counted : (bytes : List ℕ) (c : Summary) → is_utf8 bytes ≡ false → summary_of_text bytes ≡ Ok c → ⊥
 unreadable_counted bytes c unreadable is = not_counted bytes c (is_no_json bytes (λ utf8. absurd (not_readable bytes unreadable utf8))) is

@@ -16,7 +16,7 @@ use Rattle.etcs_json.specs.Entries.{object_of}
 use Rattle.etcs_json.specs.Fault.{key as key_step, under}
 use Rattle.etcs_json.specs.Reading.{at_key, object_with}
 use Rattle.etcs_form.specs.Tokens.{HasMembers, first_value}
-use Rattle.etcs_form.specs.Verdict.{Counted, counted, counted_of_text, judged}
+use Rattle.etcs_form.specs.Verdict.{Summary, summary, summary_of_text, judged}
 use Rattle.etcs_radio.specs.declared.message.Message.{Message}
 use Rattle.etcs_telegram.specs.Record.{Telegram}
 
@@ -67,7 +67,7 @@ unfolding line_of object_with
 line_read d e gs ms groups messages =
     ap (λ r. r then λ x. messages_of (document_of d e) then λ y. Ok (x, y)) (groups_read d e gs groups) ∙ ap (λ r. r then λ y. Ok (gs, y)) (messages_read d e ms messages)
 
--- the same with its keys in the other order
+-- a document with its keys in the other order
 turned : (d e : Data) → object_of ((codes "messages", Some e) ∷ (codes "groups", Some d) ∷ []) ≡ document_of d e
 turned d e = refl
 
@@ -120,13 +120,13 @@ document_taken depth old begun ended kept new deep begins has ends = record {
 
 -- ---- the bytes
 
-pub text_taken : (bytes : List ℕ) (start rest : List Token) (kept : Kept) (c : Counted) → IsUtf8 bytes → start ≡ tokens bytes → rest ≡ [] → IsFirst IsChecked 127 start kept rest
-    → ((gs : List (List (List Telegram))) (ms : List Message) → HasChecked kept gs ms → c ≡ counted (judged (gs, ms))) → counted_of_text bytes ≡ Ok c
+pub text_taken : (bytes : List ℕ) (start rest : List Token) (kept : Kept) (c : Summary) → IsUtf8 bytes → start ≡ tokens bytes → rest ≡ [] → IsFirst IsChecked 127 start kept rest
+    → ((gs : List (List (List Telegram))) (ms : List Message) → HasChecked kept gs ms → c ≡ summary (judged (gs, ms))) → summary_of_text bytes ≡ Ok c
 unfolding line_of_text
 text_taken bytes start rest kept c utf8 begins ends one told =
     let whole : first_value 127 (tokens bytes) ≡ Some (one.found, []) = ap (first_value 127) (sym begins) ∙ one.stands ∙ ap (λ ts. Some (one.found, ts)) ends in
     let j = converted_some of_json (value 127 (tokens bytes)) one.found [] whole in
     let json : json_of bytes ≡ Ok one.found = is_json bytes one.found utf8 (ap (λ o. option_and_then of_json (option_and_then (λ p. if_last p.0 p.1) o)) j.1 ∙ j.2) in
-    ap (λ r. ((r then line_of) then λ line. Ok (judged line)) then λ verdict. Ok (counted verdict)) json
-    ∙ ap (λ r. (r then λ line. Ok (judged line)) then λ verdict. Ok (counted verdict)) one.is.line
+    ap (λ r. ((r then line_of) then λ line. Ok (judged line)) then λ verdict. Ok (summary verdict)) json
+    ∙ ap (λ r. (r then λ line. Ok (judged line)) then λ verdict. Ok (summary verdict)) one.is.line
     ∙ ap (λ x. Ok x) (sym (told one.is.groups one.is.messages one.is.checked))

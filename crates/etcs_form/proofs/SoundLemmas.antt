@@ -15,7 +15,7 @@ use Rattle.etcs_form.proofs.ValueLemmas.{each_at}
 use Rattle.etcs_form.proofs.VerdictLemmas.{line_read, parts_read}
 use Rattle.etcs_form.specs.Document.{◌then◌, aspect_at, aspects_of, controlled_at, each_from, group_at, groups_of, has_count, in_form, line_of_text, list_at, only_aspect, only_values, others_of, path_of, telegram_at, telegrams_of, with_first}
 use Rattle.etcs_form.specs.DocumentFault.{DocumentFault, bad_aspects, bad_count}
-use Rattle.etcs_form.specs.Verdict.{IsSoundText, counted, counted_of_text, judged}
+use Rattle.etcs_form.specs.Verdict.{IsSoundText, summary, summary_of_text, judged}
 use Rattle.etcs_group.specs.Controlled.{IsControlled}
 use Rattle.etcs_radio.specs.declared.message.Message.{Message}
 use Rattle.etcs_telegram.specs.Record.{Telegram}
@@ -84,10 +84,10 @@ line_controlled bytes groups ms is =
 
 sound_or : NoFindingMeansSoundLine → (r : Result (List (List (List Telegram)) × List Message) DocumentFault)
     → ((groups : List (List (List Telegram))) (ms : List Message) → r ≡ Ok (groups, ms) → AreControlled groups)
-    → IsOkAnd ((r then λ line. Ok (judged line)) then λ v. Ok (counted v)) (λ c. c.1 ≡ []) ↔ IsOkAnd r (λ line. IsSoundLine line.0 line.1)
+    → IsOkAnd ((r then λ line. Ok (judged line)) then λ v. Ok (summary v)) (λ c. c.1 ≡ []) ↔ IsOkAnd r (λ line. IsSoundLine line.0 line.1)
 sound_or law (Ok line) controlled = law line.0 line.1 (controlled line.0 line.1 refl)
 sound_or law (Err f) controlled = (λ no. no, λ no. no)
 
 -- bytes have no finding exactly where they are the document of a sound line
-pub no_finding_sound : NoFindingMeansSoundLine → (bytes : List ℕ) → IsOkAnd (counted_of_text bytes) (λ c. c.1 ≡ []) ↔ IsSoundText bytes
+pub no_finding_sound : NoFindingMeansSoundLine → (bytes : List ℕ) → IsOkAnd (summary_of_text bytes) (λ c. c.1 ≡ []) ↔ IsSoundText bytes
 no_finding_sound law bytes = sound_or law (line_of_text bytes) (line_controlled bytes)

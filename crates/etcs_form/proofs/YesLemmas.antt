@@ -14,7 +14,7 @@ use Rattle.etcs_form.proofs.VerdictLemmas.{says_yes}
 use Rattle.etcs_form.specs.Document.{◌then◌, line_of, line_of_text}
 use Rattle.etcs_form.specs.DocumentFault.{DocumentFault}
 use Rattle.etcs_form.specs.Laws.{NoFindingSaysYes}
-use Rattle.etcs_form.specs.Verdict.{Counted, NamesTheUnsoundIn, SaysYes, TextSaysYes, counted, counted_of_text, judged}
+use Rattle.etcs_form.specs.Verdict.{Summary, NamesTheUnsoundIn, SaysYes, TextSaysYes, summary, summary_of_text, judged}
 use Rattle.etcs_group.specs.Laws.{IsDecided, IsMixtureDecided}
 use Rattle.etcs_group.specs.Missed.{IsSetOf}
 use Rattle.etcs_group.specs.Mixture.{Fits}
@@ -53,7 +53,7 @@ yes_or bytes (Err f) is sound = sound
 pub no_finding_says_yes : NoFindingSaysYes
 no_finding_says_yes bytes none = yes_or bytes (line_of_text bytes) refl ((no_finding_sound no_finding_means_sound_line bytes).0 none)
 
-pub counted_none : (r : Result Counted DocumentFault) (c : Counted) → r ≡ Ok c → c.1 ≡ [] → IsOkAnd r (λ checked. checked.1 ≡ [])
+pub counted_none : (r : Result Summary DocumentFault) (c : Summary) → r ≡ Ok c → c.1 ≡ [] → IsOkAnd r (λ checked. checked.1 ≡ [])
 counted_none r c is none = subst (λ q. IsOkAnd q (λ checked. checked.1 ≡ [])) (sym is) none
 
 -- the line of which a yes says something is that of the bytes
@@ -63,17 +63,17 @@ text_says_yes bytes groups ms said =
     subst (λ r. IsOkAnd r (λ line. SaysYes bytes line.0 line.1)) (sym (ap (λ r. r then line_of) said.json ∙ said.line)) said
 
 -- what is found about the line of the bytes
-counted_in : (bytes : List ℕ) (c : Counted) (r : Result (List (List (List Telegram)) × List Message) DocumentFault) → line_of_text bytes ≡ r
-    → ((r then λ line. Ok (judged line)) then λ v. Ok (counted v)) ≡ Ok c → IsOkAnd r (λ line. NamesTheUnsound line.0 line.1 c.1)
+counted_in : (bytes : List ℕ) (c : Summary) (r : Result (List (List (List Telegram)) × List Message) DocumentFault) → line_of_text bytes ≡ r
+    → ((r then λ line. Ok (judged line)) then λ v. Ok (summary v)) ≡ Ok c → IsOkAnd r (λ line. NamesTheUnsound line.0 line.1 c.1)
 counted_in bytes c (Ok line) is found =
     let same : findings line.0 line.1 ≡ c.1 = cc in
     subst (NamesTheUnsound line.0 line.1) same (unnamed_means_sound line.0 line.1 (controlled bytes line.0 line.1 is))
 counted_in bytes c (Err f) is found = absurd cc
 
 -- the findings of the bytes name what is not sound
-pub counted_unnamed : (bytes : List ℕ) (c : Counted) → counted_of_text bytes ≡ Ok c → NamesTheUnsoundIn bytes c.1
+pub counted_unnamed : (bytes : List ℕ) (c : Summary) → summary_of_text bytes ≡ Ok c → NamesTheUnsoundIn bytes c.1
 counted_unnamed bytes c found = counted_in bytes c (line_of_text bytes) refl found
 
--- the same of a line that was read
+-- the findings of bytes that were read as a line name what is not sound in it
 pub judged_unnamed : (bytes : List ℕ) (groups : List (List (List Telegram))) (ms : List Message) (found : List Finding) → line_of_text bytes ≡ Ok (groups, ms) → NamesTheUnsound groups ms found → NamesTheUnsoundIn bytes found
 judged_unnamed bytes groups ms found is names = subst (λ r. IsOkAnd r (λ line. NamesTheUnsound line.0 line.1 found)) (sym is) names

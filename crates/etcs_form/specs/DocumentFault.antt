@@ -28,7 +28,7 @@ pub data DocumentFault : Type 0 where
 
 -- ---- the fault of an error
 
--- reading gives the fault that the error tells; want of memory tells none, and stands inside no other
+-- reading gives the fault that the error names; want of memory names none, and stands inside no other
 -- error
 abbrev pub Fails : {Y : Type 0} → LineError → Result Y DocumentFault → Type 0
 Fails errors.Memory reading = Unit {0}

@@ -9,6 +9,7 @@ use Rattle.etcs_json.specs.Entries.{Entry, object_of}
 use Rattle.etcs_form.specs.Tokens.{HasItems, HasMembers, first_value, items_onto}
 use Rattle.etcs_radio.specs.declared.message.Message.{Message}
 use Rattle.etcs_telegram.specs.Record.{Telegram}
+use Rattle.etcs_group.specs.Group.{Telegrams, Aspects}
 
 -- ---- what a value is, at whatever place it stands
 
@@ -21,28 +22,28 @@ abbrev pub IsMessage : Data → Message → Type 0
 IsMessage d m = (i : ℕ) → message_at i d ≡ Ok m
 
 -- the values of these balises
-abbrev pub AreBalises : List Data → List Telegram → Type 0
+abbrev pub AreBalises : List Data → Telegrams → Type 0
 AreBalises ds group = (g : ℕ) (a first : Option ℕ) → has_count first (length group) ≡ true
     → telegrams_of g a first ds ≡ Ok group
 
 -- the list of these balises
-abbrev pub IsBalises : Data → List Telegram → Type 0
+abbrev pub IsBalises : Data → Telegrams → Type 0
 IsBalises d group = (ds : List Data) × (values_of d ≡ Ok ds) × AreBalises ds group
 
 -- the list of balises of the one aspect
-abbrev pub IsOnlyAspect : Data → List (List Telegram) → Type 0
-IsOnlyAspect d aspects = (group : List Telegram) × (aspects ≡ group ∷ []) × IsBalises d group
+abbrev pub IsOnlyAspect : Data → Aspects → Type 0
+IsOnlyAspect d aspects = (group : Telegrams) × (aspects ≡ group ∷ []) × IsBalises d group
 
 -- the object with these balises
-abbrev pub IsAspect : Data → List Telegram → Type 0
+abbrev pub IsAspect : Data → Telegrams → Type 0
 IsAspect d group = (ds : List Data) × (only_values (codes "balises") d ≡ Ok ds) × AreBalises ds group
 
 -- the list of these aspects
-abbrev pub IsAspects : Data → List (List Telegram) → Type 0
+abbrev pub IsAspects : Data → Aspects → Type 0
 IsAspects d aspects = (ds : List Data) × (values_of d ≡ Ok ds) × ((g : ℕ) → aspects_of g ds ≡ Ok aspects)
 
 -- the group with these aspects
-abbrev pub IsGroup : Data → List (List Telegram) → Type 0
+abbrev pub IsGroup : Data → Aspects → Type 0
 IsGroup d aspects = (g : ℕ) → group_at g d ≡ Ok aspects
 
 -- ---- values that come first
@@ -60,7 +61,7 @@ AreEach Is [] (x ∷ xs) = ⊥
 AreEach Is (d ∷ ds) [] = ⊥
 AreEach Is (d ∷ ds) (x ∷ xs) = Is d x × AreEach Is ds xs
 
--- the first items that the tokens have are those of xs
+-- the first items that the tokens have are the items of xs
 pub record AreFirst {X : Type 0} (Is : Data → X → Type 0) (depth : ℕ) (old : List Token) (xs : List X) (new : List Token) : Type 0 where
   pub found : List Data
   pub stand : HasItems depth found old new
@@ -71,7 +72,7 @@ abbrev pub IsList : {X : Type 0} → (Data → X → Type 0) → Data → List X
 IsList Is d xs = (ds : List Data) × (d ≡ array (items_onto ds no_items)) × AreEach Is ds xs
 
 -- the one member of a group with these aspects
-pub record HasGroup (depth : ℕ) (old : List Token) (aspects : List (List Telegram)) (new : List Token) : Type 0 where
+pub record HasGroup (depth : ℕ) (old : List Token) (aspects : Aspects) (new : List Token) : Type 0 where
   pub name : List ℕ
   pub found : Data
   pub stand : HasMembers depth ((name, Some found) ∷ []) old new
@@ -87,12 +88,12 @@ pub record AreTaken {X : Type 0} (AreRead : List X → Type 0) (Takes : Kept →
 
 -- The value is the document of a line. A checker holds this that has taken its groups and messages.
 pub record IsChecked (d : Data) (kept : Kept) : Type 0 where
-  pub groups : List (List (List Telegram))
+  pub groups : List Aspects
   pub messages : List Message
   pub line : line_of d ≡ Ok (groups, messages)
   pub checked : HasChecked kept groups messages
 
--- the first members are those of such a document
+-- the first members are the members of such a document
 pub record HasLine (depth : ℕ) (old : List Token) (kept : Kept) (new : List Token) : Type 0 where
   pub entries : List Entry
   pub stand : HasMembers depth entries old new

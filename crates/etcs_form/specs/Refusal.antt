@@ -1,4 +1,4 @@
--- The lines that tell why an input is refused. The words are this project's. Want of memory is no reason
+-- The lines that say why an input is refused. The words are this project's. Want of memory is no reason
 -- to refuse an input, and has no words.
 use Rattle.std.specs.Prelude.{◌++◌, ℕ, List, [], codes, decimal}
 use Rattle.std.specs.Option.{option_map_or}
@@ -44,12 +44,12 @@ reason_words Kind = codes "kind"
 reason_words Range = codes "range"
 
 -- what is wrong, and where
-abbrev pub fault_told : Fault → List ℕ
-fault_told f = codes "form " ++ (reason_words f.reason ++ (codes " at " ++ path_words f.path))
+abbrev pub form_fault_words : Fault → List ℕ
+form_fault_words f = codes "form " ++ (reason_words f.reason ++ (codes " at " ++ path_words f.path))
 
 -- the words of the error's fault, if it has one
 abbrev pub form_words : FormError → List ℕ
-form_words e = option_map_or fault_told (fault_of e) []
+form_words e = option_map_or form_fault_words (fault_of e) []
 
 -- ---- the lines
 
@@ -66,7 +66,7 @@ stream_words (streams.Fault fault) = fault_words fault
 stream_words streams.BelowThree = codes "length below 3"
 stream_words streams.CutOff = codes "cut off"
 
--- Why bytes are no document of a line: a group, an aspect, a balise and a message are told by their
+-- Why bytes are no document of a line: a group, an aspect, a balise and a message are named by their
 -- places.
 unfoldable pub document_words : LineError → List ℕ
 document_words documents.Memory = []
@@ -81,7 +81,7 @@ document_words (documents.AspectTelegram g a b why) =
     codes "group " ++ (decimal g ++ (codes " aspect " ++ (decimal a ++ (codes " balise " ++ (decimal b
     ++ (codes ": " ++ text_words why))))))
 
--- the line that tells a refusal
+-- the line that says why an input is refused
 unfoldable pub refusal_words : Refusal → List ℕ
 refusal_words refusals.Usage = codes "refused: usage is balisecheck check, decode [--radio] or encode [--radio]\n"
 refusal_words (refusals.Line n why) = codes "refused: line " ++ (decimal n ++ (codes ": " ++ (line_words why ++ codes "\n")))

@@ -57,17 +57,17 @@ place_words f =
 
 -- ---- the lines
 
--- the line that tells a finding: its number, where it stands, and its name
+-- the line for a finding: its number, where it stands, and its name
 unfoldable pub finding_words : Finding → List ℕ
 finding_words f =
     (rule_words f.rule).0 ++ (place_words f ++ (codes ": " ++ ((rule_words f.rule).1 ++ codes "\n")))
 
--- the lines that tell findings
+-- the lines for findings
 abbrev pub findings_words : List Finding → List ℕ
 findings_words found = flat_map finding_words found
 
--- The report on a line of so many groups and messages: yes where nothing is found, and else no and
--- each finding.
+-- The report on a line, given the counts of its groups and messages: yes where nothing is found, and else
+-- no and each finding.
 unfoldable pub report_words : ℕ → ℕ → List Finding → List ℕ
 report_words groups messages [] =
     codes "yes: groups " ++ (decimal groups ++ (codes ", messages " ++ (decimal messages ++ codes "\n")))

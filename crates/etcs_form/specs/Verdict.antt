@@ -18,6 +18,7 @@ use Rattle.etcs_group.specs.Missed.{IsCovered, IsSetOf}
 use Rattle.etcs_group.specs.Mixture.{Fits}
 use Rattle.etcs_group.specs.Places.{At}
 use Rattle.etcs_group.specs.Reading.{reading_of}
+use Rattle.etcs_group.specs.Group.{Telegrams, Aspects}
 use Rattle.etcs_packet.specs.Track.{holds}
 use Rattle.etcs_packet.specs.declared.run.Run.{Run}
 use Rattle.etcs_radio.specs.Text.{IsMessageText}
@@ -30,10 +31,10 @@ use Rattle.etcs_telegram.specs.Text.{IsTelegramText}
 
 -- a line, and all its findings
 abbrev pub Judged : Type 0
-Judged = (List (List (List Telegram)) × List Message) × List Finding
+Judged = (List Aspects × List Message) × List Finding
 
 -- the line, with all facts against it
-abbrev pub judged : List (List (List Telegram)) × List Message → Judged
+abbrev pub judged : List Aspects × List Message → Judged
 judged line = (line, findings line.0 line.1)
 
 -- the line of bytes with all facts against it, or the first fault of the bytes
@@ -41,15 +42,15 @@ abbrev pub verdict_of_text : List ℕ → Result Judged DocumentFault
 verdict_of_text bytes = line_of_text bytes then λ line. Ok (judged line)
 
 -- how many groups and messages a line has, and all its findings
-abbrev pub Counted : Type 0
-Counted = (ℕ × ℕ) × List Finding
+abbrev pub Summary : Type 0
+Summary = (ℕ × ℕ) × List Finding
 
-abbrev pub counted : Judged → Counted
-counted verdict = ((length verdict.0.0, length verdict.0.1), verdict.1)
+abbrev pub summary : Judged → Summary
+summary verdict = ((length verdict.0.0, length verdict.0.1), verdict.1)
 
 -- the counts and the findings of bytes, or the first fault of the bytes
-abbrev pub counted_of_text : List ℕ → Result Counted DocumentFault
-counted_of_text bytes = verdict_of_text bytes then λ verdict. Ok (counted verdict)
+abbrev pub summary_of_text : List ℕ → Result Summary DocumentFault
+summary_of_text bytes = verdict_of_text bytes then λ verdict. Ok (summary verdict)
 
 -- the answer is yes: there is a verdict, and no fact stands against the line
 abbrev pub IsYes : Result Verdict LineError → Type 0
@@ -63,7 +64,7 @@ IsSoundText bytes = IsOkAnd (line_of_text bytes) (λ line. IsSoundLine line.0 li
 abbrev pub NamesTheUnsoundIn : List ℕ → List Finding → Type 0
 NamesTheUnsoundIn bytes found = IsOkAnd (line_of_text bytes) (λ line. NamesTheUnsound line.0 line.1 found)
 
--- ---- each telegram and each message has one record
+-- ---- each text is that of exactly one telegram or message, its record
 
 -- the object with the balises of aspect a of a group: an item of its aspects if it has such a list, and
 -- else the group itself
@@ -97,33 +98,34 @@ abbrev pub IsReachedMessage : Message → Type 0
 IsReachedMessage (messages.Movement m) = (run : Run) → AreReached (filter (holds run) m.packets)
 IsReachedMessage (messages.Position m) = Unit {0}
 
--- In each group a mixture is accepted exactly where it is covered and one aspect has, at their places, all
--- the telegrams that it shows; its packets are then those of that aspect with nothing missed.
-abbrev pub AreMixturesDecided : List (List (List Telegram)) → Type 0
-AreMixturesDecided groups = (g : ℕ) (aspects : List (List Telegram)) (run : Run) (shown : ℕ → Option ℕ)
+-- In each group a mixture is accepted exactly where it is covered and some aspect has, at their places, all
+-- the telegrams that it shows; its packets are then the packets of that aspect with nothing missed.
+abbrev pub AreMixturesDecided : List Aspects → Type 0
+AreMixturesDecided groups = (g : ℕ) (aspects : Aspects) (run : Run) (shown : ℕ → Option ℕ)
     → At groups g aspects → Fits aspects shown → IsMixtureDecided run aspects shown
 
 -- The message assembled from an aspect, where a train has missed these balises: it is accepted exactly where
 -- their declared duplicates are read. It then equals that with nothing missed, and is reached.
-pub record IsSoundIfCovered (group : List Telegram) (run : Run) (missed : ℕ → Bool) : Type 0 where
+pub record IsSoundIfCovered (group : Telegrams) (run : Run) (missed : ℕ → Bool) : Type 0 where
   pub accepted : IsCovered group missed ↔ IsAccepted run (reading_of run missed group)
   pub sound : IsCovered group missed → IsSoundReading group run missed
 
 -- Every telegram and message of the line has exactly one record. For each aspect of every group, running
 -- direction and set of missed balises whose declared duplicates are read, the assembled message is
--- accepted and equals that with nothing missed, every other set being refused. There, as in each radio
--- message, every movement authority has gradient and speed profiles, all reaching at least its supervised
--- location. Mixtures of aspects are decided. And the line is sound, so no two groups have one identity.
-pub record SaysYes (bytes : List ℕ) (groups : List (List (List Telegram))) (messages : List Message) : Type 0 where
+-- accepted and equals that with nothing missed, every other set being refused. There, as among the packets
+-- of each message 3 that hold, every movement authority has gradient and speed profiles, all reaching at
+-- least its supervised location. Mixtures of aspects are decided. And the line is sound, so no two groups
+-- have the same identity.
+pub record SaysYes (bytes : List ℕ) (groups : List Aspects) (messages : List Message) : Type 0 where
   pub document : Data
   pub json : json_of bytes ≡ Ok document
   pub line : line_of document ≡ Ok (groups, messages)
-  pub telegrams : (g a b : ℕ) (aspects : List (List Telegram)) (group : List Telegram) (t : Telegram)
+  pub telegrams : (g a b : ℕ) (aspects : Aspects) (group : Telegrams) (t : Telegram)
       → At groups g aspects → At aspects a group → At group b t
       → IsSomeAnd (balise_text document g a b) (IsOnlyTextOf IsTelegramText t)
   pub messages_read : (i : ℕ) (m : Message) → At messages i m
       → IsSomeAnd (message_text document i) (IsOnlyTextOf IsMessageText m)
-  pub readings : (g a : ℕ) (aspects : List (List Telegram)) (group : List Telegram)
+  pub readings : (g a : ℕ) (aspects : Aspects) (group : Telegrams)
       → (run : Run) (missed : ℕ → Bool) → At groups g aspects → At aspects a group → IsSetOf group missed
       → IsSoundIfCovered group run missed
   pub mixtures : AreMixturesDecided groups

@@ -12,7 +12,7 @@ use etcs_group::{Controlled, Group};
 use serde_json::Value;
 use std::alloc::Global;
 
-// Reads the aspects after the first, which has so many balises, one after the other.
+// Reads the aspects after the first, which has `count` balises, one after the other.
 fn read_others(
     alloc: Global,
     group: usize,
@@ -64,7 +64,7 @@ fn read_controlled(alloc: Global, place: usize, value: &Value) -> Result<Control
 }
 
 /// The controlled group with this one aspect.
-pub(crate) fn alone(alloc: Global, group: Group) -> Result<Controlled, LineError>
+pub(crate) fn as_only_aspect(alloc: Global, group: Group) -> Result<Controlled, LineError>
     ensures { Gives (λ c. c) result (Ok (group ∷ [])) }
 {
     let Ok(aspects) = (vec![in alloc; group]) else {
@@ -82,7 +82,7 @@ fn read_uncontrolled(alloc: Global, place: usize, value: &Value) -> Result<Contr
     ensures { Gives (λ c. c) result (only_aspect place (view value.now)) }
 {
     let group = read_aspect(alloc, place, None, None, value)?;
-    alone(alloc, group)
+    as_only_aspect(alloc, group)
 }
 
 // Reads the group at this place: one with the key `aspects` if it is there, and else one with balises.

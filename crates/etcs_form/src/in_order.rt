@@ -1,5 +1,5 @@
-//! The document of a railway line, checked group by group as it is read. Where a function here answers no, nothing is
-//! told of the document.
+//! The document of a railway line, checked group by group as it is read. Where a function here answers no, it says
+//! nothing about the document.
 
 ghost use Rattle.std.specs.Prelude.{◌≡◌, ◌∷◌, [], false, List, codes, Ok, Some, IfOk, IfSome, IsTrue};
 ghost use Rattle.std.specs.Str.{is_utf8};
@@ -8,9 +8,9 @@ ghost use Rattle.json.specs.Token.{Token as JsonToken};
 ghost use Rattle.etcs_check.specs.LineChecker.{HasChecked, TakesGroups, TakesMessages};
 ghost use Rattle.etcs_form.specs.DocumentFault.{Gives};
 ghost use Rattle.etcs_form.specs.DocumentTokens.{AreFirst, AreTaken, HasLine, IsChecked, IsFirst, IsGroup, IsList, IsMessage};
-ghost use Rattle.etcs_form.specs.Verdict.{NamesTheUnsoundIn, TextSaysYes, counted, counted_of_text, judged};
+ghost use Rattle.etcs_form.specs.Verdict.{NamesTheUnsoundIn, TextSaysYes, summary, summary_of_text, judged};
 ghost use Rattle.etcs_radio.specs.declared.message.Message.{Message as SomeMessage};
-ghost use Rattle.etcs_telegram.specs.Record.{Telegram};
+ghost use Rattle.etcs_group.specs.Group.{Aspects};
 
 use crate::judging::check_text;
 use crate::line_error::LineError;
@@ -40,7 +40,7 @@ fn next_group(
     depth: usize,
     checker: &mut LineChecker,
 ) -> bool
-    ensures { IsTrue result → (g : List (List Telegram)) × IsFirst IsGroup depth reader.old g reader.new
+    ensures { IsTrue result → (g : Aspects) × IsFirst IsGroup depth reader.old g reader.new
         × TakesGroups checker.old (g ∷ []) checker.new }
 {
     let Some(group) = group(alloc, reader, depth) else {
@@ -186,8 +186,8 @@ fn document(alloc: Global, reader: &mut Reader<'_>, depth: usize, checker: &mut 
 
 // What a checker has found.
 fn found_by(checker: LineChecker) -> Option<Checked>
-    ensures { IfSome result (λ c. (gs : List (List (List Telegram))) (ms : List SomeMessage)
-        → HasChecked checker gs ms → ((c.groups, c.messages), c.findings.items) ≡ counted (judged (gs, ms))) }
+    ensures { IfSome result (λ c. (gs : List Aspects) (ms : List SomeMessage)
+        → HasChecked checker gs ms → ((c.groups, c.messages), c.findings.items) ≡ summary (judged (gs, ms))) }
 {
     let groups = checker.groups();
     let messages = checker.messages();
@@ -201,11 +201,11 @@ fn found_by(checker: LineChecker) -> Option<Checked>
     }
 }
 
-/// Reads and checks a document group by group and message by message. None tells nothing: a key may stand twice, the
-/// bytes may be no document, or memory may have run out.
+/// Reads and checks a document group by group and message by message. `None` says nothing about the bytes; the caller
+/// then asks [`check_text`].
 pub(crate) fn quick_check(alloc: Global, bytes: &[u8]) -> Option<Checked>
     ensures { IfSome result
-        (λ c. counted_of_text bytes.now ≡ Ok ((c.groups, c.messages), c.findings.items)) }
+        (λ c. summary_of_text bytes.now ≡ Ok ((c.groups, c.messages), c.findings.items)) }
 {
     let Ok(text) = str::from_utf8(bytes) else {
         return None;
@@ -235,7 +235,7 @@ pub(crate) fn quick_check(alloc: Global, bytes: &[u8]) -> Option<Checked>
 /// The error is that of [`check_text`]. After an error neither counts nor findings are returned.
 pub fn check_in_order(alloc: Global, bytes: &[u8]) -> Result<Checked, LineError>
     ensures exact { Gives (λ c. ((c.groups, c.messages), c.findings.items)) result
-        (counted_of_text bytes.now) }
+        (summary_of_text bytes.now) }
 
     // Where nothing is found, the bytes are a line of which all is true that a yes says.
     ensures says { IfOk result (λ c. c.findings.items ≡ [] → TextSaysYes bytes.now) }

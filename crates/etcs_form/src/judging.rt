@@ -1,14 +1,14 @@
 //! The document of a railway line, checked.
 
-ghost use Rattle.std.specs.Prelude.{◌≡◌, ◌≢◌, ◌↔◌, ℕ, Bool, false, List, [], Option, IfOk};
+ghost use Rattle.std.specs.Prelude.{◌≡◌, ◌≢◌, ◌↔◌, ℕ, Bool, false, [], Option, IfOk};
 ghost use Rattle.std.specs.Str.{is_utf8};
 ghost use Rattle.etcs_packet.specs.declared.run.Run.{Run};
-ghost use Rattle.etcs_telegram.specs.Record.{Telegram};
 ghost use Rattle.etcs_group.specs.Laws.{IsDecided, IsMixtureDecided};
 ghost use Rattle.etcs_group.specs.Missed.{IsSetOf};
 ghost use Rattle.etcs_group.specs.Mixture.{Fits};
 ghost use Rattle.etcs_group.specs.Places.{At};
 ghost use Rattle.etcs_group.specs.Reading.{reading_of};
+ghost use Rattle.etcs_group.specs.Group.{Telegrams, Aspects};
 ghost use Rattle.etcs_check.specs.Soundness.{IsSoundControlled, IsSoundGroup};
 ghost use Rattle.etcs_form.specs.DocumentFault.{Gives};
 ghost use Rattle.etcs_form.specs.Verdict.{IsSoundText, IsYes, NamesTheUnsoundIn, SaysYes, verdict_of_text};
@@ -46,13 +46,13 @@ pub fn check_text(alloc: Global, bytes: &[u8]) -> Result<Verdict, LineError>
     ensures unnamed { IfOk result (λ v. NamesTheUnsoundIn bytes.now v.findings.items) }
 
     // Each reading of a sound aspect is accepted or refused by what was missed alone, whatever else is found.
-    ensures decided { IfOk result (λ v. (g a : ℕ) (aspects : List (List Telegram)) (group : List Telegram)
+    ensures decided { IfOk result (λ v. (g a : ℕ) (aspects : Aspects) (group : Telegrams)
         (run : Run) (missed : ℕ → Bool) → At v.line.groups.items g aspects → At aspects a group
         → IsSoundGroup group → IsSetOf group missed → IsDecided run group missed (reading_of run missed group)) }
 
     // A mixture of a sound group's aspects is accepted exactly where it is covered and one aspect has all
-    // that it shows, whatever else is found. Its packets are then those of that aspect.
-    ensures mixtures { IfOk result (λ v. (g : ℕ) (aspects : List (List Telegram)) (run : Run)
+    // that it shows, whatever else is found. Its packets are then the packets of that aspect.
+    ensures mixtures { IfOk result (λ v. (g : ℕ) (aspects : Aspects) (run : Run)
         (shown : ℕ → Option ℕ) → At v.line.groups.items g aspects → IsSoundControlled aspects
         → Fits aspects shown → IsMixtureDecided run aspects shown) }
 

@@ -4,8 +4,8 @@
 //! `document.rt` first, with `specs/Document.antt`, and then `specs/Verdict.antt`, which states what a
 //! yes says. [`check_in_order`] checks a document group by group, and builds no JSON value. What it does
 //! not know it leaves to [`check_text`], whose answer its is (`in_order.rt`, `specs/DocumentTokens.antt`).
-//! [`report`] tells what is found about a line, and [`refusal_text`] why an input is refused. The JSON
-//! forms of telegrams and messages are those of `etcs_json`, whose names are exported here too.
+//! [`report`] says what is found about a line, and [`refusal_text`] why an input is refused. The JSON
+//! forms of telegrams and messages are the forms of `etcs_json`, whose names are exported here too.
 #![tactic(auto)]
 
 mod document;

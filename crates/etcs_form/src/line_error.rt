@@ -64,8 +64,7 @@ impl From<FormError> for LineError {
     }
 }
 
-/// The same fault, as the document has it: the way to it leads through this group, or this aspect of the
-/// group.
+/// A fault as the document has it: the way to it leads through this group, or this aspect of the group.
 pub(crate) fn in_group(error: FormError, group: usize, aspect: Option<usize>) -> FormError
     ensures { IfSome (fault_of result) (λ f. IsSomeAnd (fault_of error)
         (λ inner. f ≡ fault inner.reason (path_of group aspect ++ inner.path))) }

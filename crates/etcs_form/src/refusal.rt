@@ -1,4 +1,4 @@
-//! `Refusal`: why an input is refused, and the line that tells it.
+//! `Refusal`: why an input is refused, and the line that says so.
 
 ghost use Rattle.std.specs.Prelude.{◌≡◌, ◌++◌, codes, map, string_bytes, IfOk};
 ghost use Rattle.etcs_json.specs.Fault.{step_of};
@@ -30,7 +30,7 @@ pub enum LineFault {
 pub enum StreamFault {
     /// The bytes of the message are no message. This is their first fault.
     Fault(Fault),
-    /// L_MESSAGE is below 3, which is the count of its own bytes and those before it.
+    /// L_MESSAGE is below 3, the count of the bytes up to its own last one.
     BelowThree,
     /// The input ends within the message.
     CutOff,
@@ -146,8 +146,8 @@ fn document_reason(alloc: Global, why: &LineError) -> Result<String, AllocError>
     }
 }
 
-/// The line that tells a refusal, with its `\n`. Want of memory is no reason to refuse an input, and has
-/// no words. The only error is that memory runs out; then no text is returned.
+/// The line that says why an input is refused, with its `\n`. Want of memory is no reason to refuse an input,
+/// and has no words. The only error is that memory runs out; then no text is returned.
 #[tactic(auto, unfolding(crate::specs::Refusal::refusal_words))]
 pub fn refusal_text(alloc: Global, refusal: &Refusal) -> Result<String, Memory>
     ensures { IfOk result (λ s. string_bytes s ≡ refusal_words refusal.now) }

@@ -80,7 +80,7 @@ fn place_text(alloc: Global, finding: &Finding) -> Result<String, AllocError>
     format!(in alloc; "{site}{aspect}{balise}{packet}{direction}")
 }
 
-// Appends the line that tells a finding.
+// Appends the line for a finding.
 #[tactic(auto, unfolding(crate::specs::ReportText::finding_words))]
 fn push_finding(alloc: Global, text: &mut String, finding: &Finding) -> Result<(), AllocError>
     ensures { OnOk result (string_bytes text.new
@@ -92,7 +92,7 @@ fn push_finding(alloc: Global, text: &mut String, finding: &Finding) -> Result<(
     text.push_str(line.as_str())
 }
 
-// The lines that tell findings, one after the other.
+// The lines for findings, one after the other.
 fn findings_text(alloc: Global, findings: &[Finding]) -> Result<String, AllocError>
     ensures { IfOk result (λ s. string_bytes s ≡ findings_words findings.now) }
 {
@@ -103,9 +103,9 @@ fn findings_text(alloc: Global, findings: &[Finding]) -> Result<String, AllocErr
     Ok(text)
 }
 
-/// The report on a line with so many groups and messages, given what a check found: `yes` and how many
-/// groups and messages the line has, or `no`, how many findings there are, and then a line for each
-/// finding. Each line ends with `\n`. The only error is that memory runs out; then no text is returned.
+/// The text of a report. `groups` and `messages` are the counts of the railway line, `findings` is what
+/// `check` returned. The text is `yes` and the two counts, or `no`, the count of findings, and then a line for
+/// each finding. Each line ends with `\n`. The only error is that memory runs out; then no text is returned.
 #[tactic(auto, unfolding(crate::specs::ReportText::report_words))]
 pub fn report_counts(
     alloc: Global,

@@ -5,7 +5,7 @@ ghost use Rattle.json.specs.Json.{after_end_array, read_key};
 ghost use Rattle.json.specs.Token.{Token as JsonToken, begin_array, begin_object, string as string_token};
 ghost use Rattle.etcs_form.specs.DocumentTokens.{AreFirst, HasGroup, IsAspect, IsAspects, IsBalises, IsFirst, IsGroup, IsMessage, IsOnlyAspect, IsTelegram};
 
-use crate::document_groups::alone;
+use crate::document_groups::as_only_aspect;
 use etcs_group::{Controlled, Group};
 use etcs_radio::Message;
 use etcs_telegram::Telegram;
@@ -152,7 +152,7 @@ fn only_aspect(alloc: Global, reader: &mut Reader<'_>, depth: usize) -> Option<C
     ensures { IfSome result (λ c. IsFirst IsOnlyAspect depth reader.old c reader.new) }
 {
     let group = balises(alloc, reader, depth)?;
-    match alone(alloc, group) {
+    match as_only_aspect(alloc, group) {
         Ok(controlled) => Some(controlled),
         Err(_) => None,
     }

@@ -63,7 +63,7 @@ module _ (run : Run) (group : List Telegram) (missed : ℕ → Bool) (formed : I
 
   read_counters : HasOneCounter group → HasOneCounter (reading_of run missed group)
   read_counters one = record {
-    fits = λ i t e. let p = reading-at group missed run i t e in one.fits p.0 t p.1;
+    agrees = λ i t e. let p = reading-at group missed run i t e in one.agrees p.0 t p.1;
     equal = λ i j t u e f m n.
         let p = reading-at group missed run i t e in
         let q = reading-at group missed run j u f in

@@ -101,7 +101,7 @@ module _ (group : List Telegram) (formed : IsWellFormed group) where
       previous dups.Next n = let e = same_Some _ _ n in absurd (omega arith)
       previous dups.Previous n = refl
 
-  -- and the balise before one that is marked with the previous is marked with the next
+  -- the balise before one that is marked with the previous is marked with the next
   pub previous-at : (b : ℕ) (u : Telegram) → At group b u → u.header.dup ≡ dups.Previous → (a : ℕ) × (b ≡ suc a) × (t : Telegram) × At group a t × (t.header.dup ≡ dups.Next)
   previous-at zero u at e = absurd (first (partner_of group 0) refl (formed.inside 0 u at marked))
     where

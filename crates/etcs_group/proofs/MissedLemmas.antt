@@ -15,7 +15,7 @@ is_missed-above bits place small high = let small' : bits < 2 ^ 8 = small in ap 
 abbrev pub IsServed : List Telegram → (ℕ → Bool) → ℕ → Type 0
 IsServed group missed b = IsTrue (missed b) → IsSomeAnd (partner_of group b) (λ p. IsFalse (missed p))
 
--- so eight places are all that have to be served
+-- eight places are all that have to be served
 pub covered-below : (group : List Telegram) (bits n : ℕ) → bits < 256 → 8 ≤ n → ((b : ℕ) → b < n → IsServed group (is_missed bits) b) → IsCovered group (is_missed bits)
 covered-below group bits n small high h b m = elim (cases_lt b n) [
   | inl lt ↦ h b lt m

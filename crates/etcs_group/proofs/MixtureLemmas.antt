@@ -55,7 +55,7 @@ module _ (g h : List Telegram) (long : length g ≡ length h) (marks : (p : ℕ)
 
 one_counter : (group : List Telegram) → MakesOneMessage group → HasOneCounter group
 one_counter group makes = record {
-  fits = λ i t at. let r = at-reading group none_missed runs.Nominal i t at refl in full.one_counter.fits r.0 t r.1;
+  agrees = λ i t at. let r = at-reading group none_missed runs.Nominal i t at refl in full.one_counter.agrees r.0 t r.1;
   equal = λ i j t u at at' low low'.
       let r = at-reading group none_missed runs.Nominal i t at refl in
       let q = at-reading group none_missed runs.Nominal j u at' refl in
@@ -202,7 +202,7 @@ module _ (aspects : List (List Telegram)) (shown : ℕ → Option ℕ) (is : IsC
               λ q u h.
                   let s = shows_place q u h in
                   let not_low : ltb u.header.counter 254 ≡ false = sym (ap (λ o. option_map_or (λ (t : Telegram). ltb t.header.counter 254) o false) h) ∙ least-none_says (count_of aspects) is_switched e q s.3 in
-                  elim (one.told q) [
+                  elim (one.fixed_or_switched q) [
                     | inl fixed ↦ fixed_at q s.0 0 first.0 u first.1 s.2 s.3 fixed
                     | inr switched ↦ absurd (both_ways _ not_low (lt-ltb _ _ (switched s.0 u s.2)))
                   ],
@@ -217,7 +217,7 @@ module _ (aspects : List (List Telegram)) (shown : ℕ → Option ℕ) (is : IsC
               s.2.1,
               λ q u h.
                   let s' = shows_place q u h in
-                  elim (one.told q) [
+                  elim (one.fixed_or_switched q) [
                     | inl fixed ↦ fixed_at q s'.0 s.0 group u s.2.1 s'.2 s'.3 fixed
                     | inr switched ↦
                         let same_aspect = one_aspect accepted p q s.0 s'.0 t.0 u t.1 h s.2 s'.2 t.2 (switched s'.0 u s'.2) in

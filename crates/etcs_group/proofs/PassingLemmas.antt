@@ -53,7 +53,7 @@ passed-agree run f g i (t ∷ ts) h =
     ap (λ l. joined run l (passed run f (suc i) ts)) here
     ∙ ap (joined run (g i t)) (passed-agree run f g (suc i) ts (λ k u e. let s : i + suc k ≡ suc i + k = omega arith in subst (λ n. f n u ≡ g n u) s (h (suc k) u e)))
 
--- what is kept, by its places: f at those that are not missed
+-- what is kept, by its places: f at each place that is not missed
 pub passed_kept : {A : Type 0} (run : Run) (f : Telegram → List A) (missed : ℕ → Bool) (i : ℕ) (ts : List Telegram) → joined_by run f (kept_from i missed ts) ≡ passed run (λ b t. cond (missed b) [] (f t)) i ts
 passed_kept run f missed i [] = refl
 passed_kept run f missed i (t ∷ ts) = go (missed i) (passed_kept run f missed (suc i) ts)

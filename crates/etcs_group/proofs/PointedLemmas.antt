@@ -37,6 +37,6 @@ list_any-pointed p (x ∷ xs) = ap (λ b. p x.now || b) (list_any-pointed p xs)
 pub list_any-found : {X : Type 0} (p : X → Bool) (xs : List (Bor X)) (i : ℕ) (x : Bor X) → i < length xs → x ≡ get_or xs i x → p x.now ≡ true → list_any p (pointed xs) ≡ true
 list_any-found {X} p xs i x lt is h = list_any-pointed p xs ∙ list_any_at (λ r. p r.now) xs i x lt (ap (λ (r : Bor X). p r.now) (sym is) ∙ h)
 
--- and so does having looked at all
+-- having looked at all elements settles the test
 pub list_any-not_found : {X : Type 0} (p : X → Bool) (xs : List (Bor X)) (i : ℕ) → length xs ≤ i → list_any (λ r. p r.now) (take i xs) ≡ false → list_any p (pointed xs) ≡ false
 list_any-not_found p xs i le h = list_any-pointed p xs ∙ ap (list_any (λ r. p r.now)) (sym (take_all i xs le)) ∙ h

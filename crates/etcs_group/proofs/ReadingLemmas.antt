@@ -16,7 +16,7 @@ abbrev pub kept_from : ℕ → (ℕ → Bool) → List Telegram → List Telegra
 kept_from i missed [] = []
 kept_from i missed (t ∷ ts) = cond (missed i) (kept_from (suc i) missed ts) (t ∷ kept_from (suc i) missed ts)
 
--- those telegrams with their places
+-- the telegrams that are not missed, with their places
 abbrev pairs_from : ℕ → (ℕ → Bool) → List Telegram → List (ℕ × Telegram)
 pairs_from i missed ts = filter (λ e. not (missed e.0)) (enumerate_from i ts)
 
@@ -48,7 +48,7 @@ kept-at i missed (u ∷ ts) a t h = go (λ a h. let r = kept-at (suc i) missed t
     go later false e zero h = let s : i + 0 ≡ i = omega arith in (0, h, ap missed s ∙ e)
     go later false e (suc a) h = later a h
 
--- and each such place gives one
+-- each telegram at a place that is not missed is kept
 at-kept : (i : ℕ) (missed : ℕ → Bool) (ts : List Telegram) (b : ℕ) (t : Telegram) → At ts b t → missed (i + b) ≡ false → (a : ℕ) × At (kept_from i missed ts) a t
 at-kept i missed [] b t h m = absurd (none-some t h)
 at-kept i missed (u ∷ ts) zero t h m =

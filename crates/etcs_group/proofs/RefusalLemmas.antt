@@ -106,7 +106,7 @@ misplaced-none run s h k i = passes-none s i (misplaces run s i) (λ u at. or_fr
   | inr ge ↦ and_left _ _ (le-ltb _ _ ge)
 ]))
 
--- does the counter fit with those before it
+-- whether the counter disagrees with the counters before it
 abbrev pub miscounts : List Telegram → Telegram → Bool
 miscounts earlier t =
     eqb t.header.counter 254 || (ltb t.header.counter 254
@@ -122,7 +122,7 @@ miscounts-none earlier t h k = or_from _ _ (ne_eqb _ _ h) (elim (cases_lt t.head
 ])
 
 pub miscounted-none : (s : List Telegram) → HasOneCounter s → (i : ℕ) → is_miscounted_at s i ≡ false
-miscounted-none s one i = passes-none s i (miscounts (take i s)) (λ t e. miscounts-none (take i s) t (one.fits i t e) (λ j u f a b. one.equal j i u t (At-take i s j u f).1 e a b))
+miscounted-none s one i = passes-none s i (miscounts (take i s)) (λ t e. miscounts-none (take i s) t (one.agrees i t e) (λ j u f a b. one.equal j i u t (At-take i s j u f).1 e a b))
 
 -- the first of the reasons but Nothing
 abbrev pub reason_in : Run → List Telegram → Option Refused
@@ -236,7 +236,7 @@ accepted_from-refusal run (x ∷ xs) h =
       in_order = in_order-from_steps run s (λ i t u e f. misplaces-says run s i t u e (ordered (suc i) u f));
       whole = λ i p t e le. let n = (like i t e).1 in there p (omega arith);
       one_counter = record {
-        fits = λ i t e. (miscounts-says (take i s) t (fits i t e)).0;
+        agrees = λ i t e. (miscounts-says (take i s) t (fits i t e)).0;
         equal = λ i j t u e f m n. elim (cases_order i j) [
           | inl one ↦ ap (λ (z : Telegram). z.header.counter) (one_at s j t u (subst (λ k. At s k t) one e) f)
           | inr o ↦ elim o [

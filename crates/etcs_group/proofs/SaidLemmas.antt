@@ -47,7 +47,7 @@ quiet-named runs.Reverse missed dups.Next b c lt n k = let e = same_Some _ _ n i
 quiet-named runs.Reverse missed dups.Previous b zero lt n k = absurd (none-some b n)
 quiet-named runs.Reverse missed dups.Previous b (suc c) lt n k = let e = same_Some _ _ n in absurd (omega arith)
 
--- and back
+-- a mark at c by which the balise is quiet names one that is passed before c
 named-quiet : (run : Run) (missed : ℕ → Bool) (m : Dup) (c : ℕ) → is_quiet run missed m c ≡ true → (b : ℕ) × IsPassedBefore run b c × (named_by m c ≡ Some b) × (missed b ≡ false)
 named-quiet runs.Nominal missed dups.Single c q = absurd (both_ways false refl q)
 named-quiet runs.Nominal missed dups.Next c q = absurd (both_ways false refl q)

@@ -1,7 +1,7 @@
 -- Which lists of telegrams make one message (this project's rule, after SUBSET-026, 3.16.2), and why
 -- others are refused. The telegrams stand in the order in which they were passed. A position is an
--- N_PIG, a place an index in the list.
-use Rattle.std.specs.Prelude.{◌≡◌, ℕ, ◌+◌, ◌-◌, ◌<◌, ◌≤◌, ◌==◌, nat_lt, Bool, false, not, ◌&&◌, ◌||◌, if◌then◌else◌, List, length, take, slice_get, Option, Some, IsTrue, IsFalse, option_map}
+-- N_PIG, a place an index in the list of what was read, not in the group.
+use Rattle.std.specs.Prelude.{◌≡◌, ℕ, ◌+◌, ◌-◌, ◌<◌, ◌≤◌, ◌==◌, nat_lt, Bool, false, not, ◌&&◌, ◌||◌, if◌then◌else◌, length, take, slice_get, Option, Some, IsTrue, IsFalse, option_map}
 use Rattle.std.specs.Bool.{beq}
 use Rattle.std.specs.List.{list_any}
 use Rattle.std.specs.Option.{option_map_or, option_or}
@@ -13,7 +13,7 @@ use Rattle.etcs_telegram.specs.Record.{Telegram}
 use Rattle.etcs_group.specs.declared.refused.Refused.{Refused}
 use Rattle.etcs_group.specs.declared.refused.Refused.TheVariants as reasons
 use Rattle.etcs_group.specs.Places.{At, least}
-use Rattle.etcs_group.specs.Group.{AreAlike, HasOneCounter, named_by}
+use Rattle.etcs_group.specs.Group.{AreAlike, HasOneCounter, named_by, Telegrams}
 
 -- ---- accepted
 
@@ -27,13 +27,13 @@ abbrev pub names : Telegram → ℕ → Bool
 names t p = option_map_or (λ q. q == p) (named_by t.header.dup t.header.position) false
 
 -- no telegram has this position, and no mark names it
-abbrev pub is_absent : List Telegram → ℕ → Bool
+abbrev pub is_absent : Telegrams → ℕ → Bool
 is_absent s p = not (list_any (λ t. (t.header.position == p) || names t p) s)
 
--- An accepted list is not empty. Any two telegrams are alike and have one total. No position is above
+-- An accepted list is not empty. Any two telegrams are alike and have equal totals. No position is above
 -- the total. Each telegram comes after all before it. No position up to the total is absent. The
--- counters fit.
-pub record IsAccepted (run : Run) (s : List Telegram) : Type 0 where
+-- counters agree.
+pub record IsAccepted (run : Run) (s : Telegrams) : Type 0 where
   pub some : 0 < length s
   pub alike : (i j : ℕ) (t u : Telegram) → At s i t → At s j u → AreAlike t u
   pub one_total : (i j : ℕ) (t u : Telegram) → At s i t → At s j u → t.header.total ≡ u.header.total
@@ -45,7 +45,7 @@ pub record IsAccepted (run : Run) (s : List Telegram) : Type 0 where
 -- ---- refused
 
 -- the telegram at place i passes the test; where none stands, nothing does
-abbrev pub passes_at : List Telegram → ℕ → (Telegram → Bool) → Bool
+abbrev pub passes_at : Telegrams → ℕ → (Telegram → Bool) → Bool
 passes_at s i test = option_map_or test (slice_get s i) false
 
 -- two headers have the same version, identity, total and link flag
@@ -56,27 +56,27 @@ agree g h =
     && ((g.total == h.total) && beq g.linked h.linked)))
 
 -- the telegram at the place differs from the one at place 0 in one of these
-abbrev pub disagrees_at : List Telegram → ℕ → Bool
+abbrev pub disagrees_at : Telegrams → ℕ → Bool
 disagrees_at s i = passes_at s 0 (λ first. passes_at s i (λ t. not (agree first.header t.header)))
 
 -- its position is above its total, or it does not come after the telegram at the place before it
-abbrev pub is_misplaced_at : Run → List Telegram → ℕ → Bool
+abbrev pub is_misplaced_at : Run → Telegrams → ℕ → Bool
 is_misplaced_at run s i =
     passes_at s i (λ u. nat_lt u.header.total u.header.position
     || (nat_lt 0 i && passes_at s (i - 1) (λ t. not (comes_after run t u))))
 
 -- how many positions there are, by the total of place 0
-abbrev pub positions_of : List Telegram → ℕ
+abbrev pub positions_of : Telegrams → ℕ
 positions_of s = option_map_or (λ t. t.header.total + 1) (slice_get s 0) 0
 
 -- its counter is 254, or it is below 254 and differs from one below 254 at an earlier place
-abbrev pub is_miscounted_at : List Telegram → ℕ → Bool
+abbrev pub is_miscounted_at : Telegrams → ℕ → Bool
 is_miscounted_at s i =
     passes_at s i (λ t. (t.header.counter == 254) || (nat_lt t.header.counter 254
     && list_any (λ u. nat_lt u.header.counter 254 && not (u.header.counter == t.header.counter)) (take i s)))
 
 -- Why a list is refused, if it is: the first of these reasons, at its least place or position.
-abbrev pub refusal_of : Run → List Telegram → Option Refused
+abbrev pub refusal_of : Run → Telegrams → Option Refused
 refusal_of run s =
     if length s == 0 then Some reasons.Nothing
     else option_or (option_map reasons.Disagree (least (length s) (disagrees_at s)))

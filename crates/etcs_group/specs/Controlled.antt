@@ -1,41 +1,41 @@
 -- Controlled groups. The balise group of a signal shows one of several contents, its aspects, each of
 -- which is a group. A lineside unit chooses among them, and may switch while a train passes. What makes
 -- aspects one group is this project's rule, after SUBSET-026, 3.16.2.
-use Rattle.std.specs.Prelude.{◌≡◌, ◌≢◌, ℕ, ◌<◌, List, [], ◌∷◌, length, ◌⊎◌}
+use Rattle.std.specs.Prelude.{◌≡◌, ◌≢◌, ℕ, ◌<◌, [], ◌∷◌, length, ◌⊎◌}
 use Rattle.etcs_telegram.specs.Record.{Telegram}
 use Rattle.etcs_group.specs.Places.{At}
-use Rattle.etcs_group.specs.Group.{AreAlike}
+use Rattle.etcs_group.specs.Group.{AreAlike, Telegrams, Aspects}
 
 -- how many balises the group has: as many as its first aspect
-abbrev pub count_of : List (List Telegram) → ℕ
+abbrev pub count_of : Aspects → ℕ
 count_of [] = 0
 count_of (first ∷ _) = length first
 
 -- A controlled group has one or more aspects, all of one count, which is not 0.
-pub record IsControlled (aspects : List (List Telegram)) : Type 0 where
+pub record IsControlled (aspects : Aspects) : Type 0 where
   pub some : 0 < length aspects
   pub balises : 0 < count_of aspects
-  pub counts : (a : ℕ) (group : List Telegram) → At aspects a group → length group ≡ count_of aspects
+  pub counts : (a : ℕ) (group : Telegrams) → At aspects a group → length group ≡ count_of aspects
 
 -- aspect a has the telegram t at place p
-abbrev pub HasAt : List (List Telegram) → ℕ → ℕ → Telegram → Type 0
-HasAt aspects a p t = (group : List Telegram) × At aspects a group × At group p t
+abbrev pub HasAt : Aspects → ℕ → ℕ → Telegram → Type 0
+HasAt aspects a p t = (group : Telegrams) × At aspects a group × At group p t
 
 -- the place holds one and the same telegram in all aspects, and its counter is 255
-abbrev pub IsFixed : List (List Telegram) → ℕ → Type 0
+abbrev pub IsFixed : Aspects → ℕ → Type 0
 IsFixed aspects p = (a b : ℕ) (t u : Telegram) → HasAt aspects a p t → HasAt aspects b p u
     → (t ≡ u) × (t.header.counter ≡ 255)
 
 -- the place holds a counter below 254 in every aspect
-abbrev pub IsSwitched : List (List Telegram) → ℕ → Type 0
+abbrev pub IsSwitched : Aspects → ℕ → Type 0
 IsSwitched aspects p = (a : ℕ) (t : Telegram) → HasAt aspects a p t → t.header.counter < 254
 
--- Aspects are contents of one group, and told apart. All their telegrams are alike. Each place has one
--- mark in all of them, and is fixed or switched. Counters below 254 of two aspects differ.
-pub record AreOneGroup (aspects : List (List Telegram)) : Type 0 where
+-- Aspects are contents of one group, and distinguished by their counters. All their telegrams are alike.
+-- Each place has one mark in all of them, and is fixed or switched. Counters below 254 of two aspects differ.
+pub record AreOneGroup (aspects : Aspects) : Type 0 where
   pub alike : (a b p q : ℕ) (t u : Telegram) → HasAt aspects a p t → HasAt aspects b q u → AreAlike t u
   pub marks : (a b p : ℕ) (t u : Telegram) → HasAt aspects a p t → HasAt aspects b p u
       → t.header.dup ≡ u.header.dup
-  pub told : (p : ℕ) → IsFixed aspects p ⊎ IsSwitched aspects p
+  pub fixed_or_switched : (p : ℕ) → IsFixed aspects p ⊎ IsSwitched aspects p
   pub distinct : (a b p q : ℕ) (t u : Telegram) → a ≢ b → HasAt aspects a p t → HasAt aspects b q u
       → t.header.counter < 254 → u.header.counter < 254 → t.header.counter ≢ u.header.counter

@@ -11,6 +11,14 @@ use Rattle.etcs_packet.specs.Track.{track_number}
 use Rattle.etcs_telegram.specs.Record.{Telegram}
 use Rattle.etcs_group.specs.Places.{At}
 
+-- telegrams in order: of the balises of a group, by place, or as a train read them
+abbrev pub Telegrams : Type 0
+Telegrams = List Telegram
+
+-- the aspects of a controlled group, each the telegrams of its balises
+abbrev pub Aspects : Type 0
+Aspects = List Telegrams
+
 -- what a mark at number p names: the number after it, the one before it, or none
 abbrev pub named_by : Dup → ℕ → Option ℕ
 named_by dups.Single p = None
@@ -19,25 +27,26 @@ named_by dups.Previous zero = None
 named_by dups.Previous (suc p) = Some p
 
 -- the partner of place p: the place that the mark there names, if it lies in the group
-abbrev pub partner_of : List Telegram → ℕ → Option ℕ
+abbrev pub partner_of : Telegrams → ℕ → Option ℕ
 partner_of group p =
     option_and_then (λ q. if nat_lt q (length group) then Some q else None)
     (option_and_then (λ t. named_by t.header.dup p) (slice_get group p))
 
--- the same version, identity and link flag
+-- the two telegrams have the same version, identity and link flag
 pub record AreAlike (t u : Telegram) : Type 0 where
   pub version : t.header.version ≡ u.header.version
   pub identity : t.header.identity ≡ u.header.identity
   pub linked : t.header.linked ≡ u.header.linked
 
--- whether the meaning of a packet is modelled: that of all but packets 0, 136 and 254
+-- whether a packet is among those whose use by a train is modelled. Packets 0, 136 and 254 change how
+-- others are used, and are not.
 abbrev pub is_modelled : TrackPacket → Bool
 is_modelled p = not ((track_number p == 0) || ((track_number p == 136) || (track_number p == 254)))
 
--- A well-formed group. Each position (N_PIG) is the place, each total (N_TOTAL) and one is the count,
--- all balises are alike, each mark that names a balise has a partner, whose partner is the balise itself,
--- and every packet is modelled.
-pub record IsWellFormed (group : List Telegram) : Type 0 where
+-- A well-formed group. Each position (N_PIG) is the place, N_TOTAL + 1 is the number of balises, all
+-- balises are alike, each mark that names a balise has a partner, whose partner is the balise itself, and
+-- every packet is modelled.
+pub record IsWellFormed (group : Telegrams) : Type 0 where
   pub placed : (b : ℕ) (t : Telegram) → At group b t → t.header.position ≡ b
   pub counted : (b : ℕ) (t : Telegram) → At group b t → t.header.total + 1 ≡ length group
   pub alike : (b : ℕ) (t first : Telegram) → At group b t → At group 0 first → AreAlike t first
@@ -46,8 +55,9 @@ pub record IsWellFormed (group : List Telegram) : Type 0 where
   pub answered : (b p : ℕ) → partner_of group b ≡ Some p → partner_of group p ≡ Some b
   pub modelled : (b : ℕ) (t : Telegram) → At group b t → AllPass is_modelled t.packets
 
--- No counter (M_MCOUNT) is 254, which fits no message. Any two below 254 are equal. 255 fits them all.
-pub record HasOneCounter (telegrams : List Telegram) : Type 0 where
-  pub fits : (i : ℕ) (t : Telegram) → At telegrams i t → t.header.counter ≢ 254
+-- The counters (M_MCOUNT) agree: none is 254, which by this project's rule fits no message, and any two
+-- below 254 are equal.
+pub record HasOneCounter (telegrams : Telegrams) : Type 0 where
+  pub agrees : (i : ℕ) (t : Telegram) → At telegrams i t → t.header.counter ≢ 254
   pub equal : (i j : ℕ) (t u : Telegram) → At telegrams i t → At telegrams j u
       → t.header.counter < 254 → u.header.counter < 254 → t.header.counter ≡ u.header.counter

@@ -1,10 +1,9 @@
 -- The laws of groups, readings, messages and mixtures.
-use Rattle.std.specs.Prelude.{◌≡◌, ◌↔◌, ℕ, ◌<◌, Bool, List, length, Option, Some, None, IsTrue, IsFalse}
+use Rattle.std.specs.Prelude.{◌≡◌, ◌↔◌, ℕ, ◌<◌, Bool, length, Option, Some, None, IsTrue, IsFalse}
 use Rattle.etcs_packet.specs.declared.run.Run.{Run}
-use Rattle.etcs_telegram.specs.Record.{Telegram}
 use Rattle.etcs_group.specs.declared.refused.Refused.TheVariants as reasons
 use Rattle.etcs_group.specs.Places.{At, IsLeast}
-use Rattle.etcs_group.specs.Group.{IsWellFormed, HasOneCounter}
+use Rattle.etcs_group.specs.Group.{IsWellFormed, HasOneCounter, Telegrams, Aspects}
 use Rattle.etcs_group.specs.Missed.{IsSetOf, IsCovered, IsLost, none_missed}
 use Rattle.etcs_group.specs.Reading.{reading_of}
 use Rattle.etcs_group.specs.Assembly.{IsAccepted, refusal_of}
@@ -14,38 +13,39 @@ use Rattle.etcs_group.specs.Mixture.{Fits, Covers, mixed_of, HasAllShown}
 
 -- A list is accepted exactly where no refusal stands.
 abbrev pub AcceptedOrRefused : Type 0
-AcceptedOrRefused = (run : Run) (s : List Telegram) → IsAccepted run s ↔ (refusal_of run s ≡ None)
+AcceptedOrRefused = (run : Run) (s : Telegrams) → IsAccepted run s ↔ (refusal_of run s ≡ None)
 
 -- A reading s is accepted exactly where what is missed is covered. If all is missed, it is refused as
 -- Nothing; if not, as Absent at the least place that is lost.
-pub record IsDecided (run : Run) (group : List Telegram) (missed : ℕ → Bool) (s : List Telegram) : Type 0 where
+pub record IsDecided (run : Run) (group : Telegrams) (missed : ℕ → Bool) (s : Telegrams) : Type 0 where
   pub accepted : IsAccepted run s ↔ IsCovered group missed
   pub nothing : ((b : ℕ) → b < length group → IsTrue (missed b)) → refusal_of run s ≡ Some reasons.Nothing
   pub absent : (b : ℕ) → b < length group → IsFalse (missed b) → (IsCovered group missed → ⊥)
       → (p : ℕ) × IsLeast (IsLost group missed) p × (refusal_of run s ≡ Some (reasons.Absent p))
 
--- This holds of the reading of each well-formed group whose counters fit, for each set of its places.
+-- Each reading of a well-formed group whose counters agree is decided by the set of places that it misses.
 abbrev pub ReadingsAreDecided : Type 0
-ReadingsAreDecided = (run : Run) (group : List Telegram) (missed : ℕ → Bool)
+ReadingsAreDecided = (run : Run) (group : Telegrams) (missed : ℕ → Bool)
     → IsWellFormed group → HasOneCounter group → 0 < length group → IsSetOf group missed
     → IsDecided run group missed (reading_of run missed group)
 
 -- What a group says is the message of its reading with nothing missed. If each balise and its partner
 -- have equal packets, it is the message of each covered reading too.
-pub record SaysTheSame (run : Run) (group : List Telegram) : Type 0 where
+pub record SaysTheSame (run : Run) (group : Telegrams) : Type 0 where
   pub full : said_by run group ≡ packets_of run (reading_of run none_missed group)
   pub covered : HasEqualPairs run group → (missed : ℕ → Bool) → IsCovered group missed
       → packets_of run (reading_of run missed group) ≡ said_by run group
 
--- Both hold in each well-formed group.
+-- Each well-formed group says the message of its reading with nothing missed, and of each covered reading
+-- if each balise and its partner have equal packets.
 abbrev pub ReadingsSayTheSame : Type 0
-ReadingsSayTheSame = (run : Run) (group : List Telegram) → IsWellFormed group → SaysTheSame run group
+ReadingsSayTheSame = (run : Run) (group : Telegrams) → IsWellFormed group → SaysTheSame run group
 
 -- ---- mixtures
 
 -- A group makes one message: it is well formed, and in each running direction each covered reading is
 -- accepted and has the packets of the reading with nothing missed.
-pub record MakesOneMessage (group : List Telegram) : Type 0 where
+pub record MakesOneMessage (group : Telegrams) : Type 0 where
   pub formed : IsWellFormed group
   pub accepted : (run : Run) (missed : ℕ → Bool) → IsSetOf group missed → IsCovered group missed
       → IsAccepted run (reading_of run missed group)
@@ -53,18 +53,18 @@ pub record MakesOneMessage (group : List Telegram) : Type 0 where
       → packets_of run (reading_of run missed group) ≡ packets_of run (reading_of run none_missed group)
 
 -- A mixture is accepted exactly where it is covered and one aspect has all that it shows. Its message is
--- then that of this aspect with nothing missed.
-pub record IsMixtureDecided (run : Run) (aspects : List (List Telegram)) (shown : ℕ → Option ℕ) : Type 0 where
+-- then the message of this aspect with nothing missed.
+pub record IsMixtureDecided (run : Run) (aspects : Aspects) (shown : ℕ → Option ℕ) : Type 0 where
   pub accepted : IsAccepted run (mixed_of run aspects shown) ↔ (Covers aspects shown
-      × ((a : ℕ) × (group : List Telegram) × At aspects a group × HasAllShown aspects shown group))
-  pub packets : (a : ℕ) (group : List Telegram) → At aspects a group → HasAllShown aspects shown group
+      × ((a : ℕ) × (group : Telegrams) × At aspects a group × HasAllShown aspects shown group))
+  pub packets : (a : ℕ) (group : Telegrams) → At aspects a group → HasAllShown aspects shown group
       → IsAccepted run (mixed_of run aspects shown)
       → packets_of run (mixed_of run aspects shown) ≡ packets_of run (reading_of run none_missed group)
 
--- This holds of each mixture of a controlled group whose aspects make one message each, and, if there are
--- two or more, are contents of one group and are told apart.
+-- Each mixture is decided in a controlled group whose aspects make one message each, and, if there are two
+-- or more, are contents of one group and distinguished by their counters.
 abbrev pub MixturesAreDecided : Type 0
-MixturesAreDecided = (run : Run) (aspects : List (List Telegram)) (shown : ℕ → Option ℕ)
+MixturesAreDecided = (run : Run) (aspects : Aspects) (shown : ℕ → Option ℕ)
     → IsControlled aspects
-    → ((a : ℕ) (group : List Telegram) → At aspects a group → MakesOneMessage group)
+    → ((a : ℕ) (group : Telegrams) → At aspects a group → MakesOneMessage group)
     → (1 < length aspects → AreOneGroup aspects) → Fits aspects shown → IsMixtureDecided run aspects shown

@@ -9,34 +9,35 @@ use Rattle.etcs_group.specs.Places.{At}
 use Rattle.etcs_group.specs.Missed.{IsCovered}
 use Rattle.etcs_group.specs.Reading.{in_passing_order}
 use Rattle.etcs_group.specs.Controlled.{count_of}
+use Rattle.etcs_group.specs.Group.{Telegrams, Aspects}
 
 -- what a list of aspects by place stands for; a place past its end shows nothing
 abbrev pub shown_in : List (Option ℕ) → ℕ → Option ℕ
 shown_in shown p = option_and_then (λ aspect. aspect) (slice_get shown p)
 
 -- each place that shows an aspect is a place of the group, and the aspect exists
-abbrev pub Fits : List (List Telegram) → (ℕ → Option ℕ) → Type 0
+abbrev pub Fits : Aspects → (ℕ → Option ℕ) → Type 0
 Fits aspects shown = (p a : ℕ) → shown p ≡ Some a → (p < count_of aspects) × (a < length aspects)
 
 -- the places of the group that show nothing are missed
-abbrev pub missed_in : List (List Telegram) → (ℕ → Option ℕ) → ℕ → Bool
+abbrev pub missed_in : Aspects → (ℕ → Option ℕ) → ℕ → Bool
 missed_in aspects shown p = nat_lt p (count_of aspects) && is_none (shown p)
 
 -- the missed places are covered in aspect 0
-abbrev pub Covers : List (List Telegram) → (ℕ → Option ℕ) → Type 0
-Covers aspects shown = (first : List Telegram) → At aspects 0 first
+abbrev pub Covers : Aspects → (ℕ → Option ℕ) → Type 0
+Covers aspects shown = (first : Telegrams) → At aspects 0 first
     → IsCovered first (missed_in aspects shown)
 
 -- the telegram that a place shows
-abbrev pub shown_at : List (List Telegram) → (ℕ → Option ℕ) → ℕ → Option Telegram
+abbrev pub shown_at : Aspects → (ℕ → Option ℕ) → ℕ → Option Telegram
 shown_at aspects shown p =
     option_and_then (λ a. option_and_then (λ group. slice_get group p) (slice_get aspects a)) (shown p)
 
 -- what is read of a mixture: the telegrams that are shown, in passing order
-abbrev pub mixed_of : Run → List (List Telegram) → (ℕ → Option ℕ) → List Telegram
+abbrev pub mixed_of : Run → Aspects → (ℕ → Option ℕ) → Telegrams
 mixed_of run aspects shown =
     in_passing_order run (filter_map (shown_at aspects shown) (range_with_len 0 (count_of aspects)))
 
 -- an aspect has, at their places, all the telegrams that are shown
-abbrev pub HasAllShown : List (List Telegram) → (ℕ → Option ℕ) → List Telegram → Type 0
+abbrev pub HasAllShown : Aspects → (ℕ → Option ℕ) → Telegrams → Type 0
 HasAllShown aspects shown group = (p : ℕ) (t : Telegram) → shown_at aspects shown p ≡ Some t → At group p t

@@ -10,7 +10,7 @@ use Rattle.etcs_packet.specs.declared.track.TrackPacket.{TrackPacket}
 use Rattle.etcs_packet.specs.Track.{holds}
 use Rattle.etcs_telegram.specs.Record.{Telegram}
 use Rattle.etcs_group.specs.Places.{At}
-use Rattle.etcs_group.specs.Group.{partner_of}
+use Rattle.etcs_group.specs.Group.{partner_of, Telegrams}
 use Rattle.etcs_group.specs.Reading.{in_passing_order}
 use Rattle.etcs_group.specs.Assembly.{names}
 
@@ -18,17 +18,17 @@ use Rattle.etcs_group.specs.Assembly.{names}
 abbrev pub held_by : Run → Telegram → List TrackPacket
 held_by run t = filter (holds run) t.packets
 
--- The packets that hold of the telegram at place i. There are none where its mark names the position of a
--- telegram that was read before it.
-abbrev pub given_at : Run → List Telegram → ℕ → Telegram → List TrackPacket
+-- The packets that a train takes from the telegram at place i: none if it has already read the telegram
+-- that the mark of this one names.
+abbrev pub given_at : Run → Telegrams → ℕ → Telegram → List TrackPacket
 given_at run read i t =
     if list_any (λ u. names t u.header.position) (take i read) then [] else held_by run t
 
 -- the packets of a list of telegrams, in passing order
-abbrev pub packets_of : Run → List Telegram → List TrackPacket
+abbrev pub packets_of : Run → Telegrams → List TrackPacket
 packets_of run read = flat_map (λ e. given_at run read e.0 e.1) (enumerate_from 0 read)
 
--- ---- by the places of a group alone
+-- ---- what is taken of a well-formed group with nothing missed, by the places of the group alone
 
 -- whether the balise at place b of n is silent: it is passed after the one in the group that its mark names
 abbrev pub is_silent : Run → Dup → ℕ → ℕ → Bool
@@ -41,11 +41,11 @@ abbrev pub said_at : Run → ℕ → ℕ → Telegram → List TrackPacket
 said_at run n b t = if is_silent run t.header.dup n b then [] else held_by run t
 
 -- what a group says: the packets of the balises that are not silent, in passing order
-abbrev pub said_by : Run → List Telegram → List TrackPacket
+abbrev pub said_by : Run → Telegrams → List TrackPacket
 said_by run group =
     flat_map (λ e. said_at run (length group) e.0 e.1) (in_passing_order run (enumerate_from 0 group))
 
 -- each balise and its partner have equal lists of packets that hold in the running direction
-abbrev pub HasEqualPairs : Run → List Telegram → Type 0
+abbrev pub HasEqualPairs : Run → Telegrams → Type 0
 HasEqualPairs run group = (b p : ℕ) (t u : Telegram) → partner_of group b ≡ Some p
     → At group b t → At group p u → held_by run t ≡ held_by run u

@@ -4,7 +4,7 @@ use Rattle.std.specs.Prelude.{ℕ, Bool, not, List, map, reverse, filter}
 use Rattle.std.specs.List.{enumerate_from}
 use Rattle.etcs_packet.specs.declared.run.Run.{Run}
 use Rattle.etcs_packet.specs.declared.run.Run.TheVariants as runs
-use Rattle.etcs_telegram.specs.Record.{Telegram}
+use Rattle.etcs_group.specs.Group.{Telegrams}
 
 -- a list by rising place, put into the order in which the places are passed
 abbrev pub in_passing_order : {X : Type 0} → Run → List X → List X
@@ -12,6 +12,6 @@ in_passing_order runs.Nominal xs = xs
 in_passing_order runs.Reverse xs = reverse xs
 
 -- the reading of a group: the telegrams whose places are not missed
-abbrev pub reading_of : Run → (ℕ → Bool) → List Telegram → List Telegram
+abbrev pub reading_of : Run → (ℕ → Bool) → Telegrams → Telegrams
 reading_of run missed group =
     in_passing_order run (map (λ e. e.1) (filter (λ e. not (missed e.0)) (enumerate_from 0 group)))

@@ -7,8 +7,8 @@ use crate::group::Group;
 use std::marker::Model;
 
 /// The balise group of a signal: it shows one of several contents, its aspects. Each of them is a group,
-/// and all have the same count of balises. Whether they fit together is not asked of it. (This project's
-/// rule, after SUBSET-026, 3.16.2.)
+/// and all have one count of balises. Whether they agree is not asked of it. (This project's rule, after
+/// SUBSET-026, 3.16.2.)
 ///
 /// Contracts see it as the list of its aspects.
 #[derive(Debug, Drop)]
@@ -28,7 +28,7 @@ impl Model for Controlled {
     ghost invariant = { λ c. IsControlled c.aspects.items };
 }
 
-// Whether there are aspects, all with the same count of balises.
+// Whether there are aspects, all with one count of balises.
 fn is_controlled(aspects: &[Group]) -> bool
     ensures { IsTrue result ↔ IsControlled aspects.now }
 {
@@ -58,7 +58,7 @@ impl Controlled {
         Ok(Controlled { aspects })
     }
 
-    /// The aspects, in the order given: one or more, each with the same count of balises.
+    /// The aspects, in the order given: one or more, all with one count of balises.
     pub fn aspects(&self) -> &[Group]
         ensures value { result.now ≡ self.now }
         ensures controlled { IsControlled result.now }

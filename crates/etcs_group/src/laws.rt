@@ -8,7 +8,7 @@ pub fn accepted_or_refused()
     ensures { AcceptedOrRefused }
 {}
 
-/// In a well-formed group whose counters fit, a reading is accepted exactly if what is missed is
+/// In a well-formed group whose counters agree, a reading is accepted exactly if what is missed is
 /// covered. Else it is refused: as Nothing if all balises are missed, and if not, as Absent at the
 /// least missed place whose partner is none or missed.
 pub fn readings_are_decided()
@@ -22,9 +22,9 @@ pub fn readings_say_the_same()
 {}
 
 /// In a controlled group whose aspects make one message each and, if there are two or more, are contents
-/// of one group and are told apart, a mixture is accepted exactly if it is covered and one aspect has, at
-/// their places, all the telegrams that it shows. Its message is then that of this aspect with nothing
-/// missed.
+/// of one group and distinguished by their counters, a mixture is accepted exactly if it is covered and one
+/// aspect has, at their places, all the telegrams that it shows. Its message is then the message of this
+/// aspect with nothing missed.
 pub fn mixtures_are_decided()
     ensures { MixturesAreDecided }
 {}

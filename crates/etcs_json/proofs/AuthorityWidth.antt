@@ -5,10 +5,10 @@ use Rattle.etcs_bits.specs.layout.Combined.{option_rows}
 use Rattle.etcs_bits.specs.layout.Rows.{Row, alone, width}
 use Rattle.etcs_bits.specs.variables.Variables.{plain}
 use Rattle.etcs_bits.proofs.WidthLemmas.{width_both}
-use Rattle.etcs_profile.specs.Authority.{IsAuthorityTooLong, Permission, authority, permission}
+use Rattle.etcs_profile.specs.Authority.{IsAuthorityTooLong, AuthorityValue, authority, authority_value}
 use Rattle.etcs_profile.specs.Built.{IsReason}
 use Rattle.etcs_profile.specs.Parts.{danger_point, end_timer, overlap, section, section_timer}
-use Rattle.etcs_profile.specs.Terms.{Conditions, terms}
+use Rattle.etcs_profile.specs.Terms.{TermsValue, terms}
 use Rattle.etcs_profile.specs.declared.error.BuildError.{BuildError}
 use Rattle.etcs_profile.specs.declared.error.BuildError.TheVariants as errors
 use Rattle.etcs_profile.specs.declared.section.Section.{Section}
@@ -27,12 +27,12 @@ unfolding alone
 section_short s = omega (arith, option_short section_timer.rows 25 (λ t. omega arith) s.timer)
 
 -- the rows of what follows the end section
-abbrev end_rows : Conditions → List Row
+abbrev end_rows : TermsValue → List Row
 end_rows t =
     option_rows section_timer.rows t.section_timer ++ (option_rows end_timer.rows t.end_timer
     ++ (option_rows danger_point.rows t.danger_point ++ option_rows overlap.rows t.overlap))
 
-end_short : (t : Conditions) → width (end_rows t) ≤ 123
+end_short : (t : TermsValue) → width (end_rows t) ≤ 123
 unfolding alone
 end_short t =
     let last = option_rows overlap.rows t.overlap in
@@ -49,23 +49,23 @@ end_short t =
       option_short overlap.rows 47 (λ o. omega arith) t.overlap,
     )
 
-terms_short : (t : Conditions) → length t.sections < 32 → width (terms.rows t) ≤ 1431
+terms_short : (t : TermsValue) → length t.sections < 32 → width (terms.rows t) ≤ 1431
 unfolding alone
 terms_short t few =
     let most = several_short section.rows 41 section_short t.sections in
     let both = width_both (flat_map section.rows t.sections) (alone (plain 15) t.l_endsection ++ end_rows t) in
     omega (arith, most, both, end_short t, few)
 
-short_by : (main : Option ℕ) (a : Permission) → length a.terms.sections < 32 → width (authority.rows (permission a.dir a.scale main a.terms)) ≤ 1463
+short_by : (main : Option ℕ) (a : AuthorityValue) → length a.terms.sections < 32 → width (authority.rows (authority_value a.dir a.scale main a.terms)) ≤ 1463
 unfolding alone
 short_by None a few = omega (arith, terms_short a.terms few)
 short_by (Some v) a few = omega (arith, terms_short a.terms few)
 
 -- an authority of at most 31 sections has at most 1,463 bits
-authority_short : (a : Permission) → length a.terms.sections < 32 → width (authority.rows a) ≤ 1463
+authority_short : (a : AuthorityValue) → length a.terms.sections < 32 → width (authority.rows a) ≤ 1463
 authority_short a few = short_by a.main a few
 
--- so it is never too long
-pub is_authority : (e : BuildError) (a : Permission) → IsReason e (31 < length a.terms.sections) (IsAuthorityTooLong a) → length a.terms.sections < 32 → ⊥
+-- an authority of at most 31 sections is never too long
+pub is_authority : (e : BuildError) (a : AuthorityValue) → IsReason e (31 < length a.terms.sections) (IsAuthorityTooLong a) → length a.terms.sections < 32 → ⊥
 is_authority errors.TooMany a reason few = omega (arith, reason, few)
 is_authority errors.TooLong a reason few = omega (arith, reason.1, authority_short a few)

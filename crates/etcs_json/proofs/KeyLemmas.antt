@@ -65,7 +65,7 @@ no_object keys ts sound h =
     let s = sound_has ts sound in
     ap (option_map (are_known keys)) (sym (ap as_object s.same ∙ object_none s.text s.read s.is (h s.text s.stands)))
 
--- the members that are left tell whether all keys are known
+-- the members that are left say whether all keys are known
 pub record Tells (keys : List (List ℕ)) (ts us : List Token) : Type 0 where
   pub left : json.Members
   pub stands : InMembers us left

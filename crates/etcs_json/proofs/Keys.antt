@@ -1,4 +1,4 @@
--- The keys of an object, and those that it may have.
+-- The keys of an object, and the keys that it may have.
 use Rattle.std.proofs.Common.{◌≡◌, ◌∙◌, ◌&&◌, ◌||◌, ℕ, List, [], ◌∷◌, Option, Some, None, Result, Ok, Err, Bor, refl, sym, ap, map, subst, String, Global, string_bytes}
 use Rattle.std.proofs.Math.Bool.{or-false}
 use Rattle.std.specs.Prelude.{if◌then◌else◌}

@@ -6,9 +6,9 @@ use Rattle.serde_json.specs.Data.{Data, Items, item, no_items}
 use Rattle.serde_json.specs.Find.{as_array}
 use Rattle.serde_json.specs.View.{view, items_view}
 use Rattle.serde_json.specs.declared.value.Value.{Value}
-use Rattle.etcs_json.specs.Fault.{Fails, Fault, Gives, IsDeeper, Kind, Range, here, place, under}
+use Rattle.etcs_json.specs.Fault.{Fails, Fault, Gives, IsDeeper, Kind, Range, here, list_item, under}
 use Rattle.etcs_json.specs.Listed.{all_of, items_or}
-use Rattle.etcs_json.specs.Reading.{◌>>=◌, counted_or, data_list, items_at, list_of, with_first}
+use Rattle.etcs_json.specs.Reading.{◌>>=◌, bounded_list_or, data_list, items_at, list_of, with_first}
 use Rattle.etcs_json.specs.Shape.{items_of}
 use Rattle.etcs_json.specs.declared.error.FormError.{FormError}
 use Rattle.etcs_json.specs.node.Nodes.{counts_between}
@@ -19,7 +19,7 @@ use Rattle.etcs_json.proofs.TapeLemmas.{or_this, some_mapped}
 
 pub list_none : {A B : Type 0} (f : Items → B) (read : Data → Result A Fault) (low high : ℕ) (d : Data) → None ≡ option_map f (as_array d) → list_of read low high d ≡ Err (here Kind)
 unfolding list_of
-list_none f read low high d e = ap (counted_or read low high) (none_mapped f (as_array d) e)
+list_none f read low high d e = ap (bounded_list_or read low high) (none_mapped f (as_array d) e)
 
 pub list_counted : {A : Type 0} (read : Data → Result A Fault) (low high : ℕ) (d : Data) (fits : Bool) → Some fits ≡ option_map (λ ds. counts_between low high (data_list ds)) (as_array d)
     → (rest : List Data) → Some rest ≡ option_map data_list (as_array d) → list_of read low high d ≡ if fits then items_at read 0 rest else Err (here Range)
@@ -28,7 +28,7 @@ list_counted read low high d fits e rest f =
     let m = some_mapped (λ ds. counts_between low high (data_list ds)) fits (as_array d) (sym e) in
     let k = some_mapped data_list rest (as_array d) (sym f) in
     let same : m.0 ≡ k.0 = ap (or_this m.0) (sym m.1 ∙ k.1) in
-    ap (counted_or read low high) m.1
+    ap (bounded_list_or read low high) m.1
     ∙ ap (λ b. if b then items_at read 0 (data_list m.0) else Err (here Range)) m.2
     ∙ ap (λ ds. if fits then items_at read 0 ds else Err (here Range)) (ap data_list same ∙ k.2)
 
@@ -37,7 +37,7 @@ pub list_misfits : {A : Type 0} (read : Data → Result A Fault) (low high : ℕ
 unfolding list_of
 list_misfits read low high d e =
     let m = some_mapped (λ ds. counts_between low high (data_list ds)) false (as_array d) (sym e) in
-    ap (counted_or read low high) m.1 ∙ ap (λ b. if b then items_at read 0 (data_list m.0) else Err (here Range)) m.2
+    ap (bounded_list_or read low high) m.1 ∙ ap (λ b. if b then items_at read 0 (data_list m.0) else Err (here Range)) m.2
 
 -- a list of any number of items
 pub all_found : {A : Type 0} (read : Data → Result A Fault) (d : Data) (rest : List Data) → Some rest ≡ option_map data_list (as_array d) → all_of read d ≡ items_at read 0 rest
@@ -91,13 +91,13 @@ item_read read xs ys old new d x all is e pushed so_far =
     ap (λ zs. with_front zs (items_at read (length zs) new)) pushed
     ∙ ap (λ n. with_front (xs ++ x ∷ []) (items_at read n new)) (length-append xs (x ∷ []))
     ∙ front_push xs x (items_at read (length xs + 1) new)
-    ∙ sym (ap (λ r. with_front xs (under (place (length xs)) r >>= λ y. with_first y (items_at read (length xs + 1) new))) e)
+    ∙ sym (ap (λ r. with_front xs (under (list_item (length xs)) r >>= λ y. with_first y (items_at read (length xs + 1) new))) e)
     ∙ sym (ap (λ ds. with_front xs (items_at read (length xs) ds)) is) ∙ so_far
 
 pub item_fails : {A : Type 0} (read : Data → Result A Fault) (xs : List A) (old new : List Data) (d : Data) (all : Result (List A) Fault) (inner outer : FormError) → old ≡ d ∷ new
-    → with_front xs (items_at read (length xs) old) ≡ all → IsDeeper (place (length xs)) inner outer → Fails inner (read d) → Fails outer all
+    → with_front xs (items_at read (length xs) old) ≡ all → IsDeeper (list_item (length xs)) inner outer → Fails inner (read d) → Fails outer all
 item_fails read xs old new d all inner outer is so_far deep fails =
-    let step = place (length xs) in
+    let step = list_item (length xs) in
     fails_same outer (under step (read d)) all (fails_under step inner outer (read d) (under step (read d)) deep fails refl)
     (λ f e. sym so_far ∙ ap (λ ds. with_front xs (items_at read (length xs) ds)) is ∙ ap (λ r. with_front xs (r >>= λ y. with_first y (items_at read (length xs + 1) new))) e)
 

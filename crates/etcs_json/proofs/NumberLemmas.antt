@@ -29,7 +29,7 @@ whole_from p r h = grind arith
 
 -- ---- plain digits
 
--- so many digits write no greater number
+-- k digits write a number below 10 ^ k
 pub few_digits : (ds : List ℕ) (k : ℕ) → AllDigits 10 ds → length ds ≤ k → digits_value 10 ds < 10 ^ k
 few_digits ds k digits short =
     let ten : 0 < 10 = omega arith in
@@ -38,7 +38,7 @@ few_digits ds k digits short =
 plain_parts : List ℕ → Parts
 plain_parts ds = record { whole = ds; point = false; fraction = []; exponent_negative = false; exponent = []; len = length ds }
 
--- they are a numeral with no other part
+-- digits are a numeral with no other part
 scanned : (ds : List ℕ) → AllDigits 10 ds → scan ds ≡ plain_parts ds
 unfolding plain_parts
 scanned ds digits =
@@ -72,6 +72,6 @@ some_whole : (o : Option Num) (n : ℕ) → Some n ≡ option_and_then as_u64 o 
 some_whole None n is = grind arith
 some_whole (Some x) n is = refl
 
--- and so it is in range
+-- the number that plain digits write is in range
 pub digits_in_range : (ds : List ℕ) (n : ℕ) → IsNumeral 10 ds → digits_value 10 ds ≡ n → n < 2 ^ 64 → true ≡ is_some (number_of ds)
 digits_in_range ds n numeral is few = some_whole (number_of ds) n (digits_number ds n numeral is few)

@@ -72,7 +72,7 @@ same_at (Some f) r s fails same = same f fails
 pub fails_same : {X Y : Type 0} → (e : FormError) (r : Result X Fault) (s : Result Y Fault) → Fails e r → ((f : Fault) → r ≡ Err f → s ≡ Err f) → Fails e s
 fails_same e r s fails same = same_at (fault_of e) r s fails same
 
--- the same for an error that is passed on
+-- an error that is passed on is what the outer reading gives
 pub fails_up : {X Y A : Type 0} (view : X → Y) (result : Result X FormError) (e : FormError) (r : Result A Fault) (s : Result Y Fault)
     → IsErrAnd result (λ y. y ≡ e) → Fails e r → ((f : Fault) → r ≡ Err f → s ≡ Err f) → Gives view result s
 fails_up view (Ok x) e r s passed fails same = absurd passed
@@ -90,7 +90,7 @@ own_form s x y first second same =
     let read : s.of (s.to x) ≡ s.of (s.to y) = ap s.of same in
     cc
 
--- the same for what a call returned, unless it failed
+-- what a call wrote is read again, unless it failed
 pub written_again : {X E : Type 0} → (s : Shape X) (x : X) (result : Result Value E) → s.fits x ≡ true → IfOk result (λ v. view v ≡ s.to x) → IfOk result (λ v. Unit {0} → s.of (view v) ≡ Ok x)
 written_again s x (Ok v) fits is = λ _. read_again s x (view v) is fits
 written_again s x (Err e) fits is = tt

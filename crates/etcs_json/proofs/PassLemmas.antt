@@ -1,4 +1,4 @@
--- The pass over a value's tokens tells whether serde_json reads the value.
+-- The pass over a value's tokens says whether serde_json reads the value.
 use Rattle.std.proofs.Common.{◌≡◌, ◌∙◌, ◌&&◌, ◌+◌, ◌-◌, ◌≤◌, ℕ, suc, Bool, true, false, List, [], ◌++◌, max, Option, Some, None, option_map, option_and_then, ap, sym, refl, arith, append_assoc, append-nil}
 use Rattle.std.specs.Prelude.{is_some, nat_le, nat_lt, if◌then◌else◌}
 use Rattle.std.proofs.Math.Bool.{and-true}

@@ -6,7 +6,7 @@ use Rattle.etcs_bits.specs.layout.Combined.{is_countable}
 use Rattle.etcs_packet.specs.FoundRaw.{raw_with}
 use Rattle.etcs_packet.specs.Raw.{raw_again}
 use Rattle.etcs_packet.specs.declared.raw.RawPacket.{RawPacket}
-use Rattle.etcs_radio.specs.TrainNumbers.{is_other as is_other_train}
+use Rattle.etcs_radio.specs.TrainNumbers.{is_kept_number as is_kept_train_number}
 use Rattle.etcs_radio.specs.FoundRaw.{raw_with as raw_train_with}
 use Rattle.etcs_radio.specs.RawTrain.{raw_again as raw_train_again}
 use Rattle.etcs_radio.specs.declared.raw_train.RawTrainPacket.{RawTrainPacket}
@@ -24,5 +24,5 @@ raw_train_made r n body number bits = rw (sym number, sym bits) (raw_train_again
 pub raw_train_fits : (r : RawTrainPacket) → r.number < 256 → raw_train_packet.part.fits r ≡ true
 unfolding raw_train_packet
 raw_train_fits r byte =
-    let both = and_parts (is_other_train r.number) (is_countable 8 (length r.body)) r.kept in
+    let both = and_parts (is_kept_train_number r.number) (is_countable 8 (length r.body)) r.kept in
     and_from _ _ (and_from _ _ (lt-ltb r.number 256 byte) both.0) (length_range 21 (length r.body) both.1)

@@ -6,8 +6,8 @@ use Rattle.std.proofs.lemmas.Bool.{and_parts}
 use Rattle.std.proofs.lemmas.Bool.Decides.{nat_tests}
 use Rattle.serde_json.specs.Data.{Data, Items}
 use Rattle.serde_json.specs.Find.{as_array, get}
-use Rattle.etcs_json.specs.Fault.{Fault, Range, Step, here, key, place, under}
-use Rattle.etcs_json.specs.Reading.{◌>>=◌, at_key, counted_or, data_list, items_at, key_or, list_of, object_with, with_first}
+use Rattle.etcs_json.specs.Fault.{Fault, Range, Step, here, key, list_item, under}
+use Rattle.etcs_json.specs.Reading.{◌>>=◌, at_key, bounded_list_or, data_list, items_at, key_or, list_of, object_with, with_first}
 use Rattle.etcs_json.specs.Profiles.{difference, speed_element}
 use Rattle.etcs_json.specs.Shape.{Shape, both_of, first_and_rest, key as key_part, list, list_from_one, object}
 use Rattle.etcs_json.specs.Variables.{flag, number}
@@ -24,7 +24,7 @@ EachRead {A} P read = (d : Data) → (x : A) → read d ≡ Ok x → P x
 
 one_more : {A : Type 0} (P : A → Type 0) (i n : ℕ) (r : Result A Fault) (rest : Result (List A) Fault) → ((x : A) → r ≡ Ok x → P x)
     → IfOk rest (λ xs. AllByRecursion P xs × (length xs ≡ n))
-    → IfOk (under (place i) r >>= λ x. with_first x rest) (λ xs. AllByRecursion P xs × (length xs ≡ suc n))
+    → IfOk (under (list_item i) r >>= λ x. with_first x rest) (λ xs. AllByRecursion P xs × (length xs ≡ suc n))
 one_more P i n (Err f) rest has h = tt
 one_more P i n (Ok x) (Err f) has h = tt
 one_more P i n (Ok x) (Ok xs) has h = ((has x refl, h.0), ap suc h.1)
@@ -49,7 +49,7 @@ counted_at P read has low high ds true is =
     few P (length ds) high (items_at read 0 ds) le (items_read P read has 0 ds)
 
 counted_read : {A : Type 0} (P : A → Type 0) (read : Data → Result A Fault) → EachRead P read → (low high : ℕ) (o : Option Items)
-    → IfOk (counted_or read low high o) (λ xs. AllByRecursion P xs × (length xs ≤ high))
+    → IfOk (bounded_list_or read low high o) (λ xs. AllByRecursion P xs × (length xs ≤ high))
 counted_read P read has low high None = tt
 counted_read P read has low high (Some ds) = counted_at P read has low high (data_list ds) _ refl
 

@@ -58,7 +58,7 @@ pub between : (es : List Entry) (old begun sent new : Written)
 between es old begun sent new one two three =
     rw (object_tokens es) (adds_more _ _ _ _ _ one (adds_more _ _ _ _ _ two.sent three))
 
--- the same for the object that they are
+-- a value that is the object of these members, in the order in which they are sent
 pub sent_as : (es : List Entry) (d : Data) (old begun sent new : Written) → object (members_of es) ≡ d
     → Adds (begin_object ∷ []) old begun → SendsMembers es begun sent → Adds (end_object ∷ []) sent new → SendsValue d old new
 sent_as es d old begun sent new is one two three = subst (λ e. SendsValue e old new) is (between es old begun sent new one two three)

@@ -146,7 +146,7 @@ onto_members done (e ∷ es) up apart new =
     rw (put_insert e.0 e.1 done up new.0)
     (onto_members (insert e done) es (ascending_insert e done up new.0) both.1 (still_new e es done (not_true _ both.0) new.1))
 
--- one member after the other makes the same object, whatever their order
+-- members that are put in one after the other make one object, whatever their order
 pub made_members : (es : List Entry) → are_apart (keys_of es) ≡ true → members_onto no_members es ≡ members_of (sorted es)
 unfolding IsAscending
 made_members es apart = onto_members [] es tt apart (new_at_first es)
@@ -184,7 +184,7 @@ onto_last done (f ∷ fs) up =
     let same : (done ++ f ∷ []) ++ fs ≡ done ++ f ∷ fs = append_assoc done (f ∷ []) fs in
     ap (λ ms. members_onto ms fs) (put_last done f fs up) ∙ onto_last (done ++ f ∷ []) fs (subst IsAscending (sym same) up) ∙ ap members_of same
 
--- they make the same object in their order
+-- members that are sorted first make the same object
 pub onto_sorted : (es : List Entry) → are_apart (keys_of es) ≡ true → members_onto no_members (sorted es) ≡ members_onto no_members es
 unfolding IsAscending
 onto_sorted es apart = onto_last [] (sorted es) (ascending_onto [] es tt apart (new_at_first es)) ∙ sym (made_members es apart)

@@ -1,9 +1,9 @@
 -- A movement authority and a position report, each of which has the form of one of two packets: the members
--- that are sent are those of the form.
+-- that are sent are the members of the form.
 use Rattle.std.proofs.Common.{◌≡◌, ◌∙◌, ℕ, List, Option, Some, None, Result, Ok, Err, inl, inr, refl, sym, ap}
 use Rattle.serde_json.specs.Data.{Data, Members, no_members, object as object_data}
 use Rattle.etcs_bits.specs.declared.variables.identity.Identity.{Identity}
-use Rattle.etcs_profile.specs.Authority.{Permission, WithMain, WithoutMain, numbered_by as authority_by, permission, permission_of}
+use Rattle.etcs_profile.specs.Authority.{AuthorityValue, WithMain, WithoutMain, numbered_by as authority_by, authority_value, authority_of_parts}
 use Rattle.etcs_packet.specs.Track.{authority_in, track_of}
 use Rattle.etcs_packet.specs.declared.cover.CoverMarker.{CoverMarker}
 use Rattle.etcs_packet.specs.declared.track.TrackPacket.TheVariants as track
@@ -34,16 +34,16 @@ made_of es old new d e in_order same none made is =
 
 -- ---- a movement authority
 
-authority_sent_by : (main : Option ℕ) (a : Permission) → object_data (members_of (sent_members (permission a.dir a.scale main a.terms))) ≡ either_authority.form.to (authority_by main a)
+authority_sent_by : (main : Option ℕ) (a : AuthorityValue) → object_data (members_of (sent_members (authority_value a.dir a.scale main a.terms))) ≡ either_authority.form.to (authority_by main a)
 unfolding first_members last_members with_main without_main terms end_parts
 authority_sent_by None a = ap object_data (sym (made_members ((with_number without_main.form).part.to (a.dir, (a.scale, a.terms))) refl))
 authority_sent_by (Some v) a = ap object_data (sym (made_members ((with_number with_main.form).part.to (a.dir, (a.scale, (v, a.terms)))) refl))
 
-pub authority_sent : (a : Permission) → object_data (members_of (sent_members a)) ≡ authority.to a
+pub authority_sent : (a : AuthorityValue) → object_data (members_of (sent_members a)) ≡ authority.to a
 unfolding authority
 authority_sent a = authority_sent_by a.main a
 
-pub authority_in_order : (a : Permission) → members_onto no_members (sent_members a) ≡ members_of (sent_members a)
+pub authority_in_order : (a : AuthorityValue) → members_onto no_members (sent_members a) ≡ members_of (sent_members a)
 unfolding first_members last_members
 authority_in_order a = made_members (sent_members a) refl
 
@@ -62,28 +62,28 @@ pub report_in_order : (r : Report) → members_onto no_members (sent_report r) �
 unfolding report_first report_middle report_last
 report_in_order r = made_members (sent_report r) refl
 
--- ---- both as one of all packets
+-- ---- an authority and a report as one of all packets
 
-authority_to_by : (main : Option ℕ) (a : Permission) → track_numbered.form.to (authority_in (authority_by main a)) ≡ either_authority.form.to (authority_by main a)
+authority_to_by : (main : Option ℕ) (a : AuthorityValue) → track_numbered.form.to (authority_in (authority_by main a)) ≡ either_authority.form.to (authority_by main a)
 authority_to_by None a = refl
 authority_to_by (Some v) a = refl
 
-pub authority_to : (a : Permission) → track_packet.to (track.Authority a) ≡ authority.to a
+pub authority_to : (a : AuthorityValue) → track_packet.to (track.Authority a) ≡ authority.to a
 unfolding authority
 authority_to a = authority_to_by a.main a
 
-with_main_as : (r : Result WithMain Fault) → as_kind track_of (as_kind inr (as_kind inr (as_kind inl r))) ≡ as_kind track.Authority (as_kind permission_of (as_kind inl r))
+with_main_as : (r : Result WithMain Fault) → as_kind track_of (as_kind inr (as_kind inr (as_kind inl r))) ≡ as_kind track.Authority (as_kind authority_of_parts (as_kind inl r))
 with_main_as (Ok p) = refl
 with_main_as (Err f) = refl
 
-pub with_main_read : (d : Data) → as_kind track_of (track_numbered.form.of 12 d) ≡ as_kind track.Authority (as_kind permission_of (either_authority.form.of 12 d))
+pub with_main_read : (d : Data) → as_kind track_of (track_numbered.form.of 12 d) ≡ as_kind track.Authority (as_kind authority_of_parts (either_authority.form.of 12 d))
 with_main_read d = with_main_as _
 
-without_main_as : (r : Result WithoutMain Fault) → as_kind track_of (as_kind inr (as_kind inr (as_kind inr (as_kind inl r)))) ≡ as_kind track.Authority (as_kind permission_of (as_kind inr r))
+without_main_as : (r : Result WithoutMain Fault) → as_kind track_of (as_kind inr (as_kind inr (as_kind inr (as_kind inl r)))) ≡ as_kind track.Authority (as_kind authority_of_parts (as_kind inr r))
 without_main_as (Ok p) = refl
 without_main_as (Err f) = refl
 
-pub without_main_read : (d : Data) → as_kind track_of (track_numbered.form.of 15 d) ≡ as_kind track.Authority (as_kind permission_of (either_authority.form.of 15 d))
+pub without_main_read : (d : Data) → as_kind track_of (track_numbered.form.of 15 d) ≡ as_kind track.Authority (as_kind authority_of_parts (either_authority.form.of 15 d))
 without_main_read d = without_main_as _
 
 report_to_by : (previous : Option Identity) (r : Report) → train_numbered.to (report_in (report_by previous r)) ≡ either_report.to (report_by previous r)

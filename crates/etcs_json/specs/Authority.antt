@@ -7,7 +7,7 @@ use Rattle.std.specs.Prelude.{codes, refl}
 use Rattle.etcs_bits.specs.layout.Choice.{either_rows}
 use Rattle.etcs_bits.specs.layout.Combined.{option_rows, pair_rows}
 use Rattle.etcs_bits.specs.variables.Variables.{ranged}
-use Rattle.etcs_profile.specs.Authority.{Permission, again, authority_variable, numbered_of, permission_of, v_main, with_main as with_main_layout, without_main as without_main_layout}
+use Rattle.etcs_profile.specs.Authority.{AuthorityValue, again, authority_variable, numbered_of, authority_of_parts, v_main, with_main as with_main_layout, without_main as without_main_layout}
 use Rattle.etcs_profile.specs.Parts.{d_dp, d_endtimerstartloc, d_ol, d_sectiontimerstoploc, d_startol, danger_point as danger_point_layout, danger_point_struct, end_timer as end_timer_layout, end_timer_struct, l_section, overlap as overlap_layout, overlap_struct, section as section_layout, section_struct, section_timer as section_timer_layout, section_timer_struct, t_endtimer, t_ol, t_sectiontimer, v_releasedp, v_releaseol}
 use Rattle.etcs_profile.specs.Terms.{conditions_struct, l_endsection, t_loa, terms as terms_layout, v_loa}
 use Rattle.etcs_json.specs.Beside.{ChoiceBeside, ObjectBeside, PacketBeside, PartBeside, behind, closed, either, headed, key, key_if, last, list, number, object, scaled, struct, ◌then◌}
@@ -80,5 +80,5 @@ abbrev pub either_authority : ChoiceBeside authority_variable (either_rows with_
 either_authority = either with_main (last without_main) refl
 
 -- a movement authority; NID_PACKET is looked at before the other keys
-unfoldable pub authority : Shape Permission
-authority = renamed permission_of numbered_of again (chosen (codes "nid_packet") (is_allowed (ranged 8 254 256)) either_authority.form)
+unfoldable pub authority : Shape AuthorityValue
+authority = renamed authority_of_parts numbered_of again (chosen (codes "nid_packet") (is_allowed (ranged 8 254 256)) either_authority.form)

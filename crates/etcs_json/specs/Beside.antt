@@ -58,7 +58,7 @@ infixr 5 ◌then◌
 abbrev pub ◌then◌ : {A B : Type 0} {rows_a : A → List Row} {rows_b : B → List Row} → PartBeside rows_a → PartBeside rows_b → PartBeside (pair_rows rows_a rows_b)
 a then b = record { form = a.form and_then b.form; keeps = both_keep a.keeps b.keeps }
 
--- the same, as a struct
+-- the members of a struct, which are the members of its parts
 abbrev pub struct : {P S : Type 0} {rows : P → List Row} (s : Struct P S) → PartBeside rows → PartBeside (λ x. rows (s.parts x))
 struct s a = record { form = struct_form s a.form; keeps = parts_keep s.parts a.keeps }
 

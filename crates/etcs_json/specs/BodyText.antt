@@ -47,6 +47,6 @@ abbrev pub digits_or : ℕ → Option (List ℕ) → Result (List Bool) Fault
 digits_or count None = Err (here Kind)
 digits_or count (Some digits) = decoded_or count (decode_of digits)
 
--- a body of so many bits
+-- a body of `count` bits
 unfoldable pub body_of : ℕ → Data → Result (List Bool) Fault
 body_of count d = digits_or count (as_str d)

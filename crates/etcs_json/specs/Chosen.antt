@@ -1,4 +1,4 @@
--- Values that a number tells apart, such as packets by NID_PACKET. The number is looked at before any
+-- Values that a number distinguishes, such as packets by NID_PACKET. The number is looked at before any
 -- other key of the object, and decides the form of the whole object.
 use Rattle.std.specs.Prelude.{◌≡◌, ℕ, ◌&&◌, ◌==◌, ◌⊎◌, Bool, true, false, List, ◌∷◌, Option, Some, None, Result, Ok, Err, if◌then◌else◌, refl}
 use Rattle.std.proofs.Common.{ap, inl, inr, subst, sym, ◌∙◌}
@@ -9,8 +9,8 @@ use Rattle.etcs_bits.specs.layout.Choice.{either_allows, either_number}
 use Rattle.etcs_json.specs.Entries.{Entry, Holds, are_apart, object_of}
 use Rattle.etcs_json.specs.EntryLemmas.{object_holds}
 use Rattle.etcs_json.specs.Fault.{Fault, Kind, Range, at_once, here, key as key_step}
-use Rattle.etcs_json.specs.Reading.{◌>>=◌, as_kind, number_of, at_key}
-use Rattle.etcs_json.specs.Shape.{Object, Part, Shape, fixed, key_again, named, numbers, object, whole, ◌then◌}
+use Rattle.etcs_json.specs.Reading.{◌>>=◌, as_kind, allowed_number, at_key}
+use Rattle.etcs_json.specs.Shape.{Object, Part, Shape, fixed, key_again, named, numbers, object, number_data, ◌then◌}
 
 -- ---- what is looked at first
 
@@ -36,7 +36,7 @@ pub record BehindNumber (name : List ℕ) (k : ℕ) (X : Type 0) : Type 0 where
 abbrev pub behind : {name : List ℕ} {k : ℕ} {X : Type 0} (part : Part X) → are_apart (name ∷ part.keys) ≡ true → BehindNumber name k X
 behind part apart = record { part = part; apart = apart }
 
--- the number, which has to be k, and those members
+-- the number, which has to be k, and the members behind it
 abbrev pub with_number : {name : List ℕ} {k : ℕ} {X : Type 0} → BehindNumber name k X → Object X
 with_number {name = name} {k = k} o = record {
   part = named (λ p. p.1) (λ x. (tt, x)) (λ _. refl) (fixed name k then o.part);
@@ -45,10 +45,10 @@ with_number {name = name} {k = k} o = record {
 
 -- an object with this number at the key
 abbrev pub HasNumber : List ℕ → ℕ → Data → Type 0
-HasNumber name n d = (any_object d ≡ Ok tt) × (get name d ≡ Some (whole n))
+HasNumber name n d = (any_object d ≡ Ok tt) × (get name d ≡ Some (number_data n))
 
 -- the members of an object begin with this number
-pub begins_with : {X : Type 0} (name : List ℕ) (n : ℕ) (o : Object X) (x : X) (rest : List Entry) → o.part.to x ≡ (name, Some (whole n)) ∷ rest → HasNumber name n ((object o).to x)
+pub begins_with : {X : Type 0} (name : List ℕ) (n : ℕ) (o : Object X) (x : X) (rest : List Entry) → o.part.to x ≡ (name, Some (number_data n)) ∷ rest → HasNumber name n ((object o).to x)
 unfolding any_object
 begins_with name n o x rest begins =
     let all = object_holds (o.part.to x) (ap are_apart (o.part.has_keys x) ∙ o.apart) in
@@ -157,7 +157,7 @@ others test number o is_number has_number = record {
 -- ---- the number first, and then the form that it decides
 
 abbrev pub chosen_of : {X : Type 0} → List ℕ → (ℕ → Bool) → (ℕ → Data → Result X Fault) → Data → Result X Fault
-chosen_of name allowed of d = first_at (number_of allowed) name d >>= λ n. of n d
+chosen_of name allowed of d = first_at (allowed_number allowed) name d >>= λ n. of n d
 
 pub chosen_again : {X : Type 0} (name : List ℕ) (allowed : ℕ → Bool) (c : Choice name X) (x : X) → (allowed (c.number x) && c.fits x) ≡ true → chosen_of name allowed c.of (c.to x) ≡ Ok x
 chosen_again name allowed c x fits =

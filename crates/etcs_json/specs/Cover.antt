@@ -7,7 +7,7 @@ use Rattle.etcs_json.specs.Beside.{ObjectBeside, PacketBeside, behind, closed, k
 unfoldable pub cover : PacketBeside 0 nid_vbcmk.rows
 cover = behind (key (codes "nid_vbcmk") (number nid_vbcmk.fields)) refl
 
--- the same, as a struct
+-- a cover marker, packet 0, as a struct
 unfoldable pub cover_marker : ObjectBeside cover_layout.rows
 cover_marker =
     closed (struct cover_struct (numbered cover)) cover.form.apart

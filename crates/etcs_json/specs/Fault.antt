@@ -15,7 +15,7 @@ pub data Reason : Type 0 where
 -- one step of the way to a value: a key of an object, or a place in a list
 pub data Step : Type 0 where
   key : List ℕ → Step
-  place : ℕ → Step
+  list_item : ℕ → Step
 
 -- what is wrong, and the way to it from the whole value
 pub record Fault : Type 0 where
@@ -33,7 +33,7 @@ here reason = fault reason []
 abbrev pub at_once : Reason → Step → Fault
 at_once reason step = fault reason (step ∷ [])
 
--- the same fault, as the value around it has it
+-- the same fault, seen from the enclosing value: its path gets this step in front
 abbrev pub deeper : Step → Fault → Fault
 deeper step f = fault f.reason (step ∷ f.path)
 
@@ -45,7 +45,7 @@ under step (Err f) = Err (deeper step f)
 
 abbrev pub step_of : CodeStep → Step
 step_of (code.Key name) = key name.now
-step_of (code.Place i) = place i
+step_of (code.Place i) = list_item i
 
 abbrev pub fault_of : FormError → Option Fault
 fault_of errors.Memory = None
@@ -75,7 +75,7 @@ OfMemory (errors.Unknown path) P = Unit {0}
 OfMemory (errors.Kind path) P = Unit {0}
 OfMemory (errors.Range path) P = Unit {0}
 
--- what has to hold if the call reports that memory ran out
+-- what has to hold if the call answers that memory ran out
 abbrev pub IfMemory : {X : Type 0} → Result X FormError → Type 0 → Type 0
 IfMemory (Ok x) P = Unit {0}
 IfMemory (Err e) P = OfMemory e P
@@ -85,11 +85,11 @@ abbrev pub IsAround : Step → Fault → Option Fault → Type 0
 IsAround step f None = ⊥
 IsAround step f (Some g) = f ≡ deeper step g
 
--- the same fault as the value around has it, unless memory ran out
+-- the outer error is the inner one, seen from the enclosing value, unless memory ran out
 abbrev pub IsDeeper : Step → FormError → FormError → Type 0
 IsDeeper step inner outer = IfSome (fault_of outer) (λ f. IsAround step f (fault_of inner))
 
--- what a call returned, as the value around has it: the same value, or the same fault
+-- what a call returned, seen from the enclosing value: the same value, or its fault with this step in front
 abbrev pub IsUnder : {X : Type 0} → Step → Result X FormError → Result X FormError → Type 0
 IsUnder step (Ok x) outer = outer ≡ Ok x
 IsUnder step (Err inner) outer = IsErrAnd outer (λ e. IsDeeper step inner e)

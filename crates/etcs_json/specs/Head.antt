@@ -1,5 +1,5 @@
--- What a packet from track to train has in every form: its number, and, if it measures distances, Q_DIR and
--- Q_SCALE (SUBSET-026, 7.4).
+-- What packets from track to train have in common: their number, and most of them Q_DIR, and those with
+-- distances Q_SCALE (SUBSET-026, 7.4).
 use Rattle.std.specs.Prelude.{ℕ, codes}
 use Rattle.etcs_bits.specs.declared.variables.direction.Dir.{Dir}
 use Rattle.etcs_bits.specs.declared.variables.scale.Scale.{Scale}

@@ -38,7 +38,7 @@ pub checked_again : {X : Type 0} (holds : X → Bool) (s : Shape X) (x : X) → 
 checked_again holds s x fits =
     let both = and_parts (s.fits x) (holds x) fits in rw (s.again x both.0, both.1) refl
 
--- the same values, where one that does not have the property is out of range
+-- the form of values that have to have a property; a value without it is out of range
 abbrev pub checked : {X : Type 0} → (X → Bool) → Shape X → Shape X
 checked holds s = record {
   to = s.to;

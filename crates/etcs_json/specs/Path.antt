@@ -1,11 +1,11 @@
--- The words that tell the way to a value. They are this project's.
+-- The words for the way to a value. They are this project's.
 use Rattle.std.specs.Prelude.{◌++◌, ℕ, List, [], ◌∷◌, codes, decimal}
-use Rattle.etcs_json.specs.Fault.{Step, key, place}
+use Rattle.etcs_json.specs.Fault.{Step, key, list_item}
 
 -- a slash, and then the key or the place
 abbrev pub step_words : Step → List ℕ
 step_words (key name) = codes "/" ++ name
-step_words (place i) = codes "/" ++ decimal i
+step_words (list_item i) = codes "/" ++ decimal i
 
 abbrev pub steps_words : List Step → List ℕ
 steps_words [] = []

@@ -18,24 +18,25 @@ use Rattle.etcs_json.specs.Head.{headed, scaled}
 use Rattle.etcs_json.specs.RangeLemmas.{profile_keeps}
 use Rattle.etcs_json.specs.Shape.{Part, Shape, key as key_form, list_from_one, struct as struct_form, within}
 
--- a packet with a list of elements at this key; it is refused where it has more than 8,191 bits
+-- a packet with a list of elements at this key; it is refused where it has more than 8,191 bits, of which
+-- 23 are NID_PACKET, Q_DIR and L_PACKET
 abbrev pub profile : {X : Type 0} → List ℕ → Format X → Shape X → Part (Dir × Profile X)
 profile name layout element =
     within (λ p. nat_le (23 + width ((elements layout).rows p.1)) 8191)
     (headed (struct_form profile_struct (scaled (key_form name (list_from_one 32 element)))))
 
--- the same beside its bits
+-- the form of a profile, beside its bits
 abbrev pub profile_beside : {X : Type 0} → List ℕ → (layout : Format X) → ShapeBeside layout.rows → PartBeside (rest (elements layout)).rows
 profile_beside name layout element = record { form = profile name layout element.form; keeps = profile_keeps layout element.keeps }
 
--- a balise group ahead; its country is there only if it is a new one
+-- a balise group ahead; its country is there exactly where Q_NEWCOUNTRY is 1
 unfoldable pub link : ObjectBeside link_layout.rows
 link =
     closed (struct link_struct
     (key (codes "d_link") (number d_link.fields) then key_if (codes "nid_c") (number nid_c.fields) then key (codes "nid_bg") (number nid_bg.fields)
     then key (codes "q_linkorientation") flag then key (codes "q_linkreaction") (number q_linkreaction.fields) then key (codes "q_locacc") (number q_locacc.fields))) refl
 
--- packet 5
+-- what packet 5 has after its number
 unfoldable pub linking : PacketBeside 5 (rest (elements link_layout)).rows
 linking = behind (profile_beside (codes "links") link_layout (object link)) refl
 
@@ -45,7 +46,7 @@ gradient_element =
     closed (struct gradient_struct
     (key (codes "d_gradient") (number d_gradient.fields) then key (codes "q_gdir") flag then key (codes "g_a") (number g_a.fields))) refl
 
--- packet 21
+-- what packet 21 has after its number
 unfoldable pub gradient : PacketBeside 21 (rest (elements gradient_layout)).rows
 gradient = behind (profile_beside (codes "elements") gradient_layout (object gradient_element)) refl
 
@@ -62,6 +63,6 @@ speed_element =
     (key (codes "d_static") (number d_static.fields) then key (codes "v_static") (number v_static.fields) then key (codes "q_front") flag
     then key (codes "differences") (list (object difference)))) refl
 
--- packet 27
+-- what packet 27 has after its number
 unfoldable pub speed_profile : PacketBeside 27 (rest (elements speed_layout)).rows
 speed_profile = behind (profile_beside (codes "elements") speed_layout (object speed_element)) refl

@@ -110,7 +110,7 @@ pub number_keeps : {name : List ℕ} {k : ℕ} {X : Type 0} {rows : X → List R
 unfolding alone
 number_keeps {k = k} x o keeps = record { range = λ v allowed. and_from _ _ (is_itself k) (keeps.range v allowed.1) }
 
--- ---- values told apart by a number
+-- ---- values that a number distinguishes
 
 -- what stands behind the last number
 pub last_keeps : {A : Type 0} (x : Variable) (k : ℕ) (rows : A → List Row) (fits : A → Bool) → Keeps rows fits → Keeps (λ v. alone x k ++ rows v) fits
@@ -130,7 +130,7 @@ pub either_keeps : {A B : Type 0} (x : Variable) (k : ℕ) (number : B → ℕ) 
     → Keeps (λ v. alone x (either_number k number v) ++ either_rows rows_a rows_b v) (by_kind fits_a fits_b)
 either_keeps x k number rows_a rows_b fits_a fits_b a b = record { range = either_range x k number rows_a rows_b fits_a fits_b a b }
 
--- and the number is in range too
+-- a sum whose number is in range too
 pub chosen_keeps : {X : Type 0} (x : Variable) (number : X → ℕ) (allowed : ℕ → Bool) (rows : X → List Row) (fits : X → Bool)
     → ((v : X) → IsAllowed (row x (number v)) → allowed (number v) ≡ true)
     → Keeps (λ v. alone x (number v) ++ rows v) fits → Keeps (λ v. alone x (number v) ++ rows v) (λ v. allowed (number v) && fits v)

@@ -9,8 +9,8 @@ use Rattle.etcs_json.specs.Measured.{measured}
 use Rattle.etcs_json.specs.Shape.{Object, key, named, ◌then◌}
 use Rattle.etcs_json.specs.Variables.{variable}
 
--- a train packet of another number than those of position reports and of the end mark; 21 bits
--- stand before its body
+-- a train packet whose number is neither a position report's nor the end mark's; 21 bits stand before its
+-- body
 unfoldable pub raw_train_packet : Object RawTrainPacket
 raw_train_packet = record {
   apart = refl;

@@ -3,7 +3,7 @@ use Rattle.std.specs.Prelude.{◌&&◌, ◌+◌, ℕ, Bool, List, [], ◌∷◌,
 use Rattle.serde_json.specs.Data.{Data, Items, item, no_items, Members}
 use Rattle.serde_json.specs.Find.{get, as_object, as_array, as_number, as_u64}
 use Rattle.etcs_json.specs.Entries.{are_known}
-use Rattle.etcs_json.specs.Fault.{Fault, key, place, at_once, here, under}
+use Rattle.etcs_json.specs.Fault.{Fault, key, list_item, at_once, here, under}
 use Rattle.etcs_json.specs.Fault.{Missing, Unknown, Kind, Range}
 
 infixl 10 ◌>>=◌
@@ -22,8 +22,8 @@ allowed_or allowed None = Err (here Kind)
 allowed_or allowed (Some n) = if allowed n then Ok n else Err (here Range)
 
 -- a whole number that is allowed
-unfoldable pub number_of : (ℕ → Bool) → Data → Result ℕ Fault
-number_of allowed d = allowed_or allowed (option_and_then as_u64 (as_number d))
+unfoldable pub allowed_number : (ℕ → Bool) → Data → Result ℕ Fault
+allowed_number allowed d = allowed_or allowed (option_and_then as_u64 (as_number d))
 
 abbrev pub with_first : {A : Type 0} → A → Result (List A) Fault → Result (List A) Fault
 with_first x (Ok xs) = Ok (x ∷ xs)
@@ -32,21 +32,21 @@ with_first x (Err f) = Err f
 -- the items, of which the first has this place
 abbrev pub items_at : {A : Type 0} → (Data → Result A Fault) → ℕ → List Data → Result (List A) Fault
 items_at read i [] = Ok []
-items_at read i (d ∷ ds) = under (place i) (read d) >>= λ x. with_first x (items_at read (i + 1) ds)
+items_at read i (d ∷ ds) = under (list_item i) (read d) >>= λ x. with_first x (items_at read (i + 1) ds)
 
 abbrev pub data_list : Items → List Data
 data_list no_items = []
 data_list (item d ds) = d ∷ data_list ds
 
-abbrev pub counted_or : {A : Type 0} → (Data → Result A Fault) → ℕ → ℕ → Option Items → Result (List A) Fault
-counted_or read low high None = Err (here Kind)
-counted_or read low high (Some ds) =
+abbrev pub bounded_list_or : {A : Type 0} → (Data → Result A Fault) → ℕ → ℕ → Option Items → Result (List A) Fault
+bounded_list_or read low high None = Err (here Kind)
+bounded_list_or read low high (Some ds) =
     if nat_le low (length (data_list ds)) && nat_le (length (data_list ds)) high
     then items_at read 0 (data_list ds) else Err (here Range)
 
 -- a list of from `low` to `high` items
 unfoldable pub list_of : {A : Type 0} → (Data → Result A Fault) → ℕ → ℕ → Data → Result (List A) Fault
-list_of read low high d = counted_or read low high (as_array d)
+list_of read low high d = bounded_list_or read low high (as_array d)
 
 -- ---- the members of an object
 

@@ -6,31 +6,31 @@ use Rattle.etcs_radio.specs.Report.{report_number}
 use Rattle.etcs_radio.specs.declared.report.Report.{Report}
 use Rattle.etcs_json.specs.Entries.{Entry}
 use Rattle.etcs_json.specs.Report.{confirmed, side}
-use Rattle.etcs_json.specs.Shape.{optional, whole}
+use Rattle.etcs_json.specs.Shape.{optional, number_data}
 use Rattle.etcs_json.specs.Transition.{national_system}
 use Rattle.etcs_json.specs.Variables.{scale}
 
 -- distances and lengths, the level's number and the mode
 unfoldable pub first_members : Report → List Entry
 first_members r =
-    (codes "d_lrbg", Some (whole r.distance)) ∷ (codes "l_doubtover", Some (whole r.doubt_over))
-    ∷ (codes "l_doubtunder", Some (whole r.doubt_under)) ∷ (codes "l_trainint", optional whole (confirmed r.length))
-    ∷ (codes "m_level", Some (whole (level_number r.level))) ∷ (codes "m_mode", Some (whole r.mode)) ∷ []
+    (codes "d_lrbg", Some (number_data r.distance)) ∷ (codes "l_doubtover", Some (number_data r.doubt_over))
+    ∷ (codes "l_doubtunder", Some (number_data r.doubt_under)) ∷ (codes "l_trainint", optional number_data (confirmed r.length))
+    ∷ (codes "m_level", Some (number_data (level_number r.level))) ∷ (codes "m_mode", Some (number_data r.mode)) ∷ []
 
 -- the groups, the national system, and the packet's number; the group before is there in packet 1 alone
 unfoldable pub middle_members : Report → List Entry
 middle_members r =
-    (codes "nid_bg", Some (whole r.lrbg.group)) ∷ (codes "nid_c", Some (whole r.lrbg.country))
-    ∷ (codes "nid_ntc", optional whole (national_system r.level)) ∷ (codes "nid_packet", Some (whole (report_number r)))
-    ∷ (codes "prv_nid_bg", optional whole (option_map (λ i. i.group) r.previous))
-    ∷ (codes "prv_nid_c", optional whole (option_map (λ i. i.country) r.previous)) ∷ []
+    (codes "nid_bg", Some (number_data r.lrbg.group)) ∷ (codes "nid_c", Some (number_data r.lrbg.country))
+    ∷ (codes "nid_ntc", optional number_data (national_system r.level)) ∷ (codes "nid_packet", Some (number_data (report_number r)))
+    ∷ (codes "prv_nid_bg", optional number_data (option_map (λ i. i.group) r.previous))
+    ∷ (codes "prv_nid_c", optional number_data (option_map (λ i. i.country) r.previous)) ∷ []
 
 -- the qualifiers, and the speed
 unfoldable pub last_members : Report → List Entry
 last_members r =
     (codes "q_dirlrbg", Some (side.to r.orientation)) ∷ (codes "q_dirtrain", Some (side.to r.running))
-    ∷ (codes "q_dlrbg", Some (side.to r.side)) ∷ (codes "q_length", Some (whole (length_number r.length)))
-    ∷ (codes "q_scale", Some (scale.to r.scale)) ∷ (codes "v_train", Some (whole r.speed)) ∷ []
+    ∷ (codes "q_dlrbg", Some (side.to r.side)) ∷ (codes "q_length", Some (number_data (length_number r.length)))
+    ∷ (codes "q_scale", Some (scale.to r.scale)) ∷ (codes "v_train", Some (number_data r.speed)) ∷ []
 
 abbrev pub sent_members : Report → List Entry
 sent_members r = first_members r ++ (middle_members r ++ last_members r)

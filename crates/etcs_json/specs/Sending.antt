@@ -1,5 +1,5 @@
--- What is written of a value: the tokens of its text, behind those that stand there. An object's members
--- are written in the byte order of their keys.
+-- What is written of a value: the tokens of its text, behind the tokens that stand there. An object's
+-- members are written in the byte order of their keys.
 use Rattle.std.specs.Prelude.{◌≡◌, ◌++◌, ℕ, List, [], ◌∷◌, map, Option, Some, None}
 use Rattle.std.specs.Cmp.Lexicographic.{slice_cmp}
 use Rattle.std.specs.Ordering.{nat_cmp, match_ordering}
@@ -48,7 +48,7 @@ abbrev pub entries_tokens : List Entry → List Token
 entries_tokens [] = []
 entries_tokens (e ∷ es) = entry_tokens e.0 e.1 ++ entries_tokens es
 
--- these tokens were added behind the others
+-- these tokens were added behind the tokens that stood there
 pub record Adds (tokens : List Token) (old new : Written) : Type 0 where
   pub before : new.before ≡ old.before
   pub added : new.tokens ≡ old.tokens ++ tokens

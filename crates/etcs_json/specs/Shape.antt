@@ -9,7 +9,7 @@ use Rattle.etcs_bits.specs.layout.Struct.{Struct}
 use Rattle.etcs_json.specs.Entries.{Entry, keys_of, object_of, are_apart, Holds}
 use Rattle.etcs_json.specs.EntryLemmas.{object_holds, object_known, holds_parts, keys_of-append}
 use Rattle.etcs_json.specs.Fault.{Fault, key as key_step, under, here}
-use Rattle.etcs_json.specs.Reading.{◌>>=◌, number_of, items_at, data_list, list_of, object_with, at_key, key_or, at_key_if, option_or, as_kind, as_some}
+use Rattle.etcs_json.specs.Reading.{◌>>=◌, allowed_number, items_at, data_list, list_of, object_with, at_key, key_or, at_key_if, option_or, as_kind, as_some}
 use Rattle.etcs_json.specs.Fault.{Range}
 
 -- a value
@@ -30,28 +30,28 @@ pub record Part (X : Type 0) : Type 0 where
 
 -- ---- values
 
-abbrev pub whole : ℕ → Data
-whole n = number (unsigned n)
+abbrev pub number_data : ℕ → Data
+number_data n = number (unsigned n)
 
-pub number_again : (allowed : ℕ → Bool) (n : ℕ) → allowed n ≡ true → number_of allowed (whole n) ≡ Ok n
-unfolding number_of
+pub number_again : (allowed : ℕ → Bool) (n : ℕ) → allowed n ≡ true → allowed_number allowed (number_data n) ≡ Ok n
+unfolding allowed_number
 number_again allowed n is = rw is refl
 
 -- a whole number that is allowed
 abbrev pub numbers : (ℕ → Bool) → Shape ℕ
-numbers allowed = record { to = whole; of = number_of allowed; fits = allowed; again = number_again allowed }
+numbers allowed = record { to = number_data; of = allowed_number allowed; fits = allowed; again = number_again allowed }
 
 -- numbers that have names
 abbrev pub names : {X : Type 0} (allowed : ℕ → Bool) (tag : X → ℕ) (of : ℕ → X)
     → ((x : X) → allowed (tag x) ≡ true) → ((x : X) → of (tag x) ≡ x) → Shape X
 names allowed tag of is_allowed again = record {
-  to = λ x. whole (tag x);
-  of = λ d. number_of allowed d >>= λ n. Ok (of n);
+  to = λ x. number_data (tag x);
+  of = λ d. allowed_number allowed d >>= λ n. Ok (of n);
   fits = λ _. true;
   again = λ x _. ap (λ r. r >>= λ n. Ok (of n)) (number_again allowed (tag x) (is_allowed x)) ∙ ap Ok (again x);
 }
 
--- the same form for other values, of which each is one of these
+-- the form of a struct, which is the form of its parts; `make` and `parts` go between the two
 abbrev pub renamed : {X Y : Type 0} (make : X → Y) (parts : Y → X) → ((y : Y) → make (parts y) ≡ y) → Shape X → Shape Y
 renamed make parts same s = record {
   to = λ y. s.to (parts y);
@@ -171,7 +171,7 @@ a then b = record {
   again = then_again a b;
 }
 
--- the same, as a struct
+-- the members of a struct, which are the members of its parts
 abbrev pub named : {X Y : Type 0} (with_parts : X → Y) (parts_of : Y → X) → ((y : Y) → with_parts (parts_of y) ≡ y) → Part X → Part Y
 named with_parts parts_of same a = record {
   keys = a.keys;
@@ -182,7 +182,7 @@ named with_parts parts_of same a = record {
   again = λ y d fits holds. ap (λ r. r >>= λ x. Ok (with_parts x)) (a.again (parts_of y) d fits holds) ∙ ap Ok (same y);
 }
 
--- the same, as a struct whose bits have the same parts
+-- members as a struct, whose bits have the same parts
 abbrev pub struct : {P S : Type 0} → Struct P S → Part P → Part S
 struct s a = named s.make s.parts s.again a
 
@@ -197,7 +197,7 @@ pub within_again : {X : Type 0} (small : X → Bool) (a : Part X) (x : X) (d : D
 within_again small a x d fits holds =
     let both = and_parts (a.fits x) (small x) fits in rw (a.again x d both.0 holds, both.1) refl
 
--- the same members, where a record of them may still be refused
+-- members of which some records, although each member is allowed, are out of range
 abbrev pub within : {X : Type 0} → (X → Bool) → Part X → Part X
 within small a = record {
   keys = a.keys;

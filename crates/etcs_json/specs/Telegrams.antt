@@ -14,7 +14,7 @@ use Rattle.etcs_json.specs.Shape.{Object, Part, Shape, closed, key, named, names
 use Rattle.etcs_json.specs.TrackPackets.{track_packet}
 use Rattle.etcs_json.specs.Variables.{duplicate, flag, number, version}
 
--- whether a telegram may have so many user bits
+-- whether a telegram may have n user bits
 abbrev pub is_size : ℕ → Bool
 is_size n = (n == 210) || (n == 830)
 

@@ -2,7 +2,7 @@
 use Rattle.std.specs.Prelude.{◌++◌, codes, length, refl}
 use Rattle.etcs_bits.specs.layout.Rows.{alone}
 use Rattle.etcs_bits.specs.variables.Variables.{ranged}
-use Rattle.etcs_packet.specs.PacketNumbers.{is_other, nid_track}
+use Rattle.etcs_packet.specs.PacketNumbers.{is_kept_number, nid_track}
 use Rattle.etcs_packet.specs.Raw.{other_of, others as other_bits}
 use Rattle.etcs_packet.specs.Track.{again, parts_of, track_numbered as track_bits, track_of}
 use Rattle.etcs_packet.specs.declared.raw.RawPacket.{RawPacket}
@@ -29,7 +29,7 @@ raw_keeps = record { range = λ p allowed. raw_fits p allowed.0.0 }
 -- a packet whose layout is not known
 abbrev pub raw : ChoiceBeside nid_track other_bits.rows
 raw = record {
-  form = others is_other (λ p. p.number) raw_packet (λ p. other_of p.number (length p.body) p.kept) raw_has;
+  form = others is_kept_number (λ p. p.number) raw_packet (λ p. other_of p.number (length p.body) p.kept) raw_has;
   keeps = raw_keeps;
 }
 

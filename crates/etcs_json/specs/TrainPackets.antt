@@ -2,8 +2,8 @@
 use Rattle.std.specs.Prelude.{codes, length, refl}
 use Rattle.etcs_bits.specs.variables.Variables.{ranged}
 use Rattle.etcs_radio.specs.RawTrain.{other_of}
-use Rattle.etcs_radio.specs.TrainNumbers.{is_other}
-use Rattle.etcs_radio.specs.TrainPacket.{Numbered, again, parts_of, train_of}
+use Rattle.etcs_radio.specs.TrainNumbers.{is_kept_number}
+use Rattle.etcs_radio.specs.TrainPacket.{NumberedTrainPacket, again, parts_of, train_of}
 use Rattle.etcs_radio.specs.declared.raw_train.RawTrainPacket.{RawTrainPacket}
 use Rattle.etcs_radio.specs.declared.train_packet.TrainPacket.{TrainPacket}
 use Rattle.etcs_json.specs.Chosen.{Choice, HasNumber, begins_with, chosen, either, others}
@@ -18,9 +18,9 @@ raw_has p = begins_with (codes "nid_packet") p.number raw_train_packet p _ refl
 
 -- a packet whose layout is not known
 abbrev pub raw : Choice (codes "nid_packet") RawTrainPacket
-raw = others is_other (λ p. p.number) raw_train_packet (λ p. other_of p.number (length p.body) p.kept) raw_has
+raw = others is_kept_number (λ p. p.number) raw_train_packet (λ p. other_of p.number (length p.body) p.kept) raw_has
 
-abbrev pub train_numbered : Choice (codes "nid_packet") Numbered
+abbrev pub train_numbered : Choice (codes "nid_packet") NumberedTrainPacket
 train_numbered = either with_one (either with_two raw refl) refl
 
 -- NID_PACKET is looked at first; 255, the end mark, is the number of no packet

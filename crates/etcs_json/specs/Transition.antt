@@ -53,7 +53,7 @@ level_range name levels.L1 allowed = refl
 level_range name levels.L2 allowed = refl
 level_range name levels.L3 allowed = refl
 
--- the same beside its bits
+-- the form of a level, beside its bits
 abbrev pub level_beside : List ℕ → PartBeside m_level.rows
 level_beside name = record { form = level name; keeps = record { range = level_range name } }
 

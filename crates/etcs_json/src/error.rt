@@ -138,7 +138,7 @@ impl FormError {
         }
     }
 
-    // The same fault, as the value around has it.
+    // The same fault, seen from the enclosing value: its path gets this step in front.
     fn moved(self, step: Step) -> Result<FormError, Memory>
         ensures { IfOk result (λ e. IsDeeper (step_of step) self e) }
     {
@@ -151,7 +151,7 @@ impl FormError {
         }
     }
 
-    /// The same fault, as the value around has it: the step leads to the value at fault.
+    /// The same fault, seen from the enclosing value: its path gets this step in front.
     pub fn under(self, step: Step) -> FormError
         ensures { IsDeeper (step_of step) self result }
     {

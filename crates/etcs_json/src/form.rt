@@ -29,7 +29,7 @@ pub trait Form: Drop {
 
     /// Whether reading this value may ask for memory. It never does where the form is a number, where an
     /// object is wanted and the value is another one, or where the object has a key that the form of a record
-    /// lacks: such a fault is told without a path.
+    /// lacks: the fault of the value itself has the empty path.
     ghost asks: { Data → Type 0 } = { λ _. Unit {0} };
 
     /// The form as a JSON value, which is read as this value again if the value is in range. The
@@ -39,7 +39,7 @@ pub trait Form: Drop {
         ensures again { IfOk result
             (λ v. in_range self.now → shape.of (view v) ≡ Ok self.now) }
 
-        // Making a form that builds nothing never reports that memory ran out.
+        // Making a form that builds nothing never answers that memory ran out.
         ensures memory { OnErr result builds };
 
     /// Reads a form through a node, whatever holds the JSON value. The answer is that of

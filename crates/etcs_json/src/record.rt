@@ -45,22 +45,23 @@ pub(crate) trait Members: Record {
     fn of_members<N: Node>(alloc: Global, node: &N) -> Result<Self, FormError>
         ensures { Gives (λ x. x) result (Self.object.part.of (N.shows node.now)) };
 
-    /// For proofs alone: what keeps the members in range holds.
-    fn stay_in_range(&self)
+    /// Does nothing when it runs; its contract is the proof of what keeps the members in range.
+    fn prove_in_range(&self)
         ensures { Self.bounded self.now → limits self.now };
 
     ghost keeps: { (x : Self) → limits x → Self.Record.object.part.fits x ≡ true };
 }
 
-/// For proofs alone: each number of a record is allowed, as far as the record's types say so.
-pub(crate) fn stay_allowed<T: Layout>(value: &T)
+/// Does nothing when it runs; its contract is the proof that each number of a record is allowed, as far as the
+/// record's types say so.
+pub(crate) fn prove_allowed<T: Layout>(value: &T)
     ensures { T.fit value.now → AreAllowed (T.format.rows value.now) }
 {
     let _allowed = value.is_allowed();
 }
 
-// Refuses what is no object, and an object with a key that the record does not have. Both are told
-// without memory.
+// Refuses what is no object, and an object with a key that the record does not have. Neither refusal
+// takes memory.
 #[tactic(auto, using(crate::proofs::Keys::sorted_gives))]
 fn check_record<T: Members, N: Node>(alloc: Global, node: &N) -> Result<(), FormError>
     ensures keys { Gives (λ u. u) result (object_with T.object.part.keys (N.shows node.now)) }
@@ -78,7 +79,7 @@ impl<T: Members> Form for T {
 
     fn to_form(&self, alloc: Global) -> Result<Value, Memory> {
         // For the proof alone: what is written is read again.
-        self.stay_in_range();
+        self.prove_in_range();
         let mut out = NewObject::new(alloc);
         self.send_members(&mut out)?;
         Ok(out.into_value())

@@ -4,7 +4,7 @@
 ghost use Rattle.std.specs.Prelude.{◌≡◌, ◌++◌, ◌∷◌, [], ℕ, List, Some, None, OnOk};
 ghost use Rattle.serde_json.specs.Data.{array, string};
 ghost use Rattle.etcs_json.specs.Entries.{Entry};
-ghost use Rattle.etcs_json.specs.Shape.{items_of, optional, whole};
+ghost use Rattle.etcs_json.specs.Shape.{items_of, optional, number_data};
 
 use crate::form::InPieces;
 use etcs_bits::Memory;
@@ -25,7 +25,7 @@ pub(crate) trait Sink {
 
     /// Takes a member that is a number.
     fn send_number(&mut self, name: &str, number: u64) -> Result<(), Memory>
-        ensures { OnOk result (takes ((name.now, Some (whole number)) ∷ []) self.old self.new) };
+        ensures { OnOk result (takes ((name.now, Some (number_data number)) ∷ []) self.old self.new) };
 
     /// Takes a member that is a text.
     fn send_text(&mut self, name: &str, text: &str) -> Result<(), Memory>

@@ -1,4 +1,4 @@
--- A packet's rows by itself and as one of a list have the same bits.
+-- A packet's rows by itself and in a list have the same bits.
 use Rattle.std.proofs.Common.{◌≡◌, ◌∙◌, ℕ, ◌+◌, Bool, true, false, List, ◌++◌, Option, Some, None, Ok, ap, arith, length, refl}
 use Rattle.std.specs.Prelude.{◌==◌, ◌||◌, not}
 use Rattle.etcs_bits.specs.layout.Rows.{Row, Variable, Place, alone, AreAllowed, join, width}
@@ -6,33 +6,33 @@ use Rattle.etcs_bits.specs.layout.Reading.{forward, field_at}
 use Rattle.etcs_bits.proofs.NumberLemmas.{length-num}
 use Rattle.etcs_bits.proofs.ReadingLemmas.{field_ok}
 use Rattle.etcs_bits.proofs.StandLemmas.{same_position}
-use Rattle.etcs_profile.specs.Authority.{Permission, permission, numbered_by, authority}
+use Rattle.etcs_profile.specs.Authority.{AuthorityValue, authority_value, numbered_by, authority}
 use Rattle.etcs_packet.specs.declared.track.TrackPacket.{TrackPacket}
 use Rattle.etcs_packet.specs.declared.track.TrackPacket.TheVariants as packets
-use Rattle.etcs_packet.specs.PacketNumbers.{is_known, is_other, nid_track}
+use Rattle.etcs_packet.specs.PacketNumbers.{is_known, is_kept_number, nid_track}
 use Rattle.etcs_packet.specs.Raw.{raw_rest, other_of}
 use Rattle.etcs_packet.specs.Track.{track_numbered, authority_in, track_packet, own_rows}
 
 -- the rows of an authority that has this V_MAIN or none, as one of a list and by itself
-abbrev listed : Option ℕ → Permission → List Row
+abbrev listed : Option ℕ → AuthorityValue → List Row
 listed main a =
     let p = authority_in (numbered_by main a) in
     alone nid_track (track_numbered.number p) ++ track_numbered.rows p
 
-abbrev own : Option ℕ → Permission → List Row
-own main a = authority.rows (permission a.dir a.scale main a.terms)
+abbrev own : Option ℕ → AuthorityValue → List Row
+own main a = authority.rows (authority_value a.dir a.scale main a.terms)
 
-authority_join : (main : Option ℕ) (a : Permission) → join (listed main a) ≡ join (own main a)
+authority_join : (main : Option ℕ) (a : AuthorityValue) → join (listed main a) ≡ join (own main a)
 unfolding alone
 authority_join (Some v) a = refl
 authority_join None a = refl
 
-authority_width : (main : Option ℕ) (a : Permission) → width (listed main a) ≡ width (own main a)
+authority_width : (main : Option ℕ) (a : AuthorityValue) → width (listed main a) ≡ width (own main a)
 unfolding alone
 authority_width (Some v) a = refl
 authority_width None a = refl
 
-authority_allowed : (main : Option ℕ) (a : Permission) → AreAllowed (own main a) → AreAllowed (listed main a)
+authority_allowed : (main : Option ℕ) (a : AuthorityValue) → AreAllowed (own main a) → AreAllowed (listed main a)
 unfolding alone
 authority_allowed (Some v) a allowed = allowed
 authority_allowed None a allowed = allowed
@@ -61,7 +61,7 @@ track_allowed p allowed = allowed
 -- ---- reading
 
 -- what follows a number that is none of the known ones
-pub other_next : (n : ℕ) → is_other n ≡ true → track_numbered.next n ≡ raw_rest.fields
+pub other_next : (n : ℕ) → is_kept_number n ≡ true → track_numbered.next n ≡ raw_rest.fields
 other_next n other = grind (arith, other)
 
 -- a field is passed by its width

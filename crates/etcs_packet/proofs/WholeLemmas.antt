@@ -17,7 +17,7 @@ use Rattle.etcs_bits.proofs.FaultLemmas.{fault_is_given, fault_stays, none_stand
 use Rattle.etcs_packet.specs.declared.stop.Stop.{Stop}
 use Rattle.etcs_packet.specs.Lists.{IsHeaded, IsListFault, ends}
 use Rattle.etcs_packet.specs.Reading.{items_at, whole_at, whole_of}
-use Rattle.etcs_packet.specs.Whole.{start, BeginsWith, IsFollowed, IsWhole, IsWholeFault, NoneWhole}
+use Rattle.etcs_packet.specs.Whole.{start, BeginsWith, IsFollowed, HeadAndListStand, IsWholeFault, NoHeadAndListStands}
 use Rattle.etcs_packet.proofs.EndLemmas.{fault_past, next_within}
 use Rattle.etcs_packet.proofs.FollowLemmas.{follow_forward, follow_within, list_fault_stays}
 use Rattle.etcs_packet.proofs.ItemLemmas.{list_fault_is_read, read_is_list_fault}
@@ -45,7 +45,7 @@ of_bits stop head head_of item item_of bits = refl
 pub whole_is_read : {H X : Type 0} {header item : Fields} {head : H → List Row} {head_of : List Row → H}
     {rows : X → List Row} {item_of : List Row → X} → IsLayout header head head_of → IsLayout item rows item_of
     → (stop : Stop) (h : H) (xs : List X) (p q : Place) → IsHeaded item → p.at ≤ length p.bits
-    → IsWhole stop head rows h xs p q → whole_at stop header head_of item item_of p ≡ Ok ((h, xs), q)
+    → HeadAndListStand stop head rows h xs p q → whole_at stop header head_of item item_of p ≡ Ok ((h, xs), q)
 whole_is_read {header = header} {item = item} {head = head} {head_of = head_of} {item_of = item_of} head_laid laid stop h xs p q headed within w =
     let first = spelled_is_read header (head h) p w.middle within (head_laid.are_rows h) w.first in
     let more = stand_is_read laid xs stop w.middle q headed (next_within (head h) p w.middle within w.first) w.items in
@@ -56,19 +56,19 @@ whole_is_read {header = header} {item = item} {head = head} {head_of = head_of} 
 pub read_is_whole : {H X : Type 0} {header item : Fields} {head : H → List Row} {head_of : List Row → H}
     {rows : X → List Row} {item_of : List Row → X} → IsLayout header head head_of → IsLayout item rows item_of
     → (stop : Stop) (h : H) (xs : List X) (p q : Place) → IsHeaded item → p.at ≤ length p.bits
-    → whole_at stop header head_of item item_of p ≡ Ok ((h, xs), q) → IsWhole stop head rows h xs p q
+    → whole_at stop header head_of item item_of p ≡ Ok ((h, xs), q) → HeadAndListStand stop head rows h xs p q
 read_is_whole {H = H} {X = X} {header = header} {item = item} {head = head} {head_of = head_of} {rows = rows} {item_of = item_of} head_laid laid stop h xs p q headed within e =
     let a = bind_ok (rows_at header p) (then_items stop head_of item item_of) ((h, xs), q) (sym (both_at stop header head_of item item_of p) ∙ e) in
     let b = bind_ok (items_at stop item item_of a.0.1) (λ more. Ok ((head_of a.0.0, more.0), more.1)) ((h, xs), q) a.2 in
     let same = ok_is ((head_of a.0.0, b.0.0), b.0.1) ((h, xs), q) b.2 in
     let first = read_is_spelled header p a.0 within a.1 in
     let items = read_stands laid b.0.0 stop a.0.1 b.0.1 headed (next_within a.0.0 p a.0.1 within first.spelled) b.1 in
-    let made : IsWhole stop head rows (head_of a.0.0) b.0.0 p b.0.1 = record {
+    let made : HeadAndListStand stop head rows (head_of a.0.0) b.0.0 p b.0.1 = record {
       middle = a.0.1;
       first = rw (rows_again (record { fields = header; rows = head; of = head_of; laid = head_laid }) a.0.0 first.whole first.spelled.allowed) first.spelled;
       items = items;
     } in
-    subst (λ (y : (H × List X) × Place). IsWhole stop head rows y.0.0 y.0.1 p y.1) same made
+    subst (λ (y : (H × List X) × Place). HeadAndListStand stop head rows y.0.0 y.0.1 p y.1) same made
 
 -- A fault of a whole is read.
 pub whole_fault_is_read : {H X : Type 0} (head_of : List Row → H) (item_of : List Row → X) (stop : Stop)
@@ -141,7 +141,7 @@ whole_fault_stays stop header item p f bits headed within len same (inr t) =
 pub none_whole : {H X : Type 0} {header item : Fields} {head : H → List Row} {head_of : List Row → H}
     {rows : X → List Row} {item_of : List Row → X} → IsLayout header head head_of → IsLayout item rows item_of
     → (stop : Stop) (p : Place) (f : Fault) → IsHeaded item → p.at ≤ length p.bits
-    → IsWholeFault stop header item p f → NoneWhole stop head rows p f
+    → IsWholeFault stop header item p f → NoHeadAndListStands stop head rows p f
 none_whole {header = header} {item = item} {head_of = head_of} {item_of = item_of} head_laid laid stop p f headed within t =
     λ bits len same h xs to w.
     let there = place_in bits p.at in
@@ -175,7 +175,7 @@ whole_fails head_of item_of (errors.Fault f) stop header item p headed within t 
 pub none_of_whole : {H X : Type 0} {header item : Fields} {head : H → List Row} {head_of : List Row → H}
     {rows : X → List Row} {item_of : List Row → X} → IsLayout header head head_of → IsLayout item rows item_of
     → (e : DecodeError) (stop : Stop) (p : Place) → IsHeaded item → p.at ≤ length p.bits
-    → OfFault e (λ f. IsWholeFault stop header item p f) → OfFault e (λ f. NoneWhole stop head rows p f)
+    → OfFault e (λ f. IsWholeFault stop header item p f) → OfFault e (λ f. NoHeadAndListStands stop head rows p f)
 none_of_whole head_laid laid errors.Memory stop p headed within t = tt
 none_of_whole head_laid laid (errors.Fault f) stop p headed within t = none_whole head_laid laid stop p f headed within t
 

@@ -12,7 +12,7 @@ use Rattle.etcs_bits.specs.layout.RowLemmas.{allowed_first, allowed_second}
 use Rattle.etcs_packet.specs.declared.stop.Stop.{Stop}
 use Rattle.etcs_packet.specs.declared.stop.Stop.TheVariants as stops
 use Rattle.etcs_packet.specs.Lists.{IsHeaded, ends_short, ends, Stand}
-use Rattle.etcs_packet.specs.Whole.{start, IsWhole, BeginsWith, AreSpelled}
+use Rattle.etcs_packet.specs.Whole.{start, HeadAndListStand, BeginsWith, AreSpelled}
 use Rattle.etcs_packet.specs.Laws.{HasNoMark}
 use Rattle.etcs_packet.proofs.EndLemmas.{next_within}
 
@@ -194,7 +194,7 @@ pub whole_written : {H X : Type 0} (head : H → List Row) (rows : X → List Ro
     (stop : Stop) (item : Fields) (rest bits : List Bool) → IsHeaded item → HasNoMark item
     → ((x : X) → AreRowsOf item (rows x)) → AreAllowed (head h) → AreAllowed (flat_map rows xs)
     → ends stop (start rest) ≡ true → bits ≡ join (head h) ++ (join (flat_map rows xs) ++ rest)
-    → IsWhole stop head rows h xs (start bits) (place_in bits (length (join (head h)) + length (join (flat_map rows xs))))
+    → HeadAndListStand stop head rows h xs (start bits) (place_in bits (length (join (head h)) + length (join (flat_map rows xs))))
 whole_written head rows h xs stop item rest bits headed mark are_rows first allowed over is =
     let one = join (head h) in
     let next = is_next one (join (flat_map rows xs) ++ rest) (start bits) is in

@@ -55,10 +55,10 @@ pub record IsListFault (stop : Stop) (fields : Fields) (from : Place) (fault : F
   pub goes_on : ends stop reached ≡ false
   pub is_fault : IsFault fields reached fault
 
--- No input of the same length with the same first `end` bits has such a step here.
+-- No input of equal length with these first `end` bits has such a step here.
 abbrev pub NoStep : {X : Type 0} → Stop → (X → List Row) → Place → Fault → Type 0
 NoStep {X} stop rows = InAnyInput (λ p. (o : Option X) (to : Place) → IsStep stop rows o p to → ⊥)
 
--- No input of the same length with the same first `end` bits has such a list here.
+-- No input of equal length with these first `end` bits has such a list here.
 abbrev pub NoneStand : {X : Type 0} → Stop → (X → List Row) → Place → Fault → Type 0
 NoneStand {X} stop rows = InAnyInput (λ p. (xs : List X) (to : Place) → Stand stop rows xs p to → ⊥)

@@ -1,5 +1,5 @@
--- The numbers of packets (SUBSET-026, 7.4.2): those of packets whose layout is known here, that of
--- the end mark, and all others. Packets with the other numbers keep their bodies as bits.
+-- The numbers of packets (SUBSET-026, 7.4.2): seven have a layout that is known here, 255 is the end
+-- mark, and packets with any other number keep their bodies as bits.
 use Rattle.std.specs.Prelude.{ℕ, ◌==◌, ◌||◌, ◌&&◌, Bool, false, true, not}
 use Rattle.etcs_bits.specs.declared.layout.fault.FaultKind.TheVariants.{Spare}
 use Rattle.etcs_bits.specs.layout.Combined.{is_countable}
@@ -11,17 +11,17 @@ is_known n =
     (n == 0) || ((n == 5) || ((n == 12) || ((n == 15) || ((n == 21) || ((n == 27) || (n == 41))))))
 
 -- whether this is the number of a packet that is neither known nor the end mark
-abbrev pub is_other : ℕ → Bool
-is_other n = not (is_known n || (n == 255))
+abbrev pub is_kept_number : ℕ → Bool
+is_kept_number n = not (is_known n || (n == 255))
 
 -- Whether a packet of number `n` is kept as bits, and a body of `bits` bits is short enough for
 -- L_PACKET, which NID_PACKET and Q_DIR stand before.
 abbrev pub is_kept : ℕ → ℕ → Bool
-is_kept n bits = is_other n && is_countable 10 bits
+is_kept n bits = is_kept_number n && is_countable 10 bits
 
 -- NID_PACKET of a packet that is kept as bits; any other number is spare
 abbrev pub nid_raw : Variable
-nid_raw = record { width = 8; allows = is_other; refusal = Spare; closes = false }
+nid_raw = record { width = 8; allows = is_kept_number; refusal = Spare; closes = false }
 
 -- NID_PACKET of a packet in a list: any number but 255, the end mark. The list may end in its
 -- place.

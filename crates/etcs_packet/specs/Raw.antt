@@ -12,7 +12,7 @@ use Rattle.etcs_bits.specs.layout.Combined.{is_countable}
 use Rattle.etcs_bits.specs.variables.VariableFormats.{q_dir}
 use Rattle.etcs_bits.proofs.KeptLemmas.{kept_fit}
 use Rattle.etcs_packet.specs.declared.raw.RawPacket.{RawPacket}
-use Rattle.etcs_packet.specs.PacketNumbers.{is_other, is_kept, nid_raw}
+use Rattle.etcs_packet.specs.PacketNumbers.{is_kept_number, is_kept, nid_raw}
 use Rattle.etcs_packet.specs.FoundRaw.{raw, raw_by, raw_with}
 
 -- what follows NID_PACKET: Q_DIR, L_PACKET, the body
@@ -30,23 +30,23 @@ raw_back n dir body h false e = absurd (true≢false (sym h ∙ e))
 pub raw_again : (r : RawPacket) → raw_with r.number (r.dir, r.body) ≡ r
 raw_again r = raw_back r.number r.dir r.body r.kept (is_kept r.number (length r.body)) refl
 
--- and those that follow a number that is kept as bits are the parts of one
-pub raw_has : (n : ℕ) (p : Dir × List Bool) → is_other n ≡ true → AreAllowed (raw_rest.rows p)
+-- what follows a number that is kept as bits are the parts of a packet with that number
+pub raw_has : (n : ℕ) (p : Dir × List Bool) → is_kept_number n ≡ true → AreAllowed (raw_rest.rows p)
     → ((raw_with n p).number ≡ n) × (((raw_with n p).dir, (raw_with n p).body) ≡ p)
 raw_has n p other allowed =
     let few = kept_fit 10 p.1 (allowed_second (q_dir.rows p.0) ((kept_bits 10).rows p.1) allowed) in
     let made = raw_back n p.0 p.1 (rw (other, few) refl) (is_kept n (length p.1)) refl in
     subst (λ (r : RawPacket). (r.number ≡ n) × ((r.dir, r.body) ≡ p)) (sym made) (refl, refl)
 
-pub other_of : (n bits : ℕ) → is_kept n bits ≡ true → is_other n ≡ true
-other_of n bits kept = (and_parts (is_other n) (is_countable 10 bits) kept).0
+pub other_of : (n bits : ℕ) → is_kept n bits ≡ true → is_kept_number n ≡ true
+other_of n bits kept = (and_parts (is_kept_number n) (is_countable 10 bits) kept).0
 
 -- ---- the packet
 
 -- every number that is not known, and what follows it
 abbrev pub others : Choice RawPacket
 others =
-    of_others is_other raw_rest (λ r. r.number) (λ r. (r.dir, r.body)) raw_with
+    of_others is_kept_number raw_rest (λ r. r.number) (λ r. (r.dir, r.body)) raw_with
     (λ r. other_of r.number (length r.body) r.kept) raw_again raw_has
 
 abbrev pub raw_packet : Format RawPacket

@@ -1,4 +1,4 @@
--- The packets from track to train (SUBSET-026, 7.4.2): those whose layout is known, and all others.
+-- The packets from track to train (SUBSET-026, 7.4.2): packets whose layout is known, and all others.
 use Rattle.std.specs.Prelude.{◌≡◌, ℕ, ◌==◌, ◌||◌, ◌⊎◌, not, if◌then◌else◌, Bool, true, false, List, Option, Some, None, refl}
 use Rattle.std.proofs.Common.{ap, sym, ◌∙◌, inl, inr}
 use Rattle.std.proofs.lemmas.Bool.{ne_eqb, true≢false}
@@ -12,7 +12,7 @@ use Rattle.etcs_profile.specs.declared.speed.SpeedElement.{SpeedElement}
 use Rattle.etcs_profile.specs.Profile.{Profile}
 use Rattle.etcs_profile.specs.Packet.{rest, packet}
 use Rattle.etcs_profile.specs.Elements.{elements}
-use Rattle.etcs_profile.specs.Authority.{Permission, permission, WithMain, WithoutMain, with_main, without_main, level_1, level_2, numbered_by, authority}
+use Rattle.etcs_profile.specs.Authority.{AuthorityValue, authority_value, WithMain, WithoutMain, with_main, without_main, of_packet_12, of_packet_15, numbered_by, authority}
 use Rattle.etcs_profile.specs.Gradient.{gradient_element}
 use Rattle.etcs_profile.specs.Linking.{link}
 use Rattle.etcs_profile.specs.Speed.{speed_element}
@@ -27,12 +27,12 @@ use Rattle.etcs_packet.specs.PacketNumbers.{is_known, nid_track}
 use Rattle.etcs_packet.specs.RunningDirection.{is_for_run}
 
 -- NID_PACKET, and what follows it
-abbrev pub Numbered : Type 0
-Numbered =
+abbrev pub NumberedTrackPacket : Type 0
+NumberedTrackPacket =
     ℕ ⊎ ((Dir × Profile Link) ⊎ (WithMain ⊎ (WithoutMain ⊎ ((Dir × Profile GradientElement)
     ⊎ ((Dir × Profile SpeedElement) ⊎ ((Dir × Orders) ⊎ RawPacket))))))
 
-abbrev pub track_numbered : Choice Numbered
+abbrev pub track_numbered : Choice NumberedTrackPacket
 track_numbered =
     either 0 nid_vbcmk (
     either 5 (rest (elements link)) (
@@ -46,11 +46,11 @@ track_numbered =
 -- ---- the packet of a number with what follows
 -- Pinned by the law a_record_is_read_as_it_is_spelled.
 
-abbrev pub track_of : Numbered → TrackPacket
+abbrev pub track_of : NumberedTrackPacket → TrackPacket
 track_of (inl marker) = packets.Cover (record { marker = marker })
 track_of (inr (inl p)) = packets.Linking p
-track_of (inr (inr (inl p))) = packets.Authority (level_1 p)
-track_of (inr (inr (inr (inl p)))) = packets.Authority (level_2 p)
+track_of (inr (inr (inl p))) = packets.Authority (of_packet_12 p)
+track_of (inr (inr (inr (inl p)))) = packets.Authority (of_packet_15 p)
 track_of (inr (inr (inr (inr (inl p))))) = packets.Gradient p
 track_of (inr (inr (inr (inr (inr (inl p)))))) = packets.Speed p
 track_of (inr (inr (inr (inr (inr (inr (inl p))))))) = packets.Transition p
@@ -59,11 +59,11 @@ track_of (inr (inr (inr (inr (inr (inr (inr p))))))) = packets.Raw p
 -- ---- the number of a packet with what follows
 
 -- an authority's packet as one of them all
-abbrev pub authority_in : WithMain ⊎ WithoutMain → Numbered
+abbrev pub authority_in : WithMain ⊎ WithoutMain → NumberedTrackPacket
 authority_in (inl p) = inr (inr (inl p))
 authority_in (inr p) = inr (inr (inr (inl p)))
 
-abbrev pub parts_of : TrackPacket → Numbered
+abbrev pub parts_of : TrackPacket → NumberedTrackPacket
 parts_of (packets.Cover p) = inl p.marker
 parts_of (packets.Linking p) = inr (inl p)
 parts_of (packets.Authority p) = authority_in (numbered_by p.main p)
@@ -72,12 +72,12 @@ parts_of (packets.Speed p) = inr (inr (inr (inr (inr (inl p)))))
 parts_of (packets.Transition p) = inr (inr (inr (inr (inr (inr (inl p))))))
 parts_of (packets.Raw p) = inr (inr (inr (inr (inr (inr (inr p))))))
 
-pub back : (n : Numbered) → parts_of (track_of n) ≡ n
+pub back : (n : NumberedTrackPacket) → parts_of (track_of n) ≡ n
 back (inr (inr (inr (inr (inr (inr (inr p))))))) = refl
 back n = refl
 
-pub authority_again : (main : Option ℕ) (a : Permission)
-    → track_of (authority_in (numbered_by main a)) ≡ packets.Authority (permission a.dir a.scale main a.terms)
+pub authority_again : (main : Option ℕ) (a : AuthorityValue)
+    → track_of (authority_in (numbered_by main a)) ≡ packets.Authority (authority_value a.dir a.scale main a.terms)
 authority_again (Some v) a = refl
 authority_again None a = refl
 
@@ -113,7 +113,7 @@ all_but_the_end n =
 abbrev pub track_packet : Format TrackPacket
 track_packet = named (chosen nid_track track_numbered all_but_the_end) track_of parts_of back again
 
--- the rows of a packet by itself, which have the same bits
+-- the rows of a packet by itself, which have the bits that it has in a list
 abbrev pub own_rows : TrackPacket → List Row
 own_rows (packets.Cover p) = cover_marker.rows p
 own_rows (packets.Linking p) = (packet 5 (elements link)).rows p

@@ -1,6 +1,5 @@
--- A whole: a head and the list of packets after it. In a telegram the head is the header
--- (SUBSET-026, 8.4.2). In a radio message the head is the message's own fields (SUBSET-026, 8.6 and
--- 8.7).
+-- A head and the list of packets after it. In a telegram the head is the header (SUBSET-026, 8.4.2). In
+-- a radio message the head is the message's own fields (SUBSET-026, 8.6 and 8.7).
 use Rattle.std.specs.Prelude.{◌≡◌, ◌⊎◌, List, Bool, true, false, ◌++◌}
 use Rattle.std.specs.List.{flat_map}
 use Rattle.etcs_bits.specs.declared.layout.fault.Fault.{Fault}
@@ -14,8 +13,8 @@ use Rattle.etcs_packet.specs.Lists.{ends, Stand, IsListFault}
 abbrev pub start : List Bool → Place
 start bits = record { bits = bits; at = 0 }
 
--- The head stands here. The records stand after it, up to the place where their list ends.
-pub record IsWhole {H X : Type 0} (stop : Stop) (head : H → List Row) (rows : X → List Row)
+-- The head stands at `from`. The records stand after it, up to `to`, where their list ends.
+pub record HeadAndListStand {H X : Type 0} (stop : Stop) (head : H → List Row) (rows : X → List Row)
     (h : H) (xs : List X) (from to : Place) : Type 0 where
   pub middle : Place
   pub first : IsSpelled (head h) from middle
@@ -33,7 +32,7 @@ pub record IsFollowed {H : Type 0} (stop : Stop) (head : H → List Row) (from :
 pub record BeginsWith {H X : Type 0} (stop : Stop) (head : H → List Row) (rows : X → List Row)
     (h : H) (xs : List X) (bits : List Bool) : Type 0 where
   pub end : Place
-  pub whole : IsWhole stop head rows h xs (start bits) end
+  pub whole : HeadAndListStand stop head rows h xs (start bits) end
 
 -- The bits are the spelling of this head, the spellings of these records, and a rest. A list ends
 -- where the rest begins.
@@ -60,7 +59,7 @@ abbrev pub IsWholeFault : Stop → Fields → Fields → Place → Fault → Typ
 IsWholeFault stop head item from fault =
     IsFault head from fault ⊎ IsLaterFault stop head item from fault
 
--- No input of the same length with the same first `end` bits has such a whole here.
-abbrev pub NoneWhole : {H X : Type 0} → Stop → (H → List Row) → (X → List Row) → Place → Fault → Type 0
-NoneWhole {H} {X} stop head rows =
-    InAnyInput (λ p. (h : H) (xs : List X) (to : Place) → IsWhole stop head rows h xs p to → ⊥)
+-- No input of equal length with these first `end` bits has a head and its list here.
+abbrev pub NoHeadAndListStands : {H X : Type 0} → Stop → (H → List Row) → (X → List Row) → Place → Fault → Type 0
+NoHeadAndListStands {H} {X} stop head rows =
+    InAnyInput (λ p. (h : H) (xs : List X) (to : Place) → HeadAndListStand stop head rows h xs p to → ⊥)

@@ -13,7 +13,7 @@ ghost use Rattle.etcs_packet.specs.Lists.{IsHeaded, IsListFault, NoneStand, Stan
 ghost use Rattle.etcs_packet.specs.Reading.{items_at, whole_at, whole_of};
 ghost use Rattle.etcs_packet.specs.Track.{own_rows, track_packet};
 ghost use Rattle.etcs_packet.specs.declared.track.TrackPacket.{TrackPacket};
-ghost use Rattle.etcs_packet.specs.Whole.{AreSpelled, BeginsWith, IsWhole, IsWholeFault, NoneWhole, start};
+ghost use Rattle.etcs_packet.specs.Whole.{AreSpelled, BeginsWith, HeadAndListStand, IsWholeFault, NoHeadAndListStands, start};
 
 use crate::stop::Stop;
 use etcs_bits::Layout;
@@ -55,7 +55,7 @@ pub fn a_list_is_its_spellings<T: Layout>()
         → IsSpelled (flat_map T.format.rows xs) p q × (ends stop q ≡ true) }
 {}
 
-/// Reading a list reports a fault exactly where the list has that fault. So a place has at most one
+/// Reading a list answers a fault exactly where the list has that fault. So a place has at most one
 /// fault.
 pub fn a_list_fault_is_read<T: Layout>()
     requires { IsHeaded T.format.fields }
@@ -94,11 +94,11 @@ pub fn written_packets_are_a_list<T: Layout>()
         }) }
 {}
 
-/// A whole stands exactly where reading gives it. Both end at the same place.
+/// A head and its list stand exactly where reading gives them, and end at the place where reading ends.
 pub fn a_whole_is_read<H: Layout, T: Layout>()
     requires { IsHeaded T.format.fields }
     ensures { (stop : Stop) (h : H) (xs : List T) (p q : Place) → p.at ≤ length p.bits
-        → IsWhole stop H.format.rows T.format.rows h xs p q
+        → HeadAndListStand stop H.format.rows T.format.rows h xs p q
         ↔ (whole_at stop H.format.fields H.format.of T.format.fields T.format.of p ≡ Ok ((h, xs), q)) }
 {}
 
@@ -110,7 +110,7 @@ pub fn bits_begin_with_one_whole<H: Layout, T: Layout>()
         → BeginsWith stop H.format.rows T.format.rows k ys bits → (h ≡ k) × (xs ≡ ys) }
 {}
 
-/// Reading a whole reports a fault exactly where the whole has that fault.
+/// Reading a whole answers a fault exactly where the whole has that fault.
 pub fn a_whole_fault_is_read<H: Layout, T: Layout>()
     requires { IsHeaded T.format.fields }
     ensures { (stop : Stop) (p : Place) (f : Fault) → p.at ≤ length p.bits
@@ -130,13 +130,13 @@ pub fn bits_are_read_as_they_begin<H: Layout, T: Layout>()
         ↔ (whole_of stop H.format.fields H.format.of T.format.fields T.format.of bits ≡ Err f) }
 {}
 
-/// A place with a whole's fault has no whole. This holds in every input of the same length with the
+/// A place with the fault of a head and its list has none. This holds in every input of the same length with the
 /// same first `end` bits.
 pub fn a_whole_fault_means_no_whole<H: Layout, T: Layout>()
     requires { IsHeaded T.format.fields }
     ensures { (stop : Stop) (p : Place) (f : Fault) → p.at ≤ length p.bits
         → IsWholeFault stop H.format.fields T.format.fields p f
-        → NoneWhole stop H.format.rows T.format.rows p f }
+        → NoHeadAndListStands stop H.format.rows T.format.rows p f }
 {}
 
 /// Bits that begin with a head and a list consist of their spellings and a rest. A list ends where
@@ -161,7 +161,7 @@ pub fn what_is_written_is_read_back<H: Layout, T: Layout>()
         → whole_of stop H.format.fields H.format.of T.format.fields T.format.of bits ≡ Ok (h, xs) }
 {}
 
-/// A packet from track to train has the same bits as one of a list and by its own layout.
+/// A packet from track to train has the same bits in a list and by its own layout.
 pub fn a_packet_of_a_list_is_spelled_as_by_itself()
     ensures { (p : TrackPacket) → join (track_packet.rows p) ≡ join (own_rows p) }
 {}

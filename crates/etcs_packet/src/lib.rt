@@ -9,8 +9,8 @@
 //!
 //! Below them are calls that take any record whose table of fields begins with NID_PACKET.
 //! [`read_items`] reads all packets of a list, and [`write_items`] writes packets. [`scan_number`]
-//! reads NID_PACKET of one. [`next_whole`] also reads the head before the packets. A [`Stop`] says where a list ends. All these calls rest on
-//! the contract of [`etcs_bits::Layout`].
+//! reads NID_PACKET of one. [`next_whole`] also reads the head before the packets. A [`Stop`] says
+//! where a list ends. All these calls rest on the contract of [`etcs_bits::Layout`].
 //!
 //! Read `track.rt` and `packets.rt` first, with `specs/Track.antt`. Then read `view.rt` with
 //! `specs/View.antt`, `list.rt` with `specs/Lists.antt`, and `whole.rt` with `specs/Whole.antt`. The

@@ -33,7 +33,7 @@ pub(crate) fn is_end(cur: &Cursor<'_>, stop: Stop) -> bool
 // Reads the packet at the cursor. The cursor then stands after the packet. The result is `None`
 // where the list ends.
 //
-// A reported fault is the first one of the packet that is due. No input of the same length with
+// An answered fault is the first one of the packet that is due. No input of the same length with
 // the same first `end` bits has a packet or the end of the list at this place. Fewer than eight
 // bits in a telegram are a NoEnd fault. If memory runs out, a fault may go unseen. After an error
 // the cursor stands where it stood.
@@ -49,7 +49,7 @@ fn next_item<T: Layout>(
     ensures none { IfFault result (λ f. NoStep stop T.format.rows cur.old f) }
     ensures err { OnErr result (cur.new ≡ cur.old) }
 
-    // This NoEnd fault is always reported: finding it takes no memory.
+    // This NoEnd fault is always answered: finding it takes no memory.
     ensures no_end { stop ≡ Stop.Telegram → length cur.old.bits < cur.old.at + 8
         → result ≡ Err (DecodeError.Fault (lack true cur.old)) }
 
@@ -80,7 +80,7 @@ fn append<T: Drop>(found: &mut Vec<T>, item: T) -> Result<(), Memory>
 /// Reads the packets from the cursor up to the end of the list. The cursor then stands at that end:
 /// at the end mark, or at the bits that are left.
 ///
-/// A reported fault is the first one of the list. No input of the same length with the same first
+/// An answered fault is the first one of the list. No input of the same length with the same first
 /// `end` bits has a list at this place. If memory runs out, a fault may go unseen. After an error
 /// the cursor stands where it stood.
 pub fn read_items<T: Layout>(
@@ -95,11 +95,11 @@ pub fn read_items<T: Layout>(
     ensures none { IfFault result (λ f. NoneStand stop T.format.rows cur.old f) }
     ensures err { OnErr result (cur.new ≡ cur.old) }
 
-    // The same result, as a function of the bits.
+    // The result, as a function of the bits.
     ensures exact { Gives (λ v. v.items) result
         (items_at stop T.format.fields T.format.of cur.old) cur.new }
 
-    // This NoEnd fault is always reported: finding it takes no memory.
+    // This NoEnd fault is always answered: finding it takes no memory.
     ensures no_end { stop ≡ Stop.Telegram → length cur.old.bits < cur.old.at + 8
         → result ≡ Err (DecodeError.Fault (lack true cur.old)) }
 

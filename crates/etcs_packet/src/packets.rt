@@ -22,7 +22,7 @@ use std::alloc::Global;
 /// Reads a view of the packet at the cursor. The cursor then stands after the packet. The result is
 /// `None` where the list ends.
 ///
-/// A reported fault is the first one of the packet that is due. No input of the same length with
+/// An answered fault is the first one of the packet that is due. No input of the same length with
 /// the same first `end` bits has a packet or the end of the list at this place. Fewer than eight
 /// bits in a telegram are a NoEnd fault. If memory runs out, a fault may go unseen. After an error
 /// the cursor stands where it stood. See SUBSET-026, 7.4.2 and 8.4.
@@ -37,14 +37,14 @@ pub fn next_view<'a>(
     ensures none { IfFault result (λ f. NoStep stop track_packet.rows cur.old f) }
     ensures err { OnErr result (cur.new ≡ cur.old) }
 
-    // This NoEnd fault is always reported: finding it takes no memory.
+    // This NoEnd fault is always answered: finding it takes no memory.
     ensures no_end { stop ≡ Stop.Telegram → length cur.old.bits < cur.old.at + 8
         → result ≡ Err (DecodeError.Fault (lack true cur.old)) }
 
     // Memory is asked for only where a known packet that holds a list is due.
     ensures memory { IfMemory result (grows_at cur.old ≡ true) }
 
-    // And only where Q_DIR, which follows NID_PACKET, has no fault.
+    // Memory is asked for only where Q_DIR, which follows NID_PACKET, has no fault.
     ensures direction { IfMemory result (IsOk (rows_at q_dir.fields (forward cur.old 8))) }
 {
     if is_end(cur, stop) {
@@ -59,7 +59,7 @@ pub fn next_view<'a>(
 /// Reads the packets from the cursor up to the end of their list. The cursor then stands at that
 /// end: at the end mark, or at the bits that are left.
 ///
-/// A reported fault is the first one of the list. No input of the same length with the same first
+/// An answered fault is the first one of the list. No input of the same length with the same first
 /// `end` bits has a list at this place. If memory runs out, a fault may go unseen. After an error
 /// the cursor stands where it stood. See SUBSET-026, 7.4.2 and 8.4.
 pub fn read_packets(
@@ -73,10 +73,10 @@ pub fn read_packets(
     ensures none { IfFault result (λ f. NoneStand stop track_packet.rows cur.old f) }
     ensures err { OnErr result (cur.new ≡ cur.old) }
 
-    // The same result, as a function of the bits.
+    // The result, as a function of the bits.
     ensures exact { Gives (λ v. v.items) result (items_at stop track_packet.fields track_packet.of cur.old) cur.new }
 
-    // This NoEnd fault is always reported: finding it takes no memory.
+    // This NoEnd fault is always answered: finding it takes no memory.
     ensures no_end { stop ≡ Stop.Telegram → length cur.old.bits < cur.old.at + 8
         → result ≡ Err (DecodeError.Fault (lack true cur.old)) }
 

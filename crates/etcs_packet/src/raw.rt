@@ -4,7 +4,7 @@ ghost use Rattle.std.specs.Prelude.{◌≡◌, ◌≤◌, length, true, IfOk, If
 ghost use Rattle.etcs_bits.specs.layout.Combined.{is_countable};
 ghost use Rattle.etcs_bits.specs.layout.Reading.{rows_at};
 ghost use Rattle.etcs_bits.specs.layout.Results.{Gives, IfMemory};
-ghost use Rattle.etcs_packet.specs.PacketNumbers.{is_kept, is_other};
+ghost use Rattle.etcs_packet.specs.PacketNumbers.{is_kept, is_kept_number};
 
 use crate::track::has_layout;
 use etcs_bits::{
@@ -32,7 +32,7 @@ impl RawPacket {
     /// is known nor that of the end mark.
     #[inline]
     pub fn has_number(number: u64) -> bool
-        ensures { result ≡ is_other number }
+        ensures { result ≡ is_kept_number number }
     {
         number != 255 && !has_layout(number)
     }
@@ -55,7 +55,7 @@ impl RawPacket {
     /// The number of the packet: NID_PACKET.
     pub fn number(&self) -> u8
         ensures number { result ≡ self.now.number }
-        ensures other { is_other result ≡ true }
+        ensures other { is_kept_number result ≡ true }
     {
         self.number
     }

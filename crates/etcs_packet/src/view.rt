@@ -1,4 +1,4 @@
-//! Packets as views: those that are kept as bits with their bodies borrowed.
+//! Packets as views: a packet that is kept as bits borrows its body.
 
 ghost use Rattle.std.specs.Prelude.{◌≡◌, true, IfOk, IsOk};
 ghost use Rattle.etcs_bits.specs.layout.Results.{IfMemory};

@@ -5,7 +5,7 @@ ghost use Rattle.etcs_bits.specs.declared.layout.fault.Fault.{Fault};
 ghost use Rattle.etcs_bits.specs.layout.Fault.{IsFault};
 ghost use Rattle.etcs_bits.specs.layout.Results.{Gives, IfFault, IfMemory};
 ghost use Rattle.etcs_packet.specs.Lists.{IsHeaded};
-ghost use Rattle.etcs_packet.specs.Whole.{IsFollowed, IsWhole, IsWholeFault, NoneWhole};
+ghost use Rattle.etcs_packet.specs.Whole.{IsFollowed, HeadAndListStand, IsWholeFault, NoHeadAndListStands};
 ghost use Rattle.etcs_packet.specs.Reading.{whole_at};
 
 use crate::list::read_items;
@@ -16,7 +16,7 @@ use std::alloc::Global;
 /// Reads the head at the cursor and the packets after it. The cursor then stands where the packets
 /// end: at the end mark, or at the bits that are left.
 ///
-/// A reported fault is the first one of the head and the packets. No input of the same length with
+/// An answered fault is the first one of the head and the packets. No input of the same length with
 /// the same first `end` bits has such a head and packets at this place. If memory runs out, a fault
 /// may go unseen. After an error the cursor stands where it stood.
 pub fn next_whole<H: Layout, T: Layout>(
@@ -25,17 +25,17 @@ pub fn next_whole<H: Layout, T: Layout>(
     stop: Stop,
 ) -> Result<(H, Vec<T>), DecodeError>
     requires { IsHeaded T.format.fields }
-    ensures ok { IfOk result (λ w. IsWhole stop H.format.rows T.format.rows w.0 w.1.items cur.old cur.new) }
+    ensures ok { IfOk result (λ w. HeadAndListStand stop H.format.rows T.format.rows w.0 w.1.items cur.old cur.new) }
 
     ensures fault { IfFault result (λ f. IsWholeFault stop H.format.fields T.format.fields cur.old f) }
-    ensures none { IfFault result (λ f. NoneWhole stop H.format.rows T.format.rows cur.old f) }
+    ensures none { IfFault result (λ f. NoHeadAndListStands stop H.format.rows T.format.rows cur.old f) }
     ensures err { OnErr result (cur.new ≡ cur.old) }
 
-    // The same result, as a function of the bits.
+    // The result, as a function of the bits.
     ensures exact { Gives (λ w. (w.0, w.1.items)) result
         (whole_at stop H.format.fields H.format.of T.format.fields T.format.of cur.old) cur.new }
 
-    // A fault of a head that holds no list is always reported: reading such a head takes no memory.
+    // A fault of a head that holds no list is always answered: reading such a head takes no memory.
     ensures head { (H.grows → ⊥) → (f : Fault) → IsFault H.format.fields cur.old f
         → result ≡ Err (DecodeError.Fault f) }
 

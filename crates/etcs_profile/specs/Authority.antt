@@ -13,19 +13,19 @@ use Rattle.etcs_profile.specs.declared.danger_point.DangerPoint.{DangerPoint}
 use Rattle.etcs_profile.specs.declared.overlap.Overlap.{Overlap}
 use Rattle.etcs_profile.specs.Packet.{rest}
 use Rattle.etcs_profile.specs.Reach.{scale_factor}
-use Rattle.etcs_profile.specs.Terms.{Conditions, terms}
+use Rattle.etcs_profile.specs.Terms.{TermsValue, terms}
 
 -- a movement authority, as contracts see it: Q_DIR, Q_SCALE, V_MAIN if the packet is 12, and the
 -- conditions
-pub record Permission : Type 0 where
+pub record AuthorityValue : Type 0 where
   pub dir : Dir
   pub scale : Scale
   pub main : Option ℕ
-  pub terms : Conditions
+  pub terms : TermsValue
 
--- a permission made of these parts
-abbrev pub permission : Dir → Scale → Option ℕ → Conditions → Permission
-permission dir scale main terms =
+-- an authority made of these parts
+abbrev pub authority_value : Dir → Scale → Option ℕ → TermsValue → AuthorityValue
+authority_value dir scale main terms =
     record { dir = dir; scale = scale; main = main; terms = terms }
 
 -- V_MAIN, 7 bits: how fast the signal lets a train run, in steps of 5 km/h, 0 to 120
@@ -34,74 +34,74 @@ v_main = ranges 7 120 128
 
 -- what follows NID_PACKET in packet 12: Q_DIR, L_PACKET, Q_SCALE, V_MAIN, the conditions
 abbrev pub WithMain : Type 0
-WithMain = Dir × (Scale × (ℕ × Conditions))
+WithMain = Dir × (Scale × (ℕ × TermsValue))
 
 abbrev pub with_main : Format WithMain
 with_main = rest (q_scale then v_main then terms)
 
 -- what follows NID_PACKET in packet 15: Q_DIR, L_PACKET, Q_SCALE, the conditions
 abbrev pub WithoutMain : Type 0
-WithoutMain = Dir × (Scale × Conditions)
+WithoutMain = Dir × (Scale × TermsValue)
 
 abbrev pub without_main : Format WithoutMain
 without_main = rest (q_scale then terms)
 
 -- NID_PACKET, 8 bits: 12 or 15, and what follows each; any other number is spare
-abbrev pub numbered : Choice (WithMain ⊎ WithoutMain)
-numbered = either 12 with_main (last 15 without_main) refl
+abbrev pub authority_numbered : Choice (WithMain ⊎ WithoutMain)
+authority_numbered = either 12 with_main (last 15 without_main) refl
 
 abbrev pub authority_variable : Variable
-authority_variable = record { width = 8; allows = numbered.allows; refusal = Spare; closes = false }
+authority_variable = record { width = 8; allows = authority_numbered.allows; refusal = Spare; closes = false }
 
--- ---- from a packet to its permission, and back
+-- ---- from a packet to its authority, and back
 
-abbrev pub level_1 : WithMain → Permission
-level_1 p = permission p.0 p.1.0 (Some p.1.1.0) p.1.1.1
+abbrev pub of_packet_12 : WithMain → AuthorityValue
+of_packet_12 p = authority_value p.0 p.1.0 (Some p.1.1.0) p.1.1.1
 
-abbrev pub level_2 : WithoutMain → Permission
-level_2 p = permission p.0 p.1.0 None p.1.1
+abbrev pub of_packet_15 : WithoutMain → AuthorityValue
+of_packet_15 p = authority_value p.0 p.1.0 None p.1.1
 
-abbrev pub numbered_by : Option ℕ → Permission → WithMain ⊎ WithoutMain
+abbrev pub numbered_by : Option ℕ → AuthorityValue → WithMain ⊎ WithoutMain
 numbered_by (Some v) a = inl (a.dir, (a.scale, (v, a.terms)))
 numbered_by None a = inr (a.dir, (a.scale, a.terms))
 
-abbrev pub numbered_of : Permission → WithMain ⊎ WithoutMain
+abbrev pub numbered_of : AuthorityValue → WithMain ⊎ WithoutMain
 numbered_of a = numbered_by a.main a
 
--- ---- a permission of either packet
+-- ---- an authority of either packet
 -- Pinned by the law a_record_is_read_as_it_is_spelled.
 
-abbrev pub permission_of : WithMain ⊎ WithoutMain → Permission
-permission_of (inl p) = level_1 p
-permission_of (inr p) = level_2 p
+abbrev pub authority_of_parts : WithMain ⊎ WithoutMain → AuthorityValue
+authority_of_parts (inl p) = of_packet_12 p
+authority_of_parts (inr p) = of_packet_15 p
 
-pub back : (p : WithMain ⊎ WithoutMain) → numbered_of (permission_of p) ≡ p
+pub back : (p : WithMain ⊎ WithoutMain) → numbered_of (authority_of_parts p) ≡ p
 back (inl p) = refl
 back (inr p) = refl
 
-pub again_by : (main : Option ℕ) (a : Permission) → permission_of (numbered_by main a) ≡ permission a.dir a.scale main a.terms
+pub again_by : (main : Option ℕ) (a : AuthorityValue) → authority_of_parts (numbered_by main a) ≡ authority_value a.dir a.scale main a.terms
 again_by (Some v) a = refl
 again_by None a = refl
 
-pub again : (a : Permission) → permission_of (numbered_of a) ≡ a
+pub again : (a : AuthorityValue) → authority_of_parts (numbered_of a) ≡ a
 again a = again_by a.main a
 
 -- ---- the record
 
 -- a movement authority
-abbrev pub authority : Format Permission
+abbrev pub authority : Format AuthorityValue
 authority =
-    named (chosen authority_variable numbered (λ _. refl)) permission_of numbered_of back again
+    named (chosen authority_variable authority_numbered (λ _. refl)) authority_of_parts numbered_of back again
 
 -- NID_PACKET: 12 if the packet has V_MAIN, else 15
-abbrev pub authority_number : Permission → ℕ
-authority_number a = numbered.number (numbered_of a)
+abbrev pub authority_number : AuthorityValue → ℕ
+authority_number a = authority_numbered.number (numbered_of a)
 
 -- ---- how far the train may run
 
 -- the distance to the end of the authority, in decimetres, from the balise group that sends packet
 -- 12, and from the LRBG of the message that has packet 15
-abbrev pub authority_end : Permission → ℕ
+abbrev pub authority_end : AuthorityValue → ℕ
 authority_end a =
     scale_factor a.scale * (sum_by (λ s. s.length) a.terms.sections + a.terms.l_endsection)
 
@@ -113,10 +113,10 @@ beyond_end (Some danger_point) None = danger_point.distance
 beyond_end None None = 0
 
 -- the distance to the supervised location, in decimetres, from where the authority counts
-abbrev pub authority_limit : Permission → ℕ
+abbrev pub authority_limit : AuthorityValue → ℕ
 authority_limit a =
     authority_end a + scale_factor a.scale * beyond_end a.terms.danger_point a.terms.overlap
 
 -- the packet has more bits than L_PACKET, 13 bits, can count
-abbrev pub IsAuthorityTooLong : Permission → Type 0
+abbrev pub IsAuthorityTooLong : AuthorityValue → Type 0
 IsAuthorityTooLong a = 8191 < width (authority.rows a)

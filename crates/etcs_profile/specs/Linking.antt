@@ -1,11 +1,12 @@
--- Packet 5, linking (SUBSET-026, 3.4.4 and 7.4.2): which balise groups come next, and where.
+-- A link of packet 5, linking: a balise group ahead, and where it is (SUBSET-026, 3.4.4 and 7.4.2). The
+-- body of the packet is `elements link`.
 use Rattle.std.specs.Prelude.{ℕ, Bool, Option, refl}
 use Rattle.etcs_bits.specs.layout.Format.{Format, number, ranges, flag, ◌then◌, if_there, struct}
 use Rattle.etcs_bits.specs.layout.Struct.{Struct, two_ways}
 use Rattle.etcs_bits.specs.variables.VariableFormats.{nid_c, nid_bg}
 use Rattle.etcs_profile.specs.declared.linking.Link.{Link}
 
--- D_LINK, 15 bits: the distance from the group before
+-- D_LINK, 15 bits: the distance from the group of the link before, or from where the packet is measured
 abbrev pub d_link : Format ℕ
 d_link = number 15
 

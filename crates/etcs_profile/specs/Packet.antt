@@ -9,7 +9,8 @@ use Rattle.etcs_bits.specs.variables.VariableFormats.{q_dir}
 abbrev pub nid_packet : ℕ → Format (Unit {0})
 nid_packet k = fixed 8 k Spare
 
--- what follows NID_PACKET: Q_DIR, L_PACKET, the body
+-- what follows NID_PACKET: Q_DIR, L_PACKET, the body; L_PACKET counts the 10 bits of NID_PACKET and
+-- Q_DIR too
 abbrev pub rest : {X : Type 0} → Format X → Format (Dir × X)
 rest body = q_dir then behind_length 10 body
 

@@ -24,7 +24,7 @@ l_endsection = number 15
 
 -- the speed at the end, how long it is allowed, the sections, the end section and its two timers,
 -- the danger point and the overlap
-pub record Conditions : Type 0 where
+pub record TermsValue : Type 0 where
   pub end_speed : ℕ
   pub end_timeout : ℕ
   pub sections : List Section
@@ -35,9 +35,9 @@ pub record Conditions : Type 0 where
   pub overlap : Option Overlap
 
 -- conditions made of these parts
-abbrev pub conditions : ℕ → ℕ → List Section → ℕ → Option SectionTimer → Option EndTimer
-    → Option DangerPoint → Option Overlap → Conditions
-conditions end_speed end_timeout sections l_endsection section_timer end_timer danger_point overlap = record {
+abbrev pub terms_value : ℕ → ℕ → List Section → ℕ → Option SectionTimer → Option EndTimer
+    → Option DangerPoint → Option Overlap → TermsValue
+terms_value end_speed end_timeout sections l_endsection section_timer end_timer danger_point overlap = record {
   end_speed = end_speed;
   end_timeout = end_timeout;
   sections = sections;
@@ -50,17 +50,17 @@ conditions end_speed end_timeout sections l_endsection section_timer end_timer d
 
 -- conditions, and their fields in order
 abbrev pub conditions_struct : Struct (ℕ × (ℕ × (List Section × (ℕ × (Option SectionTimer
-    × (Option EndTimer × (Option DangerPoint × Option Overlap))))))) Conditions
+    × (Option EndTimer × (Option DangerPoint × Option Overlap))))))) TermsValue
 conditions_struct =
     two_ways
-    (λ p. conditions p.0 p.1.0 p.1.1.0 p.1.1.1.0
+    (λ p. terms_value p.0 p.1.0 p.1.1.0 p.1.1.1.0
     p.1.1.1.1.0 p.1.1.1.1.1.0 p.1.1.1.1.1.1.0 p.1.1.1.1.1.1.1)
     (λ c. (c.end_speed, (c.end_timeout, (c.sections, (c.l_endsection, (c.section_timer, (c.end_timer, (c.danger_point, c.overlap))))))))
     (λ _. refl) (λ _. refl)
 
 -- The conditions. N_ITER counts the sections before the end section. Four qualifiers of one bit say
 -- what follows of the last four parts: Q_SECTIONTIMER, Q_ENDTIMER, Q_DANGERPOINT and Q_OVERLAP.
-abbrev pub terms : Format Conditions
+abbrev pub terms : Format TermsValue
 terms =
     struct conditions_struct
     (v_loa

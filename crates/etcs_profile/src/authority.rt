@@ -38,12 +38,12 @@ enum ByLevel {
 }
 
 impl Model for Authority {
-    ghost use Rattle.etcs_profile.specs.Authority.{Permission};
-    ghost use Rattle.etcs_profile.specs.AuthorityView.{permission_in};
+    ghost use Rattle.etcs_profile.specs.Authority.{AuthorityValue};
+    ghost use Rattle.etcs_profile.specs.AuthorityView.{authority_of_view};
 
-    ghost Value = { Permission };
+    ghost Value = { AuthorityValue };
 
-    ghost view = { λ a. permission_in a.packet };
+    ghost view = { λ a. authority_of_view a.packet };
 }
 
 // Reads Q_DIR, and what follows it. After an error the cursor may stand anywhere.
@@ -74,8 +74,8 @@ fn length_of(sections: &[Section]) -> u64
 
 impl Authority {
     ghost use Rattle.etcs_bits.specs.layout.Rows.{width};
-    ghost use Rattle.etcs_profile.specs.Terms.{conditions};
-    ghost use Rattle.etcs_profile.specs.Authority.{permission, authority, authority_end, authority_limit, IsAuthorityTooLong};
+    ghost use Rattle.etcs_profile.specs.Terms.{terms_value};
+    ghost use Rattle.etcs_profile.specs.Authority.{authority_value, authority, authority_end, authority_limit, IsAuthorityTooLong};
     ghost use Rattle.etcs_profile.specs.Built.{IsBuilt};
 
     /// Makes a movement authority of these parts: packet 12 if there is a `main` speed, else packet
@@ -97,10 +97,10 @@ impl Authority {
         overlap: Option<Overlap>,
     ) -> Result<Authority, BuildError>
         ensures { IsBuilt result
-            (permission dir scale main (conditions end_speed end_timeout sections.items
+            (authority_value dir scale main (terms_value end_speed end_timeout sections.items
             l_endsection section_timer end_timer danger_point overlap))
             (31 < length sections.items)
-            (IsAuthorityTooLong (permission dir scale main (conditions end_speed end_timeout
+            (IsAuthorityTooLong (authority_value dir scale main (terms_value end_speed end_timeout
             sections.items l_endsection section_timer end_timer danger_point overlap))) }
     {
         if 31 < sections.len() {
@@ -122,8 +122,8 @@ impl Authority {
     // The packet of these parts. None if it has more than 8,191 bits.
     #[tactic(auto, unfolding(etcs_bits::specs::layout::Rows::alone))]
     fn of(dir: Dir, scale: Scale, main: Option<Speed>, terms: Terms) -> Option<Authority>
-        ensures some { IfSome result (λ a. a ≡ permission dir scale main terms) }
-        ensures few { IsSome result ↔ (width (authority.rows (permission dir scale main terms)) ≤ 8191) }
+        ensures some { IfSome result (λ a. a ≡ authority_value dir scale main terms) }
+        ensures few { IsSome result ↔ (width (authority.rows (authority_value dir scale main terms)) ≤ 8191) }
     {
         match main {
             Some(main) => {
@@ -266,14 +266,14 @@ impl Authority {
 impl Authority {
     ghost use Rattle.std.specs.Prelude.{IsTrue};
     ghost use Rattle.etcs_bits.specs.layout.Choice.{chosen_at, numbered_rows};
-    ghost use Rattle.etcs_profile.specs.Authority.{numbered, numbered_of};
+    ghost use Rattle.etcs_profile.specs.Authority.{authority_numbered, numbered_of};
 
     /// Reads what follows NID_PACKET, whose number is 12 or 15. After an error the cursor may stand
     /// anywhere.
     pub fn scan_rest(alloc: Global, number: u64, cur: &mut Cursor<'_>) -> Result<Self, DecodeError>
-        requires { IsTrue (numbered.allows number) }
-        ensures gives { Gives (λ a. numbered_rows numbered (numbered_of a)) result
-            (chosen_at numbered number cur.old) cur.new }
+        requires { IsTrue (authority_numbered.allows number) }
+        ensures gives { Gives (λ a. numbered_rows authority_numbered (numbered_of a)) result
+            (chosen_at authority_numbered number cur.old) cur.new }
 
         // Q_DIR is read first. At its fault no memory is asked for.
         ensures direction { IfMemory result (IsOk (rows_at q_dir.fields cur.old)) }

@@ -5,7 +5,7 @@ use Rattle.std.specs.List.{concat}
 use Rattle.std.proofs.lemmas.Bool.{cases_lt}
 use Rattle.std.proofs.lemmas.List.{append-nil, take_at}
 use Rattle.etcs_radio.specs.declared.splitter.State.TheVariants.{More, Failed}
-use Rattle.etcs_radio.specs.Stream.{message_length, AreWhole, AreRest, AreMessages}
+use Rattle.etcs_radio.specs.Stream.{message_length, AreOneMessageLong, AreRest, AreMessages}
 use Rattle.etcs_radio.specs.Splitter.{state_of, MayBeHeld}
 use Rattle.etcs_radio.specs.Cutting.{Cut, IsCut, cut_from, none_with, after_message}
 use Rattle.etcs_radio.proofs.StreamLemmas.{message_length-append, cut_once}
@@ -39,7 +39,7 @@ one_more_held held byte may more =
 rest_of_waiting : (held : List ℕ) → MayBeHeld held → state_of held ≡ More → AreRest held
 rest_of_waiting held may more = λ three. inl (below held may more three)
 
-all_with : (message : List ℕ) (messages : List (List ℕ)) → AreWhole message → All AreWhole messages → (k : ℕ) (d : List ℕ) → k < length (message ∷ messages) → AreWhole (get_or (message ∷ messages) k d)
+all_with : (message : List ℕ) (messages : List (List ℕ)) → AreOneMessageLong message → All AreOneMessageLong messages → (k : ℕ) (d : List ℕ) → k < length (message ∷ messages) → AreOneMessageLong (get_or (message ∷ messages) k d)
 all_with message messages whole others_are zero d within = whole
 all_with message messages whole others_are (suc k) d within = others_are k d (omega arith)
 
@@ -72,7 +72,7 @@ cut_broken held bytes may failed =
       none_left = λ other. absurd (other failed);
     }
 
-cut_after : (message bytes : List ℕ) (cut : Cut) → AreWhole message → IsCut cut bytes → IsCut (after_message message cut) (message ++ bytes)
+cut_after : (message bytes : List ℕ) (cut : Cut) → AreOneMessageLong message → IsCut cut bytes → IsCut (after_message message cut) (message ++ bytes)
 cut_after message bytes cut whole is = record {
   left = is.left;
   stream = record {

@@ -61,7 +61,7 @@ one_more held byte bytes = append_assoc held (byte ∷ []) bytes
 begins : (held : List ℕ) (byte : ℕ) (piece : List ℕ) (n : ℕ) → IsTaken held (byte ∷ piece) (suc n) → state_of held ≡ More
 begins held byte piece n taken = ap state_of (sym (append-nil held)) ∙ taken.waits_before 0 (omega arith)
 
--- and the others
+-- the bytes of what is taken after the first
 taken_after : (held : List ℕ) (byte : ℕ) (piece : List ℕ) (n : ℕ) → IsTaken held (byte ∷ piece) (suc n) → IsTaken (held ++ (byte ∷ [])) piece n
 taken_after held byte piece n taken = record {
   within = let within = taken.within in omega arith;

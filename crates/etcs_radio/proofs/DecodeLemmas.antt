@@ -24,7 +24,7 @@ use Rattle.etcs_packet.specs.declared.stop.Stop.TheVariants as stops
 use Rattle.etcs_packet.specs.Lists.{ends}
 use Rattle.etcs_packet.specs.Whole.{IsFollowed, start}
 use Rattle.etcs_radio.specs.declared.message.Message.{Message}
-use Rattle.etcs_radio.specs.Head.{Head, head, numbered, nid_message, movement_head, position_head}
+use Rattle.etcs_radio.specs.Head.{Head, head, head_numbered, nid_message, movement_head, position_head}
 use Rattle.etcs_radio.specs.Meaning.{packets_of, message_of}
 use Rattle.etcs_radio.specs.Message.{beginning, IsMessage, IsMessageFault, IsNoMessage}
 use Rattle.etcs_radio.proofs.MessageLemmas.{then_packets, meant, means_message, meant_fault}
@@ -49,7 +49,7 @@ length_refused n rest q many fits =
 
 -- the rest of a table of fields, after NID_MESSAGE
 abbrev after : ℕ → ℕ → Fields
-after n k = (numbered n).next k
+after n k = (head_numbered n).next k
 
 after_refused : (n k : ℕ) (q : Place) → 1024 ≤ n → q.at + 10 ≤ length q.bits
     → rows_at (after n k) q ≡ Err (record { at = q.at; end = q.at + 10; why = Length })
@@ -212,7 +212,7 @@ front_of all n least = by_size (ltb 1024 (length all)) refl
     by_size false not_more =
         is_all (take_all n all (omega (arith, least, ltb-false 1024 (length all) not_more)))
 
--- they mean the same
+-- such a front means what all bytes mean
 pub front_means : (all front : List ℕ) → FrontOf all front → message_of front ≡ message_of all
 front_means all front (is_all is) = ap message_of is
 front_means all front (is_long many more same) =
@@ -220,7 +220,7 @@ front_means all front (is_long many more same) =
     ∙ ap (λ (xs : List Bool). Err (long_fault (nid_message.allows (num_of_bits xs)))) same
     ∙ sym (long_means all many)
 
--- and have the same faults of a head
+-- a head's fault in all bytes is one in such a front
 pub front_fault : (all front : List ℕ) (f : Fault) → FrontOf all front
     → IsFault (head (length all)).fields (beginning all) f → IsFault (head (length front)).fields (beginning front) f
 front_fault all front f (is_all is) fault =
@@ -232,7 +232,7 @@ front_fault all front f (is_long many more same) fault =
     ∙ sym (long_first all many) ∙ given in
     read_is_fault (head (length front)).fields (beginning front) f (omega arith) reads
 
--- and packets due behind the same heads
+-- a packet that is due behind a head in such a front is due in all bytes
 pub front_followed : (all front : List ℕ) → FrontOf all front
     → IsFollowed stops.Message (head (length front)).rows (beginning front)
     → IsFollowed stops.Message (head (length all)).rows (beginning all)

@@ -50,7 +50,7 @@ front_read text front n result new all is read fits front_is =
     let even : length front % 2 ≡ 0 = omega (arith, len) in
     written (decode_sized front n) result new (take n all) is (decode_sized-twice front n len ∙ (decode_of-even front even ∙ first))
 
--- the bytes of a text, and those that were read of them
+-- the bytes of a text, and the front of them that was read
 pub record IsSeen (text front : List ℕ) : Type 0 where
   pub all : List ℕ
   pub decoded : decode_of text ≡ Ok all

@@ -15,7 +15,7 @@ use Rattle.etcs_packet.specs.declared.stop.Stop.TheVariants as stops
 use Rattle.etcs_packet.specs.Laws.{HasNoMark}
 use Rattle.etcs_packet.specs.Lists.{IsHeaded, Stand, ends}
 use Rattle.etcs_packet.specs.Track.{track_packet}
-use Rattle.etcs_packet.specs.Whole.{IsWhole, start}
+use Rattle.etcs_packet.specs.Whole.{HeadAndListStand, start}
 use Rattle.etcs_packet.proofs.WrittenLemmas.{few_end, mark_ends, ends_only, whole_spelled, whole_written}
 use Rattle.etcs_radio.specs.declared.error.EncodeError.{EncodeError}
 use Rattle.etcs_radio.specs.declared.error.EncodeError.TheVariants as errors
@@ -56,7 +56,7 @@ written : {X : Type 0} (x : Format X) (h : Head) (xs : List X) (bytes : List ℕ
     → AreAllowed ((head (length bytes)).rows h ++ flat_map x.rows xs)
     → ends stops.Message (start rest) ≡ true
     → bits_of_bytes bytes ≡ join ((head (length bytes)).rows h ++ flat_map x.rows xs) ++ rest
-    → (end : Place) × IsWhole stops.Message (head (length bytes)).rows x.rows h xs (beginning bytes) end
+    → (end : Place) × HeadAndListStand stops.Message (head (length bytes)).rows x.rows h xs (beginning bytes) end
 written x h xs bytes rest headed mark allowed over are =
     let first = (head (length bytes)).rows h in
     let second = flat_map x.rows xs in
@@ -78,7 +78,7 @@ spelled_message (messages.Position m) bytes x =
     let w = written train_packet (inr (m.time, m.engine)) m.packets bytes x.rest headed_train no_train_mark x.allowed (rest_ends x.rest x.over) x.are in
     record { middle = w.1.middle; end = w.0; first = w.1.first; packets = w.1.items; complete = x.complete }
 
--- ---- and the converse
+-- ---- a message is spelled out
 
 rest_over : (rest : List Bool) → ((stops.Message ≡ stops.Message) × (length rest < 8)) ⊎ ((fill : List Bool) × (rest ≡ num 8 255 ++ fill))
     → (length rest < 8) ⊎ ((fill : List Bool) × (rest ≡ num 8 255 ++ fill))
@@ -96,7 +96,7 @@ parts_of : {X : Type 0} (x : Format X) (h : Head) (xs : List X) (bytes : List �
     → IsSpelled ((head (length bytes)).rows h) (beginning bytes) middle → Stand stops.Message x.rows xs middle end
     → ArePartsOf x h xs bytes
 parts_of x h xs bytes middle end first items =
-    let whole : IsWhole stops.Message (head (length bytes)).rows x.rows h xs (beginning bytes) end = record { middle = middle; first = first; items = items } in
+    let whole : HeadAndListStand stops.Message (head (length bytes)).rows x.rows h xs (beginning bytes) end = record { middle = middle; first = first; items = items } in
     let parts = whole_spelled (head (length bytes)).rows x.rows h xs stops.Message (bits_of_bytes bytes) (record { end = end; whole = whole }) in
     let one = (head (length bytes)).rows h in
     let two = flat_map x.rows xs in
@@ -149,7 +149,7 @@ encoding_spelled m bytes x =
 pub encoding_message : (m : Message) (bytes : List ℕ) → IsEncoding m bytes → IsMessage m bytes
 encoding_message m bytes x = spelled_message m bytes (encoding_spelled m bytes x)
 
--- bytes with the same bits are the same
+-- bytes with equal bits are equal
 bytes_same : (xs ys : List ℕ) → IsBytes xs → IsBytes ys → bits_of_bytes xs ≡ bits_of_bytes ys → xs ≡ ys
 bytes_same [] [] a b e = refl
 bytes_same [] (y ∷ ys) a b e = absurd (omega (arith, ap length e, length-bits_of_bytes [], length-bits_of_bytes (y ∷ ys)))

@@ -4,7 +4,7 @@ use Rattle.std.proofs.lemmas.Bool.{cases_lt}
 use Rattle.std.proofs.lemmas.List.{length-take-le, take-append-le, take_all, take_at}
 use Rattle.std.proofs.Math.Seq.{take-append-add}
 use Rattle.etcs_radio.specs.declared.splitter.State.TheVariants.{More, Ready}
-use Rattle.etcs_radio.specs.Stream.{AreWhole, AreRest}
+use Rattle.etcs_radio.specs.Stream.{AreOneMessageLong, AreRest}
 use Rattle.etcs_radio.specs.Splitter.{state_of, IsTaken}
 use Rattle.etcs_radio.proofs.StreamLemmas.{message_length-take}
 use Rattle.etcs_radio.proofs.StateLemmas.{state-ready, state-short, state-below, ready-whole, ready_is_not_more}
@@ -66,7 +66,7 @@ module _ (held one other : List ℕ) (m n : ℕ) (before : IsTaken held one m) (
 -- ---- a stream
 
 -- the first message of a stream is taken, and no byte more
-pub message_taken : (message more : List ℕ) → AreWhole message → IsTaken [] (message ++ more) (length message)
+pub message_taken : (message more : List ℕ) → AreOneMessageLong message → IsTaken [] (message ++ more) (length message)
 message_taken message more whole = record {
   within = omega (arith, length-append message more);
   waits_before = λ n before.

@@ -4,7 +4,7 @@ use Rattle.etcs_radio.specs.RawTrain.{raw_again}
 use Rattle.etcs_radio.specs.FoundRaw.{raw_with}
 use Rattle.etcs_radio.specs.declared.raw_train.RawTrainPacket.{RawTrainPacket}
 
--- raw packets with the same number and body are the same
+-- raw packets with equal numbers and bodies are equal
 pub raw_parts : (v w : RawTrainPacket) → v.number ≡ w.number → v.body ≡ w.body → v ≡ w
 raw_parts v w p q =
     sym (raw_again v)

@@ -18,7 +18,7 @@ use Rattle.etcs_radio.specs.declared.train3.Train3.{Train3}
 use Rattle.etcs_radio.specs.Integrity.{q_length}
 use Rattle.etcs_radio.specs.Lrbg.{nid_lrbg, nid_prvlrbg}
 use Rattle.etcs_radio.specs.Train3.{q_dirtrain}
-use Rattle.etcs_radio.specs.Report.{v_train, m_mode, Situation, situation, WithOne, WithTwo, with_one, with_two, numbered, numbered_by, numbered_of, report_variable, report, situation_of}
+use Rattle.etcs_radio.specs.Report.{v_train, m_mode, Situation, situation, WithOne, WithTwo, with_one, with_two, report_numbered, numbered_by, numbered_of, report_variable, report, situation_of}
 
 integrity_width : (v : Integrity) → width (q_length.rows v) ≤ 17
 unfolding alone
@@ -64,10 +64,10 @@ two_width (scale, (lrbg, (previous, s))) = let few = situation_width s in omega 
 -- a report's rows, by what its number decides
 put_numbered : {X E : Type 0} (r : Report) (s : WithOne ⊎ WithTwo) (result : Result X E) (old new : List Bool)
     → numbered_of r ≡ s
-    → Puts (join (alone report_variable (numbered.number s) ++ numbered.rows s)) result old new
+    → Puts (join (alone report_variable (report_numbered.number s) ++ report_numbered.rows s)) result old new
     → Puts (join (report.rows r)) result old new
 put_numbered r s result old new is puts =
-    subst (λ (t : WithOne ⊎ WithTwo). Puts (join (alone report_variable (numbered.number t) ++ numbered.rows t)) result old new) (sym is) puts
+    subst (λ (t : WithOne ⊎ WithTwo). Puts (join (alone report_variable (report_numbered.number t) ++ report_numbered.rows t)) result old new) (sym is) puts
 
 pub put_one : {X E : Type 0} (r : Report) (p : WithOne) (result : Result X E) (old mid new : List Bool)
     → r.previous ≡ None → p ≡ (r.scale, (r.lrbg, situation_of r)) → mid ≡ old ++ num 8 0

@@ -3,7 +3,7 @@ use Rattle.std.proofs.Common.{◌≡◌, ◌≢◌, ◌<◌, ◌≤◌, ◌==◌
 use Rattle.std.specs.Prelude.{nat_le, nat_lt}
 use Rattle.std.proofs.lemmas.Bool.{cond-true, cond-false, and_from, and_parts, le-leb, leb-true, eq-eqb, eqb-true, lt-ltb, ltb-true, false_from_ne_true, true_from_ne_false}
 use Rattle.etcs_radio.specs.declared.splitter.State.TheVariants.{More, Ready, Failed}
-use Rattle.etcs_radio.specs.Stream.{message_length, AreWhole, AreBroken}
+use Rattle.etcs_radio.specs.Stream.{message_length, AreOneMessageLong, AreBroken}
 use Rattle.etcs_radio.specs.Splitter.{state_of}
 
 -- the tests that decide it
@@ -13,7 +13,7 @@ is_whole bytes = nat_le 3 (length bytes) && (length bytes == message_length byte
 abbrev is_broken : List ℕ → Bool
 is_broken bytes = (length bytes == 3) && nat_lt (message_length bytes) 3
 
-whole_if : (bytes : List ℕ) → is_whole bytes ≡ true → AreWhole bytes
+whole_if : (bytes : List ℕ) → is_whole bytes ≡ true → AreOneMessageLong bytes
 whole_if bytes test =
     let parts = and_parts _ _ test in
     record {
@@ -29,10 +29,10 @@ broken_if bytes test =
       small = ltb-true (message_length bytes) 3 parts.1;
     }
 
-not_both : (bytes : List ℕ) → AreBroken bytes → AreWhole bytes → ⊥
+not_both : (bytes : List ℕ) → AreBroken bytes → AreOneMessageLong bytes → ⊥
 not_both bytes broken whole = omega (arith, broken.three, broken.small, whole.count)
 
-pub state-ready : (bytes : List ℕ) → AreWhole bytes → state_of bytes ≡ Ready
+pub state-ready : (bytes : List ℕ) → AreOneMessageLong bytes → state_of bytes ≡ Ready
 unfolding state_of
 state-ready bytes whole =
     cond-true (is_whole bytes) Ready _
@@ -45,7 +45,7 @@ state-failed bytes broken =
     ∙ cond-true (is_broken bytes) Failed More
     (and_from _ _ (eq-eqb (length bytes) 3 broken.three) (lt-ltb (message_length bytes) 3 broken.small))
 
-pub state-more : (bytes : List ℕ) → (AreWhole bytes → ⊥) → (AreBroken bytes → ⊥) → state_of bytes ≡ More
+pub state-more : (bytes : List ℕ) → (AreOneMessageLong bytes → ⊥) → (AreBroken bytes → ⊥) → state_of bytes ≡ More
 unfolding state_of
 state-more bytes no_whole no_broken =
     cond-false (is_whole bytes) Ready _ (false_from_ne_true (is_whole bytes) (λ test. no_whole (whole_if bytes test)))
@@ -97,7 +97,7 @@ not_failed true broken e = grind arith
 not_failed false true e = refl
 not_failed false false e = grind arith
 
-pub ready-whole : (bytes : List ℕ) → state_of bytes ≡ Ready → AreWhole bytes
+pub ready-whole : (bytes : List ℕ) → state_of bytes ≡ Ready → AreOneMessageLong bytes
 unfolding state_of
 ready-whole bytes ready =
     whole_if bytes

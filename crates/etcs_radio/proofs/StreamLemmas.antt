@@ -4,7 +4,7 @@ use Rattle.std.specs.Prelude.{All}
 use Rattle.std.specs.List.{concat}
 use Rattle.std.proofs.lemmas.List.{append_cancel_left, drop-take, take-append-drop, take-take, take_at}
 use Rattle.etcs_bits.specs.bits.Number.{num, num_of_bits, bits_of_bytes}
-use Rattle.etcs_radio.specs.Stream.{message_length, AreWhole, AreRest, AreMessages}
+use Rattle.etcs_radio.specs.Stream.{message_length, AreOneMessageLong, AreRest, AreMessages}
 
 -- ---- L_MESSAGE
 
@@ -29,7 +29,7 @@ message_length-front bytes =
 -- ---- one way to cut a stream
 
 -- a message at the front of a rest
-no_rest : (message more : List ℕ) → AreWhole message → AreRest (message ++ more) → ⊥
+no_rest : (message more : List ℕ) → AreOneMessageLong message → AreRest (message ++ more) → ⊥
 no_rest message more whole rest =
     let count = whole.count in
     let three = whole.three in
@@ -39,7 +39,7 @@ no_rest message more whole rest =
     (rest (omega (arith, has, three)))
 
 -- two messages at the front of the same bytes
-same_length : (m n x y : List ℕ) → AreWhole m → AreWhole n → m ++ x ≡ n ++ y → length m ≡ length n
+same_length : (m n x y : List ℕ) → AreOneMessageLong m → AreOneMessageLong n → m ++ x ≡ n ++ y → length m ≡ length n
 same_length m n x y first second e =
     first.count
     ∙ sym (message_length-append m x first.three)
@@ -47,17 +47,17 @@ same_length m n x y first second e =
     ∙ message_length-append n y second.three
     ∙ sym second.count
 
-same_first : (m n x y : List ℕ) → AreWhole m → AreWhole n → m ++ x ≡ n ++ y → m ≡ n
+same_first : (m n x y : List ℕ) → AreOneMessageLong m → AreOneMessageLong n → m ++ x ≡ n ++ y → m ≡ n
 same_first m n x y first second e =
     sym (take_at m x (length m) refl)
     ∙ ap₂ take (same_length m n x y first second e) e
     ∙ take_at n y (length n) refl
 
-same_others : (m n x y : List ℕ) → AreWhole m → AreWhole n → m ++ x ≡ n ++ y → x ≡ y
+same_others : (m n x y : List ℕ) → AreOneMessageLong m → AreOneMessageLong n → m ++ x ≡ n ++ y → x ≡ y
 same_others m n x y first second e =
     append_cancel_left n x y (ap (λ xs. xs ++ x) (sym (same_first m n x y first second e)) ∙ e)
 
-one_way : (ms ns : List (List ℕ)) (r s : List ℕ) → All AreWhole ms → All AreWhole ns → AreRest r → AreRest s → concat ms ++ r ≡ concat ns ++ s → (ms ≡ ns) × (r ≡ s)
+one_way : (ms ns : List (List ℕ)) (r s : List ℕ) → All AreOneMessageLong ms → All AreOneMessageLong ns → AreRest r → AreRest s → concat ms ++ r ≡ concat ns ++ s → (ms ≡ ns) × (r ≡ s)
 one_way [] [] r s first second rest other e = (refl, e)
 one_way [] (n ∷ ns) r s first second rest other e =
     absurd (no_rest n (concat ns ++ s) (second 0 n (omega arith)) (subst AreRest (e ∙ append_assoc n (concat ns) s) rest))
@@ -66,8 +66,8 @@ one_way (m ∷ ms) [] r s first second rest other e =
 one_way (m ∷ ms) (n ∷ ns) r s first second rest other e =
     let x : List ℕ = concat ms ++ r in
     let y : List ℕ = concat ns ++ s in
-    let m_whole : AreWhole m = first 0 m (omega arith) in
-    let n_whole : AreWhole n = second 0 n (omega arith) in
+    let m_whole : AreOneMessageLong m = first 0 m (omega arith) in
+    let n_whole : AreOneMessageLong n = second 0 n (omega arith) in
     let joined : m ++ x ≡ n ++ y = sym (append_assoc m (concat ms) r) ∙ e ∙ append_assoc n (concat ns) s in
     let more = one_way ms ns r s (λ k d within. first (suc k) d (omega arith)) (λ k d within. second (suc k) d (omega arith)) rest other (same_others m n x y m_whole n_whole joined) in
     (ap₂ (λ a others. a ∷ others) (same_first m n x y m_whole n_whole joined) more.0, more.1)

@@ -1,4 +1,4 @@
--- A train packet's rows by itself and as one of a list have the same bits.
+-- A train packet's rows by itself and in a list have the same bits.
 use Rattle.std.proofs.Common.{◌≡◌, ◌⊎◌, ℕ, Bool, true, false, List, ◌∷◌, ◌++◌, Result, Ok, length, refl, sym, ap, ◌∙◌, inl, inr}
 use Rattle.std.proofs.lemmas.Bool.{ne_eqb}
 use Rattle.std.specs.Prelude.{◌==◌, ◌||◌, not}
@@ -8,7 +8,7 @@ use Rattle.etcs_bits.specs.layout.Choice.{numbered_rows}
 use Rattle.etcs_radio.specs.declared.report.Report.{Report}
 use Rattle.etcs_radio.specs.declared.train_packet.TrainPacket.{TrainPacket}
 use Rattle.etcs_radio.specs.declared.train_packet.TrainPacket.TheVariants as packets
-use Rattle.etcs_radio.specs.Report.{WithOne, WithTwo, numbered, numbered_of, report_variable}
+use Rattle.etcs_radio.specs.Report.{WithOne, WithTwo, report_numbered, numbered_of, report_variable}
 use Rattle.etcs_bits.specs.layout.Format.{kept_bits}
 use Rattle.etcs_radio.specs.RawTrain.{other_of}
 use Rattle.etcs_packet.specs.PacketNumbers.{nid_track as nid_train}
@@ -19,7 +19,7 @@ abbrev listed : WithOne ⊎ WithTwo → List Row
 listed s = alone nid_train (train_numbered.number (report_in s)) ++ train_numbered.rows (report_in s)
 
 abbrev own : WithOne ⊎ WithTwo → List Row
-own s = alone report_variable (numbered.number s) ++ numbered.rows s
+own s = alone report_variable (report_numbered.number s) ++ report_numbered.rows s
 
 report_join : (s : WithOne ⊎ WithTwo) → join (listed s) ≡ join (own s)
 unfolding alone
@@ -54,7 +54,7 @@ pub train_allowed : (p : TrainPacket) → AreAllowed (own_rows p) → AreAllowed
 unfolding alone
 train_allowed (packets.Report r) allowed = report_allowed (numbered_of r) allowed
 train_allowed (packets.Raw p) allowed =
-    ((allowed.0.0, not_mark (numbered.allows p.number) (p.number == 255) (other_of p.number (length p.body) p.kept)), allowed.1)
+    ((allowed.0.0, not_mark (report_numbered.allows p.number) (p.number == 255) (other_of p.number (length p.body) p.kept)), allowed.1)
 
 -- ---- reading
 
@@ -66,17 +66,17 @@ pub other_next : (n : ℕ) → Not n 0 → Not n 1 → train_numbered.next n ≡
 other_next n a b = rw (ne_eqb n 0 a, ne_eqb n 1 b) refl
 
 -- what follows the number of a report
-pub report_next : (n : ℕ) → (n ≡ 0) ⊎ ((n ≡ 0 → ⊥) × (n ≡ 1)) → train_numbered.next n ≡ numbered.next n
+pub report_next : (n : ℕ) → (n ≡ 0) ⊎ ((n ≡ 0 → ⊥) × (n ≡ 1)) → train_numbered.next n ≡ report_numbered.next n
 report_next n (inl is) = rw is refl
 report_next n (inr other) = rw other.1 refl
 
-in_rows : (s : WithOne ⊎ WithTwo) → numbered_rows train_numbered (report_in s) ≡ numbered_rows numbered s
+in_rows : (s : WithOne ⊎ WithTwo) → numbered_rows train_numbered (report_in s) ≡ numbered_rows report_numbered s
 in_rows (inl p) = refl
 in_rows (inr p) = refl
 
 -- a report that was read
 pub report_here : (r : Report) {read : Result (List Row × Place) Fault} {to : Place}
-    → read ≡ Ok (row nid_train (numbered.number (numbered_of r)) ∷ numbered.rows (numbered_of r), to)
+    → read ≡ Ok (row nid_train (report_numbered.number (numbered_of r)) ∷ report_numbered.rows (numbered_of r), to)
     → read ≡ Ok (train_packet.rows (packets.Report r), to)
 unfolding alone
 report_here r {to = to} read =

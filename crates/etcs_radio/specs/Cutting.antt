@@ -1,5 +1,6 @@
 -- A stream that is fed to a splitter. Whenever the splitter is ready, its message is taken out, and
--- it is cleared. It does not matter in which pieces the stream comes.
+-- it is cleared. It does not matter in which pieces the stream comes. What comes out are the messages
+-- that the bytes are by `AreMessages` (Stream), the only list of them.
 use Rattle.std.specs.Prelude.{◌≡◌, ◌≢◌, ℕ, List, [], ◌∷◌, ◌++◌}
 use Rattle.etcs_radio.specs.declared.splitter.State.{State}
 use Rattle.etcs_radio.specs.declared.splitter.State.TheVariants.{More, Ready, Failed}

@@ -46,13 +46,13 @@ position_head = t_train then nid_engine
 abbrev pub Head : Type 0
 Head = MovementHead ⊎ PositionHead
 
-abbrev pub numbered : ℕ → Choice Head
-numbered n = either 3 (after_length n movement_head) (last 136 (after_length n position_head)) refl
+abbrev pub head_numbered : ℕ → Choice Head
+head_numbered n = either 3 (after_length n movement_head) (last 136 (after_length n position_head)) refl
 
 -- any other number has the fault MessageKind
 abbrev pub nid_message : Variable
-nid_message = record { width = 8; allows = (numbered 0).allows; refusal = MessageKind; closes = false }
+nid_message = record { width = 8; allows = (head_numbered 0).allows; refusal = MessageKind; closes = false }
 
 -- the head of a message of n bytes
 abbrev pub head : ℕ → Format Head
-head n = chosen nid_message (numbered n) (λ _. refl)
+head n = chosen nid_message (head_numbered n) (λ _. refl)

@@ -14,19 +14,19 @@ abbrev pub l_trainint : Format ℕ
 l_trainint = number 15
 
 -- what follows each number: L_TRAININT after 1 and 2
-abbrev pub Numbered : Type 0
-Numbered = Unit {0} ⊎ (ℕ ⊎ (ℕ ⊎ Unit {0}))
+abbrev pub NumberedLength : Type 0
+NumberedLength = Unit {0} ⊎ (ℕ ⊎ (ℕ ⊎ Unit {0}))
 
-abbrev pub numbered : Choice Numbered
-numbered = either 0 empty (either 1 l_trainint (either 2 l_trainint (last 3 empty) refl) refl) refl
+abbrev pub length_numbered : Choice NumberedLength
+length_numbered = either 0 empty (either 1 l_trainint (either 2 l_trainint (last 3 empty) refl) refl) refl
 
 -- Q_LENGTH, 2 bits: no number is spare
 abbrev pub length_variable : Variable
-length_variable = record { width = 2; allows = numbered.allows; refusal = Spare; closes = false }
+length_variable = record { width = 2; allows = length_numbered.allows; refusal = Spare; closes = false }
 
 -- ---- the number of a value, with what follows it
 
-abbrev pub numbered_of : Integrity → Numbered
+abbrev pub numbered_of : Integrity → NumberedLength
 numbered_of lengths.Q0 = inl tt
 numbered_of (lengths.Q1 l) = inr (inl l)
 numbered_of (lengths.Q2 l) = inr (inr (inl l))
@@ -35,13 +35,13 @@ numbered_of lengths.Q3 = inr (inr (inr tt))
 -- ---- the value of a number with what follows it
 -- Pinned by the law a_record_is_read_as_it_is_spelled.
 
-abbrev pub integrity_of : Numbered → Integrity
+abbrev pub integrity_of : NumberedLength → Integrity
 integrity_of (inl _) = lengths.Q0
 integrity_of (inr (inl l)) = lengths.Q1 l
 integrity_of (inr (inr (inl l))) = lengths.Q2 l
 integrity_of (inr (inr (inr _))) = lengths.Q3
 
-pub back : (n : Numbered) → numbered_of (integrity_of n) ≡ n
+pub back : (n : NumberedLength) → numbered_of (integrity_of n) ≡ n
 back (inl _) = refl
 back (inr (inl l)) = refl
 back (inr (inr (inl l))) = refl
@@ -57,8 +57,8 @@ again lengths.Q3 = refl
 
 -- Q_LENGTH, with L_TRAININT
 abbrev pub q_length : Format Integrity
-q_length = named (chosen length_variable numbered (λ _. refl)) integrity_of numbered_of back again
+q_length = named (chosen length_variable length_numbered (λ _. refl)) integrity_of numbered_of back again
 
 -- Q_LENGTH
 abbrev pub length_number : Integrity → ℕ
-length_number v = numbered.number (numbered_of v)
+length_number v = length_numbered.number (numbered_of v)

@@ -1,4 +1,4 @@
--- The group that a message or a report refers to, as one variable of 24 bits (SUBSET-026, 7.5.1,
+-- The group that a message or a position report refers to, as one variable of 24 bits (SUBSET-026, 7.5.1,
 -- NID_LRBG and NID_PRVLRBG): NID_C in the first ten bits, NID_BG in the other fourteen.
 use Rattle.std.specs.Prelude.{◌≡◌, ℕ, ◌+◌, ◌-◌, ◌*◌, ◌/◌, ◌%◌, List, [], ◌∷◌, refl}
 use Rattle.std.proofs.Common.{arith, ap₂, subst, sym, ◌∙◌}

@@ -77,12 +77,12 @@ pub record IsLaterFault (bytes : List ℕ) (fault : Fault) : Type 0 where
   pub first : IsSpelled ((head (length bytes)).rows h) (beginning bytes) middle
   pub is_fault : IsPacketsFault h middle fault
 
--- the first fault of bytes: that of the head, or that of the packets after a whole head
+-- the first fault of bytes: a fault of the head, or of the packets after a whole head
 abbrev pub IsMessageFault : List ℕ → Fault → Type 0
 IsMessageFault bytes f =
     IsFault (head (length bytes)).fields (beginning bytes) f ⊎ IsLaterFault bytes f
 
--- No bytes of the same number that begin with the same first `end` bits are a message.
+-- No bytes of equal number that begin with these first `end` bits are a message.
 abbrev pub IsNoMessage : List ℕ → Fault → Type 0
 IsNoMessage bytes f =
     (others : List ℕ) → length others ≡ length bytes
@@ -105,7 +105,7 @@ abbrev pub used_bits : Message → ℕ
 used_bits (messages.Movement m) = 75 + width (flat_map track_packet.rows m.packets)
 used_bits (messages.Position m) = 74 + width (flat_map train_packet.rows m.packets)
 
--- those bits are more than 1,023 bytes have, the most that L_MESSAGE can count
+-- the head and the packets have more bits than 1,023 bytes, the most that L_MESSAGE can count
 abbrev pub IsTooBig : Message → Type 0
 IsTooBig m = 8184 < used_bits m
 

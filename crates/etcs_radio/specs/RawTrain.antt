@@ -10,7 +10,7 @@ use Rattle.etcs_bits.specs.layout.Format.{Format, kept_bits, others as of_others
 use Rattle.etcs_bits.specs.layout.Combined.{is_countable}
 use Rattle.etcs_bits.proofs.KeptLemmas.{kept_fit}
 use Rattle.etcs_radio.specs.declared.raw_train.RawTrainPacket.{RawTrainPacket}
-use Rattle.etcs_radio.specs.TrainNumbers.{is_other, is_kept, nid_raw}
+use Rattle.etcs_radio.specs.TrainNumbers.{is_kept_number, is_kept, nid_raw}
 use Rattle.etcs_radio.specs.FoundRaw.{raw, raw_by, raw_with}
 
 -- ---- the parts of a packet make that packet
@@ -24,22 +24,22 @@ raw_back n body h false e = absurd (true≢false (sym h ∙ e))
 pub raw_again : (r : RawTrainPacket) → raw_with r.number r.body ≡ r
 raw_again r = raw_back r.number r.body r.kept (is_kept r.number (length r.body)) refl
 
--- and those that follow a number that is kept as bits are the parts of one
-pub raw_has : (n : ℕ) (body : List Bool) → is_other n ≡ true → AreAllowed ((kept_bits 8).rows body)
+-- what follows a number that is kept as bits are the parts of a packet with that number
+pub raw_has : (n : ℕ) (body : List Bool) → is_kept_number n ≡ true → AreAllowed ((kept_bits 8).rows body)
     → ((raw_with n body).number ≡ n) × ((raw_with n body).body ≡ body)
 raw_has n body other allowed =
     let made = raw_back n body (rw (other, kept_fit 8 body allowed) refl) (is_kept n (length body)) refl in
     subst (λ (r : RawTrainPacket). (r.number ≡ n) × (r.body ≡ body)) (sym made) (refl, refl)
 
-pub other_of : (n bits : ℕ) → is_kept n bits ≡ true → is_other n ≡ true
-other_of n bits kept = (and_parts (is_other n) (is_countable 8 bits) kept).0
+pub other_of : (n bits : ℕ) → is_kept n bits ≡ true → is_kept_number n ≡ true
+other_of n bits kept = (and_parts (is_kept_number n) (is_countable 8 bits) kept).0
 
 -- ---- the packet
 
--- every number that is neither a report's nor the end mark's, and L_PACKET and the body behind it
+-- every number that is neither a position report's nor the end mark's, and L_PACKET and the body behind it
 abbrev pub others : Choice RawTrainPacket
 others =
-    of_others is_other (kept_bits 8) (λ r. r.number) (λ r. r.body) raw_with
+    of_others is_kept_number (kept_bits 8) (λ r. r.number) (λ r. r.body) raw_with
     (λ r. other_of r.number (length r.body) r.kept) raw_again raw_has
 
 abbrev pub raw_train_packet : Format RawTrainPacket

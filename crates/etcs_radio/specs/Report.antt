@@ -71,13 +71,13 @@ abbrev pub with_two : Format WithTwo
 with_two = behind_length 8 (q_scale then nid_lrbg then nid_prvlrbg then situation)
 
 -- NID_PACKET, 8 bits: 0 or 1, and what follows each; any other number is spare
-abbrev pub numbered : Choice (WithOne ⊎ WithTwo)
-numbered = either 0 with_one (last 1 with_two) refl
+abbrev pub report_numbered : Choice (WithOne ⊎ WithTwo)
+report_numbered = either 0 with_one (last 1 with_two) refl
 
 abbrev pub report_variable : Variable
-report_variable = record { width = 8; allows = numbered.allows; refusal = Spare; closes = false }
+report_variable = record { width = 8; allows = report_numbered.allows; refusal = Spare; closes = false }
 
--- ---- the parts of a report
+-- ---- the parts of a position report
 
 abbrev pub situation_of : Report → Situation
 situation_of r = (
@@ -98,11 +98,11 @@ abbrev pub numbered_by : Option Identity → Report → WithOne ⊎ WithTwo
 numbered_by None r = inl (r.scale, (r.lrbg, situation_of r))
 numbered_by (Some previous) r = inr (r.scale, (r.lrbg, (previous, situation_of r)))
 
--- packet 1 if the report has the group before
+-- packet 1 if the position report has the group before
 abbrev pub numbered_of : Report → WithOne ⊎ WithTwo
 numbered_of r = numbered_by r.previous r
 
--- ---- a report of its parts
+-- ---- a position report of its parts
 -- Pinned by the law a_record_is_read_as_it_is_spelled.
 
 abbrev pub report_with : Option Identity → Scale → Identity → Situation → Report
@@ -142,8 +142,8 @@ again r = again_by r.previous r
 
 -- a position report
 abbrev pub report : Format Report
-report = named (chosen report_variable numbered (λ _. refl)) report_of numbered_of back again
+report = named (chosen report_variable report_numbered (λ _. refl)) report_of numbered_of back again
 
--- NID_PACKET: 1 if the report has the group before, else 0
+-- NID_PACKET: 1 if the position report has the group before, else 0
 abbrev pub report_number : Report → ℕ
-report_number r = numbered.number (numbered_of r)
+report_number r = report_numbered.number (numbered_of r)

@@ -10,7 +10,7 @@ abbrev pub message_length : List ℕ → ℕ
 message_length bytes = num_of_bits (take 10 (drop 8 (bits_of_bytes bytes)))
 
 -- The bytes are as many as one message has: at least three, and as many as L_MESSAGE says.
-pub record AreWhole (bytes : List ℕ) : Type 0 where
+pub record AreOneMessageLong (bytes : List ℕ) : Type 0 where
   pub three : 3 ≤ length bytes
   pub count : length bytes ≡ message_length bytes
 
@@ -27,5 +27,5 @@ AreRest bytes = 3 ≤ length bytes → (length bytes < message_length bytes) ⊎
 -- The bytes are these messages, one after the other, and then a rest.
 pub record AreMessages (messages : List (List ℕ)) (rest bytes : List ℕ) : Type 0 where
   pub join : bytes ≡ concat messages ++ rest
-  pub whole : All AreWhole messages
+  pub whole : All AreOneMessageLong messages
   pub cut_off : AreRest rest

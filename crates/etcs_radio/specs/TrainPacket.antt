@@ -8,37 +8,37 @@ use Rattle.etcs_bits.specs.layout.Format.{Format, either, chosen, named}
 use Rattle.etcs_radio.specs.declared.raw_train.RawTrainPacket.{RawTrainPacket}
 use Rattle.etcs_radio.specs.declared.train_packet.TrainPacket.{TrainPacket}
 use Rattle.etcs_radio.specs.declared.train_packet.TrainPacket.TheVariants as packets
-use Rattle.etcs_radio.specs.Report.{WithOne, WithTwo, with_one, with_two, report_of, numbered, numbered_of as report_parts, again as report_again, report}
+use Rattle.etcs_radio.specs.Report.{WithOne, WithTwo, with_one, with_two, report_of, report_numbered, numbered_of as report_parts, again as report_again, report}
 use Rattle.etcs_radio.specs.RawTrain.{others, raw_train_packet}
 use Rattle.etcs_packet.specs.PacketNumbers.{nid_track as nid_train}
 
 -- NID_PACKET, and what follows it
-abbrev pub Numbered : Type 0
-Numbered = WithOne ⊎ (WithTwo ⊎ RawTrainPacket)
+abbrev pub NumberedTrainPacket : Type 0
+NumberedTrainPacket = WithOne ⊎ (WithTwo ⊎ RawTrainPacket)
 
-abbrev pub train_numbered : Choice Numbered
+abbrev pub train_numbered : Choice NumberedTrainPacket
 train_numbered = either 0 with_one (either 1 with_two others refl) refl
 
 -- ---- the number of a packet with what follows
 
--- a report as one of all packets
-abbrev pub report_in : WithOne ⊎ WithTwo → Numbered
+-- a position report as one of all packets
+abbrev pub report_in : WithOne ⊎ WithTwo → NumberedTrainPacket
 report_in (inl p) = inl p
 report_in (inr p) = inr (inl p)
 
-abbrev pub parts_of : TrainPacket → Numbered
+abbrev pub parts_of : TrainPacket → NumberedTrainPacket
 parts_of (packets.Report r) = report_in (report_parts r)
 parts_of (packets.Raw p) = inr (inr p)
 
 -- ---- the packet of a number with what follows
 -- Pinned by the law a_record_is_read_as_it_is_spelled.
 
-abbrev pub train_of : Numbered → TrainPacket
+abbrev pub train_of : NumberedTrainPacket → TrainPacket
 train_of (inl p) = packets.Report (report_of (inl p))
 train_of (inr (inl p)) = packets.Report (report_of (inr p))
 train_of (inr (inr p)) = packets.Raw p
 
-pub back : (n : Numbered) → parts_of (train_of n) ≡ n
+pub back : (n : NumberedTrainPacket) → parts_of (train_of n) ≡ n
 back (inl p) = refl
 back (inr (inl p)) = refl
 back (inr (inr p)) = refl
@@ -59,9 +59,9 @@ allowed_by true b m no_end = rw (no_end refl) refl
 allowed_by false true m no_end = rw (no_end refl) refl
 allowed_by false false m no_end = refl
 
-report_is_no_end : (n : ℕ) → numbered.allows n ≡ true → (n == 255) ≡ false
+report_is_no_end : (n : ℕ) → report_numbered.allows n ≡ true → (n == 255) ≡ false
 report_is_no_end n known =
-    ne_eqb n 255 (λ end. true≢false (sym known ∙ ap numbered.allows end))
+    ne_eqb n 255 (λ end. true≢false (sym known ∙ ap report_numbered.allows end))
 
 pub all_but_the_end : (n : ℕ) → nid_train.allows n ≡ train_numbered.allows n
 all_but_the_end n = allowed_by (n == 0) (n == 1) (n == 255) (report_is_no_end n)
@@ -70,7 +70,7 @@ all_but_the_end n = allowed_by (n == 0) (n == 1) (n == 255) (report_is_no_end n)
 abbrev pub train_packet : Format TrainPacket
 train_packet = named (chosen nid_train train_numbered all_but_the_end) train_of parts_of back again
 
--- the rows of a packet by itself, which have the same bits
+-- the rows of a packet by itself, which have the bits that it has in a list
 abbrev pub own_rows : TrainPacket → List Row
 own_rows (packets.Report r) = report.rows r
 own_rows (packets.Raw p) = raw_train_packet.rows p

@@ -96,15 +96,15 @@ pub fn decode(alloc: Global, bytes: &[u8]) -> Result<Message, DecodeError>
     ensures fault { IfFault result (λ f. IsMessageFault bytes.now f) }
     ensures none { IfFault result (λ f. IsNoMessage bytes.now f) }
 
-    // The same as a function of the bytes.
+    // The result, as a function of the bytes.
     ensures exact { Means (λ m. m) result (message_of bytes.now) }
 
-    // The head's fault is always reported: reading the head needs no memory.
+    // The head's fault is always answered: reading the head needs no memory.
     ensures head { (f : Fault) → IsFault (head (length bytes.now)).fields (beginning bytes.now) f
         → result ≡ Err (DecodeError.Fault f) }
 
     // Memory is asked for only where a packet is due behind the head. So `NoAuthority` and `NoReport`
-    // are always reported of a head alone.
+    // are always answered of a head alone.
     ensures memory { IfMemory result
         (IsFollowed Stop.Message (head (length bytes.now)).rows (beginning bytes.now)) }
 {

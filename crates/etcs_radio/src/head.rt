@@ -4,7 +4,7 @@ ghost use Rattle.std.specs.Prelude.{◌≡◌, ◌<◌, IsTrue, OnOk};
 ghost use Rattle.etcs_bits.specs.layout.Choice.{chosen_at, numbered_rows};
 ghost use Rattle.etcs_bits.specs.layout.Reading.{rows_at};
 ghost use Rattle.etcs_bits.specs.layout.Results.{Gives, IfMemory};
-ghost use Rattle.etcs_radio.specs.Head.{head, l_message, numbered};
+ghost use Rattle.etcs_radio.specs.Head.{head, l_message, head_numbered};
 ghost use Rattle.etcs_radio.specs.HeadView.{head_in};
 
 use crate::lrbg::Lrbg;
@@ -48,9 +48,9 @@ fn scan_rest(
     count: usize,
     cur: &mut Cursor<'_>,
 ) -> Result<Fields, DecodeError>
-    requires { IsTrue ((numbered count).allows number) }
-    ensures gives { Gives (λ h. numbered_rows (numbered count) (head_in h)) result
-        (chosen_at (numbered count) number cur.old) cur.new }
+    requires { IsTrue ((head_numbered count).allows number) }
+    ensures gives { Gives (λ h. numbered_rows (head_numbered count) (head_in h)) result
+        (chosen_at (head_numbered count) number cur.old) cur.new }
     ensures small { OnOk result (count < 1024) }
     ensures memory { IfMemory result ⊥ }
 {

@@ -23,7 +23,7 @@ ghost use Rattle.etcs_radio.specs.RawTrain.{raw_train_packet};
 ghost use Rattle.etcs_radio.specs.TrainPacket.{own_rows, train_packet};
 ghost use Rattle.etcs_radio.specs.Splitter.{IsTaken, state_of};
 ghost use Rattle.etcs_radio.specs.Cutting.{IsCut, after_message, cut_from, cut_pieces, none_with, one_then};
-ghost use Rattle.etcs_radio.specs.Stream.{AreBroken, AreMessages, AreRest, AreWhole, message_length};
+ghost use Rattle.etcs_radio.specs.Stream.{AreBroken, AreMessages, AreRest, AreOneMessageLong, message_length};
 ghost use Rattle.etcs_radio.specs.declared.splitter.State.TheVariants.{Failed, Ready};
 
 use crate::error::RadioTextError;
@@ -73,7 +73,7 @@ pub fn train_packets_are_laid_out()
     records_are_laid_out::<TrainPacket>();
 }
 
-/// A packet from train to track has the same bits as one of a list and by its own layout.
+/// A packet from train to track has the same bits in a list and by its own layout.
 pub fn a_train_packet_of_a_list_is_spelled_as_by_itself()
     ensures { (p : AnyTrainPacket) → join (train_packet.rows p) ≡ join (own_rows p) }
 {}
@@ -154,7 +154,7 @@ pub fn texts_are_one_to_one()
 /// A splitter is ready exactly if it holds as many bytes as one message has. It has failed exactly
 /// if no message begins with the bytes that it holds.
 pub fn states_are_meant()
-    ensures ready { (bytes : List ℕ) → state_of bytes ≡ Ready ↔ AreWhole bytes }
+    ensures ready { (bytes : List ℕ) → state_of bytes ≡ Ready ↔ AreOneMessageLong bytes }
     ensures failed { (bytes : List ℕ) → state_of bytes ≡ Failed ↔ AreBroken bytes }
 {}
 
@@ -187,7 +187,7 @@ pub fn a_stream_is_cut_in_one_way()
 /// front of a rest makes it ready.
 pub fn the_first_message_is_taken()
     ensures message { (message more : List ℕ)
-        → AreWhole message → IsTaken [] (message ++ more) (length message) }
+        → AreOneMessageLong message → IsTaken [] (message ++ more) (length message) }
     ensures rest { (rest : List ℕ) (n : ℕ)
         → AreRest rest → n ≤ length rest → state_of (take n rest) ≢ Ready }
 {}
@@ -204,7 +204,7 @@ pub fn a_stream_is_fed_call_by_call()
         → cut_from held piece ≡ none_with (held ++ take n piece) }
 {}
 
-/// The same comes out of a splitter, whatever the pieces in which it is fed.
+/// What comes out of a splitter does not depend on the pieces in which it is fed.
 pub fn a_stream_may_come_in_pieces()
     ensures two { (held one other : List ℕ)
         → cut_from held (one ++ other)

@@ -5,7 +5,7 @@ ghost use Rattle.etcs_bits.specs.layout.Combined.{is_countable};
 ghost use Rattle.etcs_bits.specs.layout.Format.{kept_bits};
 ghost use Rattle.etcs_bits.specs.layout.Reading.{rows_at};
 ghost use Rattle.etcs_bits.specs.layout.Results.{Gives, IfMemory};
-ghost use Rattle.etcs_radio.specs.TrainNumbers.{is_kept, is_other};
+ghost use Rattle.etcs_radio.specs.TrainNumbers.{is_kept, is_kept_number};
 
 use etcs_bits::{
     Bits, Cursor, DecodeError, FaultKind, Layout, Memory, Same, can_keep, put_kept, refused,
@@ -40,7 +40,7 @@ impl RawTrainPacket {
     /// Whether packets of this number are kept as bits: it is neither that of a position report nor
     /// that of the end mark.
     pub fn has_number(number: u64) -> bool
-        ensures { result ≡ is_other number }
+        ensures { result ≡ is_kept_number number }
     {
         !matches!(number, 0 | 1 | 255)
     }
@@ -63,7 +63,7 @@ impl RawTrainPacket {
     /// The number of the packet: NID_PACKET.
     pub fn number(&self) -> u8
         ensures number { result ≡ self.now.number }
-        ensures other { is_other result ≡ true }
+        ensures other { is_kept_number result ≡ true }
     {
         self.number
     }
@@ -88,7 +88,7 @@ impl RawTrainPacket {
         cur: &mut Cursor<'_>,
     ) -> Result<Self, DecodeError>
         requires small { number < 256 }
-        requires other { is_other number ≡ true }
+        requires other { is_kept_number number ≡ true }
         ensures { Gives (numbered_rows others) result (chosen_at others number cur.old) cur.new }
     {
         let body = scan_body(alloc, cur)?;

@@ -1,4 +1,4 @@
-//! Where a train is, by its own report.
+//! Where a train is, by its own position report.
 
 ghost use Rattle.std.specs.Prelude.{◌≡◌, IsTrue};
 
@@ -12,12 +12,12 @@ use etcs_bits::{
 use std::alloc::Global;
 
 /// A position report of a train: train packet 0, or 1 if it has the group before the last one too. All
-/// distances but L_TRAININT are in the report's scale (SUBSET-026, 3.6.5 and 7.4.3).
+/// distances but L_TRAININT are in the position report's scale (SUBSET-026, 3.6.5 and 7.4.3).
 #[derive(Clone, Copy, Debug, PartialEq, Eq)]
 pub struct Report {
     /// Q_SCALE, 2 bits: the unit of all distances.
     pub scale: Scale,
-    /// NID_LRBG, 24 bits: the group that the report refers to, the last relevant one.
+    /// NID_LRBG, 24 bits: the group that the position report refers to, the last relevant one.
     pub lrbg: Identity,
     /// NID_PRVLRBG, 24 bits: the group before that one. It is there exactly in packet 1.
     pub previous: Option<Identity>,
@@ -33,8 +33,8 @@ pub struct Report {
     pub doubt_under: Distance,
     /// Q_LENGTH, 2 bits, and L_TRAININT, 15 bits: whether the train is whole, and its length.
     pub length: Integrity,
-    /// V_TRAIN, 7 bits: the train's speed, in steps of 5 km/h. All 128 numbers are accepted, those
-    /// above 120 too, which stand for no speed up to 600 km/h.
+    /// V_TRAIN, 7 bits: the train's speed, in steps of 5 km/h. All 128 numbers are accepted, also the
+    /// numbers above 120, which stand for no speed up to 600 km/h.
     pub speed: Plain<7>,
     /// Q_DIRTRAIN, 2 bits: in which direction the train runs, as seen from the group.
     pub running: Train3,
@@ -72,7 +72,7 @@ impl Report {
     ghost use Rattle.etcs_bits.specs.declared.variables.identity.Identity.{Identity};
     ghost use Rattle.etcs_radio.specs.Report.{report_with, situation_of, report_number};
 
-    // The report of these parts.
+    // The position report of these parts.
     fn of(scale: Scale, lrbg: Lrbg, previous: Option<Identity>, situation: Situation) -> Report
         ensures { result ≡ report_with previous scale lrbg situation }
     {
@@ -122,7 +122,7 @@ impl Report {
         Body::new((self.scale, (Lrbg::new(self.lrbg), groups))).unwrap()
     }
 
-    /// The number of the packet, NID_PACKET: 1 if the report has the group before, else 0.
+    /// The number of the packet, NID_PACKET: 1 if the position report has the group before, else 0.
     pub fn number(&self) -> u8
         ensures { result ≡ report_number self.now }
     {
@@ -136,7 +136,7 @@ impl Report {
 impl Report {
     ghost use Rattle.etcs_bits.specs.layout.Choice.{chosen_at, numbered_rows};
     ghost use Rattle.etcs_bits.specs.layout.Results.{Gives, IfMemory};
-    ghost use Rattle.etcs_radio.specs.Report.{numbered, numbered_of};
+    ghost use Rattle.etcs_radio.specs.Report.{report_numbered, numbered_of};
 
     // Reads what follows NID_PACKET, whose number is 0 or 1. After an error the cursor may stand
     // anywhere.
@@ -145,11 +145,11 @@ impl Report {
         number: u64,
         cur: &mut Cursor<'_>,
     ) -> Result<Self, DecodeError>
-        requires { IsTrue (numbered.allows number) }
-        ensures gives { Gives (λ r. numbered_rows numbered (numbered_of r)) result
-            (chosen_at numbered number cur.old) cur.new }
+        requires { IsTrue (report_numbered.allows number) }
+        ensures gives { Gives (λ r. numbered_rows report_numbered (numbered_of r)) result
+            (chosen_at report_numbered number cur.old) cur.new }
 
-        // A report holds no list and no bits of its own.
+        // A position report holds no list and no bits of its own.
         ensures memory { IfMemory result ⊥ }
     {
         if number == 0 {

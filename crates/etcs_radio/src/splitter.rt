@@ -2,7 +2,7 @@
 
 ghost use Rattle.std.specs.Prelude.{◌≡◌, ◌≢◌, ◌+◌, ◌-◌, ◌<◌, ◌≤◌, ◌^◌, ◌++◌, [], length, take, max, min};
 ghost use Rattle.etcs_radio.specs.Splitter.{IsTaken, state_of};
-ghost use Rattle.etcs_radio.specs.Stream.{AreWhole, message_length};
+ghost use Rattle.etcs_radio.specs.Stream.{AreOneMessageLong, message_length};
 ghost use Rattle.arrayvec.specs.ArrayVec.{array_vec_len};
 
 use arrayvec::ArrayVec;
@@ -87,7 +87,7 @@ impl Splitter {
     pub fn message(&self) -> &[u8]
         requires { state_of self.now ≡ State.Ready }
         ensures bytes { result.now ≡ self.now }
-        ensures whole { AreWhole result.now }
+        ensures whole { AreOneMessageLong result.now }
     {
         self.bytes.as_slice()
     }

@@ -45,10 +45,10 @@ pub fn from_hex(alloc: Global, text: &[u8]) -> Result<Message, RadioTextError>
     ensures ok { IfOk result (λ m. IsMessageText m text.now) }
     ensures reason { IfErr result (λ e. IsReason e text.now) }
 
-    // The same as a function of the text.
+    // The result, as a function of the text.
     ensures exact { IsTextMeaning result (message_of_text text.now) }
 
-    // These are always reported: they need no memory.
+    // These are always answered: they need no memory.
     ensures not_hex { IsErrOf result RadioTextError.NotHex ↔ (IsHexadecimal text.now → ⊥) }
     ensures head { (f : Fault) → HasHeadFault text.now f
         → result ≡ Err (RadioTextError.Fault f) }

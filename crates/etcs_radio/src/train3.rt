@@ -6,7 +6,7 @@ use etcs_bits::{Bits, Cursor, DecodeError, FaultKind, Layout, Memory, Same, refu
 use std::alloc::Global;
 
 /// Q_DIRLRBG, Q_DLRBG and Q_DIRTRAIN, 2 bits each: how a train stands, where its front is, and which
-/// way it runs, each as seen from the group that its report refers to. 3 is spare: a Spare fault
+/// way it runs, each as seen from the group that its position report refers to. 3 is spare: a Spare fault
 /// (SUBSET-026, 7.5.1).
 #[derive(Clone, Copy, Debug, PartialEq, Eq)]
 pub enum Train3 {

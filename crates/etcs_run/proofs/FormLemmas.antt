@@ -1,4 +1,4 @@
--- How the words of a refusal are those of what was read.
+-- The words of a refusal are the words for what was read.
 use Rattle.std.proofs.Common.{◌≡◌, ◌≢◌, ◌↔◌, ◌++◌, ◌∙◌, ◌<◌, ◌≤◌, ℕ, Bool, true, false, List, codes, Some, None, Result, Ok, Err, refl, sym, ap, subst, if◌then◌else◌, nat_lt}
 use Rattle.std.specs.Prelude.{IsErrOf, IsUtf8}
 use Rattle.std.specs.Str.{is_utf8}
@@ -25,9 +25,9 @@ use Rattle.etcs_telegram.specs.declared.error.TextError.{TextError}
 use Rattle.etcs_telegram.specs.declared.error.TextError.TheVariants as texts
 use Rattle.etcs_run.specs.FormLines.{◌then◌, message_line, or_fault, or_no_json, record_in, telegram_line, text_unless, value_in}
 use Rattle.etcs_run.specs.HexText.{message_text, telegram_text}
-use Rattle.etcs_run.specs.LineMeaning.{Gives}
+use Rattle.etcs_run.specs.TextLineMeaning.{Gives}
 use Rattle.etcs_run.specs.TelegramLines.{IsEarly, line_for}
-use Rattle.etcs_run.specs.declared.line_meaning.Unwritten.{Unwritten}
+use Rattle.etcs_run.specs.declared.text_line_meaning.Unwritten.{Unwritten}
 use Rattle.etcs_run.proofs.HexTextLemmas.{canonical_message, canonical_telegram}
 
 -- a text that is refused, unless memory ran out, has this reason
@@ -85,11 +85,11 @@ pub no_value : (line : List ℕ) → (IsUtf8 line → read line ≡ None) → va
 unfolding value_in
 no_value line none = no_value_by line (is_utf8 line) refl none
 
--- so the line has no record
+-- a line that is no JSON has no record
 pub no_record : {X : Type 0} (shape : Shape X) (line : List ℕ) → (IsUtf8 line → read line ≡ None) → record_in shape line ≡ Err (line_words Json)
 no_record shape line none = ap (λ value. value then λ e. or_fault (shape.of e)) (no_value line none)
 
--- what means the same is given
+-- a call gives what an equal meaning is
 pub gives_same : {X Y : Type 0} (view : X → Y) (result : Result X Unwritten) (m n : Result Y (List ℕ)) → Gives view result m → n ≡ m → Gives view result n
 gives_same view result m n gives e = subst (Gives view result) (sym e) gives
 

@@ -1,5 +1,5 @@
 -- How the bytes of a stream of radio messages are answered, message by message. `all` is what has to
--- be written for all bytes of a line, and `left` for those that are left.
+-- be written for all bytes of a line, and `left` for the bytes that are left.
 use Rattle.std.proofs.Common.{◌≡◌, ◌≢◌, ◌≤◌, ◌+◌, ◌-◌, ◌++◌, ℕ, Bool, true, false, if◌then◌else◌, List, [], ◌∷◌, length, Option, Result, Ok, Err, refl, sym, ap, ◌∙◌, append_assoc, take, drop, arith, length-append, length-drop, length-take, drop-drop, subst, OnOk, ◌⊎◌, inl, inr}
 use Rattle.std.proofs.lemmas.List.{take_all}
 use Rattle.std.specs.Io.BufRead.{ends_with_byte}
@@ -21,7 +21,7 @@ use Rattle.etcs_form.specs.declared.refusal.StreamFault.TheVariants.{BelowThree,
 use Rattle.etcs_telegram.specs.declared.error.TextError.TheVariants.{NotHex}
 use Rattle.etcs_run.specs.Output.{Output, answered, prepend}
 use Rattle.etcs_run.specs.RadioHeld.{Feeds}
-use Rattle.etcs_run.specs.RadioStream.{Onwards, fed, line_for, refused_message, stream_answers, told, told_cut}
+use Rattle.etcs_run.specs.RadioStream.{Onwards, bytes_output, line_for, refused_message, stream_answers, message_output, cut_output}
 use Rattle.etcs_run.specs.Ran.{TakesTurn, Turns, Writes, WritesBytes}
 use Rattle.etcs_run.specs.TextLines.{trimmed}
 use Rattle.etcs_run.specs.declared.error.RunError.{RunError}
@@ -36,29 +36,29 @@ use Rattle.etcs_run.proofs.StreamLemmas.{Appends-none, Appends-then}
 -- a message came out
 pub fed_ready : (n : ℕ) (held piece whole rest : List ℕ)
     → cut_from held piece ≡ after_message whole (cut_from [] rest) → (onwards : Onwards)
-    → fed n held piece onwards ≡ told n (line_for (message_of whole)) (fed (n + 1) [] rest onwards)
-fed_ready n held piece whole rest is onwards = ap (λ (cut : Cut). told_cut n cut onwards) is
+    → bytes_output n held piece onwards ≡ message_output n (line_for (message_of whole)) (bytes_output (n + 1) [] rest onwards)
+fed_ready n held piece whole rest is onwards = ap (λ (cut : Cut). cut_output n cut onwards) is
 
 -- the splitter waits for more bytes
 pub fed_more : (n : ℕ) (held piece after : List ℕ) → cut_from held piece ≡ none_with after
-    → state_of after ≡ More → (onwards : Onwards) → fed n held piece onwards ≡ onwards n after
-fed_more n held piece after is waits onwards = ap (λ (cut : Cut). told_cut n cut onwards) is ∙ rw waits refl
+    → state_of after ≡ More → (onwards : Onwards) → bytes_output n held piece onwards ≡ onwards n after
+fed_more n held piece after is waits onwards = ap (λ (cut : Cut). cut_output n cut onwards) is ∙ rw waits refl
 
 ready_is_not_failed : Ready ≢ Failed
 ready_is_not_failed e = grind arith
 
 -- no message begins with the bytes that are held
 pub fed_failed : (n : ℕ) (held piece after : List ℕ) → cut_from held piece ≡ none_with after
-    → state_of after ≡ Failed → (onwards : Onwards) → fed n held piece onwards ≡ refused_message n BelowThree
+    → state_of after ≡ Failed → (onwards : Onwards) → bytes_output n held piece onwards ≡ refused_message n BelowThree
 fed_failed n held piece after is failed onwards =
-    ap (λ (cut : Cut). told_cut n cut onwards) is ∙ rw failed refl
+    ap (λ (cut : Cut). cut_output n cut onwards) is ∙ rw failed refl
 
--- One call of the splitter: it takes bytes of those that are left, and holds them behind the others.
+-- One call of the splitter: it takes some of the bytes that are left, and holds them behind the others.
 pub record Takes (held bytes now : List ℕ) (at used : ℕ) : Type 0 where
   pub taken : IsTaken held (drop at bytes) used
   pub grown : now ≡ held ++ take used (drop at bytes)
 
--- the same, of a piece that is the bytes that are left
+-- one call of the splitter, of a piece that is the bytes that are left
 pub takes_of : {held now piece : List ℕ} {used : ℕ} (bytes : List ℕ) (at : ℕ) → piece ≡ drop at bytes
     → IsTaken held piece used → now ≡ held ++ take used piece → Takes held bytes now at used
 takes_of {held} {now} {piece} {used} bytes at is taken grown =
@@ -100,18 +100,18 @@ module _ {held bytes now : List ℕ} {at used : ℕ} (call : Takes held bytes no
 
   -- what the call leaves to write: all of it later, the refusal, or the message and the bytes after it
   pub left_more : (n : ℕ) → state_of now ≡ More → (onwards : Onwards)
-      → fed n held (drop at bytes) onwards ≡ onwards n now
+      → bytes_output n held (drop at bytes) onwards ≡ onwards n now
   left_more n waits =
       fed_more n held (drop at bytes) now (none_came (λ ready. ready_is_not_more (sym ready ∙ waits))) waits
 
   pub left_failed : (n : ℕ) → state_of now ≡ Failed → (onwards : Onwards)
-      → fed n held (drop at bytes) onwards ≡ refused_message n BelowThree
+      → bytes_output n held (drop at bytes) onwards ≡ refused_message n BelowThree
   left_failed n failed =
       fed_failed n held (drop at bytes) now (none_came (λ ready. ready_is_not_failed (sym ready ∙ failed))) failed
 
   pub left_ready : (n : ℕ) → state_of now ≡ Ready → (onwards : Onwards)
-      → fed n held (drop at bytes) onwards
-      ≡ told n (line_for (message_of now)) (fed (n + 1) [] (drop (at + used) bytes) onwards)
+      → bytes_output n held (drop at bytes) onwards
+      ≡ message_output n (line_for (message_of now)) (bytes_output (n + 1) [] (drop (at + used) bytes) onwards)
   left_ready n ready = fed_ready n held (drop at bytes) now (drop (at + used) bytes) (one_came ready)
 
 -- ---- what was written so far
@@ -128,10 +128,10 @@ Feeding-start {c} all = record { text = []; appended = Appends-none c; says = λ
 
 module _ {c0 c c1 : Option (List ℕ)} {all left : Onwards → Output} (feeding : Feeding c0 c all left) where
   -- a message was answered, and the rest is left
-  pub Feeding-told : (later : Onwards → Output) (after : Output → Output)
+  pub Feeding-message : (later : Onwards → Output) (after : Output → Output)
       → ((onwards : Onwards) → left onwards ≡ after (later onwards)) → Turns c c1 after (Ok Next)
       → Feeding c0 c1 all later
-  Feeding-told later after is turn = record {
+  Feeding-message later after is turn = record {
     text = feeding.text ++ turn.text;
     appended = Appends-then c0 c c1 _ _ feeding.appended turn.appended;
     says = λ onwards.
@@ -216,7 +216,7 @@ Turns-as (Err e) same turn = record {
 -- the bytes of a line were fed
 pub line_fed : {c c1 : Option (List ℕ)} (n : ℕ) (held : List ℕ) (later : ℕ) (kept : List ℕ)
     (number : ℕ) (line bytes : List ℕ) (result : Result Turn RunError)
-    → decode_of (trimmed line) ≡ Ok bytes → Feeds c c1 (fed n held bytes) later kept result
+    → decode_of (trimmed line) ≡ Ok bytes → Feeds c c1 (bytes_output n held bytes) later kept result
     → TakesTurn c c1 (stream_answers n held) (stream_answers later kept) number line result
 unfolding stream_answers
 line_fed n held later kept number line bytes (Ok Next) is feeds = record { text = feeds.text; appended = feeds.appended; says = λ lines. rw is (feeds.says (λ m h. stream_answers m h (number + 1) lines)) }
@@ -270,8 +270,8 @@ bytes_spelled line bytes is =
 -- what is paid by fewer bytes is paid by more
 pub pays_more : (a b m n : ℕ) (result : Result Turn RunError) → OnOk result (a ≤ b + m) → m ≤ n
     → OnOk result (a ≤ b + n)
-pays_more a b m n (Ok turn) pays few = omega (arith, pays, few)
-pays_more a b m n (Err e) pays few = tt
+pays_more a b m n (Ok turn) bounded few = omega (arith, bounded, few)
+pays_more a b m n (Err e) bounded few = tt
 
 -- ---- the end of the input
 
@@ -304,5 +304,5 @@ ends_told n (byte ∷ held) number some none = cc none
 
 -- the line of a message is a beginning of the answer to the message
 pub begins_told : (n : ℕ) {meaning : Result (List ℕ) Fault} {line : List ℕ} → meaning ≡ Ok line
-    → (rest : Output) → (more : List ℕ) × ((told n meaning rest).0 ≡ line ++ more)
+    → (rest : Output) → (more : List ℕ) × ((message_output n meaning rest).0 ≡ line ++ more)
 begins_told n is rest = (rest.0, rw is refl)

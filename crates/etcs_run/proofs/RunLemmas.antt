@@ -233,7 +233,7 @@ Ran-unread {r} writes = record {
   says = λ rest may. writes.says;
 }
 
--- the same for an equal output
+-- what ran for an output ran for an equal one
 pub Ran-as : {r0 r c0 c : Option (List ℕ)} {output other : List ℕ → Output}
     {result : Result Status RunError} → ((s : List ℕ) → other s ≡ output s)
     → Ran r0 r c0 c output result → Ran r0 r c0 c other result

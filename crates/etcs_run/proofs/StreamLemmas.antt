@@ -4,7 +4,7 @@ use Rattle.std.proofs.Math.Seq.{take-add}
 use Rattle.std.proofs.lemmas.List.{append-nil, take_rest}
 use Rattle.std.specs.Io.KnownBytes.{Appends, Consumes, Keeps}
 
--- first these bytes were read, then those
+-- first the bytes xs were read, then the bytes ys
 pub Consumes-then : (a b c : Option (List ℕ)) (xs ys : List ℕ) → Consumes a b xs → Consumes b c ys
     → Consumes a c (xs ++ ys)
 Consumes-then None b c xs ys first second = tt
@@ -18,7 +18,7 @@ pub Consumes-none : (a : Option (List ℕ)) → Consumes a a []
 Consumes-none None = tt
 Consumes-none (Some x) = refl
 
--- first these bytes were written, then those
+-- first the bytes xs were written, then the bytes ys
 pub Appends-then : (a b c : Option (List ℕ)) (xs ys : List ℕ) → Appends a b xs → Appends b c ys
     → Appends a c (xs ++ ys)
 Appends-then None b c xs ys first second = tt

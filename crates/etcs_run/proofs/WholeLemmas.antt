@@ -6,7 +6,7 @@ use Rattle.etcs_run.specs.Counted.{CountsNone}
 use Rattle.etcs_run.specs.LineReading.{CountsDevice}
 use Rattle.etcs_run.specs.Output.{Output}
 use Rattle.etcs_run.specs.Ran.{IsOutputSoFar, Ran, Writes}
-use Rattle.etcs_run.specs.WholeInput.{ReadsMore, ReadsWhole}
+use Rattle.etcs_run.specs.WholeInput.{ReadsMore, ReadsAllInput}
 use Rattle.etcs_run.specs.declared.counted.Counted.{Counted}
 use Rattle.etcs_run.specs.declared.error.RunError.{RunError}
 use Rattle.etcs_run.specs.declared.error.RunError.TheVariants.{Memory, Device}
@@ -16,7 +16,7 @@ use Rattle.etcs_run.proofs.StreamLemmas.{Appends-none, Consumes-then}
 -- a read failed, or the input was longer than memory
 pub Whole-failed : {X : Type 0} {items : X → List ℕ} {r0 r r1 : Option (List ℕ)} {input now : List ℕ}
     {e : RunError} (x : RunError) → Consumes r0 r input → ReadsMore r r1 input now (Err e)
-    → ReadsWhole items r0 r1 (Err x)
+    → ReadsAllInput items r0 r1 (Err x)
 Whole-failed {r0} {r} {r1} {input} x first more = record {
   bytes = input ++ more.bytes;
   consumed = Consumes-then r0 r r1 input more.bytes first more.consumed;
@@ -25,7 +25,7 @@ Whole-failed {r0} {r} {r1} {input} x first more = record {
 
 -- the run stopped before anything was written
 pub Ran-unwritten : {X : Type 0} {items : X → List ℕ} {r0 r1 c : Option (List ℕ)} {output : List ℕ → Output}
-    {input : Result X RunError} (e : RunError) → ReadsWhole items r0 r1 input → Ran r0 r1 c c output (Err e)
+    {input : Result X RunError} (e : RunError) → ReadsAllInput items r0 r1 input → Ran r0 r1 c c output (Err e)
 Ran-unwritten {c} {output} e read = record {
   bytes = read.bytes;
   consumed = read.consumed;
@@ -38,7 +38,7 @@ Ran-unwritten {c} {output} e read = record {
 
 -- the whole input was read, and its output was written, or a beginning of it
 pub Ran-whole : {X : Type 0} {items : X → List ℕ} {r0 r1 c c1 : Option (List ℕ)} {output : List ℕ → Output}
-    {input : X} {given : Output} {result : Result Status RunError} → ReadsWhole items r0 r1 (Ok input)
+    {input : X} {given : Output} {result : Result Status RunError} → ReadsAllInput items r0 r1 (Ok input)
     → given ≡ output (items input) → Writes c c1 given result → Ran r0 r1 c c1 output result
 Ran-whole {output} {result} read is writes = record {
   bytes = read.bytes;

@@ -3,9 +3,9 @@
 use Rattle.std.specs.Prelude.{◌++◌, ℕ, List, [], ◌∷◌, codes, Some, None, Result, Ok, Err}
 use Rattle.etcs_check.specs.declared.finding.Finding.{Finding}
 use Rattle.etcs_form.specs.DocumentFault.{DocumentFault, bad_aspects, bad_count, bad_form, bad_message, bad_telegram, no_json}
-use Rattle.etcs_form.specs.Refusal.{fault_told, refusal_words}
+use Rattle.etcs_form.specs.Refusal.{form_fault_words, refusal_words}
 use Rattle.etcs_form.specs.ReportText.{report_words}
-use Rattle.etcs_form.specs.Verdict.{Counted, counted_of_text}
+use Rattle.etcs_form.specs.Verdict.{Summary, summary_of_text}
 use Rattle.etcs_form.specs.declared.line_error.LineError.{LineError}
 use Rattle.etcs_form.specs.declared.line_error.LineError.TheVariants as errors
 use Rattle.etcs_form.specs.declared.refusal.Refusal.TheVariants.{Document}
@@ -19,7 +19,7 @@ Answer = List ℕ × Status
 -- the refusal of a document with this fault
 abbrev pub refusal_for : DocumentFault → List ℕ
 refusal_for no_json = refusal_words (Document errors.NotJson)
-refusal_for (bad_form f) = codes "refused: " ++ (fault_told f ++ codes "\n")
+refusal_for (bad_form f) = codes "refused: " ++ (form_fault_words f ++ codes "\n")
 refusal_for (bad_count g) = refusal_words (Document (errors.Count g))
 refusal_for (bad_aspects g) = refusal_words (Document (errors.Aspects g))
 refusal_for (bad_telegram g None b why) = refusal_words (Document (errors.Telegram g b why))
@@ -35,15 +35,15 @@ abbrev pub status_for : List Finding → Status
 status_for [] = Done
 status_for (_ ∷ _) = Findings
 
--- the report on a line with so many groups and messages and these findings, and the status
-abbrev pub reported : Counted → Answer
+-- the report on a line with these counts of groups and messages and these findings, and the status
+abbrev pub reported : Summary → Answer
 reported line = (report_words line.0.0 line.0.1 line.1, status_for line.1)
 
 -- the report, or the refusal
-abbrev pub checked : Result Counted DocumentFault → Answer
+abbrev pub checked : Result Summary DocumentFault → Answer
 checked (Ok line) = reported line
 checked (Err fault) = (refusal_for fault, Refused)
 
 -- what `check` writes for an input
 unfoldable pub check_output : List ℕ → Answer
-check_output document = checked (counted_of_text document)
+check_output document = checked (summary_of_text document)

@@ -22,11 +22,11 @@ with_flag name = with_rule (new_app name) radio
 abbrev pub decode_line : App
 decode_line = with_subcommand (new_app (codes "balisecheck")) (with_flag (codes "decode")).top
 
--- that and `balisecheck encode [--radio]`
+-- `balisecheck decode [--radio]` and `balisecheck encode [--radio]`
 abbrev pub coding_line : App
 coding_line = with_subcommand decode_line (with_flag (codes "encode")).top
 
--- those and `balisecheck check`
+-- `balisecheck decode [--radio]`, `balisecheck encode [--radio]` and `balisecheck check`
 abbrev pub command_line : App
 command_line = with_subcommand coding_line (new_app (codes "check")).top
 
@@ -43,8 +43,8 @@ abbrev pub encode_of : Bool → Command
 encode_of radio = if radio then EncodeRadio else Encode
 
 -- the command of this name, with or without the flag
-abbrev pub named : Text → Bool → Option Command
-named name radio =
+abbrev pub command_named : Text → Bool → Option Command
+command_named name radio =
     if bytes_eq name (codes "check") then Some Check
     else (if bytes_eq name (codes "decode") then Some (decode_of radio)
     else (if bytes_eq name (codes "encode") then Some (encode_of radio) else None))
@@ -52,7 +52,7 @@ named name radio =
 -- the command of the subcommand that was found
 abbrev pub entered : Option (Text × List Row) → Option Command
 entered None = None
-entered (Some found) = named found.0 (has_radio found.1)
+entered (Some found) = command_named found.0 (has_radio found.1)
 
 -- the command, but only if the words have no fault
 abbrev pub unless_fault : Kinds → Option Command → Option Command

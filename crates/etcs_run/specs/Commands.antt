@@ -3,7 +3,7 @@ use Rattle.std.specs.Prelude.{ℕ, List, [], codes, Option, Some, None}
 use Rattle.etcs_run.specs.Checking.{check_output}
 use Rattle.etcs_run.specs.Command.{command_of}
 use Rattle.etcs_run.specs.FormLines.{message_encoded, telegram_encoded}
-use Rattle.etcs_run.specs.Output.{Output, each_line, line_by_line}
+use Rattle.etcs_run.specs.Output.{Output, each_text_line, line_by_line}
 use Rattle.etcs_run.specs.RadioStream.{stream_answers}
 use Rattle.etcs_run.specs.TelegramLines.{decoded_of}
 use Rattle.etcs_run.specs.declared.command.Command.{Command}
@@ -17,10 +17,10 @@ usage_line = codes "refused: usage is balisecheck check, decode [--radio] or enc
 -- what is written for a command and an input, or for no command
 abbrev pub of_command : Option Command → List ℕ → Output
 of_command (Some Check) input = check_output input
-of_command (Some Decode) input = each_line decoded_of input
+of_command (Some Decode) input = each_text_line decoded_of input
 of_command (Some DecodeRadio) input = line_by_line (stream_answers 0 []) input
-of_command (Some Encode) input = each_line telegram_encoded input
-of_command (Some EncodeRadio) input = each_line message_encoded input
+of_command (Some Encode) input = each_text_line telegram_encoded input
+of_command (Some EncodeRadio) input = each_text_line message_encoded input
 of_command None input = (usage_line, Refused)
 
 -- what the words write for an input

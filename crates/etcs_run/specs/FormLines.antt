@@ -11,12 +11,12 @@ use Rattle.serde_json.specs.Data.{Data}
 use Rattle.serde_json.specs.Read.{read}
 use Rattle.etcs_json.specs.AnyMessage.{message}
 use Rattle.etcs_json.specs.Fault.{Fault}
-use Rattle.etcs_form.specs.Refusal.{fault_told, line_words}
+use Rattle.etcs_form.specs.Refusal.{form_fault_words, line_words}
 use Rattle.etcs_json.specs.Shape.{Shape, object}
 use Rattle.etcs_json.specs.Telegrams.{telegram}
 use Rattle.etcs_form.specs.declared.refusal.LineFault.TheVariants.{Json, TooBig}
 use Rattle.etcs_run.specs.HexText.{message_text, telegram_text}
-use Rattle.etcs_run.specs.LineMeaning.{Meaning}
+use Rattle.etcs_run.specs.TextLineMeaning.{Meaning}
 
 -- the next step, of what a step gave; a reason to refuse is passed on
 infixl 10 ◌then◌
@@ -36,7 +36,7 @@ value_in bytes = if is_utf8 bytes then or_no_json (read bytes) else Err (line_wo
 -- the record that was read of a form, or the form's first fault in words
 abbrev pub or_fault : {X : Type 0} → Result X Fault → Result X (List ℕ)
 or_fault (Ok x) = Ok x
-or_fault (Err f) = Err (fault_told f)
+or_fault (Err f) = Err (form_fault_words f)
 
 -- the record of which the line is the form, or the reason why it is none
 abbrev pub record_in : {X : Type 0} → Shape X → List ℕ → Result X (List ℕ)

@@ -23,7 +23,7 @@ digits_of_bits bits = encode_lower (bytes_of_bits bits)
 unfoldable pub telegram_text : Telegram → List ℕ
 telegram_text t = digits_of_bits (canonical_bits t ++ no_pads t.size)
 
--- how many whole bytes hold so many bits
+-- how many whole bytes hold this number of bits
 abbrev pub bytes_for : ℕ → ℕ
 bytes_for bits = (bits + 7) / 8
 

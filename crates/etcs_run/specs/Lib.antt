@@ -1,7 +1,7 @@
 pub mod Counted
 pub mod Command
 pub mod TextLines
-pub mod LineMeaning
+pub mod TextLineMeaning
 pub mod JsonLine
 pub mod TelegramLines
 pub mod HexText

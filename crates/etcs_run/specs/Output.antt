@@ -3,7 +3,7 @@
 -- from 1. An empty line is skipped, but counted.
 use Rattle.std.specs.Prelude.{◌+◌, ◌++◌, ℕ, List, [], ◌∷◌, Result, Ok, Err}
 use Rattle.etcs_run.specs.TextLines.{lines_of, trimmed}
-use Rattle.etcs_run.specs.LineMeaning.{Meaning, refusal_of}
+use Rattle.etcs_run.specs.TextLineMeaning.{Meaning, refusal_of}
 use Rattle.etcs_run.specs.declared.status.Status.{Status}
 use Rattle.etcs_run.specs.declared.status.Status.TheVariants.{Done, Refused}
 
@@ -36,5 +36,5 @@ abbrev pub line_by_line : (ℕ → List (List ℕ) → Output) → List ℕ → 
 line_by_line answers input = answers 1 (lines_of input)
 
 -- what is written for an input of which each line is answered by itself
-abbrev pub each_line : Meaning → List ℕ → Output
-each_line meaning = line_by_line (answers meaning)
+abbrev pub each_text_line : Meaning → List ℕ → Output
+each_text_line meaning = line_by_line (answers meaning)

@@ -9,25 +9,25 @@ use Rattle.etcs_run.specs.declared.turn.Turn.{Turn}
 use Rattle.etcs_run.specs.declared.turn.Turn.TheVariants.{Next, Stop}
 
 -- how many messages were written, which is the number of the next one
-abbrev pub number_of : RadioDecoding → ℕ
-number_of d = d.number
+abbrev pub messages_written : RadioDecoding → ℕ
+messages_written d = d.number
 
 -- the bytes that are held of the next message
 abbrev pub kept_by : RadioDecoding → List ℕ
 kept_by d = d.splitter
 
--- how many bytes of the input are counted or held, at least
-abbrev pub bytes_behind : RadioDecoding → ℕ
-bytes_behind d = number_of d + length (kept_by d)
+-- a lower bound of the bytes read so far
+abbrev pub least_read : RadioDecoding → ℕ
+least_read d = messages_written d + length (kept_by d)
 
 -- What is written for some bytes and later: this text and then what is written later, this text and
 -- the end, or more than this text.
 abbrev pub IsFedSoFar : Result Turn RunError → List ℕ → (Onwards → Output) → ℕ → List ℕ → Type 0
 IsFedSoFar (Ok Next) text output number held =
-    (then : Onwards) → output then ≡ prepend text (then number held)
-IsFedSoFar (Ok (Stop status)) text output number held = (then : Onwards) → output then ≡ (text, status)
+    (rest : Onwards) → output rest ≡ prepend text (rest number held)
+IsFedSoFar (Ok (Stop status)) text output number held = (rest : Onwards) → output rest ≡ (text, status)
 IsFedSoFar (Err _) text output number held =
-    (then : Onwards) → (more : List ℕ) × ((output then).0 ≡ text ++ more)
+    (rest : Onwards) → (more : List ℕ) × ((output rest).0 ≡ text ++ more)
 
 -- This text was written, and it is what is written for some bytes, or a beginning of it.
 pub record Feeds (old new : Option (List ℕ)) (output : Onwards → Output) (number : ℕ) (held : List ℕ)

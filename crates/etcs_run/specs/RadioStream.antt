@@ -19,7 +19,7 @@ use Rattle.etcs_form.specs.declared.refusal.Refusal.TheVariants.{Message}
 use Rattle.etcs_form.specs.declared.refusal.StreamFault.{StreamFault}
 use Rattle.etcs_form.specs.declared.refusal.StreamFault.TheVariants.{BelowThree, CutOff, Fault}
 use Rattle.etcs_run.specs.JsonLine.{json_line_of}
-use Rattle.etcs_run.specs.LineMeaning.{refusal_of}
+use Rattle.etcs_run.specs.TextLineMeaning.{refusal_of}
 use Rattle.etcs_run.specs.Output.{Output, prepend}
 use Rattle.etcs_run.specs.TextLines.{trimmed}
 use Rattle.etcs_run.specs.declared.status.Status.TheVariants.{Done, Refused}
@@ -36,9 +36,9 @@ line_for (Ok m) = Ok (json_line_of message m)
 line_for (Err fault) = Err fault
 
 -- the JSON line of the message with this number, and then the rest; or the message's refusal
-abbrev pub told : ℕ → Result (List ℕ) FirstFault → Output → Output
-told number (Ok line) rest = prepend line rest
-told number (Err fault) rest = refused_message number (Fault fault)
+abbrev pub message_output : ℕ → Result (List ℕ) FirstFault → Output → Output
+message_output number (Ok line) rest = prepend line rest
+message_output number (Err fault) rest = refused_message number (Fault fault)
 
 -- ---- the bytes of one line
 
@@ -48,29 +48,29 @@ Onwards = ℕ → List ℕ → Output
 
 -- what is written later, unless no message begins with the bytes that are held
 abbrev pub unless_failed : State → ℕ → List ℕ → Onwards → Output
-unless_failed Failed number held then = refused_message number BelowThree
-unless_failed _ number held then = then number held
+unless_failed Failed number held rest = refused_message number BelowThree
+unless_failed _ number held rest = rest number held
 
 -- the messages that came out of the splitter, in order, and then what is written later
-abbrev pub told_all : ℕ → List (List ℕ) → List ℕ → Onwards → Output
-told_all number [] held then = unless_failed (state_of held) number held then
-told_all number (bytes ∷ messages) held then =
-    told number (line_for (message_of bytes)) (told_all (number + 1) messages held then)
+abbrev pub messages_output : ℕ → List (List ℕ) → List ℕ → Onwards → Output
+messages_output number [] held rest = unless_failed (state_of held) number held rest
+messages_output number (bytes ∷ messages) held rest =
+    message_output number (line_for (message_of bytes)) (messages_output (number + 1) messages held rest)
 
--- the same of what came out
-abbrev pub told_cut : ℕ → Cut → Onwards → Output
-told_cut number cut then = told_all number cut.messages cut.held then
+-- what came out of the splitter, its messages in order, and then what is written later
+abbrev pub cut_output : ℕ → Cut → Onwards → Output
+cut_output number cut rest = messages_output number cut.messages cut.held rest
 
 -- what is written for bytes of the stream, with these bytes held before, and then later
-abbrev pub fed : ℕ → List ℕ → List ℕ → Onwards → Output
-fed number held bytes then = told_cut number (cut_from held bytes) then
+abbrev pub bytes_output : ℕ → List ℕ → List ℕ → Onwards → Output
+bytes_output number held bytes rest = cut_output number (cut_from held bytes) rest
 
 -- ---- the lines
 
 -- what is written for the bytes of a line, or the refusal of a line that is no hexadecimal text
 abbrev pub after_bytes : ℕ → Result (List ℕ) FromHexError → (List ℕ → Output) → Output
-after_bytes line (Ok bytes) then = then bytes
-after_bytes line (Err why) then = (refusal_of line (line_words (Text NotHex)), Refused)
+after_bytes line (Ok bytes) rest = rest bytes
+after_bytes line (Err why) rest = (refusal_of line (line_words (Text NotHex)), Refused)
 
 -- what is written at the end of the input: a message that has begun is cut off
 abbrev pub at_end : ℕ → List ℕ → Output
@@ -83,4 +83,4 @@ unfoldable pub stream_answers : ℕ → List ℕ → ℕ → List (List ℕ) →
 stream_answers number held line [] = at_end number held
 stream_answers number held line (text ∷ lines) =
     after_bytes line (decode_of (trimmed text)) (λ bytes.
-    fed number held bytes (λ later kept. stream_answers later kept (line + 1) lines))
+    bytes_output number held bytes (λ later kept. stream_answers later kept (line + 1) lines))

@@ -11,7 +11,7 @@ use Rattle.etcs_json.specs.Shape.{object}
 use Rattle.etcs_json.specs.Telegrams.{telegram}
 use Rattle.etcs_form.specs.declared.refusal.LineFault.TheVariants.{Text}
 use Rattle.etcs_run.specs.JsonLine.{json_line_of}
-use Rattle.etcs_run.specs.LineMeaning.{Meaning}
+use Rattle.etcs_run.specs.TextLineMeaning.{Meaning}
 
 -- the line that is written for a telegram that was read, or the reason why none was
 abbrev pub line_for : Result Telegram TextError → Result (List ℕ) (List ℕ)

@@ -8,16 +8,16 @@ ghost use Rattle.etcs_run.specs.Ran.{CountsOneDevice, EndsFlushed, Runs};
 
 use crate::counted::Counted;
 use crate::error::RunError;
-use crate::line_command::LineCommand;
 use crate::output::finish;
 use crate::status::Status;
+use crate::text_line_command::TextLineCommand;
 use crate::text_lines::TextLines;
 use crate::turn::Turn;
 use std::alloc::Global;
 use std::io::{Read, Write};
 
 // Writes the answer to each line, up to one at which the run stops, and to the end of the input.
-fn answer_lines<C: LineCommand, R: Read, W: Write>(
+fn answer_lines<C: TextLineCommand, R: Read, W: Write>(
     alloc: Global,
     command: &mut C,
     lines: &mut TextLines,
@@ -25,7 +25,7 @@ fn answer_lines<C: LineCommand, R: Read, W: Write>(
     writer: &mut Counted<W>,
 ) -> Result<Status, RunError>
     requires fresh { (held_of lines.old ≡ []) × (has_ended lines.old ≡ false) }
-    requires uncounted { C.counted command.old ≡ 0 }
+    requires uncounted { C.count_bound command.old ≡ 0 }
     requires reads { CanCount reader.old }
     requires writes { CanCount writer.old }
     ensures ran { Runs R.remaining W.contents reader.old reader.new writer.old writer.new
@@ -52,13 +52,13 @@ fn answer_lines<C: LineCommand, R: Read, W: Write>(
 /// flush failed, the count of that reader or writer has risen by 1, and the other has not. In both
 /// cases what was read is gone from the reader, which may be more than was answered. The text written
 /// is a beginning of the answer, perhaps not flushed.
-pub fn answer_input<C: LineCommand, R: Read, W: Write>(
+pub fn answer_input<C: TextLineCommand, R: Read, W: Write>(
     alloc: Global,
     command: C,
     reader: &mut Counted<R>,
     writer: &mut Counted<W>,
 ) -> Result<Status, RunError>
-    requires uncounted { C.counted command ≡ 0 }
+    requires uncounted { C.count_bound command ≡ 0 }
     requires reads { CanCount reader.old }
     requires writes { CanCount writer.old }
     ensures ran { Runs R.remaining W.contents reader.old reader.new writer.old writer.new

@@ -87,7 +87,7 @@ impl<R: Read> Read for Counted<R> {
 
         // What the call costs, and what it adds to the count.
         ensures counts { CountsFailure (failures_of self.old) (failures_of self.new) result }
-        ensures spends { max (length buf.old) 1 ≤ budget_of self.old
+        ensures lowers_budget { max (length buf.old) 1 ≤ budget_of self.old
             → budget_of self.new + max (length buf.old) 1 ≡ budget_of self.old }
         ensures spent { budget_of self.old < max (length buf.old) 1
             → IsErr result × (inner_of self.new ≡ inner_of self.old)

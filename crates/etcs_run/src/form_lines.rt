@@ -4,9 +4,9 @@
 ghost use Rattle.std.specs.Prelude.{◌≡◌, ◌++◌, [], codes, IfOk};
 ghost use Rattle.serde_json.specs.View.{view};
 ghost use Rattle.etcs_run.specs.FormLines.{message_line, or_fault, record_in, telegram_line, value_in};
-ghost use Rattle.etcs_run.specs.LineMeaning.{Gives};
+ghost use Rattle.etcs_run.specs.TextLineMeaning.{Gives};
 
-use crate::line_meaning::{LineMeaning, Unwritten};
+use crate::text_line_meaning::{TextLineMeaning, Unwritten};
 use etcs_bits::Memory;
 use etcs_form::{Form, FormError, JsonError, JsonText, LineFault, Node};
 use etcs_radio::Message;
@@ -122,7 +122,7 @@ impl EncodingTelegrams {
 }
 
 #[tactic(auto, unfolding(crate::specs::FormLines::telegram_encoded))]
-impl LineMeaning for EncodingTelegrams {
+impl TextLineMeaning for EncodingTelegrams {
     ghost use Rattle.etcs_run.specs.FormLines.{telegram_encoded};
 
     ghost meaning = { telegram_encoded };
@@ -151,7 +151,7 @@ impl EncodingMessages {
 }
 
 #[tactic(auto, unfolding(crate::specs::FormLines::message_encoded))]
-impl LineMeaning for EncodingMessages {
+impl TextLineMeaning for EncodingMessages {
     ghost use Rattle.etcs_run.specs.FormLines.{message_encoded};
 
     ghost meaning = { message_encoded };

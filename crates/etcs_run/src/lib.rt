@@ -5,8 +5,8 @@
 //! [`run`] answers the words of a command line, from a [`Counted`] reader to a [`Counted`] writer. Its
 //! contract says what is written for every input: `specs/Commands.antt` defines that text, and
 //! `specs/Ran.antt` what is promised of it. It answers a [`Status`], or a [`RunError`] if memory was
-//! refused or a device failed. Read `program.rt` first, then `answering.rt`, `line_command.rt`,
-//! `line_meaning.rt`, `each_line.rt` and `text_lines.rt`. What a line means is in `telegram_lines.rt`
+//! refused or a device failed. Read `program.rt` first, then `answering.rt`, `text_line_command.rt`,
+//! `text_line_meaning.rt`, `each_text_line.rt` and `text_lines.rt`. What a line means is in `telegram_lines.rt`
 //! and `form_lines.rt`. A stream is answered in `radio_decoding.rt`, wherever its lines end. A document
 //! is answered as a whole, in `checking.rt`. The crate leaves out standard input and output.
 #![tactic(auto)]
@@ -15,17 +15,17 @@ mod answering;
 mod checking;
 mod command;
 mod counted;
-mod each_line;
+mod each_text_line;
 mod error;
 mod form_lines;
 mod json_line;
-mod line_command;
-mod line_meaning;
 mod output;
 mod program;
 mod radio_decoding;
 mod status;
 mod telegram_lines;
+mod text_line_command;
+mod text_line_meaning;
 mod text_lines;
 mod turn;
 mod whole_input;

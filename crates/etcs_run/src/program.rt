@@ -5,21 +5,21 @@ ghost use Rattle.etcs_run.specs.Command.{command_of};
 ghost use Rattle.etcs_run.specs.Counted.{CanCount, inner_of};
 ghost use Rattle.etcs_run.specs.LineReading.{CountsDevice};
 ghost use Rattle.etcs_run.specs.Commands.{of_command, output_of, usage_line};
-ghost use Rattle.etcs_run.specs.Output.{each_line};
+ghost use Rattle.etcs_run.specs.Output.{each_text_line};
 ghost use Rattle.etcs_run.specs.Ran.{Answers, CountsOneDevice, EndsFlushed, Runs, Writes};
 
 use crate::answering::answer_input;
 use crate::checking::check_input;
 use crate::command::{Command, read_command};
 use crate::counted::Counted;
-use crate::each_line::EachLine;
+use crate::each_text_line::EachTextLine;
 use crate::error::RunError;
 use crate::form_lines::{EncodingMessages, EncodingTelegrams};
-use crate::line_meaning::LineMeaning;
 use crate::output::{finish, put};
 use crate::radio_decoding::RadioDecoding;
 use crate::status::Status;
 use crate::telegram_lines::DecodingTelegrams;
+use crate::text_line_meaning::TextLineMeaning;
 use std::alloc::Global;
 use std::io::{Read, Write};
 
@@ -40,7 +40,7 @@ fn refuse_words<W: Write>(writer: &mut Counted<W>) -> Result<Status, RunError>
 }
 
 // Answers each line by what it means.
-fn answer_each<M: LineMeaning, R: Read, W: Write>(
+fn answer_each<M: TextLineMeaning, R: Read, W: Write>(
     alloc: Global,
     meaning: M,
     reader: &mut Counted<R>,
@@ -49,11 +49,11 @@ fn answer_each<M: LineMeaning, R: Read, W: Write>(
     requires reads { CanCount reader.old }
     requires writes { CanCount writer.old }
     ensures ran { Runs R.remaining W.contents reader.old reader.new writer.old writer.new
-        (each_line M.meaning) result }
+        (each_text_line M.meaning) result }
     ensures flushed { EndsFlushed result writer.old writer.new }
     ensures counts { CountsOneDevice result reader.old reader.new writer.old writer.new }
 {
-    answer_input(alloc, EachLine::new(alloc, meaning), reader, writer)
+    answer_input(alloc, EachTextLine::new(alloc, meaning), reader, writer)
 }
 
 // Runs the command, or writes the usage line if there is none.
@@ -111,7 +111,7 @@ pub fn run<'a, R: Read, W: Write>(
     ensures known { Answers R.remaining W.contents reader.old writer.old writer.new
         (output_of (map (λ w. w.now) words.entry.now)) result }
 
-    // The same for every input that begins with what was read.
+    // For every input that begins with what was read.
     ensures ran { Runs R.remaining W.contents reader.old reader.new writer.old writer.new
         (output_of (map (λ w. w.now) words.entry.now)) result }
     ensures unread { command_of (map (λ w. w.now) words.entry.now) ≡ None → reader.new ≡ reader.old }

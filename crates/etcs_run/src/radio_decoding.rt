@@ -6,17 +6,17 @@ ghost use Rattle.etcs_radio.specs.Meaning.{message_of};
 ghost use Rattle.etcs_radio.specs.Splitter.{state_of};
 ghost use Rattle.etcs_run.specs.Counted.{CanCount, FlushesNone, inner_of};
 ghost use Rattle.etcs_run.specs.LineReading.{CountsDevice};
-ghost use Rattle.etcs_run.specs.RadioHeld.{Feeds, bytes_behind, kept_by, number_of};
-ghost use Rattle.etcs_run.specs.RadioStream.{fed, line_for, refused_message, told};
+ghost use Rattle.etcs_run.specs.RadioHeld.{Feeds, least_read, kept_by, messages_written};
+ghost use Rattle.etcs_run.specs.RadioStream.{bytes_output, line_for, refused_message, message_output};
 ghost use Rattle.etcs_run.specs.Ran.{Turns, Writes};
 
 use crate::counted::Counted;
-use crate::each_line::{refuse_line, trim};
+use crate::each_text_line::{refuse_line, trim};
 use crate::error::RunError;
 use crate::json_line::json_line;
-use crate::line_command::LineCommand;
 use crate::output::put;
 use crate::status::Status;
+use crate::text_line_command::TextLineCommand;
 use crate::turn::Turn;
 use etcs_bits::DecodeError;
 use etcs_form::{LineFault, Refusal, StreamFault, refusal_text};
@@ -72,7 +72,7 @@ fn write_message<W: Write>(
 ) -> Result<Turn, RunError>
     requires { CanCount writer.old }
     ensures turns { Turns (W.contents (inner_of writer.old)) (W.contents (inner_of writer.new))
-        (told number (line_for (message_of bytes.now))) result }
+        (message_output number (line_for (message_of bytes.now))) result }
     ensures counts { CountsDevice result writer.old writer.new }
     ensures unflushed { FlushesNone writer.old writer.new }
 {
@@ -107,7 +107,7 @@ pub struct RadioDecoding {
 impl RadioDecoding {
     /// The command, before its first line. It takes no memory yet.
     pub fn new(alloc: Global) -> RadioDecoding
-        ensures number { number_of result ≡ 0 }
+        ensures number { messages_written result ≡ 0 }
         ensures kept { kept_by result ≡ [] }
     {
         RadioDecoding {
@@ -125,13 +125,13 @@ impl RadioDecoding {
         writer: &mut Counted<W>,
     ) -> Result<Turn, RunError>
         requires ready { state_of (kept_by self.old) ≡ State.Ready }
-        requires numbered { number_of self.old + 1 < 2 ^ 64 }
+        requires numbered { messages_written self.old + 1 < 2 ^ 64 }
         requires writes { CanCount writer.old }
         ensures turns { Turns (W.contents (inner_of writer.old)) (W.contents (inner_of writer.new))
-            (told (number_of self.old) (line_for (message_of (kept_by self.old)))) result }
-        ensures next { result ≡ Ok Turn.Next → number_of self.new ≡ number_of self.old + 1 }
+            (message_output (messages_written self.old) (line_for (message_of (kept_by self.old)))) result }
+        ensures next { result ≡ Ok Turn.Next → messages_written self.new ≡ messages_written self.old + 1 }
         ensures cleared { result ≡ Ok Turn.Next → kept_by self.new ≡ [] }
-        ensures pays { OnOk result (bytes_behind self.new ≤ bytes_behind self.old) }
+        ensures bounded { OnOk result (least_read self.new ≤ least_read self.old) }
         ensures counts { CountsDevice result writer.old writer.new }
         ensures unflushed { FlushesNone writer.old writer.new }
     {
@@ -153,12 +153,12 @@ impl RadioDecoding {
         bytes: &[u8],
         writer: &mut Counted<W>,
     ) -> Result<Turn, RunError>
-        requires numbered { bytes_behind self.old + length bytes.now < 2 ^ 64 }
+        requires numbered { least_read self.old + length bytes.now < 2 ^ 64 }
         requires writes { CanCount writer.old }
         ensures feeds { Feeds (W.contents (inner_of writer.old)) (W.contents (inner_of writer.new))
-            (fed (number_of self.old) (kept_by self.old) bytes.now) (number_of self.new)
+            (bytes_output (messages_written self.old) (kept_by self.old) bytes.now) (messages_written self.new)
             (kept_by self.new) result }
-        ensures pays { OnOk result (bytes_behind self.new ≤ bytes_behind self.old + length bytes.now) }
+        ensures bounded { OnOk result (least_read self.new ≤ least_read self.old + length bytes.now) }
         ensures counts { CountsDevice result writer.old writer.new }
         ensures unflushed { FlushesNone writer.old writer.new }
     {
@@ -182,12 +182,12 @@ impl RadioDecoding {
     }
 }
 
-impl LineCommand for RadioDecoding {
+impl TextLineCommand for RadioDecoding {
     ghost use Rattle.etcs_run.specs.RadioStream.{stream_answers};
 
-    ghost answers = { λ d. stream_answers (number_of d) (kept_by d) };
+    ghost answers = { λ d. stream_answers (messages_written d) (kept_by d) };
 
-    ghost counted = { bytes_behind };
+    ghost count_bound = { least_read };
 
     fn answer<W: Write>(
         &mut self,

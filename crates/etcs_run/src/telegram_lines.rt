@@ -2,11 +2,11 @@
 
 ghost use Rattle.std.specs.Prelude.{◌≡◌, [], Err};
 ghost use Rattle.etcs_telegram.specs.declared.error.TextError.{TextError};
-ghost use Rattle.etcs_run.specs.LineMeaning.{Gives};
+ghost use Rattle.etcs_run.specs.TextLineMeaning.{Gives};
 ghost use Rattle.etcs_run.specs.TelegramLines.{IsEarly};
 
 use crate::json_line::json_line;
-use crate::line_meaning::{LineMeaning, Unwritten};
+use crate::text_line_meaning::{TextLineMeaning, Unwritten};
 use etcs_form::LineFault;
 use etcs_telegram::{TextError, from_hex};
 use std::alloc::Global;
@@ -17,7 +17,7 @@ use std::alloc::Global;
 pub struct DecodingTelegrams;
 
 #[tactic(auto, unfolding(crate::specs::TelegramLines::decoded_of))]
-impl LineMeaning for DecodingTelegrams {
+impl TextLineMeaning for DecodingTelegrams {
     ghost use Rattle.etcs_run.specs.TelegramLines.{decoded_of};
 
     ghost meaning = { decoded_of };

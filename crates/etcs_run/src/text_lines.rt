@@ -94,7 +94,7 @@ impl TextLines {
             × (length (held_of self.new) ≡ n) × (n ≡ 0 → has_ended self.new ≡ true)) }
 
         // At least `n` bytes of the budget are spent.
-        ensures spends { IfOk result (λ n. (n + budget_of reader.new ≤ budget_of reader.old)
+        ensures lowers_budget { IfOk result (λ n. (n + budget_of reader.new ≤ budget_of reader.old)
             × (0 < n → budget_of reader.new < budget_of reader.old)) }
 
         // A failed read loses no bytes.
@@ -153,12 +153,12 @@ impl TextLines {
             → IsEndMet R.remaining (has_ended self.new) reader.new }
 
         // A line that is found is paid for, by held bytes or by the budget.
-        ensures spends { IfOk result (λ found. found ≡ true
+        ensures lowers_budget { IfOk result (λ found. found ≡ true
             → 1 + (length (held_of self.new) + budget_of reader.new)
             ≤ length (held_of self.old) + budget_of reader.old) }
 
         // So is each byte of it.
-        ensures pays { OnOk result (length (line_of self.new)
+        ensures bounded { OnOk result (length (line_of self.new)
             + (length (held_of self.new) + budget_of reader.new)
             ≤ length (held_of self.old) + budget_of reader.old) }
     {

@@ -3,7 +3,7 @@
 ghost use Rattle.std.specs.Prelude.{◌≡◌, ◌<◌, true, length, vec_items, IfOk, IfErr};
 ghost use Rattle.etcs_run.specs.Counted.{CanCount, budget_of, inner_of};
 ghost use Rattle.etcs_run.specs.LineReading.{CountsDevice};
-ghost use Rattle.etcs_run.specs.WholeInput.{ReadsMore, ReadsWhole};
+ghost use Rattle.etcs_run.specs.WholeInput.{ReadsMore, ReadsAllInput};
 
 use crate::counted::Counted;
 use crate::error::RunError;
@@ -37,7 +37,7 @@ fn read_more<R: Read>(
     ensures counts { CountsDevice result reader.old reader.new }
 
     // Each read that gives something is paid for.
-    ensures spends { IfOk result (λ more. more ≡ true → budget_of reader.new < budget_of reader.old) }
+    ensures lowers_budget { IfOk result (λ more. more ≡ true → budget_of reader.new < budget_of reader.old) }
 {
     let count = match reader.read(block) {
         Ok(count) => count,
@@ -56,7 +56,7 @@ fn read_more<R: Read>(
 /// of them is returned.
 pub fn read_whole<R: Read>(alloc: Global, reader: &mut Counted<R>) -> Result<Vec<u8>, RunError>
     requires { CanCount reader.old }
-    ensures read { ReadsWhole vec_items (R.remaining (inner_of reader.old))
+    ensures read { ReadsAllInput vec_items (R.remaining (inner_of reader.old))
         (R.remaining (inner_of reader.new)) result }
     ensures counts { CountsDevice result reader.old reader.new }
 {

@@ -158,7 +158,7 @@ canonical_telegram_text t text x =
 pub one_text_meaning : (t u : Telegram) (text : List ℕ) → telegram_of_text text ≡ Ok t → telegram_of_text text ≡ Ok u → t ≡ u
 one_text_meaning t u text a b = let same = sym a ∙ b in cc
 
--- bytes with the same bits are the same
+-- bytes with equal bits are equal
 bytes_same : (xs ys : List ℕ) → IsBytes xs → IsBytes ys → bits_of_bytes xs ≡ bits_of_bytes ys → xs ≡ ys
 bytes_same [] [] a b e = refl
 bytes_same [] (y ∷ ys) a b e = absurd (omega (arith, ap length e, length-bits_of_bytes [], length-bits_of_bytes (y ∷ ys)))

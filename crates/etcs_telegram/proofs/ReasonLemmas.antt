@@ -176,7 +176,7 @@ pub decoded_means : (text bytes : List ℕ) → decode_of text ≡ Ok bytes → 
 unfolding telegram_of_text
 decoded_means text bytes decoded = rw decoded refl
 
--- the same, where the text is decoded and its bytes give the result
+-- an early reason, where the text is decoded and its bytes give the result
 pub reported_in : (r : Result Telegram TextError) (e : TextError) (text bytes : List ℕ) → IsEarly e
     → decode_of text ≡ Ok bytes → IsTextMeaning r (of_bytes bytes)
     → (r ≡ Err errors.Memory → (bits : List Bool) × (of_bytes bytes ≡ of_bits (telegram_of bits)))

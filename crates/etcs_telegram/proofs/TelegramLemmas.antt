@@ -189,7 +189,7 @@ mark_of rest (inr mark) = mark
 marked : (rest : List Bool) → ends stops.Telegram (start rest) ≡ true → (fill : List Bool) × (rest ≡ num 8 255 ++ fill)
 marked rest over = mark_of rest (ends_only stops.Telegram rest over)
 
--- and the converse
+-- a telegram is spelled out
 pub telegram_spelled : (t : Telegram) (bits : List Bool) → IsTelegram t bits → AreSpelledOut t bits
 telegram_spelled t bits x =
     let head_bits = join (header.rows t.header) in

@@ -105,7 +105,7 @@ pads_are_zeros size bytes count small zero =
     pad_bits size bytes count
     ∙ same_from_num (drop (8 - pad_count size) (num 8 b)) (no_pads size) (pad_length size b ∙ sym (length-replicate (pad_count size) false)) (pad_number size b small ∙ zero ∙ sym (no_number size))
 
--- and the converse
+-- pad bits that are zeros end the last byte
 pub pads_divide : (size : Size) (bytes : List ℕ) → length bytes ≡ byte_count size → last size bytes < 256
     → pad_bits_in size bytes ≡ no_pads size → last size bytes % 2 ^ pad_count size ≡ 0
 pads_divide size bytes count small zeros =

@@ -8,7 +8,7 @@ use Rattle.etcs_bits.specs.bits.Number.{num}
 use Rattle.etcs_bits.specs.layout.Rows.{AreAllowed, join, width}
 use Rattle.etcs_packet.specs.declared.stop.Stop.TheVariants as stops
 use Rattle.etcs_packet.specs.Track.{track_packet}
-use Rattle.etcs_packet.specs.Whole.{BeginsWith, IsWholeFault, NoneWhole, start}
+use Rattle.etcs_packet.specs.Whole.{BeginsWith, IsWholeFault, NoHeadAndListStands, start}
 use Rattle.etcs_telegram.specs.Header.{header}
 use Rattle.etcs_telegram.specs.Record.{Telegram}
 use Rattle.etcs_telegram.specs.Sizes.{user_bits, size_of}
@@ -23,13 +23,13 @@ pub record IsTelegram (t : Telegram) (bits : List Bool) : Type 0 where
   pub count : length bits ≡ user_bits t.size
   pub begins : BeginsWith stops.Telegram header.rows track_packet.rows t.header t.packets bits
 
--- The first fault of the bits: that of the header, or that of the packets after a whole header.
+-- The first fault of the bits: a fault of the header, or of the packets after a whole header.
 abbrev pub IsTelegramFault : List Bool → Fault → Type 0
 IsTelegramFault bits f = IsWholeFault stops.Telegram header.fields track_packet.fields (start bits) f
 
--- No bits of the same number that begin with the same first `end` bits are a telegram.
+-- No bits of equal number that begin with these first `end` bits are a telegram.
 abbrev pub IsNoTelegram : List Bool → Fault → Type 0
-IsNoTelegram bits f = NoneWhole stops.Telegram header.rows track_packet.rows (start bits) f
+IsNoTelegram bits f = NoHeadAndListStands stops.Telegram header.rows track_packet.rows (start bits) f
 
 -- ---- from a telegram to bits
 
@@ -37,7 +37,7 @@ IsNoTelegram bits f = NoneWhole stops.Telegram header.rows track_packet.rows (st
 abbrev pub used_bits : Telegram → ℕ
 used_bits t = 50 + width (flat_map track_packet.rows t.packets) + 8
 
--- those bits are more than the telegram's size has
+-- the header, the packets and the end mark have more bits than the telegram's size
 abbrev pub IsTooBig : Telegram → Type 0
 IsTooBig t = user_bits t.size < used_bits t
 

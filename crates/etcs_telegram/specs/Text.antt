@@ -55,26 +55,26 @@ pub record IsCanonicalText (t : Telegram) (text : List ℕ) : Type 0 where
   pub padded : bits_of_bytes bytes ≡ bits ++ no_pads t.size
   pub written : text ≡ encode_lower bytes
 
--- the bytes are those of a telegram, except that a pad bit is set
+-- the bytes would be a telegram's, but a pad bit is set
 pub record HavePadSet (bytes : List ℕ) : Type 0 where
   pub size : Size
   pub count : length bytes ≡ byte_count size
   pub set : pad_bits_in size bytes ≢ no_pads size
 
--- the bytes are those of a telegram, except that the user bits have a fault
+-- the bytes would be a telegram's, but the user bits have a fault
 pub record HaveFault (bytes : List ℕ) (f : Fault) : Type 0 where
   pub size : Size
   pub padded : ArePadded size bytes
   pub first : IsTelegramFault (user_bits_in size bytes) f
   pub none : IsNoTelegram (user_bits_in size bytes) f
 
--- the bytes are those of a telegram, except that its header has a fault
+-- the bytes would be a telegram's, but its header has a fault
 pub record HaveHeaderFault (bytes : List ℕ) (f : Fault) : Type 0 where
   pub size : Size
   pub padded : ArePadded size bytes
   pub first : IsFault header.fields (start (user_bits_in size bytes)) f
 
--- the bytes are those of a telegram as far as its header, and a packet is due behind the header
+-- the bytes are a telegram's as far as its header, and a packet is due behind the header
 pub record HavePackets (bytes : List ℕ) : Type 0 where
   pub size : Size
   pub padded : ArePadded size bytes
@@ -94,7 +94,7 @@ pub record IsReasonDecoded (e : TextError) (text : List ℕ) : Type 0 where
   pub decoded : decode_of text ≡ Ok bytes
   pub reason : IsReasonIn e bytes
 
--- the text is a telegram's, except that its header has a fault
+-- the text would be a telegram's, but its header has a fault
 pub record HasHeaderFault (text : List ℕ) (f : Fault) : Type 0 where
   pub bytes : List ℕ
   pub decoded : decode_of text ≡ Ok bytes

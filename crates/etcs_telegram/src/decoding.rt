@@ -23,10 +23,10 @@ pub(crate) fn decode_slice(alloc: Global, bits: BitSlice<'_>) -> Result<Telegram
     ensures fault { IfFault result (λ f. IsTelegramFault bits.entry f) }
     ensures none { IfFault result (λ f. IsNoTelegram bits.entry f) }
 
-    // The same as a function of the bits.
+    // The result, as a function of the bits.
     ensures exact { Means (λ t. t) result (telegram_of bits.entry) }
 
-    // The header's fault is always reported: reading the header needs no memory.
+    // The header's fault is always answered: reading the header needs no memory.
     ensures header { (f : Fault) → IsFault header.fields (start bits.entry) f
         → result ≡ Err (DecodeError.Fault f) }
 
@@ -56,10 +56,10 @@ pub fn decode(alloc: Global, bits: &Bits) -> Result<Telegram, DecodeError>
     ensures fault { IfFault result (λ f. IsTelegramFault bits.now f) }
     ensures none { IfFault result (λ f. IsNoTelegram bits.now f) }
 
-    // The same as a function of the bits.
+    // The result, as a function of the bits.
     ensures exact { Means (λ t. t) result (telegram_of bits.now) }
 
-    // The header's fault is always reported: reading the header needs no memory.
+    // The header's fault is always answered: reading the header needs no memory.
     ensures header { (f : Fault) → IsFault header.fields (start bits.now) f
         → result ≡ Err (DecodeError.Fault f) }
 

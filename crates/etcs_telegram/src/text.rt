@@ -112,10 +112,10 @@ pub fn from_hex(alloc: Global, text: &[u8]) -> Result<Telegram, TextError>
     ensures ok { IfOk result (λ t. IsTelegramText t text.now) }
     ensures reason { IfErr result (λ e. IsReason e text.now) }
 
-    // The same as a function of the text.
+    // The result, as a function of the text.
     ensures exact { IsTextMeaning result (telegram_of_text text.now) }
 
-    // Each of these is always reported: it needs no memory.
+    // Each of these is always answered: it needs no memory.
     ensures not_hex { IsErrOf result TextError.NotHex ↔ (IsHexadecimal text.now → ⊥) }
     ensures wrong_size { IsErrOf result TextError.WrongSize
         ↔ IsReasonDecoded TextError.WrongSize text.now }

@@ -74,7 +74,7 @@ fn take_messages(alloc: Global, checker: &mut LineChecker, texts: &[&str]) -> Re
     Ok(())
 }
 
-// Whether a checker counts so many groups and messages, and finds these facts in this order.
+// Whether a checker has these counts of groups and messages, and finds these facts in this order.
 fn has_found(checker: LineChecker, counts: (usize, usize), facts: &[Fact]) -> Result<bool, Halt> {
     let are_counted = (checker.groups(), checker.messages()) == counts;
     let found = checker.finish()?;

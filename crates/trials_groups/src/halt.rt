@@ -1,4 +1,4 @@
-//! Why calls came to no answer. A test of refused memory has to tell want of memory from anything else.
+//! Why calls came to no answer. A test of refused memory has to distinguish want of memory from anything else.
 
 use etcs_bits::{DecodeError, Memory};
 use etcs_check::CheckError;

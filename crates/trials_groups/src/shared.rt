@@ -1,5 +1,5 @@
 //! What several tests use: digits, what they spell, and what a train reads of it. No more memory is taken than the
-//! libraries take, but for lists and for what is told.
+//! libraries take, but for lists and for texts of errors.
 
 use crate::halt::Halt;
 use etcs_group::{Controlled, Group, assemble};
@@ -23,10 +23,10 @@ pub const FIRST_8: &str = "a10284002000";
 
 pub const SECOND_8: &str = "a11304002000";
 
-/// The same of the first of a pair with a packet 21 for the reverse direction.
+/// The first digits of the first telegram of a pair, with a packet 21 for the reverse direction.
 pub const WITH_GRADIENT: &str = "a102ff802000c5401b40001fe0";
 
-/// The same of a long telegram with an authority and both profiles.
+/// The first digits of a long telegram with an authority and both profiles.
 pub const WITH_AUTHORITY: &str =
     "a1007f802000c31024a5007fe007d002a813a000105080647f8da0560000140029c43f81";
 

@@ -1,4 +1,4 @@
-//! The document of a line as a value, and what is told of findings that no line has.
+//! The document of a line as a value, and the text of findings that no line has.
 
 use etcs_check::{Finding, Rule, Site};
 use etcs_form::{check_in_order, check_text, read_line, report, report_counts};

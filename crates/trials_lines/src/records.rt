@@ -27,7 +27,7 @@ fn comes_back<T: InPieces>(alloc: Global, text: &str) -> Result<bool, Halt> {
     Ok(written.as_str() == text && out.into_inner().as_slice() == text.as_bytes())
 }
 
-// The form of a packet of 8,191 bits with this number and these last members, and a body of so many bytes.
+// The form of a packet 254 of 8,191 bits with these last members, and a body of `bytes` bytes.
 fn longest(alloc: Global, bytes: u32, members: &str) -> Result<String, Halt> {
     let mut body = String::new(alloc);
     'bytes: for _ in 0..bytes {

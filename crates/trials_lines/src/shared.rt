@@ -21,7 +21,7 @@ fn told<T: InPieces>(alloc: Global, read: Result<T, FormError>) -> Result<String
 }
 
 /// What the tape of a text is read as: the text that is sent of the record, the fault of the form, or that the text is
-/// no JSON. A JSON value of the text is read as the same.
+/// no JSON. A JSON value of the text is read as the text is.
 pub fn read_of_tape<T: InPieces>(alloc: Global, text: &str) -> Result<String, Fail> {
     let mut scratch = Scratch::new(alloc);
     let of_tape = match JsonText::read(text, &mut scratch, Vec::new(alloc)) {

@@ -1,4 +1,4 @@
-//! The texts of errors of forms and documents. A refusal tells these in the same words.
+//! The texts of errors of forms and documents. A refusal has the same words.
 
 use crate::halt::Halt;
 use etcs_bits::{Fault, FaultKind};

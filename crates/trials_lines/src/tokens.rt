@@ -84,7 +84,7 @@ fn all_packets_together_are_read(rt: HostRuntime) -> Result<(), Fail> {
     Ok(())
 }
 
-/// Packets that are no forms, and what is told of each.
+/// Packets that are no forms, and the text of each one's fault.
 const NO_FORMS: [(&str, &str); 16] = [
     ("1", "form kind at /packets/0"),
     ("{}", "form missing key at /packets/0/nid_packet"),

@@ -6,7 +6,7 @@ use etcs_profile::{Difference, GradientElement, Link, SpeedElement};
 use std::alloc::Global;
 use std::test::Fail;
 
-// Up to so many bits follow an element. Fields are read together where some 80 follow its first one.
+// The most bits that follow an element. Fields are read together where some 80 follow its first one.
 const BEHIND: usize = 96;
 
 // Whether the record is the same one however many bits follow.

@@ -26,7 +26,7 @@ fn packets_of_each_layout_are_read_and_written(rt: HostRuntime) -> Result<(), Fa
     Ok(())
 }
 
-// Whether a list of so many cover markers is read, each in its place.
+// Whether a list of `count` cover markers is read, each in its place.
 fn are_all_read(alloc: Global, count: u64) -> Result<bool, DecodeError> {
     let mut bits = Bits::new(alloc);
     for number in 0..count {

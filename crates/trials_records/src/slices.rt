@@ -50,7 +50,7 @@ fn every_width_is_read_at_every_place(rt: HostRuntime) {
     }
 }
 
-// Whether a field of this width is taken at this place, with so many bits left there.
+// Whether a field of this width is taken at this place, with `left` bits left there.
 fn is_taken(at: usize, left: usize, width: u32) -> Result<bool, Fault>
     requires place { at < 8 }
     requires enough { 63 ≤ left }

@@ -53,7 +53,7 @@ pub fn all_kinds(alloc: Global) -> Result<Bits, Memory> {
     Ok(bits)
 }
 
-/// So many ones.
+/// `len` ones.
 pub fn ones(alloc: Global, len: usize) -> Result<Bits, Memory> {
     let mut bits = Bits::new(alloc);
     for _ in 0..len {
@@ -68,7 +68,7 @@ pub fn read_one<T: Layout>(alloc: Global, digits: &str) -> Result<T, DecodeError
     T::read(alloc, &mut Cursor::new(&bits))
 }
 
-/// So many times the record.
+/// The record, `count` times.
 pub fn times<T: Copy + Drop>(alloc: Global, record: &T, count: usize) -> Result<Vec<T>, Memory> {
     let mut items = Vec::new(alloc);
     for _ in 0..count {
@@ -77,7 +77,7 @@ pub fn times<T: Copy + Drop>(alloc: Global, record: &T, count: usize) -> Result<
     Ok(items)
 }
 
-/// Whether the record is written with so many bits, and is read again of them.
+/// Whether the record is written with `width` bits, and is read again of them.
 pub fn comes_back<T: Layout + Same>(
     alloc: Global,
     record: &T,

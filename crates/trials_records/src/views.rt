@@ -24,7 +24,7 @@ fn raw_parts(view: &PacketView<'_>) -> Option<(u8, Dir, usize)> {
     }
 }
 
-// The same of the packet that is next.
+// Number, direction and length of the body, of the raw packet that is next.
 fn next_raw(alloc: Global, cur: &mut Cursor<'_>) -> Result<Option<(u8, Dir, usize)>, DecodeError> {
     match next_view(alloc, cur, Stop::Telegram)? {
         Some(view) => Ok(raw_parts(&view)),

@@ -120,7 +120,7 @@ pub fn expect(rt: &impl Abort, outcome: &Outcome, status: Status, text: &str) {
     assert!(rt; outcome.ends_flushed);
 }
 
-/// Wants so many failed reads and writes, and a text that begins this one.
+/// Wants these counts of failed reads and writes, and a beginning of `text`.
 pub fn expect_device(rt: &impl Abort, outcome: &Outcome, text: &str, failed: (u64, u64)) {
     assert_eq!(rt; outcome.answer, Err(RunError::Device));
     assert!(rt; text.as_bytes().starts_with(outcome.text.as_slice()));

@@ -44,7 +44,7 @@ impl Device {
         Device::new(usize::MAX)
     }
 
-    // How many of so many bytes the next call moves.
+    // How many of `len` bytes the next call moves.
     fn call(&mut self, len: usize) -> io::Result<usize>
         ensures { IfOk result (λ n. n ≤ len) }
     {

@@ -82,6 +82,6 @@ num_of_bits-num (suc w) n =
 pub num_of_bits-small : (w n : ℕ) → n < 2 ^ w → num_of_bits (num w n) ≡ n
 num_of_bits-small w n small = num_of_bits-num w n ∙ mod-eq_of_lt small
 
--- and bits are the bits of the number that they spell
+-- bits are the bits of the number that they spell
 pub num-num_of_bits : (xs : List Bool) → num (length xs) (num_of_bits xs) ≡ xs
 num-num_of_bits xs = same_from_num _ xs (length-num _ _) (num_of_bits-num (length xs) (num_of_bits xs) ∙ mod-eq_of_lt (num_of_bits-lt xs))

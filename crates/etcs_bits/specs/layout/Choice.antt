@@ -7,19 +7,25 @@ use Rattle.etcs_bits.specs.layout.Rows.{Row, Place, AreAllowed}
 use Rattle.etcs_bits.specs.layout.Fields.{Fields, AreRowsOf}
 use Rattle.etcs_bits.specs.layout.Reading.{◌>>=◌, rows_at}
 
--- The numbers that are allowed, the fields that follow each number, the number of a value, the rows
--- that follow that number, and the value of a number and rows. The rows of a value are a whole list
--- of the fields of its number. Each such list of allowed rows is that of some value with that
--- number.
+-- values of which each has a number, and behind it the record that the number decides
 pub record Choice (X : Type 0) : Type 0 where
+  -- the numbers that are allowed
   pub allows : ℕ → Bool
+  -- the fields that follow each number
   pub next : ℕ → Fields
+  -- the number of a value
   pub number : X → ℕ
+  -- the rows that follow the number of a value
   pub rows : X → List Row
+  -- the value of a number and the rows that follow it
   pub of : ℕ → List Row → X
+  -- the number of a value is allowed
   pub is_number : (x : X) → allows (number x) ≡ true
+  -- the rows of a value are a whole list of the fields of its number
   pub are_rows : (x : X) → AreRowsOf (next (number x)) (rows x)
+  -- a value is read as itself
   pub is_value : (x : X) → of (number x) (rows x) ≡ x
+  -- allowed rows that are a whole list of a number's fields belong to a value with that number
   pub has_value : (n : ℕ) (more : List Row) → allows n ≡ true → AreRowsOf (next n) more → AreAllowed more
       → (x : X) × (number x ≡ n) × (rows x ≡ more)
 

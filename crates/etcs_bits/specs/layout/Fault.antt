@@ -12,7 +12,7 @@ abbrev pub short : Place → Fault
 short p = record { at = p.at; end = length p.bits; why = Short }
 
 -- Fewer bits are left than the field has. Where a telegram's packets may end, the fault is NoEnd.
--- Any input of the same length has as few bits left there, so no bit past this place decides it.
+-- Any input of equal length has as few bits left there, so no bit past this place decides it.
 abbrev pub lack : Bool → Place → Fault
 lack true p = record { at = p.at; end = p.at; why = NoEnd }
 lack false p = short p
@@ -40,12 +40,12 @@ pub record IsFault (fields : Fields) (from : Place) (fault : Fault) : Type 0 whe
   pub spelled : IsSpelled rows from reached
   pub due_fault : IsDueFault next reached fault
 
--- A fact of this place in each input of the same length with the same first `end` bits.
+-- A fact of this place in each input of equal length whose first `end` bits are these.
 abbrev pub InAnyInput : (Place → Type 0) → Place → Fault → Type 0
 InAnyInput P from fault =
     (bits : List Bool) → length bits ≡ length from.bits
     → take fault.end bits ≡ take fault.end from.bits → P (record { bits = bits; at = from.at })
 
--- No such input has such a record here.
+-- No input of equal length with these first `end` bits has such a record here.
 abbrev pub NoneBegins : {X : Type 0} → (X → List Row) → Place → Fault → Type 0
 NoneBegins {X} rows = InAnyInput (λ p. (x : X) (to : Place) → IsSpelled (rows x) p to → ⊥)

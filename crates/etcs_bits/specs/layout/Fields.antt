@@ -17,7 +17,8 @@ pub data Fields : Type 0 where
   field : Variable → (ℕ → Fields) → Fields
   -- fields, and then other fields
   ◌▹◌ : Fields → Fields → Fields
-  -- L_PACKET and a body, after that many bits of the packet; L_PACKET is the width of all three
+  -- L_PACKET and a body, after that many bits of the packet; L_PACKET counts those bits, its own and
+  -- the bits of the body
   sized : ℕ → Fields → Fields
 
 -- a field by itself
@@ -28,12 +29,12 @@ one x = field x (λ _. nothing)
 abbrev pub option : Variable → Fields → Fields
 option qualifier fields = field qualifier (λ n. if n == 1 then fields else nothing)
 
--- the same fields, that many times
+-- the fields of an item, n times
 abbrev pub times : ℕ → Fields → Fields
 times zero item = nothing
 times (suc n) item = item ▹ times n item
 
--- N_ITER, and that many items
+-- N_ITER, which counts the items, and the items
 abbrev pub counted : Variable → Fields → Fields
 counted n_iter item = field n_iter (λ n. times n item)
 
@@ -48,14 +49,16 @@ AreRowsOf (a ▹ b) rows =
 AreRowsOf (sized before body) rows =
     (more : List Row) × (rows ≡ row l_packet (before + width rows) ∷ more) × AreRowsOf body more
 
--- What is open after an open list. Either a field is due, or a packet is whole and its L_PACKET,
--- this many bits back, is not its width.
+-- Why an open list is not whole: a field is still due, or a packet is whole and its L_PACKET, this many
+-- bits back, is not its width.
 pub data Due : Type 0 where
   due : Variable → Due
   differs : ℕ → Due
 
 -- The rows are an open list of these fields: the beginning of a whole list, in which the last
--- L_PACKET may be any number.
+-- L_PACKET may be any number. So of a packet 21 with one element, which has 54 bits: the rows of
+-- NID_PACKET, Q_DIR and L_PACKET are open, whatever L_PACKET is, and Q_SCALE is due. All its rows are
+-- open where L_PACKET, which begins 44 bits back, is not 54, and differs from the packet's width.
 abbrev pub IsOpen : Fields → List Row → Due → Type 0
 IsOpen nothing rows d = ⊥
 IsOpen (field x next) rows d =

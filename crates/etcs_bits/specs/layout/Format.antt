@@ -36,7 +36,8 @@ variable x = record { fields = one x; rows = alone x; of = number_at 0; laid = a
 abbrev pub number : ℕ → Format ℕ
 number w = variable (plain w)
 
--- a number of w bits, up to `last` or at least `from`; the numbers between are spare
+-- a number of w bits, up to `last` or at least `from`; the numbers between are spare. Where `from` needs
+-- more than w bits, all numbers above `last` are spare.
 abbrev pub ranges : ℕ → ℕ → ℕ → Format ℕ
 ranges w last from = variable (ranged w last from)
 
@@ -173,7 +174,7 @@ chosen x c same = record {
 
 -- ---- another type
 
--- The same layout for another type, such as a struct instead of pairs. `make` and `parts` turn each
+-- The layout of `a` for another type, such as a struct instead of pairs. `make` and `parts` turn each
 -- type into the other, and are inverse.
 abbrev pub named : {X Y : Type 0} → Format X → (make : X → Y) (parts : Y → X)
     → ((x : X) → parts (make x) ≡ x) → ((y : Y) → make (parts y) ≡ y) → Format Y
@@ -184,7 +185,7 @@ named a make parts back again = record {
   laid = parted_laid make parts back again a.laid;
 }
 
--- the same layout for a struct
+-- the layout of a struct by that of its parts
 abbrev pub struct : {P S : Type 0} → Struct P S → Format P → Format S
 struct s a = named a s.make s.parts s.back s.again
 

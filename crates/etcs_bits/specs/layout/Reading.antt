@@ -27,7 +27,7 @@ taken w p =
     if nat_lt (length p.bits) (p.at + w) then Err (short p)
     else Ok (num_of_bits (take w (drop p.at p.bits)), forward p w)
 
--- the same, but where packets may end, too few bits are a NoEnd fault
+-- the number of the next w bits; where packets may end, too few bits are a NoEnd fault
 abbrev pub taken_or_closed : Bool → ℕ → Place → Result (ℕ × Place) Fault
 taken_or_closed true w p =
     if nat_lt (length p.bits) (p.at + w) then Err (lack true p) else taken w p

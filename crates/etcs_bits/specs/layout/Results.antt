@@ -32,7 +32,7 @@ abbrev pub IfFault : {X : Type 0} → Result X DecodeError → (Fault → Type 0
 IfFault (Ok x) P = Unit {0}
 IfFault (Err e) P = OfFault e P
 
--- What has to hold if the call reports that memory ran out.
+-- What has to hold if the call answers that memory ran out.
 abbrev pub OfMemory : DecodeError → Type 0 → Type 0
 OfMemory errors.Memory P = P
 OfMemory (errors.Fault f) P = Unit {0}

@@ -11,7 +11,8 @@ pub record Variable : Type 0 where
   pub width : ℕ
   pub allows : ℕ → Bool
   pub refusal : FaultKind
-  -- whether a telegram's packets may end where it is due; too few bits are then a NoEnd fault
+  -- whether a list of packets may end in its place, as in that of NID_PACKET; too few bits are then a
+  -- NoEnd fault
   pub closes : Bool
 
 -- one variable of a record, with its number
@@ -50,8 +51,8 @@ pub record Place : Type 0 where
   pub bits : List Bool
   pub at : ℕ
 
--- The bits stand from one place up to the other. Both places are in one list. These bits follow the
--- first place, and then comes what follows the second. The second is that many bits further on.
+-- The bits lie between two places of one list: the first of them is at `from`, and `to` is just after
+-- the last.
 pub record Stands (bits : List Bool) (from to : Place) : Type 0 where
   pub same : to.bits ≡ from.bits
   pub here : drop from.at from.bits ≡ bits ++ drop to.at from.bits

@@ -14,11 +14,11 @@ abbrev pub nid_ntc : Format ℕ
 nid_ntc = number 8
 
 -- what follows each number: NID_NTC only at level NTC
-abbrev pub Numbered : Type 0
-Numbered = Unit {0} ⊎ (ℕ ⊎ (Unit {0} ⊎ (Unit {0} ⊎ Unit {0})))
+abbrev pub NumberedLevel : Type 0
+NumberedLevel = Unit {0} ⊎ (ℕ ⊎ (Unit {0} ⊎ (Unit {0} ⊎ Unit {0})))
 
-abbrev pub numbered : Choice Numbered
-numbered =
+abbrev pub level_numbered : Choice NumberedLevel
+level_numbered =
     either 0 empty (
     either 1 nid_ntc (
     either 2 empty (
@@ -27,11 +27,11 @@ numbered =
 
 -- M_LEVELTR and M_LEVEL, 3 bits: the numbers of a level; 5 to 7 are spare
 abbrev pub level_variable : Variable
-level_variable = record { width = 3; allows = numbered.allows; refusal = Spare; closes = false }
+level_variable = record { width = 3; allows = level_numbered.allows; refusal = Spare; closes = false }
 
 -- ---- the number of a level, with what follows it
 
-abbrev pub numbered_of : Level → Numbered
+abbrev pub numbered_of : Level → NumberedLevel
 numbered_of levels.L0 = inl tt
 numbered_of (levels.Ntc ntc) = inr (inl ntc)
 numbered_of levels.L1 = inr (inr (inl tt))
@@ -41,14 +41,14 @@ numbered_of levels.L3 = inr (inr (inr (inr tt)))
 -- ---- a level, of its number with what follows
 -- Pinned by the law a_record_is_read_as_it_is_spelled.
 
-abbrev pub level_of : Numbered → Level
+abbrev pub level_of : NumberedLevel → Level
 level_of (inl _) = levels.L0
 level_of (inr (inl ntc)) = levels.Ntc ntc
 level_of (inr (inr (inl _))) = levels.L1
 level_of (inr (inr (inr (inl _)))) = levels.L2
 level_of (inr (inr (inr (inr _)))) = levels.L3
 
-pub back : (n : Numbered) → numbered_of (level_of n) ≡ n
+pub back : (n : NumberedLevel) → numbered_of (level_of n) ≡ n
 back (inl _) = refl
 back (inr (inl ntc)) = refl
 back (inr (inr (inl _))) = refl
@@ -66,8 +66,8 @@ again levels.L3 = refl
 
 -- M_LEVELTR and M_LEVEL, with NID_NTC
 abbrev pub m_level : Format Level
-m_level = named (chosen level_variable numbered (λ _. refl)) level_of numbered_of back again
+m_level = named (chosen level_variable level_numbered (λ _. refl)) level_of numbered_of back again
 
 -- the number of a level
 abbrev pub level_number : Level → ℕ
-level_number v = numbered.number (numbered_of v)
+level_number v = level_numbered.number (numbered_of v)

@@ -1,5 +1,5 @@
--- The variables with named values, and those of a balise group's identity, as layouts. Each has its
--- name in the standard's table (SUBSET-026, 7.5.1).
+-- The variables with named values, and the two variables of a balise group's identity, as layouts. Each
+-- has its name in the standard's table (SUBSET-026, 7.5.1).
 use Rattle.std.specs.Prelude.{ℕ}
 use Rattle.etcs_bits.specs.declared.variables.transmission.Transmission.{Transmission}
 use Rattle.etcs_bits.specs.declared.variables.medium.Medium.{Medium}

@@ -65,7 +65,7 @@ impl<'a> BitSlice<'a> {
     }
 
     /// The number that the `width` bits from place `from` spell, most significant first
-    /// (SUBSET-026, 7.5). `width` is 1 to 32, and so many bits follow that place.
+    /// (SUBSET-026, 7.5). `width` is 1 to 32, and `width` bits or more follow that place.
     #[inline(always)]
     pub fn num(&self, from: usize, width: u32) -> u64
         requires low { 1 ≤ width }

@@ -11,7 +11,7 @@ use std::marker::Model;
 
 /// L_PACKET, 13 bits, and the record after it. L_PACKET counts all bits of the packet: the `BEFORE`
 /// bits before it, its own and the record's. Any other number is a Length fault at L_PACKET,
-/// reported after the record's last field (SUBSET-026, 7.4 and 7.5.1). Each body is allowed: no
+/// answered after the record's last field (SUBSET-026, 7.4 and 7.5.1). Each body is allowed: no
 /// packet has more than 8,191 bits, because L_PACKET cannot count more. Contracts see the record.
 #[derive(Debug, Drop)]
 pub struct Body<const BEFORE: u32, T: Layout> {

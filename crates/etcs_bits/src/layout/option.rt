@@ -9,7 +9,7 @@ use crate::layout::same::Same;
 use std::alloc::Global;
 
 /// A record after a qualifier of one bit, such as Q_OVERLAP. The qualifier is 1 if the record
-/// follows, 0 if it does not. The faults are Short at the qualifier, and those of the record
+/// follows, 0 if it does not. The faults are Short at the qualifier, and the faults of the record
 /// (SUBSET-026, 7.4).
 #[tactic(auto, using(crate::proofs::PutLemmas::puts_bits), unfolding(crate::specs::layout::Rows::alone))]
 impl<T: Layout> Layout for Option<T> {

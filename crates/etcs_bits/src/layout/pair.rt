@@ -9,7 +9,7 @@ use crate::layout::same::Same;
 use std::alloc::Global;
 
 /// Two records, one after the other without a gap (SUBSET-026, 7.4). A fault of the first is
-/// reported first.
+/// answered first.
 #[tactic(auto, using(crate::proofs::PutLemmas::puts_then, crate::proofs::PutLemmas::allowed_both))]
 impl<A: Layout, B: Layout> Layout for (A, B) {
     ghost use Rattle.std.specs.Prelude.{◌⊎◌};

@@ -4,7 +4,7 @@ ghost use Rattle.std.specs.Prelude.{codes, IsOk};
 ghost use Rattle.etcs_json.specs.AnyMessage.{is_message, number_by};
 ghost use Rattle.etcs_json.specs.Chosen.{any_object, first_at};
 ghost use Rattle.etcs_json.specs.Fault.{Gives, IfMemory};
-ghost use Rattle.etcs_json.specs.Reading.{at_key, number_of};
+ghost use Rattle.etcs_json.specs.Reading.{at_key, allowed_number};
 
 use crate::error::FormError;
 use crate::form::{Form, InPieces};
@@ -18,9 +18,9 @@ use serde_json::Value;
 use std::alloc::Global;
 
 // Whether a number is that of message 3. The other number that is allowed is 136.
-#[tactic(auto, unfolding(crate::specs::Reading::number_of))]
+#[tactic(auto, unfolding(crate::specs::Reading::allowed_number))]
 fn is_three<N: Node>(alloc: Global, node: &N) -> Result<bool, FormError>
-    ensures { Gives number_by result (number_of is_message (N.shows node.now)) }
+    ensures { Gives number_by result (allowed_number is_message (N.shows node.now)) }
 {
     match node.number() {
         None => Err(FormError::kind(alloc)),
@@ -38,7 +38,7 @@ fn is_three<N: Node>(alloc: Global, node: &N) -> Result<bool, FormError>
 #[tactic(auto, using(crate::proofs::Objects::member_read))]
 fn has_three<N: Node>(alloc: Global, node: &N) -> Result<bool, FormError>
     ensures { Gives number_by result
-        (at_key (number_of is_message) (codes "nid_message") (N.shows node.now)) }
+        (at_key (allowed_number is_message) (codes "nid_message") (N.shows node.now)) }
 {
     let found = member(alloc, node, "nid_message")?;
     under("nid_message", is_three(alloc, &found))
@@ -47,7 +47,7 @@ fn has_three<N: Node>(alloc: Global, node: &N) -> Result<bool, FormError>
 // Whether a form is that of message 3, before its other keys are looked at.
 fn is_movement<N: Node>(alloc: Global, node: &N) -> Result<bool, FormError>
     ensures first { Gives number_by result
-        (first_at (number_of is_message) (codes "nid_message") (N.shows node.now)) }
+        (first_at (allowed_number is_message) (codes "nid_message") (N.shows node.now)) }
     ensures memory { IfMemory result (IsOk (any_object (N.shows node.now))) }
 {
     check_object(alloc, node)?;
@@ -66,11 +66,11 @@ impl Form for Message {
         // Each kind is in range. That is for the proof alone: what is written is read again.
         match self {
             Message::Movement(message) => {
-                message.stay_in_range();
+                message.prove_in_range();
                 message.to_form(alloc)
             }
             Message::Position(message) => {
-                message.stay_in_range();
+                message.prove_in_range();
                 message.to_form(alloc)
             }
         }

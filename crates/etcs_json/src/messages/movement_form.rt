@@ -5,7 +5,7 @@ use crate::node::Node;
 use crate::node::packets_form::read_all_at;
 use crate::node::reading::{read_fixed, read_key};
 use crate::packets::report_form::read_identity;
-use crate::record::{Members, Record, stay_allowed};
+use crate::record::{Members, Record, prove_allowed};
 use crate::writing::Sink;
 use etcs_bits::{Memory, are_allowed};
 use etcs_radio::MovementMessage;
@@ -64,9 +64,9 @@ impl Members for MovementMessage {
         }
     }
 
-    fn stay_in_range(&self) {
-        stay_allowed(&self.time());
-        stay_allowed(&self.lrbg());
+    fn prove_in_range(&self) {
+        prove_allowed(&self.time());
+        prove_allowed(&self.lrbg());
         let _allowed = are_allowed(self.packets());
     }
 }

@@ -4,7 +4,7 @@ use crate::error::FormError;
 use crate::node::Node;
 use crate::node::packets_form::read_all_at;
 use crate::node::reading::{read_fixed, read_key};
-use crate::record::{Members, Record, stay_allowed};
+use crate::record::{Members, Record, prove_allowed};
 use crate::writing::Sink;
 use etcs_bits::{Memory, are_allowed};
 use etcs_radio::PositionMessage;
@@ -52,9 +52,9 @@ impl Members for PositionMessage {
         }
     }
 
-    fn stay_in_range(&self) {
-        stay_allowed(&self.time());
-        stay_allowed(&self.engine());
+    fn prove_in_range(&self) {
+        prove_allowed(&self.time());
+        prove_allowed(&self.engine());
         let _allowed = are_allowed(self.packets());
     }
 }

@@ -11,7 +11,7 @@ use crate::node::Node;
 use crate::node::packets_form::read_all_at;
 use crate::node::reading::read_key;
 use crate::packets::report_form::read_identity;
-use crate::record::{Members, Record, stay_allowed};
+use crate::record::{Members, Record, prove_allowed};
 use crate::writing::Sink;
 use etcs_bits::{Memory, are_allowed};
 use etcs_digits::send_decimal;
@@ -30,7 +30,7 @@ fn user_bit_count(size: Size) -> u64
     }
 }
 
-#[tactic(auto, unfolding(crate::specs::Reading::number_of))]
+#[tactic(auto, unfolding(crate::specs::Reading::allowed_number))]
 impl Form for Size {
     ghost use Rattle.etcs_json.specs.Telegrams.{size};
 
@@ -134,8 +134,8 @@ impl Members for Telegram {
         })
     }
 
-    fn stay_in_range(&self) {
-        stay_allowed(&self.header);
+    fn prove_in_range(&self) {
+        prove_allowed(&self.header);
         let _allowed = are_allowed(self.packets.as_slice());
     }
 }

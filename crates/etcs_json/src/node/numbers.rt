@@ -15,7 +15,7 @@ fn has_minus(text: &[u8]) -> bool
     !text.is_empty() && text[0] == b'-'
 }
 
-// So many digits always fit in 64 bits.
+// The most digits that always fit in 64 bits.
 const FEW: usize = 19;
 
 // The number that a few plain digits are. None says nothing.

@@ -3,7 +3,7 @@
 ghost use Rattle.std.specs.Prelude.{◌==◌, IsOk};
 ghost use Rattle.etcs_json.specs.Chosen.{any_object, first_at};
 ghost use Rattle.etcs_json.specs.Fault.{Gives, IfMemory, IsUnder, key};
-ghost use Rattle.etcs_json.specs.Reading.{at_key, at_key_if, items_at, list_of, member_at, no_key, number_of};
+ghost use Rattle.etcs_json.specs.Reading.{at_key, at_key_if, items_at, list_of, member_at, no_key, allowed_number};
 ghost use Rattle.etcs_json.specs.Shape.{fixed, list_from_one};
 
 use crate::error::{FormError, Step};
@@ -198,9 +198,9 @@ pub(crate) fn read_first_and_at<T: Form, N: Node>(
 }
 
 // Refuses a value that is not this number.
-#[tactic(auto, unfolding(crate::specs::Reading::number_of))]
+#[tactic(auto, unfolding(crate::specs::Reading::allowed_number))]
 fn check_number<N: Node>(alloc: Global, node: &N, number: u64) -> Result<(), FormError>
-    ensures { Gives (λ _. number) result (number_of (λ n. n == number) (N.shows node.now)) }
+    ensures { Gives (λ _. number) result (allowed_number (λ n. n == number) (N.shows node.now)) }
 {
     match node.number() {
         None => Err(FormError::kind(alloc)),

@@ -1,7 +1,7 @@
 //! The forms of movement authorities, packets 12 and 15.
 
 ghost use Rattle.std.specs.Prelude.{◌≡◌, OnOk};
-ghost use Rattle.etcs_profile.specs.Authority.{authority_number, permission_of};
+ghost use Rattle.etcs_profile.specs.Authority.{authority_number, authority_of_parts};
 ghost use Rattle.etcs_json.specs.Authority.{either_authority, with_main, without_main};
 ghost use Rattle.etcs_json.specs.AuthoritySending.{first_members, last_members, sent_members};
 ghost use Rattle.etcs_json.specs.Chosen.{with_number};
@@ -14,7 +14,7 @@ use crate::node::Node;
 use crate::node::known_keys::check_keys;
 use crate::node::reading::{read_first, read_fixed, read_key};
 use crate::packets::terms_form::{Terms, authority_of, read_terms};
-use crate::record::stay_allowed;
+use crate::record::prove_allowed;
 use crate::writing::Sink;
 use crate::writing::building::NewObject;
 use etcs_bits::{Dir, Memory, Ranged, Scale, Speed};
@@ -149,7 +149,7 @@ fn read_terms_alone<N: Node>(alloc: Global, node: &N) -> Result<WithoutMain, For
 /// Reads packet 12.
 pub(crate) fn read_with_main<N: Node>(alloc: Global, node: &N) -> Result<Authority, FormError>
     ensures { Gives (λ a. a) result
-        (as_kind permission_of (either_authority.form.of 12 (N.shows node.now))) }
+        (as_kind authority_of_parts (either_authority.form.of 12 (N.shows node.now))) }
 {
     check_keys_with_main(alloc, node)?;
     let (dir, (scale, (main, terms))) = read_main_and_terms(alloc, node)?;
@@ -159,7 +159,7 @@ pub(crate) fn read_with_main<N: Node>(alloc: Global, node: &N) -> Result<Authori
 /// Reads packet 15.
 pub(crate) fn read_without_main<N: Node>(alloc: Global, node: &N) -> Result<Authority, FormError>
     ensures { Gives (λ a. a) result
-        (as_kind permission_of (either_authority.form.of 15 (N.shows node.now))) }
+        (as_kind authority_of_parts (either_authority.form.of 15 (N.shows node.now))) }
 {
     check_keys_without_main(alloc, node)?;
     let (dir, (scale, terms)) = read_terms_alone(alloc, node)?;
@@ -178,7 +178,7 @@ impl Form for Authority {
 
     fn to_form(&self, alloc: Global) -> Result<Value, Memory> {
         // For the proof alone: what is written is read again.
-        stay_allowed(self);
+        prove_allowed(self);
         let mut out = NewObject::new(alloc);
         send_authority(&mut out, self)?;
         Ok(out.into_value())

@@ -6,7 +6,7 @@ ghost use Rattle.etcs_json.specs.Authority.{danger_point, end_timer, overlap, se
 use crate::error::FormError;
 use crate::node::Node;
 use crate::node::reading::{read_key, read_key_if};
-use crate::record::{Members, Record, stay_allowed};
+use crate::record::{Members, Record, prove_allowed};
 use crate::writing::Sink;
 use etcs_bits::Memory;
 use etcs_profile::{DangerPoint, EndTimer, Overlap, Section, SectionTimer};
@@ -39,8 +39,8 @@ impl Members for SectionTimer {
         })
     }
 
-    fn stay_in_range(&self) {
-        stay_allowed(self);
+    fn prove_in_range(&self) {
+        prove_allowed(self);
     }
 }
 
@@ -71,8 +71,8 @@ impl Members for Section {
         })
     }
 
-    fn stay_in_range(&self) {
-        stay_allowed(self);
+    fn prove_in_range(&self) {
+        prove_allowed(self);
     }
 }
 
@@ -103,8 +103,8 @@ impl Members for EndTimer {
         })
     }
 
-    fn stay_in_range(&self) {
-        stay_allowed(self);
+    fn prove_in_range(&self) {
+        prove_allowed(self);
     }
 }
 
@@ -135,8 +135,8 @@ impl Members for DangerPoint {
         })
     }
 
-    fn stay_in_range(&self) {
-        stay_allowed(self);
+    fn prove_in_range(&self) {
+        prove_allowed(self);
     }
 }
 
@@ -171,7 +171,7 @@ impl Members for Overlap {
         })
     }
 
-    fn stay_in_range(&self) {
-        stay_allowed(self);
+    fn prove_in_range(&self) {
+        prove_allowed(self);
     }
 }

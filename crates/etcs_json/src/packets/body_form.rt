@@ -4,8 +4,8 @@ ghost use Rattle.std.specs.Prelude.{◌≡◌, ◌+◌, ◌∷◌, ◌≤◌, �
 ghost use Rattle.etcs_json.specs.BodyText.{body_of};
 ghost use Rattle.etcs_json.specs.Fault.{Gives};
 ghost use Rattle.etcs_json.specs.Measured.{is_length, measured_of};
-ghost use Rattle.etcs_json.specs.Reading.{at_key, number_of};
-ghost use Rattle.etcs_json.specs.Shape.{whole};
+ghost use Rattle.etcs_json.specs.Reading.{at_key, allowed_number};
+ghost use Rattle.etcs_json.specs.Shape.{number_data};
 
 use crate::error::FormError;
 use crate::node::Node;
@@ -19,15 +19,15 @@ use std::alloc::Global;
 pub(crate) fn send_length<S: Sink>(out: &mut S, head: u32, body: &Bits) -> Result<(), Memory>
     requires { length body.now ≤ 8170 }
     ensures { OnOk result (S.takes
-        ((codes "l_packet", Some (whole (head + length body.now))) ∷ []) out.old out.new) }
+        ((codes "l_packet", Some (number_data (head + length body.now))) ∷ []) out.old out.new) }
 {
     out.send_number("l_packet", u64::from(head) + body.len() as u64)
 }
 
-// Reads L_PACKET, which counts so many bits of the head too.
-#[tactic(auto, unfolding(crate::specs::Reading::number_of))]
+// Reads L_PACKET, which counts the `head` bits before the body too.
+#[tactic(auto, unfolding(crate::specs::Reading::allowed_number))]
 fn length_in<N: Node>(alloc: Global, node: &N, head: u32) -> Result<u32, FormError>
-    ensures gives { Gives (λ n. n) result (number_of (is_length head) (N.shows node.now)) }
+    ensures gives { Gives (λ n. n) result (allowed_number (is_length head) (N.shows node.now)) }
     ensures least { IfOk result (λ n. head ≤ n) }
     ensures most { IfOk result (λ n. n < 8192) }
 {
@@ -47,7 +47,7 @@ fn length_in<N: Node>(alloc: Global, node: &N, head: u32) -> Result<u32, FormErr
 #[tactic(auto, using(crate::proofs::Objects::member_read, crate::proofs::Objects::under_keeps))]
 fn read_length<N: Node>(alloc: Global, node: &N, head: u32) -> Result<u32, FormError>
     ensures gives { Gives (λ n. n) result
-        (at_key (number_of (is_length head)) (codes "l_packet") (N.shows node.now)) }
+        (at_key (allowed_number (is_length head)) (codes "l_packet") (N.shows node.now)) }
     ensures least { IfOk result (λ n. head ≤ n) }
     ensures most { IfOk result (λ n. n < 8192) }
 {
@@ -55,7 +55,7 @@ fn read_length<N: Node>(alloc: Global, node: &N, head: u32) -> Result<u32, FormE
     under("l_packet", length_in(alloc, &found, head))
 }
 
-// Reads a body of so many bits.
+// Reads a body of `count` bits.
 #[tactic(auto, unfolding(crate::specs::BodyText::body_of))]
 fn read_text<N: Node>(alloc: Global, node: &N, count: usize) -> Result<Bits, FormError>
     requires { count ≤ 8170 }

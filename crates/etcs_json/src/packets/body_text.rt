@@ -42,7 +42,7 @@ fn bytes_of<const BYTES: usize>(bits: &BitSlice<'_>) -> [u8; BYTES]
     bytes
 }
 
-// Sends the body, in room for so many bytes and for their digits.
+// Sends the body, in room for `BYTES` bytes and for their digits.
 fn send_in_room<const BYTES: usize, const DIGITS: usize, S: Sink>(
     out: &mut S,
     bits: &Bits,
@@ -103,7 +103,7 @@ fn bits_in(alloc: Global, bytes: &[u8], count: usize) -> Result<Bits, FormError>
     }
 }
 
-/// Reads the text of a body of so many bits.
+/// Reads the text of a body of `count` bits.
 pub(crate) fn body_in(alloc: Global, text: &str, count: usize) -> Result<Bits, FormError>
     requires { count ≤ 8170 }
     ensures gives { Gives (λ b. b) result (decoded_or count (decode_of text.now)) }

@@ -6,7 +6,7 @@ ghost use Rattle.etcs_json.specs.Cover.{cover_marker};
 use crate::error::FormError;
 use crate::node::Node;
 use crate::node::reading::{read_fixed, read_key};
-use crate::record::{Members, Record, stay_allowed};
+use crate::record::{Members, Record, prove_allowed};
 use crate::writing::Sink;
 use etcs_bits::Memory;
 use etcs_packet::CoverMarker;
@@ -38,7 +38,7 @@ impl Members for CoverMarker {
         Ok(CoverMarker { marker })
     }
 
-    fn stay_in_range(&self) {
-        stay_allowed(self);
+    fn prove_in_range(&self) {
+        prove_allowed(self);
     }
 }

@@ -58,7 +58,7 @@ pub(crate) fn read_integrity<N: Node>(alloc: Global, node: &N) -> Result<Integri
     Ok(Integrity::Q3)
 }
 
-#[tactic(auto, unfolding(crate::specs::Reading::number_of))]
+#[tactic(auto, unfolding(crate::specs::Reading::allowed_number))]
 impl Form for Train3 {
     ghost use Rattle.etcs_json.specs.Report.{side};
 

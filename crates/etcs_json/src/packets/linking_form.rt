@@ -7,7 +7,7 @@ use crate::error::FormError;
 use crate::node::Node;
 use crate::node::reading::{read_fixed, read_key, read_key_if};
 use crate::packets::profile_form::{read_profile, send_profile};
-use crate::record::{Members, Record, stay_allowed};
+use crate::record::{Members, Record, prove_allowed};
 use crate::writing::Sink;
 use etcs_bits::Memory;
 use etcs_profile::{Link, Linking};
@@ -55,8 +55,8 @@ impl Members for Link {
         })
     }
 
-    fn stay_in_range(&self) {
-        stay_allowed(self);
+    fn prove_in_range(&self) {
+        prove_allowed(self);
     }
 }
 
@@ -83,7 +83,7 @@ impl Members for Linking {
         read_profile(alloc, node, "links")
     }
 
-    fn stay_in_range(&self) {
-        stay_allowed(self);
+    fn prove_in_range(&self) {
+        prove_allowed(self);
     }
 }

@@ -9,7 +9,7 @@ use json::Writer;
 use serde_json::Value;
 use std::alloc::Global;
 
-#[tactic(auto, unfolding(crate::specs::Reading::number_of))]
+#[tactic(auto, unfolding(crate::specs::Reading::allowed_number))]
 impl<const W: u32> Form for Plain<W> {
     ghost use Rattle.etcs_bits.specs.variables.Variables.{plain};
     ghost use Rattle.etcs_json.specs.Variables.{variable};
@@ -45,7 +45,7 @@ impl<const W: u32> InPieces for Plain<W> {
     }
 }
 
-#[tactic(auto, unfolding(crate::specs::Reading::number_of))]
+#[tactic(auto, unfolding(crate::specs::Reading::allowed_number))]
 impl<const W: u32, const LAST: u32, const FROM: u32> Form for Ranged<W, LAST, FROM> {
     ghost use Rattle.etcs_bits.specs.variables.Variables.{ranged};
     ghost use Rattle.etcs_json.specs.Variables.{variable};
@@ -81,7 +81,7 @@ impl<const W: u32, const LAST: u32, const FROM: u32> InPieces for Ranged<W, LAST
     }
 }
 
-#[tactic(auto, unfolding(crate::specs::Reading::number_of))]
+#[tactic(auto, unfolding(crate::specs::Reading::allowed_number))]
 impl Form for bool {
     ghost use Rattle.etcs_json.specs.Variables.{flag};
 
@@ -112,7 +112,7 @@ impl InPieces for bool {
     }
 }
 
-#[tactic(auto, unfolding(crate::specs::Reading::number_of))]
+#[tactic(auto, unfolding(crate::specs::Reading::allowed_number))]
 impl Form for Dir {
     ghost use Rattle.etcs_json.specs.Variables.{direction};
 
@@ -147,7 +147,7 @@ impl InPieces for Dir {
     }
 }
 
-#[tactic(auto, unfolding(crate::specs::Reading::number_of))]
+#[tactic(auto, unfolding(crate::specs::Reading::allowed_number))]
 impl Form for Scale {
     ghost use Rattle.etcs_json.specs.Variables.{scale};
 
@@ -182,7 +182,7 @@ impl InPieces for Scale {
     }
 }
 
-#[tactic(auto, unfolding(crate::specs::Reading::number_of))]
+#[tactic(auto, unfolding(crate::specs::Reading::allowed_number))]
 impl Form for Dup {
     ghost use Rattle.etcs_json.specs.Variables.{duplicate};
 
@@ -217,7 +217,7 @@ impl InPieces for Dup {
     }
 }
 
-#[tactic(auto, unfolding(crate::specs::Reading::number_of))]
+#[tactic(auto, unfolding(crate::specs::Reading::allowed_number))]
 impl Form for Version {
     ghost use Rattle.etcs_json.specs.Variables.{version};
 

@@ -7,7 +7,7 @@ ghost use Rattle.etcs_profile.specs.Elements.{elements, profile as profile_of};
 ghost use Rattle.serde_json.specs.Data.{Data, array};
 ghost use Rattle.etcs_json.specs.Fault.{Gives};
 ghost use Rattle.etcs_json.specs.Profiles.{profile};
-ghost use Rattle.etcs_json.specs.Shape.{items_of, only, whole};
+ghost use Rattle.etcs_json.specs.Shape.{items_of, only, number_data};
 ghost use Rattle.etcs_json.specs.Variables.{direction, scale};
 
 use crate::error::FormError;
@@ -27,7 +27,7 @@ pub(crate) fn send_profile<const N: u32, T: InPieces + Layout, S: Sink>(
 ) -> Result<(), Memory>
     ensures { OnOk result (S.takes (
         (name.now, Some (array (items_of T.shape.to (packet.now.1.first ∷ packet.now.1.further))))
-        ∷ (codes "nid_packet", Some (whole N))
+        ∷ (codes "nid_packet", Some (number_data N))
         ∷ (codes "q_dir", Some (direction.to packet.now.0))
         ∷ (codes "q_scale", Some (scale.to packet.now.1.scale)) ∷ [])
         out.old out.new) }

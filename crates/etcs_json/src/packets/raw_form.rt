@@ -1,11 +1,11 @@
 //! The form of track packets whose layout is not known. Their bodies are kept as bits.
 
 ghost use Rattle.std.specs.Prelude.{◌≡◌, codes, true, IfOk};
-ghost use Rattle.etcs_packet.specs.PacketNumbers.{is_other, nid_raw};
+ghost use Rattle.etcs_packet.specs.PacketNumbers.{is_kept_number, nid_raw};
 ghost use Rattle.etcs_json.specs.Beside.{IsInRange};
 ghost use Rattle.etcs_json.specs.Fault.{Gives};
 ghost use Rattle.etcs_json.specs.Raw.{raw_packet};
-ghost use Rattle.etcs_json.specs.Reading.{at_key, number_of};
+ghost use Rattle.etcs_json.specs.Reading.{at_key, allowed_number};
 ghost use Rattle.etcs_json.specs.Variables.{is_allowed};
 
 use crate::error::FormError;
@@ -23,10 +23,10 @@ use std::alloc::Global;
 const HEAD_BITS: u32 = 23;
 
 // Reads the number of a packet that is neither a known one nor the end mark.
-#[tactic(auto, unfolding(crate::specs::Reading::number_of))]
+#[tactic(auto, unfolding(crate::specs::Reading::allowed_number))]
 fn number_in<N: Node>(alloc: Global, node: &N) -> Result<u8, FormError>
-    ensures gives { Gives (λ n. n) result (number_of (is_allowed nid_raw) (N.shows node.now)) }
-    ensures other { IfOk result (λ n. is_other n ≡ true) }
+    ensures gives { Gives (λ n. n) result (allowed_number (is_allowed nid_raw) (N.shows node.now)) }
+    ensures other { IfOk result (λ n. is_kept_number n ≡ true) }
 {
     match node.number() {
         None => Err(FormError::kind(alloc)),
@@ -44,8 +44,8 @@ fn number_in<N: Node>(alloc: Global, node: &N) -> Result<u8, FormError>
 #[tactic(auto, using(crate::proofs::Objects::member_read, crate::proofs::Objects::under_keeps))]
 fn read_number<N: Node>(alloc: Global, node: &N) -> Result<u8, FormError>
     ensures gives { Gives (λ n. n) result
-        (at_key (number_of (is_allowed nid_raw)) (codes "nid_packet") (N.shows node.now)) }
-    ensures other { IfOk result (λ n. is_other n ≡ true) }
+        (at_key (allowed_number (is_allowed nid_raw)) (codes "nid_packet") (N.shows node.now)) }
+    ensures other { IfOk result (λ n. is_kept_number n ≡ true) }
 {
     let found = member(alloc, node, "nid_packet")?;
     under("nid_packet", number_in(alloc, &found))
@@ -83,7 +83,7 @@ impl Members for RawPacket {
         }
     }
 
-    fn stay_in_range(&self) {
+    fn prove_in_range(&self) {
         let _number = self.number();
     }
 }

@@ -15,7 +15,7 @@ use crate::node::known_keys::check_keys;
 use crate::node::reading::{read_first, read_fixed, read_key};
 use crate::packets::integrity_form::{confirmed_length, length_number, read_integrity};
 use crate::packets::level_form::{national_system_of, read_level};
-use crate::record::stay_allowed;
+use crate::record::prove_allowed;
 use crate::writing::Sink;
 use crate::writing::building::NewObject;
 use etcs_bits::{Country, Distance, GroupNumber, Identity, Level, Memory, Plain, Scale};
@@ -27,7 +27,7 @@ use std::alloc::Global;
 // Whether a train is whole, how it runs, and in which mode and level.
 type State = (Integrity, (Plain<7>, (Train3, (Plain<4>, Level))));
 
-// Where a train is, as seen from the group that its report refers to, and its state.
+// Where a train is, as seen from the group that its position report refers to, and its state.
 type Situation = (Distance, (Train3, (Train3, (Distance, (Distance, State)))));
 
 // What follows the number in packet 0, and in packet 1.
@@ -78,7 +78,7 @@ fn read_situation<N: Node>(alloc: Global, node: &N) -> Result<Situation, FormErr
     Ok((distance, (orientation, (side, (over, (under, state))))))
 }
 
-// The report of these parts.
+// The position report of these parts.
 fn report_with(
     previous: Option<Identity>,
     scale: Scale,
@@ -208,7 +208,7 @@ pub(crate) fn read_two<N: Node>(alloc: Global, node: &N) -> Result<Report, FormE
 }
 
 // ---- sending
-// The text of an object has its members in the byte order of their keys. So the members of a report
+// The text of an object has its members in the byte order of their keys. So the members of a position report
 // are sent in three runs.
 
 // Sends the members of the first run: distances and lengths, the level's number and the mode.
@@ -294,7 +294,7 @@ impl Form for Report {
 
     fn to_form(&self, alloc: Global) -> Result<Value, Memory> {
         // For the proof alone: what is written is read again.
-        stay_allowed(self);
+        prove_allowed(self);
         let mut out = NewObject::new(alloc);
         send_report(&mut out, self)?;
         Ok(out.into_value())

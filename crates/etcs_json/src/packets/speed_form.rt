@@ -7,7 +7,7 @@ use crate::error::FormError;
 use crate::node::Node;
 use crate::node::reading::{read_fixed, read_items_at, read_key};
 use crate::packets::profile_form::{read_profile, send_profile};
-use crate::record::{Members, Record, stay_allowed};
+use crate::record::{Members, Record, prove_allowed};
 use crate::writing::Sink;
 use etcs_bits::Memory;
 use etcs_profile::{Difference, SpeedElement, SpeedProfile};
@@ -42,8 +42,8 @@ impl Members for Difference {
         })
     }
 
-    fn stay_in_range(&self) {
-        stay_allowed(self);
+    fn prove_in_range(&self) {
+        prove_allowed(self);
     }
 }
 
@@ -83,8 +83,8 @@ impl Members for SpeedElement {
         })
     }
 
-    fn stay_in_range(&self) {
-        stay_allowed(self);
+    fn prove_in_range(&self) {
+        prove_allowed(self);
     }
 }
 
@@ -111,7 +111,7 @@ impl Members for SpeedProfile {
         read_profile(alloc, node, "elements")
     }
 
-    fn stay_in_range(&self) {
-        stay_allowed(self);
+    fn prove_in_range(&self) {
+        prove_allowed(self);
     }
 }

@@ -1,7 +1,7 @@
 //! The members that both movement authorities have after their head.
 
 ghost use Rattle.std.specs.Prelude.{◌≡◌, ◌<◌, codes, length, IfOk};
-ghost use Rattle.etcs_profile.specs.Authority.{permission};
+ghost use Rattle.etcs_profile.specs.Authority.{authority_value};
 ghost use Rattle.etcs_json.specs.Authority.{end_parts, section, terms};
 ghost use Rattle.etcs_json.specs.Fault.{Gives};
 ghost use Rattle.etcs_json.specs.Reading.{at_key, list_of};
@@ -36,11 +36,11 @@ pub(crate) struct Terms {
 
 impl Model for Terms {
     ghost use Rattle.std.specs.Prelude.{◌<◌, length};
-    ghost use Rattle.etcs_profile.specs.Terms.{Conditions, conditions};
+    ghost use Rattle.etcs_profile.specs.Terms.{TermsValue, terms_value};
 
-    ghost Value = { Conditions };
+    ghost Value = { TermsValue };
 
-    ghost view = { λ t. conditions t.end_speed t.end_timeout t.sections.items t.l_endsection
+    ghost view = { λ t. terms_value t.end_speed t.end_timeout t.sections.items t.l_endsection
         t.end.section_timer t.end.end_timer t.end.danger_point t.end.overlap };
 
     ghost invariant = { λ t. length t.sections.items < 32 };
@@ -88,7 +88,7 @@ pub(crate) fn read_terms<N: Node>(alloc: Global, node: &N) -> Result<Terms, Form
 /// 15. It is never too long.
 #[tactic(auto)]
 pub(crate) fn authority_of(dir: Dir, scale: Scale, main: Option<Speed>, terms: Terms) -> Authority
-    ensures { result ≡ permission dir scale main terms }
+    ensures { result ≡ authority_value dir scale main terms }
 {
     let built = Authority::new(
         dir,

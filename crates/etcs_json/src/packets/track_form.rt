@@ -9,7 +9,7 @@ use crate::form::{Form, InPieces};
 use crate::node::Node;
 use crate::node::reading::read_first;
 use crate::packets::authority_form::{read_with_main, read_without_main};
-use crate::record::stay_allowed;
+use crate::record::prove_allowed;
 use etcs_bits::{Memory, Ranged};
 use etcs_packet::TrackPacket;
 use json::Writer;
@@ -50,7 +50,7 @@ impl Form for TrackPacket {
 
     fn to_form(&self, alloc: Global) -> Result<Value, Memory> {
         // For the proof alone: what is written is read again.
-        stay_allowed(self);
+        prove_allowed(self);
         form_of(alloc, self)
     }
 

@@ -9,7 +9,7 @@ use crate::form::{Form, InPieces};
 use crate::node::Node;
 use crate::node::reading::read_first;
 use crate::packets::report_form::{read_one, read_two};
-use crate::record::stay_allowed;
+use crate::record::prove_allowed;
 use etcs_bits::{Memory, Ranged};
 use etcs_radio::TrainPacket;
 use json::Writer;
@@ -38,7 +38,7 @@ impl Form for TrainPacket {
 
     fn to_form(&self, alloc: Global) -> Result<Value, Memory> {
         // For the proof alone: what is written is read again.
-        stay_allowed(self);
+        prove_allowed(self);
         form_of(alloc, self)
     }
 

@@ -7,7 +7,7 @@ use crate::error::FormError;
 use crate::node::Node;
 use crate::node::reading::{read_first_and_at, read_fixed, read_key};
 use crate::packets::level_form::{national_system_of, read_level};
-use crate::record::{Members, Record, stay_allowed};
+use crate::record::{Members, Record, prove_allowed};
 use crate::writing::Sink;
 use etcs_bits::Memory;
 use etcs_profile::{LevelOrder, Transition};
@@ -42,8 +42,8 @@ impl Members for LevelOrder {
         })
     }
 
-    fn stay_in_range(&self) {
-        stay_allowed(self);
+    fn prove_in_range(&self) {
+        prove_allowed(self);
     }
 }
 
@@ -82,7 +82,7 @@ impl Members for Transition {
         }
     }
 
-    fn stay_in_range(&self) {
-        stay_allowed(self);
+    fn prove_in_range(&self) {
+        prove_allowed(self);
     }
 }

@@ -13,7 +13,7 @@ use etcs_packet::Run;
 use etcs_radio::from_hex;
 use std::alloc::Global;
 
-// A line of so many groups of one balise, all with one identity, and a position report.
+// A line of `count` groups of one balise, all with one identity, and a position report.
 fn line(alloc: Global, count: usize) -> Result<Line, Halt> {
     let mut groups = Vec::new(alloc);
     'groups: for _ in 0..count {
@@ -24,7 +24,7 @@ fn line(alloc: Global, count: usize) -> Result<Line, Halt> {
     Ok(Line { groups, messages })
 }
 
-// Whether there are so many findings. Memory may run out only for one.
+// Whether there are `count` findings. Memory may run out only for one.
 fn are_found(found: Result<Vec<Finding>, Memory>, count: usize) -> Answer {
     match found {
         Ok(found) => Ok(found.len() == count),
@@ -51,7 +51,7 @@ fn repeated_group(alloc: Global) -> Answer {
     are_found(check(alloc, &line), 1)
 }
 
-// Whether a checker has so many findings. None of them are about groups, or none about messages: no memory is due.
+// Whether a checker has `count` findings. None of them are about groups, or none about messages: no memory is due.
 fn has_found(checker: LineChecker, count: usize) -> Answer {
     match checker.finish() {
         Ok(found) => Ok(found.len() == count),
@@ -59,8 +59,8 @@ fn has_found(checker: LineChecker, count: usize) -> Answer {
     }
 }
 
-// Whether so much is found about a group that is handed over so many times, once more where it was refused. Each time
-// memory is due: for its identity, or for the finding that it was used.
+// Whether `count` findings are made about a group that is handed over `times` times, once more where it was refused.
+// Each time memory is due: for its identity, or for the finding that it was used.
 fn is_found(alloc: Global, group: &Controlled, times: usize, count: usize) -> Answer {
     let mut checker = LineChecker::new(alloc);
     'times: for _ in 0..times {
@@ -76,7 +76,7 @@ fn sound_group(alloc: Global) -> Answer {
     is_found(alloc, &pair, 1, 0)
 }
 
-// A group whose aspects are not told apart.
+// A group whose counters do not distinguish its aspects.
 fn equal_aspects(alloc: Global) -> Answer {
     let pair = controlled(alloc, &[&[FIRST_7, SECOND_7], &[FIRST_7, SECOND_7]])?;
     is_found(alloc, &pair, 1, 2)

@@ -80,7 +80,7 @@ fn no_bodies(alloc: Global) -> Answer {
     }
 }
 
-// So many records that these digits spell.
+// `count` records that these digits spell.
 fn times<T: Layout>(alloc: Global, digits: &str, count: usize) -> Result<Vec<T>, Halt> {
     let bits = spelled(alloc, digits)?;
     let mut items = Vec::new(alloc);

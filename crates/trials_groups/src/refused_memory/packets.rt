@@ -87,7 +87,7 @@ fn lists(alloc: Global) -> Answer {
     unless_cut(bits.len() == 20 * LENGTH)
 }
 
-// The same as a list of records.
+// A list of records, as a list of packets is written.
 fn items(alloc: Global) -> Answer {
     let packets = read_packets(alloc, &mut at_packet(), Stop::Telegram)?;
     if !are_allowed(packets.as_slice()) {

@@ -24,7 +24,7 @@ a1007f802000c0250094025009402500940250094025009402500940250094025009402500940250
 0094025009402500940250094025009402500940250094025009402500940250094025009402500940250094025009402500\
 94025ffc";
 
-// The telegram of these bits. So many has a short one, and a long one.
+// The telegram of these bits, of which a short one has 210 and a long one 830.
 fn decoded(alloc: Global, bits: &Bits) -> Result<Telegram, Halt> {
     if bits.len() == 210 || bits.len() == 830 {
         Ok(etcs_telegram::decode(alloc, bits)?)

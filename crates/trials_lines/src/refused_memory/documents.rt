@@ -36,7 +36,7 @@ fn checked(alloc: Global) -> Answer {
     Ok(line.groups == 2 && line.messages == 0 && line.findings.len() == 1)
 }
 
-// The same with the line itself, and what is told of it.
+// The line itself is kept, and the report on it is made.
 fn told(alloc: Global) -> Answer {
     let verdict = check_text(alloc, USED.as_bytes())?;
     let text = report(alloc, &verdict.line, verdict.findings.as_slice())?;

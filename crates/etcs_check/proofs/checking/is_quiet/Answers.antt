@@ -17,11 +17,11 @@ aspects-preserved c =
     each_more (λ a g. IsQuietAspect (first_aspect c.args.aspects.now) g) c.args.aspects.now c.aspects.place group at c.aspects.invariant
     (subst (λ first. IsQuietAspect first group) c.first_aspect-first.ensures.value (c.is_quiet_aspect.ensures c.if-not-is_quiet_aspect.false))
 
--- All aspects are quiet, and they are told apart.
+-- All aspects are quiet, and they are distinguished.
 pub returns : goal.returns
 returns c = λ yes.
     quiet-from_parts c.args.aspects.now
     (λ a group at.
     let within = slice_get_within c.args.aspects.now a group at in
     c.aspects.invariant a group (omega (arith, within, c.aspects-test.false)) at)
-    (c.are_told_apart.ensures.fresh yes) (c.are_told_apart.ensures.told yes)
+    (c.are_distinguished.ensures.fresh yes) (c.are_distinguished.ensures.told yes)

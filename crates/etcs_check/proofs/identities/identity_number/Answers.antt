@@ -10,11 +10,11 @@ returns-clause-value c =
     let first = c.first_aspect-first.result.now in
     let is : group_identity c.args.aspects.now ≡ Some c.index-first-0.result.header.identity =
     ap identity_of (sym c.first_aspect-first.ensures.value) ∙ identity-at first c.index-first-0.result (index_at first 0 _ c.index-first-0.result c.first_aspect-first.ensures.some c.index-first-0.is) in
-    c.number_of.ensures.value ∙ sym (number-is c.args.aspects.now c.index-first-0.result.header.identity is)
+    c.number_of_identity.ensures.value ∙ sym (number-is c.args.aspects.now c.index-first-0.result.header.identity is)
 
 pub returns-clause-numbered : goal.returns-clause-numbered
 returns-clause-numbered c =
     let first = c.first_aspect-first.result.now in
     let is : group_identity c.args.aspects.now ≡ Some c.index-first-0.result.header.identity =
     ap identity_of (sym c.first_aspect-first.ensures.value) ∙ identity-at first c.index-first-0.result (index_at first 0 _ c.index-first-0.result c.first_aspect-first.ensures.some c.index-first-0.is) in
-    (c.index-first-0.result.header.identity, is, c.number_of.ensures.country, c.number_of.ensures.group)
+    (c.index-first-0.result.header.identity, is, c.number_of_identity.ensures.country, c.number_of_identity.ensures.group)

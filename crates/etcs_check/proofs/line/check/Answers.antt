@@ -3,7 +3,7 @@ use Rattle.etcs_check.specs.Laws.{AreControlled}
 use Rattle.etcs_check.specs.Line.{findings}
 use Rattle.etcs_check.proofs.AspectLemmas.{aspect_long, sound_mixtures_are_decided}
 use Rattle.etcs_check.proofs.SoundLemmas.{sound_groups_are_decided}
-use Rattle.etcs_check.proofs.TellingLemmas.{findings_noted, found_all, found_facts, found_sound, found_unnamed}
+use Rattle.etcs_check.proofs.SayingLemmas.{findings_noted, found_all, found_facts, found_sound, found_unnamed}
 use Rattle.etcs_check.proofs.line.check.Goals as goal
 
 -- The list is empty exactly where the line is sound.
@@ -40,7 +40,7 @@ returns-clause-decided c = λ g a aspects group run missed at at' sound set.
     let some = subst AreControlled c.deref.ensures.value c.in_ok-note_groups.ensures.controlled in
     sound_groups_are_decided group run missed sound (aspect_long aspects (some g aspects at) a group at') set
 
--- The aspects of a sound group are told apart.
+-- The counters distinguish the aspects of a sound group.
 pub returns-clause-mixtures : goal.returns-clause-mixtures
 returns-clause-mixtures c = λ g aspects run shown at sound fits.
     let some = subst AreControlled c.deref.ensures.value c.in_ok-note_groups.ensures.controlled in

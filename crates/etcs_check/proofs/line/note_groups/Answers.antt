@@ -5,7 +5,7 @@ use Rattle.std.specs.Ordering.{is_eq, nat_cmp}
 use Rattle.std.proofs.lemmas.Option.{slice_get_within}
 use Rattle.etcs_group.specs.Controlled.{IsControlled}
 use Rattle.etcs_check.specs.Aspects.{group_facts}
-use Rattle.etcs_check.specs.Identities.{IsNumbered}
+use Rattle.etcs_check.specs.Identities.{HasIdentity}
 use Rattle.etcs_check.specs.Line.{group_at}
 use Rattle.etcs_check.specs.declared.finding.Site.TheVariants as sites
 use Rattle.etcs_check.proofs.IdentityLemmas.{kept_more, next_stands, numbered_before, used_told}
@@ -36,7 +36,7 @@ places-preserved c =
           (c.in_ok-note_next.ensures.ok ∙ ap (λ u. c.places.found.items ++ group_facts (sites.Group c.places.place) u c.aspects.result.now) used)
           c.places.invariant.all;
       controlled = each_more (λ _. IsControlled) c.args.groups.now c.places.place c.aspects.result.now at c.places.invariant.controlled c.aspects.ensures.controlled;
-      numbered = each_more (λ _. IsNumbered) c.args.groups.now c.places.place c.aspects.result.now at c.places.invariant.numbered c.in_ok-note_next.ensures.numbered;
+      numbered = each_more (λ _. HasIdentity) c.args.groups.now c.places.place c.aspects.result.now at c.places.invariant.numbered c.in_ok-note_next.ensures.numbered;
       kept = λ again. kept_more c.args.groups.now c.places.place c.aspects.result.now (contains nat_cmp c.places.kept) _ at (c.in_ok-note_next.ensures.kept again) (c.places.invariant.kept again);
     }
 

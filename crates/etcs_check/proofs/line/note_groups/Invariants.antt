@@ -5,7 +5,7 @@ use Rattle.etcs_telegram.specs.Record.{Telegram}
 use Rattle.etcs_group.specs.Places.{At}
 use Rattle.etcs_group.specs.Controlled.{IsControlled}
 use Rattle.etcs_check.specs.Findings.{each_from}
-use Rattle.etcs_check.specs.Identities.{IsNumbered}
+use Rattle.etcs_check.specs.Identities.{HasIdentity}
 use Rattle.etcs_check.specs.Line.{group_at, group_list}
 use Rattle.etcs_check.specs.LineChecker.{HasKept}
 use Rattle.etcs_check.proofs.line.note_groups.Given as goal
@@ -16,6 +16,6 @@ abbrev pub invariant-places : goal.invariant-places
 invariant-places l = record {
   all : l.found.items ++ each_from (group_at l.groups) l.place (drop l.place l.groups) ≡ l.initial.found.items ++ group_list l.groups;
   controlled : (k : ℕ) (g : List (List Telegram)) → k < l.place → At l.groups k g → IsControlled g;
-  numbered : (k : ℕ) (g : List (List Telegram)) → k < l.place → At l.groups k g → IsNumbered g;
+  numbered : (k : ℕ) (g : List (List Telegram)) → k < l.place → At l.groups k g → HasIdentity g;
   kept : l.again ≡ true → HasKept (contains nat_cmp l.kept) (take l.place l.groups);
 }

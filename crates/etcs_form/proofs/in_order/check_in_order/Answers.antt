@@ -1,6 +1,6 @@
 use Rattle.std.proofs.Common.{Ok, ap}
 use Rattle.etcs_form.specs.Document.{◌then◌}
-use Rattle.etcs_form.specs.Verdict.{counted}
+use Rattle.etcs_form.specs.Verdict.{summary}
 use Rattle.etcs_form.proofs.EmptyLemmas.{none_counted, unreadable_counted}
 use Rattle.etcs_form.proofs.YesLemmas.{counted_none, counted_unnamed, no_finding_says_yes, text_says_yes}
 use Rattle.etcs_form.proofs.in_order.check_in_order.Goals as goal
@@ -18,7 +18,7 @@ pub returns-in-Some-clause-unnamed : goal.returns-in-Some-clause-unnamed
 returns-in-Some-clause-unnamed c = counted_unnamed c.args.bytes.now _ c.in-Some.ensures
 
 pub returns-clause-unnamed : goal.returns-clause-unnamed
-returns-clause-unnamed c = counted_unnamed c.args.bytes.now _ (ap (λ r. r then λ v. Ok (counted v)) c.in_ok-verdict.ensures.exact)
+returns-clause-unnamed c = counted_unnamed c.args.bytes.now _ (ap (λ r. r then λ v. Ok (summary v)) c.in_ok-verdict.ensures.exact)
 
 -- no bytes are no line
 pub returns-in-Some-clause-empty : goal.returns-in-Some-clause-empty

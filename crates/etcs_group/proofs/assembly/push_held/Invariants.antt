@@ -4,6 +4,6 @@ use Rattle.etcs_packet.specs.Track.{holds}
 use Rattle.etcs_group.specs.Places.{pointed}
 use Rattle.etcs_group.proofs.assembly.push_held.Given as goal
 
--- those of the packets so far that hold are pushed
+-- of the packets so far, those that hold are pushed
 abbrev pub invariant-packets : goal.invariant-packets
 invariant-packets l = pointed l.packets.items ≡ pointed l.initial.packets.items ++ filter (holds l.run) (take l.packet-index l.telegram.packets)

@@ -23,7 +23,7 @@ returns-then-left-lt8-clause-fault g c =
     let is = c.refused.ensures ∙ ap (λ (at : ℕ). errors.Fault (record { at = at; end = p.at; why = NoEnd })) c.at.ensures.place in
     rw is (goes, no_end_here g.T.Layout.format.fields p c.requires few)
 
--- and then neither a packet nor the end of the list stands here
+-- with fewer than eight bits, neither a packet nor the end of the list stands here
 pub returns-then-left-lt8-clause-none : goal.returns-then-left-lt8-clause-none
 returns-then-left-lt8-clause-none g c =
     let p = c.args.cur.now in

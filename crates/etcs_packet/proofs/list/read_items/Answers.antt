@@ -16,7 +16,7 @@ returns-in_err-item-clause-none g c =
     list_fault g.T.Layout.format.rows e c.loop-found.found.items c.args.stop g.T.Layout.format.fields c.args.cur.now c.loop-found.ahead c.loop-found.invariant.follow c.in_err-item.ensures.fault in
     rw (failed.1, failed.2) (none_of g.T.Layout.format.rows e c.args.stop g.T.Layout.format.fields c.args.cur.now c.requires g.T.Layout.format.laid.are_rows c.loop-found.invariant.inside is_fault)
 
--- and reading reports that fault
+-- reading reports the fault of the item
 pub returns-in_err-item-clause-exact : goal.returns-in_err-item-clause-exact
 returns-in_err-item-clause-exact g c =
     let failed = err_from_is_err_and c.from_residual.result c.from_residual.ensures.1 in
@@ -49,7 +49,7 @@ returns-clause-ok g c =
     let step : IsStep c.args.stop g.T.Layout.format.rows None c.loop-found.ahead c.next_item.new.cur = rw c.in_default.is at c.in_ok-item.ensures.ok in
     over g.T.Layout.format.rows c.loop-found.found.items c.args.stop g.T.Layout.format.fields c.args.cur.now c.loop-found.ahead c.next_item.new.cur c.loop-found.invariant.follow step
 
--- and a list that stands is what reading gives
+-- a list that stands is what reading gives
 pub returns-clause-exact : goal.returns-clause-exact
 returns-clause-exact g c =
     let step : IsStep c.args.stop g.T.Layout.format.rows None c.loop-found.ahead c.next_item.new.cur = rw c.in_default.is at c.in_ok-item.ensures.ok in
@@ -64,7 +64,7 @@ returns-in_err-item-clause-no_end g c = λ telegram few.
     let here = none_before c.args.stop g.T.Layout.format.fields (map g.T.Layout.format.rows c.loop-found.found.items) c.args.cur.now c.loop-found.ahead c.requires c.loop-found.invariant.inside few c.loop-found.invariant.follow in
     rw (failed.1, failed.2) (ap Err (same_error _ _ (rw here at c.in_err-item.ensures.no_end telegram few)))
 
--- and that step gives no packet
+-- where no end can come, the first step gives no packet
 pub returns-in_err-append-clause-no_end : goal.returns-in_err-append-clause-no_end
 returns-in_err-append-clause-no_end g c = λ telegram few.
     let here = none_before c.args.stop g.T.Layout.format.fields (map g.T.Layout.format.rows c.loop-found.found.items) c.args.cur.now c.loop-found.ahead c.requires c.loop-found.invariant.inside few c.loop-found.invariant.follow in

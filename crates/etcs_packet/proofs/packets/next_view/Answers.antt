@@ -16,7 +16,7 @@ returns-in_err-view-clause-fault c =
     let gives = rw c.fork-ahead.ensures.same at c.in_err-view.ensures.gives in
     rw (failed.1, failed.2) (due_fault e c.args.stop track_packet.fields p goes (is_fault e track_packet.fields p c.is_end.ensures.inside gives))
 
--- and then neither a packet nor the end of the list stands here
+-- with a fault, neither a packet nor the end of the list stands here
 pub returns-in_err-view-clause-none : goal.returns-in_err-view-clause-none
 returns-in_err-view-clause-none c =
     let p = c.args.cur.now in
@@ -36,7 +36,7 @@ returns-clause-ok c =
     let read = rw c.fork-ahead.ensures.same at c.in_ok-view.ensures.gives in
     (read.0, read.1, (goes, is_spelled track_packet.fields (track_packet.rows read.0) p c.scan.new.cur c.is_end.ensures.inside read.2))
 
--- and the fork stands where the cursor does
+-- the fork stands where the cursor does
 pub returns-in_err-view-clause-direction : goal.returns-in_err-view-clause-direction
 returns-in_err-view-clause-direction c =
     let failed = err_from_is_err_and c.from_residual.result c.from_residual.ensures.1 in

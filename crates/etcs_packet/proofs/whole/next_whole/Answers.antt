@@ -3,7 +3,7 @@ use Rattle.std.proofs.lemmas.Result.{err_from_is_err_and}
 use Rattle.etcs_bits.specs.layout.Rows.{IsSpelled}
 use Rattle.etcs_bits.specs.layout.Fault.{IsFault}
 use Rattle.etcs_bits.specs.layout.Results.{OfFault}
-use Rattle.etcs_packet.specs.Whole.{IsWhole}
+use Rattle.etcs_packet.specs.Whole.{HeadAndListStand}
 use Rattle.etcs_packet.proofs.ListLemmas.{of_memory}
 use Rattle.etcs_packet.proofs.WholeLemmas.{head_fault, followed, head_stands, head_fault_is_reported, later_fault, whole_fails, whole_is_read, none_of_whole}
 use Rattle.etcs_packet.proofs.whole.next_whole.Goals as goal
@@ -28,7 +28,7 @@ returns-in_err-items-clause-none g c =
     let is_fault = later_fault e c.args.stop g.H.Layout.format.fields g.T.Layout.format.fields (g.H.Layout.format.rows head) c.args.cur.now c.read.new.cur (g.H.Layout.format.laid.are_rows head) spelled c.in_err-items.ensures.fault in
     rw (failed.1, failed.2) (none_of_whole g.H.Layout.format.laid g.T.Layout.format.laid e c.args.stop c.args.cur.now c.requires inside is_fault)
 
--- and reading reports that fault
+-- reading reports the fault of the list
 pub returns-in_err-items-clause-exact : goal.returns-in_err-items-clause-exact
 returns-in_err-items-clause-exact g c =
     let failed = err_from_is_err_and c.from_residual-in_err-items.result c.from_residual-in_err-items.ensures.1 in
@@ -45,7 +45,7 @@ returns-clause-exact g c =
     let head = c.in_ok-head.head in
     let inside : c.args.cur.now.at ≤ length c.args.cur.now.bits = rw c.fork-ahead.ensures.same at c.fork-ahead.ensures.inside in
     let spelled : IsSpelled (g.H.Layout.format.rows head) c.args.cur.now c.read.new.cur = rw c.fork-ahead.ensures.same at c.in_ok-head.ensures.ok in
-    let whole : IsWhole c.args.stop g.H.Layout.format.rows g.T.Layout.format.rows head c.in_ok-items.items.items c.args.cur.now c.read_items.new.cur = record { middle = c.read.new.cur; first = spelled; items = c.in_ok-items.ensures.ok } in
+    let whole : HeadAndListStand c.args.stop g.H.Layout.format.rows g.T.Layout.format.rows head c.in_ok-items.items.items c.args.cur.now c.read_items.new.cur = record { middle = c.read.new.cur; first = spelled; items = c.in_ok-items.ensures.ok } in
     whole_is_read g.H.Layout.format.laid g.T.Layout.format.laid c.args.stop head c.in_ok-items.items.items c.args.cur.now c.read_items.new.cur c.requires inside whole
 
 -- where reading the head takes no memory, the head's fault is the result
@@ -57,7 +57,7 @@ returns-in_err-head-clause-head g c = λ none f fault.
     let is_fault : OfFault e (λ h. IsFault g.H.Layout.format.fields c.args.cur.now h) = rw c.fork-ahead.ensures.same at c.in_err-head.ensures.fault in
     rw (failed.1, failed.2) (ap Err (head_fault_is_reported e g.H.Layout.grows g.H.Layout.format.fields c.args.cur.now f inside is_fault c.in_err-head.ensures.memory none fault))
 
--- and where a head stands, it has no fault
+-- where a head stands, it has no fault
 pub returns-in_err-items-clause-head : goal.returns-in_err-items-clause-head
 returns-in_err-items-clause-head g c = λ none f fault.
     let inside : c.args.cur.now.at ≤ length c.args.cur.now.bits = rw c.fork-ahead.ensures.same at c.fork-ahead.ensures.inside in

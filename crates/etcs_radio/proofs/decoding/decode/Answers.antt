@@ -53,7 +53,7 @@ returns-in_err-fields-clause-memory c =
     let failed = err_from_is_err_and c.from_residual.result c.from_residual.ensures.1 in
     rw (failed.1, failed.2) (of_memory c.in_err-fields.field-0.0 (λ (none : ⊥). absurd none) c.in_err-fields.ensures.memory)
 
--- and only packets after it do
+-- only packets after the head take memory
 pub returns-clause-memory : goal.returns-clause-memory
 returns-clause-memory c =
     let seen : AreSeen c.args.bytes.now c.over-cur.result = record { few = c.min-few.result; bits = c.of_bytes.result; least = c.min-few.ensures; are = c.of_bytes.ensures.bits; here = c.over-cur.ensures } in

@@ -5,7 +5,7 @@ use Rattle.etcs_radio.proofs.laws.messages_are_decoded.Goals as goal
 pub returns-clause-meant : goal.returns-clause-meant
 returns-clause-meant c = λ m bytes. (message_meant m bytes, means_message m bytes)
 
--- and reading gives one message
+-- reading gives one message
 pub returns-clause-one : goal.returns-clause-one
 returns-clause-one c = λ m k bytes one other.
     let a = message_meant m bytes one in

@@ -6,7 +6,7 @@ use Rattle.etcs_run.proofs.answering.answer_lines.Goals as goal
 
 pub lines-init : goal.lines-init
 lines-init g c = record {
-  running = Running-start (g.C.LineCommand.answers c.args.command.now) c.requires.fresh.0;
+  running = Running-start (g.C.TextLineCommand.answers c.args.command.now) c.requires.fresh.0;
   reads = search rules;
   writes = search rules;
   unflushed = search rules;
@@ -18,20 +18,20 @@ lines-init g c = record {
 -- a line was found and answered, and each line has cost at least one byte
 pub lines-preserved : goal.lines-preserved
 lines-preserved g c =
-    let answers = g.C.LineCommand.answers in
+    let answers = g.C.TextLineCommand.answers in
     let held = held_of c.next.new.self in
     let read = rw c.if-branch.true at c.in_ok-next.ensures.reads in
     let found = Running-line (answers c.lines.command) c.lines.number c.lines.invariant.running read c.in_ok-next.ensures.ended in
     let turn = rw (c.in_default.is, c.line.ensures) at c.in_ok-status.ensures.turns in
-    let paid = rw c.line.ensures at c.in_ok-status.ensures.pays in
+    let paid = rw c.line.ensures at c.in_ok-status.ensures.bounded in
     record {
       running = Running-answered (answers c.lines.command) (answers c.answer.new.self) c.lines.number held found turn;
       reads = search rules;
       writes = search rules;
       unflushed = search rules;
       met = c.in_ok-next.ensures.met c.lines.invariant.met;
-      room = omega (arith, c.in_ok-next.ensures.spends c.if-branch.true);
-      paid = omega (arith, c.lines.invariant.paid, c.in_ok-next.ensures.pays, paid);
+      room = omega (arith, c.in_ok-next.ensures.lowers_budget c.if-branch.true);
+      paid = omega (arith, c.lines.invariant.paid, c.in_ok-next.ensures.bounded, paid);
     }
 
 -- no next line could be read
@@ -45,7 +45,7 @@ returns-in_err-next-clause-ran g c =
 -- the line was not answered whole
 pub returns-in_err-status-clause-ran : goal.returns-in_err-status-clause-ran
 returns-in_err-status-clause-ran g c =
-    let answers = g.C.LineCommand.answers in
+    let answers = g.C.TextLineCommand.answers in
     let held = held_of c.next.new.self in
     let read = rw c.if-branch.true at c.in_ok-next.ensures.reads in
     let found = Running-line (answers c.lines.command) c.lines.number c.lines.invariant.running read c.in_ok-next.ensures.ended in
@@ -58,7 +58,7 @@ returns-in_err-status-clause-ran g c =
 -- the run stops at the line
 pub returns-in-Stop-clause-ran : goal.returns-in-Stop-clause-ran
 returns-in-Stop-clause-ran g c =
-    let answers = g.C.LineCommand.answers in
+    let answers = g.C.TextLineCommand.answers in
     let held = held_of c.next.new.self in
     let read = rw c.if-branch.true at c.in_ok-next.ensures.reads in
     let found = Running-line (answers c.lines.command) c.lines.number c.lines.invariant.running read c.in_ok-next.ensures.ended in
@@ -68,7 +68,7 @@ returns-in-Stop-clause-ran g c =
 -- there is no further line
 pub returns-clause-ran : goal.returns-clause-ran
 returns-clause-ran g c =
-    let answers = g.C.LineCommand.answers in
+    let answers = g.C.TextLineCommand.answers in
     let read = rw c.if-branch.false at c.in_ok-next.ensures.reads in
     let last = Running-end (answers c.lines.command) c.lines.number c.lines.invariant.running read c.in_ok-next.ensures.ended in
     Running-ended last (c.end.ensures.writes _) (c.in_ok-next.ensures.met c.lines.invariant.met)

@@ -10,7 +10,7 @@ returns-in_err-value-clause-fault g c =
     let within : c.args.cur.now.at ≤ length c.args.cur.now.bits = rw c.fork-ahead.ensures.same at c.fork-ahead.ensures.inside in
     rw (p.1, p.2) (is_fault c.in_err-value.field-0.0 g.Self.Layout.format.fields c.args.cur.now within (rw c.fork-ahead.ensures.same at c.in_err-value.ensures.gives))
 
--- and with that fault, no record stands there
+-- where reading has a fault, no record stands
 pub returns-in_err-value-clause-none : goal.returns-in_err-value-clause-none
 returns-in_err-value-clause-none g c =
     let p = err_from_is_err_and c.from_residual.result c.from_residual.ensures.1 in

@@ -6,7 +6,7 @@ use Rattle.etcs_bits.specs.layout.Results.{Puts}
 use Rattle.etcs_bits.proofs.PutLemmas.{puts_bits}
 use Rattle.etcs_bits.proofs.layout.kept.put_kept.Goals as goal
 
--- the bits are put behind their length, and are those of the number that they spell
+-- the bits are put behind their length, and are the bits of the number that they spell
 pub returns : goal.returns
 returns c =
     let bits = c.args.bits.now in

@@ -1,5 +1,5 @@
 use Rattle.etcs_check.proofs.CheckerLemmas.{held_findings}
-use Rattle.etcs_check.proofs.TellingLemmas.{found_all, found_facts, found_sound, found_unnamed}
+use Rattle.etcs_check.proofs.SayingLemmas.{found_all, found_facts, found_sound, found_unnamed}
 use Rattle.etcs_check.proofs.line_checker.LineChecker.finish.Goals as goal
 
 -- The list has the findings of the line that was taken.

@@ -1,5 +1,5 @@
-use Rattle.etcs_profile.specs.Authority.{permission}
-use Rattle.etcs_profile.specs.Terms.{conditions}
+use Rattle.etcs_profile.specs.Authority.{authority_value}
+use Rattle.etcs_profile.specs.Terms.{terms_value}
 use Rattle.etcs_json.proofs.AuthorityWidth.{is_authority}
 use Rattle.etcs_json.proofs.packets.terms_form.authority_of.Goals as goal
 
@@ -7,5 +7,5 @@ use Rattle.etcs_json.proofs.packets.terms_form.authority_of.Goals as goal
 pub unreachable-requires : goal.unreachable-requires
 unreachable-requires c =
     let t = c.terms.inside in
-    let read = conditions t.end_speed t.end_timeout t.sections.items t.l_endsection t.end.section_timer t.end.end_timer t.end.danger_point t.end.overlap in
-    is_authority _ (permission c.args.dir c.args.scale c.args.main read) c.in-Err.ensures c.terms.invariant
+    let read = terms_value t.end_speed t.end_timeout t.sections.items t.l_endsection t.end.section_timer t.end.end_timer t.end.danger_point t.end.overlap in
+    is_authority _ (authority_value c.args.dir c.args.scale c.args.main read) c.in-Err.ensures c.terms.invariant

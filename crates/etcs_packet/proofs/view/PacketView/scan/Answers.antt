@@ -6,7 +6,7 @@ use Rattle.etcs_bits.proofs.SumLemmas.{rest_read, chosen_read}
 use Rattle.etcs_packet.specs.declared.track.TrackPacket.{TrackPacket}
 use Rattle.etcs_packet.specs.declared.track.TrackPacket.TheVariants as packets
 use Rattle.etcs_packet.specs.declared.view.PacketView.TheVariants as views
-use Rattle.etcs_packet.specs.PacketNumbers.{is_other, nid_track}
+use Rattle.etcs_packet.specs.PacketNumbers.{is_kept_number, nid_track}
 use Rattle.etcs_packet.specs.FoundRaw.{raw}
 use Rattle.etcs_packet.specs.Raw.{raw_rest}
 use Rattle.etcs_packet.specs.Track.{IsKnown, track_numbered}
@@ -25,7 +25,7 @@ returns-then-has_number-clause-gives c =
     let n = c.in_ok-number.number in
     let dir = c.in_ok-dir.dir in
     let body = c.in_ok-dir.body in
-    let other : is_other n ≡ true = sym c.has_number.ensures ∙ c.if-has_number.true in
+    let other : is_kept_number n ≡ true = sym c.has_number.ensures ∙ c.if-has_number.true in
     let few = c.in_ok-dir.ensures.few in
     let seen = raw n dir body (rw (other, few) refl) in
     let rest : rows_at (track_numbered.next n) c.scan_number.new.cur ≡ Ok (raw_rest.rows (dir, body), c.scan_rest.new.cur) = rw (other_next n other) c.in_ok-dir.ensures.gives in

@@ -1,6 +1,6 @@
 use Rattle.etcs_bits.specs.layout.Rows.{alone}
 use Rattle.etcs_bits.proofs.SumLemmas.{chosen_read}
-use Rattle.etcs_radio.specs.Report.{numbered}
+use Rattle.etcs_radio.specs.Report.{report_numbered}
 use Rattle.etcs_radio.specs.RawTrain.{others}
 use Rattle.etcs_packet.specs.PacketNumbers.{nid_track as nid_train}
 use Rattle.etcs_radio.specs.TrainPacket.{train_numbered}
@@ -12,7 +12,7 @@ unfolding alone
 returns-then-number-eq0-clause-gives c =
     let n = c.in_ok-number.number in
     report_here c.in_ok-report.report
-    (chosen_read nid_train numbered train_numbered.next n c.args.cur.now c.scan_number.new.cur _ _ c.in_ok-number.ensures.gives (report_next n c.then-number-eq0.either) c.in_ok-report.ensures.gives)
+    (chosen_read nid_train report_numbered train_numbered.next n c.args.cur.now c.scan_number.new.cur _ _ c.in_ok-number.ensures.gives (report_next n c.then-number-eq0.either) c.in_ok-report.ensures.gives)
 
 -- none of the reports' numbers
 pub returns-clause-gives : goal.returns-clause-gives

@@ -4,8 +4,8 @@ use Rattle.std.proofs.lemmas.Result.{err_from_is_err_and}
 use Rattle.etcs_form.specs.declared.refusal.StreamFault.TheVariants.{BelowThree}
 use Rattle.etcs_radio.specs.Meaning.{message_of}
 use Rattle.etcs_run.specs.Output.{Output}
-use Rattle.etcs_run.specs.RadioStream.{fed, line_for, refused_message, told}
-use Rattle.etcs_run.proofs.RadioLemmas.{Feeding-told, Feeds-cut, Feeds-more, Feeds-stopped, left_failed, left_more, left_ready, takes_few, takes_of, takes_so_many, takes_three, turn_of_beginning, turn_of_output}
+use Rattle.etcs_run.specs.RadioStream.{bytes_output, line_for, refused_message, message_output}
+use Rattle.etcs_run.proofs.RadioLemmas.{Feeding-message, Feeds-cut, Feeds-more, Feeds-stopped, left_failed, left_more, left_ready, takes_few, takes_of, takes_so_many, takes_three, turn_of_beginning, turn_of_output}
 use Rattle.etcs_run.proofs.radio_decoding.RadioDecoding.feed.Goals as goal
 
 -- all bytes were fed, and what is held waits for more
@@ -52,8 +52,8 @@ returns-in_err-status-in-Ready-clause-feeds g c =
     let call = takes_of c.args.bytes.now c.messages.at (take_rest c.args.bytes.now c.messages.at) c.feed-fed.ensures.used c.feed-fed.ensures.held in
     let ready = sym c.feed-fed.ensures.state ∙ c.in-Ready.is in
     let n = c.messages.self.number in
-    let later = fed (n + 1) [] (drop (c.messages.at + c.feed-fed.result.used) c.args.bytes.now) in
-    let after = told n (line_for (message_of c.feed-fed.new.self)) in
+    let later = bytes_output (n + 1) [] (drop (c.messages.at + c.feed-fed.result.used) c.args.bytes.now) in
+    let after = message_output n (line_for (message_of c.feed-fed.new.self)) in
     let residual = c.from_residual-in_err-status-in-Ready in
     let passed_on = err_from_is_err_and residual.result residual.ensures.1 in
     rw passed_on.1 (Feeds-cut c.messages.invariant.feeding later after (left_ready call n ready) passed_on.0
@@ -65,15 +65,15 @@ returns-in-Stop-clause-feeds g c =
     let call = takes_of c.args.bytes.now c.messages.at (take_rest c.args.bytes.now c.messages.at) c.feed-fed.ensures.used c.feed-fed.ensures.held in
     let ready = sym c.feed-fed.ensures.state ∙ c.in-Ready.is in
     let n = c.messages.self.number in
-    let later = fed (n + 1) [] (drop (c.messages.at + c.feed-fed.result.used) c.args.bytes.now) in
-    let after = told n (line_for (message_of c.feed-fed.new.self)) in
+    let later = bytes_output (n + 1) [] (drop (c.messages.at + c.feed-fed.result.used) c.args.bytes.now) in
+    let after = message_output n (line_for (message_of c.feed-fed.new.self)) in
     let turn = rw c.in-Stop.is at c.in_ok-status-in-Ready.ensures.turns in
     Feeds-stopped c.messages.invariant.feeding later after (left_ready call n ready) turn _ _
 
-pub returns-in-Stop-clause-pays : goal.returns-in-Stop-clause-pays
-returns-in-Stop-clause-pays g c =
+pub returns-in-Stop-clause-bounded : goal.returns-in-Stop-clause-bounded
+returns-in-Stop-clause-bounded g c =
     let call = takes_of c.args.bytes.now c.messages.at (take_rest c.args.bytes.now c.messages.at) c.feed-fed.ensures.used c.feed-fed.ensures.held in
-    omega (arith, c.messages.invariant.paid, c.messages.invariant.within, takes_few call, takes_so_many call, c.in_ok-status-in-Ready.ensures.pays)
+    omega (arith, c.messages.invariant.paid, c.messages.invariant.within, takes_few call, takes_so_many call, c.in_ok-status-in-Ready.ensures.bounded)
 
 -- a message has left the splitter
 pub messages-smaller : goal.messages-smaller
@@ -89,13 +89,13 @@ messages-preserved g c =
     let call = takes_of c.args.bytes.now c.messages.at (take_rest c.args.bytes.now c.messages.at) c.feed-fed.ensures.used c.feed-fed.ensures.held in
     let ready = sym c.feed-fed.ensures.state ∙ c.in-Ready.is in
     let n = c.messages.self.number in
-    let later = fed (n + 1) [] (drop (c.messages.at + c.feed-fed.result.used) c.args.bytes.now) in
-    let after = told n (line_for (message_of c.feed-fed.new.self)) in
+    let later = bytes_output (n + 1) [] (drop (c.messages.at + c.feed-fed.result.used) c.args.bytes.now) in
+    let after = message_output n (line_for (message_of c.feed-fed.new.self)) in
     let cleared = c.in_ok-status-in-Ready.ensures.cleared (ap Ok c.in_default.is) in
     let next = c.in_ok-status-in-Ready.ensures.next (ap Ok c.in_default.is) in
     let turn = rw c.in_default.is at c.in_ok-status-in-Ready.ensures.turns in
     record {
-      feeding = rw (next, cleared) (Feeding-told c.messages.invariant.feeding later after (left_ready call n ready) turn);
+      feeding = rw (next, cleared) (Feeding-message c.messages.invariant.feeding later after (left_ready call n ready) turn);
       within = omega (arith, c.messages.invariant.within, takes_few call);
       writes = search rules;
       unflushed = search rules;

@@ -21,12 +21,12 @@ filling-preserved g c =
       met = λ h. read.met (rw same_end (c.filling.invariant.met h));
       held = λ has. absurd (no_line_in has (c.filling.invariant.held has).1 moved.0.plain);
       unread = λ h. read.unread (same_end ∙ c.filling.invariant.ended h) ∙ c.filling.invariant.unread h;
-      spends = rw read.line (omega (
+      lowers_budget = rw read.line (omega (
         arith,
         grown,
         length-append (line_of c.filling.self) (held_of c.filling.self),
-        c.filling.invariant.spends,
-        read.spends,
+        c.filling.invariant.lowers_budget,
+        read.lowers_budget,
         read.read.1,
       ));
     }

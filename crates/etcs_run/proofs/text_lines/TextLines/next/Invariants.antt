@@ -17,7 +17,7 @@ invariant-filling g l = record {
   held : HasLine (held_of l.fn.self)
       → (l.reader ≡ l.fn.reader) × (held_of l.self ≡ held_of l.fn.self);
   unread : has_ended l.fn.self ≡ true → l.reader ≡ l.fn.reader;
-  spends : length (line_of l.self) + length (held_of l.self) + budget_of l.reader
+  lowers_budget : length (line_of l.self) + length (held_of l.self) + budget_of l.reader
       ≤ length (held_of l.fn.self) + budget_of l.fn.reader;
 }
 

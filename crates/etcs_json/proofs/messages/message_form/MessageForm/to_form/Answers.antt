@@ -7,8 +7,8 @@ use Rattle.etcs_json.proofs.messages.message_form.MessageForm.to_form.Goals as g
 
 pub returns-in-Movement-clause-again : goal.returns-in-Movement-clause-again
 unfolding message
-returns-in-Movement-clause-again c = rw c.in-Movement.is (written_again message (messages.Movement c.in-Movement.message) c.to_form.result (c.stay_in_range.ensures tt) c.to_form.ensures.form)
+returns-in-Movement-clause-again c = rw c.in-Movement.is (written_again message (messages.Movement c.in-Movement.message) c.to_form.result (c.prove_in_range.ensures tt) c.to_form.ensures.form)
 
 pub returns-in-Position-clause-again : goal.returns-in-Position-clause-again
 unfolding message
-returns-in-Position-clause-again c = rw c.in-Position.is (written_again message (messages.Position c.in-Position.message) c.to_form-in-Position.result (c.stay_in_range-in-Position.ensures tt) c.to_form-in-Position.ensures.form)
+returns-in-Position-clause-again c = rw c.in-Position.is (written_again message (messages.Position c.in-Position.message) c.to_form-in-Position.result (c.prove_in_range-in-Position.ensures tt) c.to_form-in-Position.ensures.form)

@@ -12,4 +12,4 @@ returns-clause-form c =
     made_of (sent_members a) _ _ _ _ (authority_in_order a) (authority_sent a) c.new-out.ensures c.in_ok-send_authority.ensures c.into_value.ensures
 
 pub returns-clause-again : goal.returns-clause-again
-returns-clause-again c = λ bounded. read_again authority c.args.self.now _ (returns-clause-form c) (authority_keeps.range c.args.self.now (c.stay_allowed.ensures tt))
+returns-clause-again c = λ bounded. read_again authority c.args.self.now _ (returns-clause-form c) (authority_keeps.range c.args.self.now (c.prove_allowed.ensures tt))

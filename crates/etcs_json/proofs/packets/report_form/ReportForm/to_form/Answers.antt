@@ -12,4 +12,4 @@ returns-clause-form c =
     made_of (sent_members r) _ _ _ _ (report_in_order r) (report_sent r) c.new-out.ensures c.in_ok-send_report.ensures c.into_value.ensures
 
 pub returns-clause-again : goal.returns-clause-again
-returns-clause-again c = λ bounded. read_again report c.args.self.now _ (returns-clause-form c) (report_keeps.range c.args.self.now (c.stay_allowed.ensures tt))
+returns-clause-again c = λ bounded. read_again report c.args.self.now _ (returns-clause-form c) (report_keeps.range c.args.self.now (c.prove_allowed.ensures tt))

@@ -5,4 +5,4 @@ use Rattle.etcs_json.proofs.packets.track_form.TrackPacketForm.to_form.Goals as 
 
 -- the packet is in range
 pub returns-clause-again : goal.returns-clause-again
-returns-clause-again c = written_again track_packet c.args.self.now c.form_of.result (track_keeps.range c.args.self.now (c.stay_allowed.ensures tt)) c.form_of.ensures
+returns-clause-again c = written_again track_packet c.args.self.now c.form_of.result (track_keeps.range c.args.self.now (c.prove_allowed.ensures tt)) c.form_of.ensures

@@ -1,0 +1,175 @@
+//! `EachTextLine`: a command that answers each line by what the line means.
+
+ghost use Rattle.std.specs.Prelude.{◌≡◌, [], Err, IfOk, string_bytes};
+ghost use Rattle.etcs_form.specs.Refusal.{line_words};
+ghost use Rattle.etcs_run.specs.Counted.{CanCount, FlushesNone, inner_of};
+ghost use Rattle.etcs_run.specs.TextLineMeaning.{refusal_of};
+ghost use Rattle.etcs_run.specs.LineReading.{CountsDevice};
+ghost use Rattle.etcs_run.specs.TextLines.{trimmed};
+ghost use Rattle.etcs_run.specs.Output.{after_line, answered};
+ghost use Rattle.etcs_run.specs.Ran.{TakesTurn, Turns};
+
+use crate::counted::Counted;
+use crate::error::RunError;
+use crate::output::put;
+use crate::status::Status;
+use crate::text_line_command::TextLineCommand;
+use crate::text_line_meaning::{TextLineMeaning, Unwritten};
+use crate::turn::Turn;
+use etcs_bits::Memory;
+use etcs_form::{LineFault, Refusal, refusal_text};
+use std::alloc::Global;
+use std::io::Write;
+use std::mem;
+
+// The line without a `\r` at its end. Only one is removed.
+#[inline]
+pub(crate) fn trim(line: &[u8]) -> &[u8]
+    ensures { result.now ≡ trimmed line.now }
+{
+    match line {
+        [rest @ .., b'\r'] => rest,
+        _ => line,
+    }
+}
+
+// The refusal of the line with this number, with its `\n`. Lines count from 1.
+#[tactic(auto, unfolding(crate::specs::TextLineMeaning::refusal_of, etcs_form::specs::Refusal::refusal_words))]
+fn refusal(alloc: Global, number: u64, why: LineFault) -> Result<String, Memory>
+    ensures { IfOk result (λ s. string_bytes s ≡ refusal_of number (line_words why)) }
+{
+    refusal_text(alloc, &Refusal::Line(number, why))
+}
+
+// Writes the refusal of the line with this number.
+pub(crate) fn refuse_line<W: Write>(
+    alloc: Global,
+    number: u64,
+    why: LineFault,
+    writer: &mut Counted<W>,
+) -> Result<Turn, RunError>
+    requires { CanCount writer.old }
+    ensures turns { Turns (W.contents (inner_of writer.old)) (W.contents (inner_of writer.new))
+        (answered number (Err (line_words why))) result }
+    ensures counts { CountsDevice result writer.old writer.new }
+    ensures unflushed { FlushesNone writer.old writer.new }
+{
+    match refusal(alloc, number, why) {
+        Ok(text) => {
+            put(writer, text.as_bytes())?;
+            Ok(Turn::Stop(Status::Refused))
+        }
+        Err(_) => Err(RunError::Memory),
+    }
+}
+
+// Writes the text of a line, or its refusal. The room is that of an earlier text.
+fn answer_line<M: TextLineMeaning, W: Write>(
+    alloc: Global,
+    meaning: &mut M,
+    number: u64,
+    line: &[u8],
+    room: &mut Vec<u8>,
+    writer: &mut Counted<W>,
+) -> Result<Turn, RunError>
+    requires { CanCount writer.old }
+    ensures turns { Turns (W.contents (inner_of writer.old)) (W.contents (inner_of writer.new))
+        (answered number (M.meaning line.now)) result }
+    ensures counts { CountsDevice result writer.old writer.new }
+    ensures unflushed { FlushesNone writer.old writer.new }
+{
+    let mut earlier = mem::replace(room, Vec::new(alloc));
+    earlier.clear();
+    match meaning.text(alloc, earlier, line) {
+        Ok(text) => {
+            put(writer, text.as_slice())?;
+            *room = text;
+            Ok(Turn::Next)
+        }
+        Err(Unwritten::Memory) => Err(RunError::Memory),
+        Err(Unwritten::Refused(why)) => refuse_line(alloc, number, why, writer),
+    }
+}
+
+// Writes the answer to a line. An empty line is skipped: it asks for nothing.
+fn take_turn<M: TextLineMeaning, W: Write>(
+    alloc: Global,
+    meaning: &mut M,
+    number: u64,
+    line: &[u8],
+    room: &mut Vec<u8>,
+    writer: &mut Counted<W>,
+) -> Result<Turn, RunError>
+    requires { CanCount writer.old }
+    ensures turns { Turns (W.contents (inner_of writer.old)) (W.contents (inner_of writer.new))
+        (after_line M.meaning number (trimmed line.now)) result }
+    ensures counts { CountsDevice result writer.old writer.new }
+    ensures unflushed { FlushesNone writer.old writer.new }
+    ensures empty { trimmed line.now ≡ [] → (result ≡ Ok Turn.Next) × (writer.new ≡ writer.old) }
+{
+    let line = trim(line);
+    if line.is_empty() {
+        Ok(Turn::Next)
+    } else {
+        answer_line(alloc, meaning, number, line, room, writer)
+    }
+}
+
+/// A command that answers each line by itself. Each line becomes its text, up to the first that has
+/// none. That one becomes its refusal, which ends the run.
+#[derive(Drop)]
+pub struct EachTextLine<M> {
+    meaning: M,
+    // The last text. The next one is made in its room.
+    room: Vec<u8>,
+}
+
+impl<M: TextLineMeaning> EachTextLine<M> {
+    /// The command, before its first line. It takes no memory yet.
+    pub fn new(alloc: Global, meaning: M) -> EachTextLine<M> {
+        EachTextLine {
+            meaning,
+            room: Vec::new(alloc),
+        }
+    }
+}
+
+impl<M: TextLineMeaning> TextLineCommand for EachTextLine<M> {
+    ghost use Rattle.etcs_run.specs.Output.{answers};
+
+    ghost answers = { λ _. answers M.meaning };
+
+    ghost count_bound = { λ _. 0 };
+
+    /// Writes the text of the line, or its refusal. An empty line leaves the writer as it was, and
+    /// never fails. A line with a `\r` alone is empty.
+    ///
+    /// `Memory`: a request for memory was refused. `Device`: a write failed, and the writer's count of
+    /// failures has risen by 1. In both cases what was written is a beginning of the text or of the
+    /// refusal.
+    fn answer<W: Write>(
+        &mut self,
+        alloc: Global,
+        number: u64,
+        line: &[u8],
+        writer: &mut Counted<W>,
+    ) -> Result<Turn, RunError>
+        requires { CanCount writer.old }
+        ensures turns { TakesTurn (W.contents (inner_of writer.old)) (W.contents (inner_of writer.new))
+            (answers M.meaning) (answers M.meaning) number line.now result }
+        ensures counts { CountsDevice result writer.old writer.new }
+        ensures unflushed { FlushesNone writer.old writer.new }
+        ensures empty { trimmed line.now ≡ [] → (result ≡ Ok Turn.Next) × (writer.new ≡ writer.old) }
+    {
+        let EachTextLine { meaning, room } = self;
+        take_turn(alloc, meaning, number, line, room, writer)
+    }
+
+    fn end<W: Write>(
+        &mut self,
+        _alloc: Global,
+        _writer: &mut Counted<W>,
+    ) -> Result<Status, RunError> {
+        Ok(Status::Done)
+    }
+}

@@ -1,0 +1,61 @@
+//! `TextLineCommand`: what a command does with an input, line by line.
+
+ghost use Rattle.std.specs.Prelude.{◌≡◌, ℕ, ◌+◌, ◌<◌, ◌≤◌, ◌^◌, List, [], length, OnOk};
+ghost use Rattle.etcs_run.specs.Counted.{CanCount, FlushesNone, inner_of};
+ghost use Rattle.etcs_run.specs.LineReading.{CountsDevice};
+ghost use Rattle.etcs_run.specs.Output.{Output};
+ghost use Rattle.etcs_run.specs.Ran.{TakesTurn, Writes};
+
+use crate::counted::Counted;
+use crate::error::RunError;
+use crate::status::Status;
+use crate::turn::Turn;
+use std::alloc::Global;
+use std::io::Write;
+
+/// A command that answers its input line by line. It may carry something from one line to the next.
+pub trait TextLineCommand: Drop {
+    /// What is written from a line with this number onwards, for the lines that are left.
+    ghost answers: { Self → ℕ → List (List ℕ) → Output };
+
+    /// A bound of what is counted. Each byte of a line raises it by one at most, so that no count can
+    /// overflow.
+    ghost count_bound: { Self → ℕ };
+
+    /// Writes the answer to the line with this number.
+    ///
+    /// `Memory`: a request for memory was refused. `Device`: a write failed, and the writer's count of
+    /// failures has risen by 1. In both cases what was written is a beginning of the answer, and the
+    /// command has no further use.
+    fn answer<W: Write>(
+        &mut self,
+        alloc: Global,
+        number: u64,
+        line: &[u8],
+        writer: &mut Counted<W>,
+    ) -> Result<Turn, RunError>
+        requires numbered { count_bound self.old + length line.now < 2 ^ 64 }
+        requires writes { CanCount writer.old }
+        ensures turns { TakesTurn (W.contents (inner_of writer.old)) (W.contents (inner_of writer.new))
+            (answers self.old) (answers self.new) number line.now result }
+        ensures bounded { OnOk result (count_bound self.new ≤ count_bound self.old + length line.now) }
+        ensures counts { CountsDevice result writer.old writer.new }
+        ensures unflushed { FlushesNone writer.old writer.new };
+
+    /// Writes the answer to the end of the input. An answer without a text leaves the writer as it was,
+    /// and never fails.
+    ///
+    /// `Memory`: a request for memory was refused. `Device`: a write failed, and the writer's count of
+    /// failures has risen by 1. In both cases what was written is a beginning of the answer. Nothing is
+    /// flushed.
+    fn end<W: Write>(&mut self, alloc: Global, writer: &mut Counted<W>) -> Result<Status, RunError>
+        requires { CanCount writer.old }
+        ensures writes { (number : ℕ) → Writes (W.contents (inner_of writer.old))
+            (W.contents (inner_of writer.new)) (answers self.old number []) result }
+        ensures counts { CountsDevice result writer.old writer.new }
+        ensures unflushed { FlushesNone writer.old writer.new }
+
+        // An answer without a text asks for nothing.
+        ensures silent { (number : ℕ) → (answers self.old number []).0 ≡ []
+            → (result ≡ Ok (answers self.old number []).1) × (writer.new ≡ writer.old) };
+}
