@@ -50,6 +50,26 @@ pub struct GradientElement {
     pub gradient: Plain<8>,
 }
 
+impl GradientElement {
+    ghost use Rattle.etcs_bits.specs.layout.Reading.{rows_at};
+    ghost use Rattle.etcs_bits.specs.layout.Results.{Gives, IfMemory};
+    ghost use Rattle.etcs_profile.specs.Gradient.{gradient_element};
+
+    // Reads the fields one by one, wherever the bits end. It stands apart so that the way of those far
+    // from the end saves fewer registers.
+    #[inline(never)]
+    fn scan_fields(alloc: Global, cur: &mut Cursor<'_>) -> Result<Self, DecodeError>
+        ensures gives { Gives gradient_element.rows result (rows_at gradient_element.fields cur.old) cur.new }
+        ensures memory { IfMemory result ⊥ }
+    {
+        Ok(GradientElement {
+            distance: Layout::scan(alloc, cur)?,
+            uphill: Layout::scan(alloc, cur)?,
+            gradient: Layout::scan(alloc, cur)?,
+        })
+    }
+}
+
 impl Layout for GradientElement {
     ghost use Rattle.etcs_profile.specs.Gradient.{gradient_element};
 
@@ -72,6 +92,7 @@ impl Layout for GradientElement {
         self.gradient.put(out)
     }
 
+    #[inline(always)]
     fn scan(alloc: Global, cur: &mut Cursor<'_>) -> Result<Self, DecodeError> {
         // Far from the end all fields are there.
         if let Some(numbers) = cur.take_three(15, 1, 8) {
@@ -81,11 +102,7 @@ impl Layout for GradientElement {
                 gradient: Plain::of_field(numbers.2),
             });
         }
-        Ok(GradientElement {
-            distance: Layout::scan(alloc, cur)?,
-            uphill: Layout::scan(alloc, cur)?,
-            gradient: Layout::scan(alloc, cur)?,
-        })
+        GradientElement::scan_fields(alloc, cur)
     }
 }
 

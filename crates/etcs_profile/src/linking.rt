@@ -59,6 +59,29 @@ pub struct Link {
     pub accuracy: Plain<6>,
 }
 
+impl Link {
+    ghost use Rattle.etcs_bits.specs.layout.Reading.{rows_at};
+    ghost use Rattle.etcs_bits.specs.layout.Results.{Gives, IfMemory};
+    ghost use Rattle.etcs_profile.specs.Linking.{link};
+
+    // Reads the fields one by one, wherever the bits end. It stands apart so that the way of those far
+    // from the end saves fewer registers.
+    #[inline(never)]
+    fn scan_fields(alloc: Global, cur: &mut Cursor<'_>) -> Result<Self, DecodeError>
+        ensures gives { Gives link.rows result (rows_at link.fields cur.old) cur.new }
+        ensures memory { IfMemory result ⊥ }
+    {
+        Ok(Link {
+            distance: Layout::scan(alloc, cur)?,
+            country: Layout::scan(alloc, cur)?,
+            group: Layout::scan(alloc, cur)?,
+            nominal: Layout::scan(alloc, cur)?,
+            reaction: Layout::scan(alloc, cur)?,
+            accuracy: Layout::scan(alloc, cur)?,
+        })
+    }
+}
+
 impl Layout for Link {
     ghost use Rattle.etcs_profile.specs.Linking.{link};
 
@@ -89,6 +112,7 @@ impl Layout for Link {
         self.accuracy.put(out)
     }
 
+    #[inline(always)]
     fn scan(alloc: Global, cur: &mut Cursor<'_>) -> Result<Self, DecodeError> {
         // Far from the end all fields of a link within the country are there.
         let mut ahead = cur.fork();
@@ -109,14 +133,7 @@ impl Layout for Link {
                 }
             }
         }
-        Ok(Link {
-            distance: Layout::scan(alloc, cur)?,
-            country: Layout::scan(alloc, cur)?,
-            group: Layout::scan(alloc, cur)?,
-            nominal: Layout::scan(alloc, cur)?,
-            reaction: Layout::scan(alloc, cur)?,
-            accuracy: Layout::scan(alloc, cur)?,
-        })
+        Link::scan_fields(alloc, cur)
     }
 }
 

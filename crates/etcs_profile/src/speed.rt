@@ -54,6 +54,26 @@ pub struct Difference {
     pub speed: Speed,
 }
 
+impl Difference {
+    ghost use Rattle.etcs_bits.specs.layout.Reading.{rows_at};
+    ghost use Rattle.etcs_bits.specs.layout.Results.{Gives, IfMemory};
+    ghost use Rattle.etcs_profile.specs.Speed.{difference};
+
+    // Reads the fields one by one, wherever the bits end. It stands apart so that the way of those far
+    // from the end saves fewer registers.
+    #[inline(never)]
+    fn scan_fields(alloc: Global, cur: &mut Cursor<'_>) -> Result<Self, DecodeError>
+        ensures gives { Gives difference.rows result (rows_at difference.fields cur.old) cur.new }
+        ensures memory { IfMemory result ⊥ }
+    {
+        Ok(Difference {
+            kind: Layout::scan(alloc, cur)?,
+            category: Layout::scan(alloc, cur)?,
+            speed: Layout::scan(alloc, cur)?,
+        })
+    }
+}
+
 impl Layout for Difference {
     ghost use Rattle.etcs_profile.specs.Speed.{difference};
 
@@ -76,6 +96,7 @@ impl Layout for Difference {
         self.speed.put(out)
     }
 
+    #[inline(always)]
     fn scan(alloc: Global, cur: &mut Cursor<'_>) -> Result<Self, DecodeError> {
         // Far from the end all fields are there.
         let mut ahead = cur.fork();
@@ -91,11 +112,7 @@ impl Layout for Difference {
                 }
             }
         }
-        Ok(Difference {
-            kind: Layout::scan(alloc, cur)?,
-            category: Layout::scan(alloc, cur)?,
-            speed: Layout::scan(alloc, cur)?,
-        })
+        Difference::scan_fields(alloc, cur)
     }
 }
 
@@ -121,6 +138,26 @@ pub struct SpeedElement {
     pub front: bool,
     /// N_ITER and the other speeds for some trains, at most 31.
     pub differences: Items<Difference>,
+}
+
+impl SpeedElement {
+    ghost use Rattle.etcs_bits.specs.layout.Reading.{rows_at};
+    ghost use Rattle.etcs_bits.specs.layout.Results.{Gives};
+    ghost use Rattle.etcs_profile.specs.Speed.{speed_element};
+
+    // Reads the fields one by one, wherever the bits end. It stands apart so that the way of those far
+    // from the end saves fewer registers.
+    #[inline(never)]
+    fn scan_fields(alloc: Global, cur: &mut Cursor<'_>) -> Result<Self, DecodeError>
+        ensures gives { Gives speed_element.rows result (rows_at speed_element.fields cur.old) cur.new }
+    {
+        Ok(SpeedElement {
+            distance: Layout::scan(alloc, cur)?,
+            speed: Layout::scan(alloc, cur)?,
+            front: Layout::scan(alloc, cur)?,
+            differences: Layout::scan(alloc, cur)?,
+        })
+    }
 }
 
 impl Layout for SpeedElement {
@@ -154,6 +191,7 @@ impl Layout for SpeedElement {
         self.differences.put(out)
     }
 
+    #[inline(always)]
     fn scan(alloc: Global, cur: &mut Cursor<'_>) -> Result<Self, DecodeError> {
         // Far from the end all fields are there.
         let mut ahead = cur.fork();
@@ -168,12 +206,7 @@ impl Layout for SpeedElement {
                 });
             }
         }
-        Ok(SpeedElement {
-            distance: Layout::scan(alloc, cur)?,
-            speed: Layout::scan(alloc, cur)?,
-            front: Layout::scan(alloc, cur)?,
-            differences: Layout::scan(alloc, cur)?,
-        })
+        SpeedElement::scan_fields(alloc, cur)
     }
 }
 
