@@ -20,10 +20,6 @@ abbrev pub view_of : TrackPacket → PacketView
 view_of (packets.Raw r) = views.Raw r.number r.dir r.body
 view_of p = views.Known p
 
--- Some packet has this view.
-abbrev pub IsView : PacketView → Type 0
-IsView v = (p : TrackPacket) × (view_of p ≡ v)
-
 -- Whether reading a packet of this number may take memory. Each packet whose layout is known holds
 -- a list, but packet 0.
 abbrev pub grows : ℕ → Bool

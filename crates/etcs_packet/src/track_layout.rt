@@ -1,7 +1,8 @@
 //! How a packet from track to train stands in bits.
 
+use crate::number::scan_number;
+use crate::raw::RawPacket;
 use crate::track::TrackPacket;
-use crate::view::PacketView;
 use etcs_bits::{Bits, Cursor, DecodeError, Layout, Memory};
 use std::alloc::Global;
 
@@ -24,8 +25,14 @@ impl Layout for TrackPacket {
         self.put_own(out)
     }
 
+    #[inline(always)]
     fn scan(alloc: Global, cur: &mut Cursor<'_>) -> Result<Self, DecodeError> {
-        let view = PacketView::scan(alloc, cur)?;
-        Ok(view.into_packet(alloc)?)
+        let number = scan_number(cur)?;
+        if RawPacket::has_number(number) {
+            let (dir, body) = RawPacket::scan_rest(alloc, cur)?;
+            let packet = RawPacket::with_copy(alloc, number as u8, dir, body)?;
+            return Ok(TrackPacket::Raw(packet));
+        }
+        TrackPacket::scan_known(alloc, number, cur)
     }
 }

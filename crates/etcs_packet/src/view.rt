@@ -1,12 +1,12 @@
 //! Packets as views: a packet that is kept as bits borrows its body.
 
-ghost use Rattle.std.specs.Prelude.{◌≡◌, true, IfOk, IsOk};
+ghost use Rattle.std.specs.Prelude.{◌≡◌, true, IsOk};
 ghost use Rattle.etcs_bits.specs.layout.Results.{IfMemory};
 
 use crate::number::scan_number;
 use crate::raw::RawPacket;
 use crate::track::TrackPacket;
-use etcs_bits::{BitSlice, Cursor, DecodeError, Dir, Memory};
+use etcs_bits::{BitSlice, Cursor, DecodeError, Dir};
 use std::alloc::Global;
 
 /// A packet from track to train (SUBSET-026, 7.4.2), without a copy of a body that is kept as bits.
@@ -29,7 +29,7 @@ impl<'a> PacketView<'a> {
     ghost use Rattle.etcs_bits.specs.layout.Reading.{forward, rows_at};
     ghost use Rattle.etcs_bits.specs.variables.VariableFormats.{q_dir};
     ghost use Rattle.etcs_packet.specs.Track.{track_packet};
-    ghost use Rattle.etcs_packet.specs.View.{IsView, Shows, grows_at, view_of};
+    ghost use Rattle.etcs_packet.specs.View.{Shows, grows_at};
 
     /// Reads a view of the packet at the cursor. After an error the cursor may stand anywhere.
     #[inline]
@@ -48,21 +48,5 @@ impl<'a> PacketView<'a> {
             });
         }
         Ok(PacketView::Known(TrackPacket::scan_known(alloc, number, cur)?))
-    }
-
-    /// The packet that is seen, with a copy of a body that is kept as bits. Fails only if memory
-    /// runs out.
-    #[inline]
-    pub(crate) fn into_packet(self, alloc: Global) -> Result<TrackPacket, Memory>
-        requires { IsView self }
-        ensures { IfOk result (λ p. view_of p ≡ self.entry) }
-    {
-        match self {
-            PacketView::Known(packet) => Ok(packet),
-            PacketView::Raw { number, dir, body } => {
-                let packet = RawPacket::with_copy(alloc, number, dir, body)?;
-                Ok(TrackPacket::Raw(packet))
-            }
-        }
     }
 }
