@@ -12,6 +12,7 @@ pub mod ViewLemmas
 pub mod StoreLemmas
 pub mod AppendLemmas
 pub mod StepLemmas
+mod TakenLemmas
 pub mod ListLemmas
 pub mod SizedLemmas
 pub mod ValueLemmas

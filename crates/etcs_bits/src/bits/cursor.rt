@@ -1,6 +1,6 @@
 //! A place among bits, from which fields are read.
 
-ghost use Rattle.std.specs.Prelude.{◌≡◌, ◌↔◌, ◌+◌, ◌<◌, ◌≤◌, ◌^◌, length, take, drop, Ok, Err, Some, None, IfSome, IsOk, IfOk, IfErr, MatchResult, OnOk, OnErr};
+ghost use Rattle.std.specs.Prelude.{◌≡◌, ◌↔◌, ◌+◌, ◌/◌, ◌%◌, ◌<◌, ◌≤◌, ◌^◌, length, take, drop, Ok, Err, Some, None, IfSome, IsOk, IfOk, IfErr, MatchResult, OnOk, OnErr};
 ghost use Rattle.etcs_bits.specs.layout.Fault.{short};
 ghost use Rattle.etcs_bits.specs.layout.Reading.{forward, taken};
 
@@ -38,6 +38,16 @@ fn no_room(at: usize, end: usize) -> Fault
         end,
         why: FaultKind::Short,
     }
+}
+
+// The number of `width` bits of a number's that stand before its last `after`.
+#[inline(always)]
+fn field_in(n: u64, after: u32, width: u32) -> u64
+    requires after { after ≤ 32 }
+    requires width { width ≤ 32 }
+    ensures { result ≡ n / 2 ^ after % 2 ^ width }
+{
+    (n >> after) & ((1 << width) - 1)
 }
 
 impl<'a> Cursor<'a> {
@@ -100,7 +110,8 @@ impl<'a> Cursor<'a> {
     /// The numbers of the next three fields of these widths, 1 to 32 bits each. The cursor then
     /// stands after them.
     ///
-    /// None says only that the bits may end soon. The cursor then has not moved.
+    /// None says only that the bits may end soon, or that the three have more than 32 bits. The cursor
+    /// then has not moved.
     #[inline(always)]
     pub fn take_three(&mut self, first: u32, second: u32, third: u32) -> Option<(u64, u64, u64)>
         requires first { (1 ≤ first) × (first ≤ 32) }
@@ -113,17 +124,17 @@ impl<'a> Cursor<'a> {
         ensures small { IfSome result (λ n. (n.0 < 2 ^ first) × (n.1 < 2 ^ second) × (n.2 < 2 ^ third)) }
         ensures none { result ≡ None → self.new ≡ self.old }
     {
-        let to_third = first as usize + second as usize;
-        if self.bits.len() - self.at < to_third + 64 {
+        let whole = first + second + third;
+        if 32 < whole || self.bits.len() - self.at < 64 {
             return None;
         }
-        let numbers = (
-            self.bits.num_far(self.at, first),
-            self.bits.num_far(self.at + first as usize, second),
-            self.bits.num_far(self.at + to_third, third),
-        );
-        self.at = self.at + to_third + third as usize;
-        Some(numbers)
+        let n = self.bits.num_far(self.at, whole);
+        self.at += whole as usize;
+        Some((
+            field_in(n, second + third, first),
+            field_in(n, third, second),
+            field_in(n, 0, third),
+        ))
     }
 
     // What `take` promises, wherever the bits end.

@@ -139,6 +139,7 @@ impl<T: Layout> Layout for Items<T> {
         put_items(self.items.as_slice(), out)
     }
 
+    #[inline(always)]
     fn scan(alloc: Global, cur: &mut Cursor<'_>) -> Result<Self, DecodeError>
         ensures gives { Gives (several T.format).rows result
             (rows_at (several T.format).fields cur.old) cur.new }
