@@ -1,8 +1,12 @@
 //! The header of a telegram.
 
+ghost use Rattle.std.specs.Prelude.{◌≡◌, Ok, IfSome};
+ghost use Rattle.etcs_bits.specs.layout.Reading.{rows_at};
+ghost use Rattle.etcs_telegram.specs.Header.{header};
+
 use etcs_bits::{
-    Bits, Counter, Cursor, DecodeError, Dup, Identity, Layout, Medium, Memory, Position, Total,
-    Transmission, Version,
+    Bits, Counter, Cursor, DecodeError, Dup, Identity, Layout, Medium, Memory, Plain, Position,
+    Total, Transmission, Version,
 };
 use std::alloc::Global;
 
@@ -25,6 +29,37 @@ pub struct Header {
     pub identity: Identity,
     /// Q_LINK, 1 bit at place 49: whether the group is linked.
     pub linked: bool,
+}
+
+// The header at the cursor, where it has no fault and all its fields are far from the end. None says
+// nothing, and the cursor may then stand anywhere.
+#[inline(always)]
+fn scan_far(cur: &mut Cursor<'_>) -> Option<Header>
+    ensures { IfSome result (λ h. rows_at header.fields cur.old ≡ Ok (header.rows h, cur.new)) }
+{
+    let sender = cur.take_three(1, 7, 1)?;
+    if sender.0 != 1 || sender.2 != 0 {
+        return None;
+    }
+    let version = Version::new(sender.1 as u32)?;
+    let balise = cur.take_three(3, 3, 2)?;
+    let dup = Dup::new(balise.2 as u32)?;
+    let group = cur.take_three(8, 10, 14)?;
+    let Ok(linked) = cur.take(1) else {
+        return None;
+    };
+    Some(Header {
+        version,
+        position: Plain::of_field(balise.0),
+        total: Plain::of_field(balise.1),
+        dup,
+        counter: Plain::of_field(group.0),
+        identity: Identity {
+            country: Plain::of_field(group.1),
+            group: Plain::of_field(group.2),
+        },
+        linked: linked == 1,
+    })
 }
 
 impl Layout for Header {
@@ -62,6 +97,11 @@ impl Layout for Header {
     }
 
     fn scan(alloc: Global, cur: &mut Cursor<'_>) -> Result<Self, DecodeError> {
+        let mut ahead = cur.fork();
+        if let Some(header) = scan_far(&mut ahead) {
+            *cur = ahead;
+            return Ok(header);
+        }
         let Transmission::TrackToTrain = Transmission::scan(alloc, cur)?;
         let version = Version::scan(alloc, cur)?;
         let Medium::Balise = Medium::scan(alloc, cur)?;
