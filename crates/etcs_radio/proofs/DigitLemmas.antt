@@ -1,6 +1,6 @@
 -- Digits that are decoded up to a place.
 use Rattle.std.proofs.Common.{◌≡◌, ℕ, zero, suc, ◌+◌, ◌*◌, ◌/◌, ◌%◌, ◌≤◌, min, Bool, true, false, List, [], ◌∷◌, ◌++◌, length, take, drop, Result, Ok, Err, refl, sym, ap, ◌∙◌, arith}
-use Rattle.std.specs.Prelude.{MatchResult}
+use Rattle.std.specs.Prelude.{IsTrue, MatchResult}
 use Rattle.std.proofs.lemmas.List.{length-take-le, take-append-drop}
 use Rattle.hex.specs.Hex.{◌>>=◌, decode_of, decode_pairs, decode_sized, pair_value}
 use Rattle.hex.specs.declared.error.FromHexError.{FromHexError}
@@ -49,6 +49,30 @@ front_read text front n result new all is read fits front_is =
     let first : decode_pairs 0 front ≡ Ok (take n all) = pairs_front n 0 front (drop (2 * n) text) all len (ap (decode_pairs 0) cut ∙ pairs) in
     let even : length front % 2 ≡ 0 = omega (arith, len) in
     written (decode_sized front n) result new (take n all) is (decode_sized-twice front n len ∙ (decode_of-even front even ∙ first))
+
+-- a text that is decoded whole is hexadecimal, and only such a text is
+pub whole_digits : (text : List ℕ) (n : ℕ) (result : Bool) (new : List ℕ) → length text ≡ 2 * n
+    → IsDecoded (decode_sized text n) result new
+    → (IsTrue result → IsHexadecimal text) × (IsHexadecimal text → IsTrue result)
+whole_digits text n result new len is = (
+  (λ holds.
+      let all = was_read (decode_sized text n) result new is holds in
+      let ok = decode_of-ok text all.0 (sym (decode_sized-twice text n len) ∙ all.1) in
+      record { even = ok.0; digits = ok.1 }),
+  (λ digits.
+      let all = decode_of-digits text digits.even digits.digits in
+      is_read (decode_sized text n) result new all.0 is (decode_sized-twice text n len ∙ all.1)),
+)
+  where
+    was_read : (decoded : Result (List ℕ) FromHexError) (result : Bool) (new : List ℕ)
+        → IsDecoded decoded result new → IsTrue result → (bytes : List ℕ) × (decoded ≡ Ok bytes)
+    was_read (Ok bytes) result new is holds = (bytes, refl)
+    was_read (Err e) result new is holds = absurd cc
+
+    is_read : (decoded : Result (List ℕ) FromHexError) (result : Bool) (new bytes : List ℕ)
+        → IsDecoded decoded result new → decoded ≡ Ok bytes → IsTrue result
+    is_read (Ok x) result new bytes is ok = cc
+    is_read (Err e) result new bytes is ok = absurd cc
 
 -- the bytes of a text, and the front of them that was read
 pub record IsSeen (text front : List ℕ) : Type 0 where

@@ -28,13 +28,22 @@ fn is_hexadecimal(text: &[u8]) -> bool
     text.len() % 2 == 0 && text.iter().all(|&byte| is_digit(byte))
 }
 
-// Writes the first bytes that the digits of a text spell: 1,024, or all if there are fewer.
-fn read_front(text: &[u8], front: &mut [u8])
+// Writes the first bytes that the digits of a text spell: 1,024, or all if there are fewer. Returns
+// whether the text is an even number of digits. Digits that are all read are looked at once.
+fn read_front(text: &[u8], front: &mut [u8]) -> bool
     requires { length front.old ≡ min (length text.now / 2) 1024 }
-    ensures { (bytes : List ℕ) → decode_of text.now ≡ Ok bytes
+    ensures digits { IsTrue result ↔ IsHexadecimal text.now }
+    ensures front { (bytes : List ℕ) → decode_of text.now ≡ Ok bytes
         → front.new ≡ take (min (length text.now / 2) 1024) bytes }
 {
+    if text.len() == 2 * front.len() {
+        return etcs_digits::decode(text, front);
+    }
+    if !is_hexadecimal(text) {
+        return false;
+    }
     etcs_digits::decode(&text[..2 * front.len()], front);
+    true
 }
 
 /// Reads a message from its text, which is an even number of hexadecimal digits of either case.
@@ -56,14 +65,13 @@ pub fn from_hex(alloc: Global, text: &[u8]) -> Result<Message, RadioTextError>
     // Memory is asked for only where a packet is due behind the head.
     ensures packets { IsErrOf result RadioTextError.Memory → HasPackets text.now }
 {
-    if !is_hexadecimal(text) {
-        return Err(RadioTextError::NotHex);
-    }
     // L_MESSAGE counts 1,023 bytes at most. Of more bytes the first ones show the fault.
     let count = (text.len() / 2).min(1024);
     let mut room = [0; 1024];
     let bytes = &mut room[..count];
-    read_front(text, bytes);
+    if !read_front(text, bytes) {
+        return Err(RadioTextError::NotHex);
+    }
     match decode(alloc, bytes) {
         Ok(message) => Ok(message),
         Err(DecodeError::Memory) => Err(RadioTextError::Memory),
