@@ -12,10 +12,10 @@ use Rattle.etcs_group.specs.Controlled.{count_of, IsControlled, HasAt, IsFixed, 
 use Rattle.etcs_group.specs.Laws.{MakesOneMessage}
 use Rattle.etcs_group.proofs.PlaceLemmas.{some_at, one_at, at_list_any, list_any-at, At-take, at_take}
 use Rattle.etcs_group.proofs.MixtureLemmas.{mixtures_are_decided}
-use Rattle.etcs_check.specs.Soundness.{IsSoundGroup, IsSoundControlled, first_aspect}
+use Rattle.etcs_check.specs.Soundness.{IsSoundGroup, IsSoundControlled, first_aspect, group_identity}
 use Rattle.etcs_check.specs.Findings.{has_counter, is_counter_taken, mark_differs, finding_of, for_each}
 use Rattle.etcs_check.specs.Aspects.{site_spot, aspect_of, is_used, all_at, is_steady, has_aspect_counter, is_ambiguous, group_wide_facts, aspect_facts, rule_facts, group_facts}
-use Rattle.etcs_check.specs.Laws.{NoFindingMeansSoundGroup, SoundMixturesAreDecided}
+use Rattle.etcs_check.specs.Laws.{SoundMixturesAreDecided}
 use Rattle.etcs_check.specs.declared.finding.Rule.{Rule}
 use Rattle.etcs_check.specs.declared.finding.Rule.TheVariants as rules
 use Rattle.etcs_check.specs.declared.finding.Site.{Site}
@@ -265,8 +265,9 @@ no_fact_means_sound_group site used aspects controlled = (
   λ s. no_facts aspects controlled s.0 site used s.1,
 )
 
-pub no_finding_means_sound_group : NoFindingMeansSoundGroup
-no_finding_means_sound_group site earlier aspects controlled =
+pub nothing_listed_means_sound_group : (site : Site) (earlier : List (List (List Telegram))) (aspects : List (List Telegram)) → IsControlled aspects
+    → (group_facts site (is_used earlier aspects) aspects ≡ []) ↔ (IsSoundControlled aspects × ((i : ℕ) (h : List (List Telegram)) → At earlier i h → group_identity h ≢ group_identity aspects))
+nothing_listed_means_sound_group site earlier aspects controlled =
     let law = no_fact_means_sound_group site (is_used earlier aspects) aspects controlled in
     let f = some_at (first_aspect aspects) 0 (first_long aspects controlled) in (
       λ none. let s = law.0 none in (s.0, unused-says earlier aspects f.0.header.identity (identity-at (first_aspect aspects) f.0 f.1) s.1),

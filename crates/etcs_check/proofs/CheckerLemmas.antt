@@ -10,7 +10,7 @@ use Rattle.etcs_telegram.specs.Record.{Telegram}
 use Rattle.etcs_group.specs.Controlled.{IsControlled}
 use Rattle.etcs_check.specs.Aspects.{group_facts, is_used}
 use Rattle.etcs_check.specs.Identities.{HasIdentity, identity_number}
-use Rattle.etcs_check.specs.Line.{findings, message_at}
+use Rattle.etcs_check.specs.Line.{findings, group_list, message_at}
 use Rattle.etcs_check.specs.LineChecker.{HasChecked, Kept, TakesGroups, TakesMessages}
 use Rattle.etcs_check.specs.declared.finding.Finding.{Finding}
 use Rattle.etcs_check.specs.declared.finding.Site.TheVariants as sites
@@ -33,7 +33,7 @@ taken old new g controlled numbered found others count counted kept gs ms was =
     let used : contains nat_cmp old.identities (identity_number g) ≡ is_used gs g = was.seen (identity_number g) ∙ sym (used-among gs g was.numbered numbered) in
     record {
       about_groups =
-          found ∙ ap₂ ◌++◌ was.about_groups (ap₂ (λ n u. group_facts (sites.Group n) u g) was.groups_counted used) ∙ sym (groups_found gs g);
+          found ∙ ap₂ ◌++◌ (was.about_groups ∙ append-nil (group_list gs)) (ap₂ (λ n u. group_facts (sites.Group n) u g) was.groups_counted used) ∙ sym (groups_found gs g) ∙ sym (append-nil (group_list (gs ++ g ∷ [])));
       about_messages = others ∙ was.about_messages;
       groups_counted = count ∙ ap (λ n. n + 1) was.groups_counted ∙ sym (length-append gs (g ∷ []));
       messages_counted = counted ∙ was.messages_counted;
@@ -67,7 +67,7 @@ message_taken old new m found others count counted kept gs ms was = record {
 
 pub held_findings : (held kept : Kept) (found : List Finding) (gs : List (List (List Telegram))) (ms : List Message) → held ≡ kept → found ≡ held.about_groups ++ held.about_messages → HasChecked kept gs ms → found ≡ findings gs ms
 held_findings held kept found gs ms same all was =
-    all ∙ ap₂ ◌++◌ (ap (λ k. k.about_groups) same ∙ was.about_groups) (ap (λ k. k.about_messages) same ∙ was.about_messages)
+    all ∙ ap₂ ◌++◌ (ap (λ k. k.about_groups) same ∙ was.about_groups ∙ append-nil (group_list gs)) (ap (λ k. k.about_messages) same ∙ was.about_messages)
 
 -- ---- none, and others after some
 

@@ -13,6 +13,8 @@ pub mod HarmLemmas
 pub mod PartLemmas
 pub mod MeaningLemmas
 pub mod ListedLemmas
+pub mod OrderLemmas
+pub mod BlockLemmas
 pub mod NamedLemmas
 pub mod CompareLemmas
 pub mod NoteLemmas

@@ -1,5 +1,5 @@
 -- A line has no finding exactly where it is sound. The findings of a line with one group or one message more.
-use Rattle.std.proofs.Common.{◌≡◌, ℕ, zero, suc, ◌+◌, ◌<◌, List, [], ◌∷◌, ◌++◌, length, take, Option, Some, None, refl, sym, ap, ap₂, subst, ◌∙◌, arith}
+use Rattle.std.proofs.Common.{◌≡◌, ◌≢◌, ℕ, zero, suc, ◌+◌, ◌<◌, List, [], ◌∷◌, ◌++◌, length, take, Option, Some, None, refl, sym, ap, ap₂, subst, ◌∙◌, arith}
 use Rattle.std.specs.List.{filter}
 use Rattle.std.proofs.lemmas.List.{append-nil, append_assoc, take-append-le}
 use Rattle.std.proofs.lemmas.Option.{none-some, same_Some}
@@ -16,7 +16,7 @@ use Rattle.etcs_check.specs.Profiles.{gradient_reach, speed_reach}
 use Rattle.etcs_check.specs.Soundness.{IsSoundMessage}
 use Rattle.etcs_check.specs.Aspects.{group_facts, is_used, site_spot}
 use Rattle.etcs_check.specs.Findings.{each_from, finding_of, for_directions}
-use Rattle.etcs_check.specs.Line.{message_lack, message_short_at, message_short, message_facts, message_findings, group_at, group_list, message_at, message_list}
+use Rattle.etcs_check.specs.Line.{message_lack, message_short_at, message_short, message_facts, message_findings, group_at, group_list, message_at, message_list, findings}
 use Rattle.etcs_check.specs.Laws.{NoFindingMeansSoundLine}
 use Rattle.etcs_check.specs.declared.finding.Finding.{Finding}
 use Rattle.etcs_check.specs.declared.finding.Rule.{Rule}
@@ -27,7 +27,7 @@ use Rattle.etcs_check.proofs.FindingLemmas.{rules-say, rules-empty, append_parts
 use Rattle.etcs_check.proofs.ProfileLemmas.{HaveProfiles, NoneShortIn, profiles-held, lacks-from_profiles, long-held}
 use Rattle.etcs_check.proofs.CleanLemmas.{packets_clean, packets_empty}
 use Rattle.etcs_check.proofs.FormedLemmas.{modelled-from_at, at-from_modelled}
-use Rattle.etcs_check.proofs.AspectLemmas.{no_finding_means_sound_group}
+use Rattle.etcs_check.proofs.AspectLemmas.{nothing_listed_means_sound_group}
 
 -- ---- messages
 
@@ -71,20 +71,25 @@ sound_message at (messages.Movement m) h = rules-empty (message_facts at m.packe
     none rules.SpeedShort = short_empty rules.SpeedShort at speed_reach m.packets (λ run i a limit at' is. (h.1 run i a limit at' is).1)
     none rule = refl
 
+-- a message has findings at each place of a line, or at none
+pub found_alone : (i : ℕ) (m : Message) → message_at i m ≢ [] → findings [] (m ∷ []) ≢ []
+found_alone i m some none =
+    some (sound_message (site_spot (sites.Message i)) m (message_sound (site_spot (sites.Message 0)) m (append_parts (message_at 0 m) [] none).0))
+
 -- ---- the line
 
 pub no_finding_means_sound_line : NoFindingMeansSoundLine
 no_finding_means_sound_line groups messages some = (
   λ none.
       let p = append_parts (group_list groups) (message_list messages) none in
-      let each = λ (i : ℕ) (g : List (List Telegram)) (at : At groups i g). (no_finding_means_sound_group (sites.Group i) (take i groups) g (some i g at)).0 (for_each-says groups (group_at groups) p.0 i g at) in
+      let each = λ (i : ℕ) (g : List (List Telegram)) (at : At groups i g). (nothing_listed_means_sound_group (sites.Group i) (take i groups) g (some i g at)).0 (for_each-says groups (group_at groups) p.0 i g at) in
       record {
         sound = λ i g at. (each i g at).0;
         distinct = λ i j g h lt at at'. (each j h at').1 i g (at_take j groups i g lt at);
         messages_sound = λ i m at. message_sound (site_spot (sites.Message i)) m (for_each-says messages message_at p.1 i m at);
       },
   λ sound. append_empty (group_list groups) (message_list messages)
-      (for_each-empty groups (group_at groups) (λ i g at. (no_finding_means_sound_group (sites.Group i) (take i groups) g (some i g at)).1 (sound.sound i g at, λ j h at'. let t = At-take i groups j h at' in sound.distinct j i h g t.0 t.1 at)))
+      (for_each-empty groups (group_at groups) (λ i g at. (nothing_listed_means_sound_group (sites.Group i) (take i groups) g (some i g at)).1 (sound.sound i g at, λ j h at'. let t = At-take i groups j h at' in sound.distinct j i h g t.0 t.1 at)))
       (for_each-empty messages message_at (λ i m at. sound_message (site_spot (sites.Message i)) m (sound.messages_sound i m at))),
 )
 

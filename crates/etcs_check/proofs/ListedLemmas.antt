@@ -12,8 +12,8 @@ use Rattle.etcs_radio.specs.declared.message.Message.TheVariants as messages
 use Rattle.etcs_telegram.specs.Record.{Telegram}
 use Rattle.etcs_group.specs.Places.{At}
 use Rattle.etcs_check.specs.Profiles.{gradient_reach, speed_reach}
-use Rattle.etcs_check.specs.Findings.{noted, finding_of, for_each, for_directions, balise_fact, balise_at, balise_facts, pair_at, pair_facts, unmodelled_at, unmodelled_by, lack_facts, short_at, short_by, short_facts, is_short_at, facts_of, all_rules}
-use Rattle.etcs_check.specs.Line.{group_at, group_list, message_at, message_list, message_findings, is_short_in, message_lack, message_short_at, message_short, message_facts, findings}
+use Rattle.etcs_check.specs.Findings.{noted, finding_of, for_each, for_directions, balise_fact, balise_at, balise_facts, pair_at, pair_facts, unmodelled_at, unmodelled_by, lack_facts, short_at, short_by, short_facts, is_short_at, is_short_in, facts_of, all_rules}
+use Rattle.etcs_check.specs.Line.{group_at, group_list, message_at, message_list, message_findings, message_lack, message_short_at, message_short, message_facts, findings}
 use Rattle.etcs_check.specs.Soundness.{first_aspect}
 use Rattle.etcs_check.specs.Aspects.{site_spot, aspect_of, is_used, is_ambiguous, group_wide_facts, aspect_facts, rule_facts, group_facts}
 use Rattle.etcs_check.specs.Meaning.{HasPacket, IsPacket, AspectFact, GroupWideFact, GroupFact, PacketFact, MessageFact, StatesAt, States}

@@ -15,8 +15,8 @@ use Rattle.etcs_group.specs.Places.{At}
 use Rattle.etcs_group.specs.Packets.{said_by}
 use Rattle.etcs_group.proofs.PlaceLemmas.{At-take}
 use Rattle.etcs_check.specs.Profiles.{gradient_reach, speed_reach}
-use Rattle.etcs_check.specs.Findings.{noted, finding_of, for_each, for_directions, balise_fact, balise_at, balise_facts, pair_differs, pair_at, pair_facts, is_unmodelled, unmodelled_at, unmodelled_by, unmodelled_facts, lacks, is_short_at, lack_facts, short_at, short_by, short_facts, facts_of, all_rules}
-use Rattle.etcs_check.specs.Line.{group_at, group_list, message_at, message_list, message_findings, is_short_in, message_lack, message_short_at, message_short, message_facts, findings}
+use Rattle.etcs_check.specs.Findings.{noted, finding_of, for_each, for_directions, balise_fact, balise_at, balise_facts, pair_differs, pair_at, pair_facts, is_unmodelled, unmodelled_at, unmodelled_by, unmodelled_facts, lacks, is_short_at, is_short_in, lack_facts, short_at, short_by, short_facts, facts_of, all_rules}
+use Rattle.etcs_check.specs.Line.{group_at, group_list, message_at, message_list, message_findings, message_lack, message_short_at, message_short, message_facts, findings}
 use Rattle.etcs_check.specs.Soundness.{first_aspect}
 use Rattle.etcs_check.specs.Aspects.{site_spot, aspect_of, is_used, is_ambiguous, group_wide_facts, aspect_facts, rule_facts, group_facts}
 use Rattle.etcs_check.specs.Meaning.{AspectFact, GroupWideFact, GroupFact, PacketFact, MessageFact, StatesAt, States}

@@ -7,14 +7,14 @@ use Rattle.etcs_group.specs.Places.{At}
 use Rattle.etcs_group.proofs.PlaceLemmas.{one_at, At-take, at_take}
 use Rattle.etcs_check.specs.Harm.{IsNew}
 use Rattle.etcs_check.specs.Soundness.{IsSoundControlled, IsSoundMessage, group_identity}
-use Rattle.etcs_check.specs.Aspects.{site_spot, is_used}
-use Rattle.etcs_check.specs.Line.{group_at, message_at, findings, IsUnnamed}
+use Rattle.etcs_check.specs.Aspects.{site_spot, is_used, group_facts}
+use Rattle.etcs_check.specs.Line.{group_at, message_at, findings}
 use Rattle.etcs_check.specs.Meaning.{GroupFact, MessageFact, StatesAt}
-use Rattle.etcs_check.specs.Laws.{AreControlled, UnnamedMeansSound}
+use Rattle.etcs_check.specs.Laws.{AreControlled, IsUnnamed, NoFindingMeansSoundGroup, UnnamedMeansSound}
 use Rattle.etcs_check.specs.declared.finding.Finding.{Finding}
 use Rattle.etcs_check.specs.declared.finding.Site.{Site}
 use Rattle.etcs_check.specs.declared.finding.Site.TheVariants as sites
-use Rattle.etcs_check.proofs.AspectLemmas.{no_finding_means_sound_group}
+use Rattle.etcs_check.proofs.AspectLemmas.{nothing_listed_means_sound_group}
 use Rattle.etcs_check.proofs.LineLemmas.{message_sound, sound_message}
 use Rattle.etcs_check.proofs.MeaningLemmas.{findings_are_facts, group_states, message_states}
 use Rattle.etcs_check.proofs.ListedLemmas.{each_fact_is_listed, group_listed, message_listed}
@@ -34,7 +34,7 @@ module _ (groups : List (List (List Telegram))) (messages : List Message) (contr
       (s.0, each_fact_is_listed groups messages f (subst (StatesAt groups messages f) (sym s.0) (aspects, at, s.1)))
 
   group_law : (group_at groups g aspects ≡ []) ↔ (IsSoundControlled aspects × ((i : ℕ) (h : List (List Telegram)) → At (take g groups) i h → group_identity h ≢ group_identity aspects))
-  group_law = no_finding_means_sound_group (sites.Group g) (take g groups) aspects (controlled g aspects at)
+  group_law = nothing_listed_means_sound_group (sites.Group g) (take g groups) aspects (controlled g aspects at)
 
   unnamed_group : IsUnnamed (findings groups messages) (sites.Group g) → IsSoundControlled aspects × IsNew groups g aspects
   unnamed_group unnamed =
@@ -64,6 +64,18 @@ module _ (groups : List (List (List Telegram))) (messages : List Message) (i : �
       let same = one_at messages i s.0 m s.1 at in
       let r = message_listed (sites.Message i) m f e s.2 (subst (λ x. MessageFact x f.rule f.dir f.balise f.packet) same s.3) in
       none-some f (subst (λ l. At l r.0 f) empty r.1)
+
+pub no_finding_means_sound_group : NoFindingMeansSoundGroup
+no_finding_means_sound_group earlier aspects controlled =
+    let site = sites.Group 0 in
+    let used = is_used earlier aspects in
+    let law = nothing_listed_means_sound_group site earlier aspects controlled in (
+      λ none. law.0 (none_at (group_facts site used aspects) (λ k f at. none f.rule f.aspect f.dir f.balise f.packet (group_states site used aspects k f at).1)),
+      λ sound rule aspect run b k fact.
+          let f : Finding = record { rule = rule; site = site; aspect = aspect; dir = run; balise = b; packet = k } in
+          let r = group_listed site used aspects f refl fact in
+          none-some f (subst (λ l. At l r.0 f) (law.1 sound) r.1),
+    )
 
 pub unnamed_means_sound : UnnamedMeansSound
 unnamed_means_sound groups messages controlled = (

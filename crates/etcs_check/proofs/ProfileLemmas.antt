@@ -17,8 +17,7 @@ use Rattle.etcs_packet.specs.Track.{track_number}
 use Rattle.etcs_packet.specs.declared.track.TrackPacket.TheVariants as packets
 use Rattle.etcs_check.specs.Profiles.{gradient_reach, speed_reach, limit_of, Reaches, HasProfiles}
 use Rattle.etcs_check.specs.Harm.{HasProfile, IsLong}
-use Rattle.etcs_check.specs.Findings.{lacks, lies_past, goes_past, is_short, is_short_at}
-use Rattle.etcs_check.specs.Line.{is_short_in}
+use Rattle.etcs_check.specs.Findings.{lacks, lies_past, goes_past, is_short, is_short_at, is_short_in}
 use Rattle.etcs_check.proofs.MemberLemmas.{filter-at, at-filter, said-site, site-said}
 
 some_is : {X : Type 0} (o : Option X) (x : X) → o ≡ Some x → is_some o ≡ true

@@ -21,13 +21,6 @@ use Rattle.etcs_check.specs.declared.finding.Spot.{Spot}
 abbrev pub named_aspect : Aspects → ℕ → Option ℕ
 named_aspect aspects a = if nat_lt 1 (length aspects) then Some a else None
 
--- where a finding about a message or a whole group stands, and one about aspect a of a group
-abbrev pub site_spot : Site → Spot
-site_spot site = record { site = site; aspect = None }
-
-abbrev pub aspect_of : Site → Aspects → ℕ → Spot
-aspect_of site aspects a = record { site = site; aspect = named_aspect aspects a }
-
 -- ---- the facts about a group as a whole
 
 -- Two groups have one identity. A group without a balise has none.
@@ -57,6 +50,16 @@ abbrev pub is_ambiguous : Aspects → ℕ → Telegram → Bool
 is_ambiguous aspects b t =
     nat_lt 1 (length aspects) && not (all_at (is_steady t) b aspects || all_at has_aspect_counter b aspects)
 
+-- ---- the findings about a controlled group
+-- Pinned by the law findings_are_the_facts_in_order.
+
+-- where a finding about a message or a whole group stands, and one about aspect a of a group
+abbrev pub site_spot : Site → Spot
+site_spot site = record { site = site; aspect = None }
+
+abbrev pub aspect_of : Site → Aspects → ℕ → Spot
+aspect_of site aspects a = record { site = site; aspect = named_aspect aspects a }
+
 -- the findings of a rule about a group as a whole; `used` says whether an earlier group has its identity
 abbrev pub group_wide_facts : Site → Bool → Aspects → Rule → List Finding
 group_wide_facts site used aspects rules.IdentityUsed =
@@ -64,8 +67,6 @@ group_wide_facts site used aspects rules.IdentityUsed =
 group_wide_facts site used aspects rules.NotToldApart =
     balise_facts rules.NotToldApart (site_spot site) (is_ambiguous aspects) (first_aspect aspects)
 group_wide_facts site used aspects r = []
-
--- ---- all facts about a controlled group
 
 -- the findings of a rule about aspect a
 abbrev pub aspect_facts : Site → Aspects → Rule → ℕ → Telegrams → List Finding

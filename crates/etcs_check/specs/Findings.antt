@@ -2,7 +2,7 @@
 -- SUBSET-026, 3.16.2). A group that no lineside unit switches has one aspect. A fact is seen in the
 -- telegrams of the aspect and of the aspects before it: no definition here speaks of what a train reads.
 -- A place counts the balises of the group from 0.
-use Rattle.std.specs.Prelude.{ℕ, ◌+◌, ◌==◌, ◌&&◌, nat_lt, Bool, true, false, not, if◌then◌else◌, List, [], ◌∷◌, ◌++◌, length, slice_get, Option, Some, None, is_some, flat_map}
+use Rattle.std.specs.Prelude.{ℕ, ◌+◌, ◌==◌, ◌&&◌, nat_lt, Bool, true, false, not, if◌then◌else◌, List, [], ◌∷◌, ◌++◌, length, slice_get, filter, Option, Some, None, is_some, flat_map}
 use Rattle.std.specs.Bool.{beq}
 use Rattle.std.specs.List.{list_any, enumerate_from}
 use Rattle.std.specs.Option.{option_map_or}
@@ -140,7 +140,13 @@ abbrev pub is_short_at : (TrackPacket → Option Reach) → Telegrams → Run �
 is_short_at reach group run b t p =
     not (is_silent run t.header.dup (length group) b) && (holds run p && is_short reach (said_by run group) p)
 
+-- F11 and F13 of a packet of a message 3: the packet holds, and it is a profile that ends before a supervised
+-- location of the packets that hold
+abbrev pub is_short_in : (TrackPacket → Option Reach) → List TrackPacket → Run → TrackPacket → Bool
+is_short_in reach packets run p = holds run p && is_short reach (filter (holds run) packets) p
+
 -- ---- lists of findings
+-- Pinned by the law findings_are_the_facts_in_order.
 
 -- a finding of these parts
 abbrev pub finding_of : Rule → Spot → Option Run → Option ℕ → Option ℕ → Finding
@@ -164,6 +170,7 @@ abbrev pub for_directions : (Run → List Finding) → List Finding
 for_directions f = f runs.Nominal ++ f runs.Reverse
 
 -- ---- the facts of each rule
+-- Pinned by the law findings_are_the_facts_in_order.
 
 -- one balise by itself
 abbrev pub balise_at : Rule → Spot → (ℕ → Telegram → Bool) → ℕ → Telegram → List Finding
@@ -211,6 +218,7 @@ abbrev pub short_facts : Rule → Spot → (TrackPacket → Option Reach) → Te
 short_facts rule spot reach group run = for_each group (short_by rule spot reach group run)
 
 -- ---- all facts about an aspect
+-- Pinned by the law findings_are_the_facts_in_order.
 
 -- the findings of a rule about an aspect, in one running direction
 abbrev pub facts_in : Spot → Telegrams → Rule → Run → List Finding

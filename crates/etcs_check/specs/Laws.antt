@@ -15,10 +15,13 @@ use Rattle.etcs_group.specs.Group.{Telegrams, Aspects}
 use Rattle.etcs_check.specs.Duplicates.{same_packet, same_telegram}
 use Rattle.etcs_check.specs.Profiles.{gradient_reach, speed_reach}
 use Rattle.etcs_check.specs.Soundness.{IsSoundGroup, IsSoundControlled, IsSoundMessage, IsSoundLine, group_identity}
-use Rattle.etcs_check.specs.Line.{group_findings, findings, IsUnnamed}
-use Rattle.etcs_check.specs.Meaning.{States}
+use Rattle.etcs_check.specs.Aspects.{is_used}
+use Rattle.etcs_check.specs.Line.{findings}
+use Rattle.etcs_check.specs.Meaning.{GroupFact, States}
+use Rattle.etcs_check.specs.Order.{IsListOf}
 use Rattle.etcs_check.specs.Harm.{HasParts, Hurts, IsNew}
 use Rattle.etcs_check.specs.declared.finding.Finding.{Finding}
+use Rattle.etcs_check.specs.declared.finding.Rule.{Rule}
 use Rattle.etcs_check.specs.declared.finding.Site.{Site}
 use Rattle.etcs_check.specs.declared.finding.Site.TheVariants as sites
 
@@ -37,11 +40,11 @@ ProfilesAreTheirPackets =
     ((p : TrackPacket) → IsTrue (is_some (gradient_reach p)) → track_number p ≡ 21)
     × ((p : TrackPacket) → IsTrue (is_some (speed_reach p)) → track_number p ≡ 27)
 
--- A controlled group has no finding exactly where it is sound and no earlier group has its identity.
+-- No fact stands against a controlled group exactly where it is sound and no earlier group has its identity.
 abbrev pub NoFindingMeansSoundGroup : Type 0
-NoFindingMeansSoundGroup = (site : Site) (earlier : List Aspects) (aspects : Aspects)
-    → IsControlled aspects
-    → (group_findings site earlier aspects ≡ [])
+NoFindingMeansSoundGroup = (earlier : List Aspects) (aspects : Aspects) → IsControlled aspects
+    → ((rule : Rule) (aspect : Option ℕ) (run : Option Run) (b k : Option ℕ)
+    → GroupFact (is_used earlier aspects) aspects rule aspect run b k → ⊥)
     ↔ (IsSoundControlled aspects × ((i : ℕ) (h : Aspects) → At earlier i h
     → group_identity h ≢ group_identity aspects))
 
@@ -53,6 +56,10 @@ AreControlled groups = (i : ℕ) (aspects : Aspects) → At groups i aspects →
 abbrev pub NoFindingMeansSoundLine : Type 0
 NoFindingMeansSoundLine = (groups : List Aspects) (messages : List Message) → AreControlled groups
     → (findings groups messages ≡ []) ↔ IsSoundLine groups messages
+
+-- no finding of the list names the site
+abbrev pub IsUnnamed : List Finding → Site → Type 0
+IsUnnamed found site = (i : ℕ) (f : Finding) → At found i f → f.site ≢ site
 
 -- The findings of the list name exactly the groups that are not sound, or have the identity of an earlier
 -- group, and the messages that are not sound.
@@ -88,6 +95,11 @@ NothingHurtsASoundLine = (groups : List Aspects) (messages : List Message) (f : 
 abbrev pub FactsAreFindings : Type 0
 FactsAreFindings = (groups : List Aspects) (messages : List Message) (f : Finding)
     → States groups messages f → (i : ℕ) × At (findings groups messages) i f
+
+-- The list of a line's findings is the one that has each fact once, and nothing else, in order.
+abbrev pub FindingsAreTheFactsInOrder : Type 0
+FindingsAreTheFactsInOrder = (groups : List Aspects) (messages : List Message) (found : List Finding)
+    → (found ≡ findings groups messages) ↔ IsListOf groups messages found
 
 -- Of a sound group exactly the covered readings are accepted. Of each other set of its places the
 -- reading is refused: as Nothing if all are missed, else as Absent at the least place that is lost.

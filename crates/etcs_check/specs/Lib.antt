@@ -10,6 +10,7 @@ pub mod Counters
 pub mod Greatest
 pub mod Summary
 pub mod Meaning
+pub mod Order
 pub mod Harm
 pub mod Laws
 pub mod Quiet

@@ -1,35 +1,31 @@
 -- The findings of a line, in order: by group, then by message; within each by rule, then by aspect,
 -- running direction, balise and packet. No finding hides another.
-use Rattle.std.specs.Prelude.{◌≢◌, ℕ, ◌&&◌, Bool, List, [], ◌++◌, take, filter, Option, Some, None, flat_map}
+-- Pinned by the law findings_are_the_facts_in_order.
+use Rattle.std.specs.Prelude.{ℕ, List, [], ◌++◌, take, filter, Option, Some, None, flat_map}
 use Rattle.etcs_packet.specs.Track.{holds}
 use Rattle.etcs_packet.specs.declared.run.Run.{Run}
 use Rattle.etcs_packet.specs.declared.track.TrackPacket.{TrackPacket}
 use Rattle.etcs_profile.specs.declared.reach.Reach.{Reach}
 use Rattle.etcs_radio.specs.declared.message.Message.{Message}
 use Rattle.etcs_radio.specs.declared.message.Message.TheVariants as messages
-use Rattle.etcs_group.specs.Places.{At}
 use Rattle.etcs_group.specs.Group.{Aspects}
 use Rattle.etcs_check.specs.Profiles.{gradient_reach, speed_reach}
-use Rattle.etcs_check.specs.Findings.{finding_of, noted, for_each, for_directions, unmodelled_in, lacks, is_short, all_rules}
+use Rattle.etcs_check.specs.Findings.{finding_of, noted, for_each, for_directions, unmodelled_in, lacks, is_short_in, all_rules}
 use Rattle.etcs_check.specs.Aspects.{site_spot, is_used, group_facts}
 use Rattle.etcs_check.specs.declared.finding.Finding.{Finding}
 use Rattle.etcs_check.specs.declared.finding.Rule.{Rule}
 use Rattle.etcs_check.specs.declared.finding.Rule.TheVariants as rules
-use Rattle.etcs_check.specs.declared.finding.Site.{Site}
 use Rattle.etcs_check.specs.declared.finding.Site.TheVariants as sites
 use Rattle.etcs_check.specs.declared.finding.Spot.{Spot}
 
--- ---- the facts about the packets of a message 3
+-- ---- the findings about a message 3
 
 -- F10 and F12: the packets that hold in the direction have an authority, and no profile of the kind
 abbrev pub message_lack : Rule → Spot → (TrackPacket → Option Reach) → List TrackPacket → Run → List Finding
 message_lack rule spot reach packets run =
     noted (lacks reach (filter (holds run) packets)) (finding_of rule spot (Some run) None None)
 
--- F11 and F13: each packet that holds in the direction
-abbrev pub is_short_in : (TrackPacket → Option Reach) → List TrackPacket → Run → TrackPacket → Bool
-is_short_in reach packets run p = holds run p && is_short reach (filter (holds run) packets) p
-
+-- F11 and F13: each of the packets
 abbrev pub message_short_at : Rule → Spot → (TrackPacket → Option Reach) → List TrackPacket → Run → ℕ → TrackPacket → List Finding
 message_short_at rule spot reach packets run k p =
     noted (is_short_in reach packets run p) (finding_of rule spot (Some run) None (Some k))
@@ -58,13 +54,9 @@ message_findings spot (messages.Position m) = []
 
 -- ---- the findings of a line
 
--- the findings about one group, given the groups before it
-abbrev pub group_findings : Site → List Aspects → Aspects → List Finding
-group_findings site earlier aspects = group_facts site (is_used earlier aspects) aspects
-
 -- the findings about the group at place i, and about all groups
 abbrev pub group_at : List Aspects → ℕ → Aspects → List Finding
-group_at groups i aspects = group_findings (sites.Group i) (take i groups) aspects
+group_at groups i aspects = group_facts (sites.Group i) (is_used (take i groups) aspects) aspects
 
 abbrev pub group_list : List Aspects → List Finding
 group_list groups = for_each groups (group_at groups)
@@ -79,7 +71,3 @@ message_list messages = for_each messages message_at
 -- the findings of a line
 abbrev pub findings : List Aspects → List Message → List Finding
 findings groups messages = group_list groups ++ message_list messages
-
--- no finding of the list names the site
-abbrev pub IsUnnamed : List Finding → Site → Type 0
-IsUnnamed found site = (i : ℕ) (f : Finding) → At found i f → f.site ≢ site

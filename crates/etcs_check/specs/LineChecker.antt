@@ -1,13 +1,13 @@
 -- A checker takes the groups and the messages of a line one by one, and lets them go. What it holds of them are their
 -- findings, the count of each kind, and the numbers of the groups' identities.
-use Rattle.std.specs.Prelude.{◌≡◌, ℕ, Bool, List, ◌++◌, length}
+use Rattle.std.specs.Prelude.{◌≡◌, ℕ, Bool, List, [], ◌++◌, length}
 use Rattle.std.specs.BTreeSet.{BTreeSet, contains}
 use Rattle.std.specs.Ordering.{nat_cmp}
 use Rattle.etcs_radio.specs.declared.message.Message.{Message}
 use Rattle.etcs_group.specs.Group.{Aspects}
 use Rattle.etcs_check.specs.Identities.{HaveIdentities, is_among}
 use Rattle.etcs_check.specs.Laws.{AreControlled}
-use Rattle.etcs_check.specs.Line.{group_list, message_list}
+use Rattle.etcs_check.specs.Line.{findings}
 use Rattle.etcs_check.specs.declared.finding.Finding.{Finding}
 
 -- what a checker holds
@@ -25,8 +25,8 @@ HasKept is_kept groups = (n : ℕ) → is_kept n ≡ is_among groups n
 -- A checker holds this after it has taken these groups and messages, each kind in this order. It may hold this after
 -- others too: as many of each kind, with equal findings and identities.
 pub record HasChecked (kept : Kept) (groups : List Aspects) (messages : List Message) : Type 0 where
-  pub about_groups : kept.about_groups ≡ group_list groups
-  pub about_messages : kept.about_messages ≡ message_list messages
+  pub about_groups : kept.about_groups ≡ findings groups []
+  pub about_messages : kept.about_messages ≡ findings [] messages
   pub groups_counted : kept.groups ≡ length groups
   pub messages_counted : kept.messages ≡ length messages
   pub seen : HasKept (contains nat_cmp kept.identities) groups

@@ -11,9 +11,8 @@ use Rattle.etcs_group.specs.Packets.{said_by}
 use Rattle.etcs_group.specs.Group.{Telegrams, Aspects}
 use Rattle.etcs_check.specs.Profiles.{gradient_reach, speed_reach}
 use Rattle.etcs_check.specs.Soundness.{first_aspect}
-use Rattle.etcs_check.specs.Findings.{balise_fact, pair_differs, is_unmodelled, lacks, is_short_at}
+use Rattle.etcs_check.specs.Findings.{balise_fact, pair_differs, is_unmodelled, lacks, is_short_at, is_short_in}
 use Rattle.etcs_check.specs.Aspects.{named_aspect, is_used, is_ambiguous}
-use Rattle.etcs_check.specs.Line.{is_short_in}
 use Rattle.etcs_check.specs.declared.finding.Finding.{Finding}
 use Rattle.etcs_check.specs.declared.finding.Rule.{Rule}
 use Rattle.etcs_check.specs.declared.finding.Rule.TheVariants as rules

@@ -1,7 +1,7 @@
 //! Laws of findings and soundness, for users. Each law is the contract of a function that does
 //! nothing.
 
-ghost use Rattle.etcs_check.specs.Laws.{FactsAreFindings, FindingsAreFacts, NoFindingMeansSoundGroup, NoFindingMeansSoundLine, NothingHurtsASoundLine, PacketsAreTheirNumbers, PartsHoldUnlessFound, ProfilesAreTheirPackets, SoundGroupsAreDecided, SoundMixturesAreDecided, TelegramsAreTheirParts, UnnamedMeansSound};
+ghost use Rattle.etcs_check.specs.Laws.{FactsAreFindings, FindingsAreFacts, FindingsAreTheFactsInOrder, NoFindingMeansSoundGroup, NoFindingMeansSoundLine, NothingHurtsASoundLine, PacketsAreTheirNumbers, PartsHoldUnlessFound, ProfilesAreTheirPackets, SoundGroupsAreDecided, SoundMixturesAreDecided, TelegramsAreTheirParts, UnnamedMeansSound};
 
 /// Two packets are equal exactly if the numbers in the rows of their tables are.
 pub fn packets_are_their_numbers()
@@ -19,7 +19,7 @@ pub fn profiles_are_their_packets()
     ensures { ProfilesAreTheirPackets }
 {}
 
-/// A group has no finding exactly if it is sound and no earlier group has its identity.
+/// No fact stands against a group exactly if it is sound and no earlier group has its identity.
 pub fn no_finding_means_sound_group()
     ensures { NoFindingMeansSoundGroup }
 {}
@@ -59,6 +59,13 @@ pub fn nothing_hurts_a_sound_line()
 /// Each fact against a line has its finding.
 pub fn facts_are_findings()
     ensures { FactsAreFindings }
+{}
+
+/// A line has one list of findings: it has each fact once, and nothing else, by group and then by message; within
+/// each by rule, then by aspect (those about the whole group first), by running direction, nominal first, then by
+/// balise and packet.
+pub fn findings_are_the_facts_in_order()
+    ensures { FindingsAreTheFactsInOrder }
 {}
 
 /// Of a sound group a reading is accepted exactly if what is missed is covered. Else it is refused: as

@@ -6,7 +6,7 @@ ghost use Rattle.etcs_group.specs.Places.{At};
 ghost use Rattle.etcs_group.specs.Group.{Aspects};
 ghost use Rattle.etcs_check.specs.Harm.{Hurts};
 ghost use Rattle.etcs_check.specs.Laws.{NamesTheUnsound};
-ghost use Rattle.etcs_check.specs.Line.{findings, group_list, message_at, message_list};
+ghost use Rattle.etcs_check.specs.Line.{findings};
 ghost use Rattle.etcs_check.specs.LineChecker.{HasChecked, HasStill, TakesGroups, TakesMessages};
 ghost use Rattle.etcs_check.specs.Meaning.{States};
 ghost use Rattle.etcs_check.specs.Soundness.{IsSoundLine};
@@ -134,8 +134,7 @@ impl LineChecker {
 
         // A refused message changes nothing. One without a finding is never refused for want of memory.
         ensures kept { OnErr result (HasStill self.old self.new) }
-        ensures memory { IsErrOf result CheckError.Memory → (gs : List Aspects) (ms : List SomeMessage)
-            → HasChecked self.old gs ms → message_at (length ms) message.now ≢ [] }
+        ensures memory { IsErrOf result CheckError.Memory → findings [] (message.now ∷ []) ≢ [] }
     {
         let Some(messages) = self.messages.checked_add(1) else {
             return Err(CheckError::TooMany);
@@ -170,7 +169,7 @@ impl LineChecker {
         ensures ok { IfOk result (λ found. (gs : List Aspects) (ms : List SomeMessage)
             → HasChecked self gs ms → found.items ≡ findings gs ms) }
         ensures memory { OnErr result ((gs : List Aspects) (ms : List SomeMessage)
-            → HasChecked self gs ms → (group_list gs ≢ []) × (message_list ms ≢ [])) }
+            → HasChecked self gs ms → (findings gs [] ≢ []) × (findings [] ms ≢ [])) }
 
         // No finding means sound.
         ensures sound { IfOk result (λ found. (gs : List Aspects) (ms : List SomeMessage)

@@ -1,4 +1,4 @@
-use Rattle.etcs_check.proofs.AspectLemmas.{no_finding_means_sound_group}
+use Rattle.etcs_check.proofs.NamedLemmas.{no_finding_means_sound_group}
 use Rattle.etcs_check.proofs.laws.no_finding_means_sound_group.Goals as goal
 
 -- Each fact is false exactly where a part of soundness holds.
