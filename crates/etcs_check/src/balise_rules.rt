@@ -317,8 +317,11 @@ pub(crate) fn packets(telegram: &Telegram) -> &[TrackPacket]
 fn is_unmodelled(packet: &TrackPacket) -> bool
     ensures { result ≡ is_unmodelled packet.now }
 {
-    let number = packet.number();
-    number == 0 || number == 136 || number == 254
+    match packet {
+        TrackPacket::Cover(_) => true,
+        TrackPacket::Raw(packet) => matches!(packet.number(), 136 | 254),
+        _ => false,
+    }
 }
 
 // Appends a finding for each packet of a balise, or of a message, that is not modelled.

@@ -26,16 +26,6 @@ pub(crate) enum Kind {
     Speed,
 }
 
-// The supervised location of a packet, if it is an authority.
-fn limit_of(packet: &TrackPacket) -> Option<u64>
-    ensures { result ≡ limit_of packet.now }
-{
-    match packet {
-        TrackPacket::Authority(authority) => Some(authority.limit()),
-        _ => None,
-    }
-}
-
 // How far a packet reaches, if it is a profile of the kind.
 fn reach_of(kind: Kind, packet: &TrackPacket) -> Option<Reach>
     ensures { result ≡ reach_of kind packet.now }
@@ -48,7 +38,7 @@ fn reach_of(kind: Kind, packet: &TrackPacket) -> Option<Reach>
 }
 
 // The greater of two supervised locations.
-pub(crate) fn greater(this: Option<u64>, that: Option<u64>) -> Option<u64>
+fn greater(this: Option<u64>, that: Option<u64>) -> Option<u64>
     ensures { result ≡ greater this that }
 {
     match (this, that) {
@@ -58,14 +48,14 @@ pub(crate) fn greater(this: Option<u64>, that: Option<u64>) -> Option<u64>
     }
 }
 
-// The supervised location of a packet, if it is an authority that holds.
+// The supervised location of a packet, if it is an authority that holds. Most packets are none, and are not asked
+// whether they hold.
 fn limit_held(packet: &TrackPacket, run: Run) -> Option<u64>
     ensures { result ≡ (if holds run packet.now then limit_of packet.now else None) }
 {
-    if packet.holds_in(run) {
-        limit_of(packet)
-    } else {
-        None
+    match packet {
+        TrackPacket::Authority(authority) if packet.holds_in(run) => Some(authority.limit()),
+        _ => None,
     }
 }
 
@@ -216,7 +206,7 @@ fn greatest_at(group: &[Telegram], run: Run, place: usize, so_far: Option<u64>) 
 }
 
 // The greatest supervised location that a group says in a running direction.
-fn greatest_said(group: &[Telegram], run: Run) -> Option<u64>
+pub(crate) fn greatest_said(group: &[Telegram], run: Run) -> Option<u64>
     ensures { result ≡ greatest (said_by run group.now) }
 {
     let mut limit = None;

@@ -1,143 +1,127 @@
-//! The quick look at the profiles that authorities need: one pass over packets.
+//! The quick look at the profiles that authorities need: one pass over packets, and none where no authority is said.
 
 ghost use Rattle.std.specs.Prelude.{◌≡◌, ◌<◌, if◌then◌else◌, length, filter, slice_get, Some, IsTrue};
 ghost use Rattle.std.specs.List.{fold};
 ghost use Rattle.etcs_packet.specs.Track.{holds};
 ghost use Rattle.etcs_telegram.specs.Record.{Telegram};
 ghost use Rattle.etcs_group.specs.Packets.{said_at, said_by};
+ghost use Rattle.etcs_check.specs.Findings.{lies_past};
 ghost use Rattle.etcs_check.specs.Profiles.{AreReached};
-ghost use Rattle.etcs_check.specs.Summary.{IsSummary, ends_before, is_enough, nearer, with_packet};
+ghost use Rattle.etcs_check.specs.Summary.{IsSummary, is_enough, with_packet};
 
 use crate::balise_rules::packets;
-use crate::profile_rules::{greater, is_silent};
+use crate::profile_rules::{greatest_said, is_silent};
 use etcs_packet::{Run, TrackPacket};
 use etcs_profile::Reach;
 use etcs_telegram::Telegram;
 
-// What packets say of authorities and of the profiles that these need.
+// What packets say of the profiles that authorities up to a location need.
 #[derive(Clone, Copy)]
 pub(crate) struct Summary {
-    // The greatest supervised location, in decimetres.
-    limit: Option<u64>,
     has_gradient: bool,
     has_speed: bool,
-    // The least end of the profiles, in decimetres.
-    end: Option<u64>,
+    // A profile ends before the location.
+    is_short: bool,
 }
 
-// The least end, with that of one profile more.
-fn nearer(end: Option<u64>, reach: Reach) -> Option<u64>
-    ensures { result ≡ nearer end (Some reach) }
+// Whether a reach ends before the location.
+fn ends_before(reach: Reach, limit: u64) -> bool
+    ensures { result ≡ lies_past reach limit }
 {
-    match (reach, end) {
-        (Reach::Open, _) => end,
-        (Reach::Ends(n), None) => Some(n),
-        (Reach::Ends(n), Some(m)) => Some(if m < n { m } else { n }),
+    match reach {
+        Reach::Ends(end) => end < limit,
+        Reach::Open => false,
     }
 }
 
 // The summary with one packet more.
 #[inline]
-fn with_packet(so_far: Summary, packet: &TrackPacket) -> Summary
-    ensures { result ≡ with_packet so_far packet.now }
+fn with_packet(so_far: Summary, packet: &TrackPacket, limit: u64) -> Summary
+    ensures { result ≡ with_packet limit so_far packet.now }
 {
     match packet {
-        TrackPacket::Authority(authority) => Summary {
-            limit: greater(so_far.limit, Some(authority.limit())),
-            ..so_far
-        },
         TrackPacket::Gradient(profile) => Summary {
             has_gradient: true,
-            end: nearer(so_far.end, profile.reach()),
+            is_short: so_far.is_short || ends_before(profile.reach(), limit),
             ..so_far
         },
         TrackPacket::Speed(profile) => Summary {
             has_speed: true,
-            end: nearer(so_far.end, profile.reach()),
+            is_short: so_far.is_short || ends_before(profile.reach(), limit),
             ..so_far
         },
         _ => so_far,
     }
 }
 
-// The summary with one packet more, if it holds.
+// The summary with one packet more, if it holds. Most packets are no profiles, and are not asked whether they hold.
 #[inline]
-fn with_held(so_far: Summary, packet: &TrackPacket, run: Run) -> Summary
-    ensures { result ≡ (if holds run packet.now then with_packet so_far packet.now else so_far) }
+fn with_held(so_far: Summary, packet: &TrackPacket, run: Run, limit: u64) -> Summary
+    ensures { result ≡ (if holds run packet.now then with_packet limit so_far packet.now else so_far) }
 {
-    if packet.holds_in(run) {
-        with_packet(so_far, packet)
-    } else {
-        so_far
+    match packet {
+        TrackPacket::Gradient(_) | TrackPacket::Speed(_) if packet.holds_in(run) => {
+            with_packet(so_far, packet, limit)
+        }
+        _ => so_far,
     }
 }
 
 // The summary with the packets that hold.
 #[inline]
-fn with_packets(so_far: Summary, packets: &[TrackPacket], run: Run) -> Summary
-    ensures { result ≡ fold with_packet so_far (filter (holds run) packets.now) }
+fn with_packets(so_far: Summary, packets: &[TrackPacket], run: Run, limit: u64) -> Summary
+    ensures { result ≡ fold (with_packet limit) so_far (filter (holds run) packets.now) }
 {
     let mut summary = so_far;
     'packets: for packet in packets {
-        summary = with_held(summary, packet, run);
+        summary = with_held(summary, packet, run, limit);
     }
     summary
 }
 
 // The summary with what the balise at this place says.
 #[inline]
-fn with_balise(so_far: Summary, group: &[Telegram], run: Run, place: usize) -> Summary
+fn with_balise(so_far: Summary, group: &[Telegram], run: Run, limit: u64, place: usize) -> Summary
     requires { place < length group.now }
     ensures { (t : Telegram) → slice_get group.now place ≡ Some t
-        → result ≡ fold with_packet so_far (said_at run (length group.now) place t) }
+        → result ≡ fold (with_packet limit) so_far (said_at run (length group.now) place t) }
 {
     let telegram = &group[place];
     if is_silent(run, telegram, group.len(), place) {
         so_far
     } else {
-        with_packets(so_far, packets(telegram), run)
+        with_packets(so_far, packets(telegram), run, limit)
     }
 }
 
 // The summary of what a group says in a running direction.
-fn summary_of(group: &[Telegram], run: Run) -> Summary
-    ensures { IsSummary result (said_by run group.now) }
+fn summary_of(group: &[Telegram], run: Run, limit: u64) -> Summary
+    ensures { IsSummary limit result (said_by run group.now) }
 {
     let mut summary = Summary {
-        limit: None,
         has_gradient: false,
         has_speed: false,
-        end: None,
+        is_short: false,
     };
     'places: for place in 0..group.len() {
-        summary = with_balise(summary, group, run, place);
+        summary = with_balise(summary, group, run, limit, place);
     }
     summary
 }
 
-// Whether the least end lies before the location.
-fn ends_before(end: Option<u64>, limit: Option<u64>) -> bool
-    ensures { result ≡ ends_before end limit }
-{
-    match (end, limit) {
-        (Some(end_dm), Some(limit_dm)) => end_dm < limit_dm,
-        _ => false,
-    }
-}
-
-// Whether there is no authority, or there are both profiles, and none ends before the greatest location.
+// Whether there are both profiles, and none is short.
 fn is_enough(summary: Summary) -> bool
     ensures { result ≡ is_enough summary }
 {
-    if summary.limit.is_none() {
-        return true;
-    }
-    summary.has_gradient && summary.has_speed && !ends_before(summary.end, summary.limit)
+    summary.has_gradient && summary.has_speed && !summary.is_short
 }
 
 // Whether the packets that a group says in a running direction are reached.
 pub(crate) fn is_quiet_in(group: &[Telegram], run: Run) -> bool
     ensures { IsTrue result → AreReached (said_by run group.now) }
 {
-    is_enough(summary_of(group, run))
+    match greatest_said(group, run) {
+        Some(limit) => is_enough(summary_of(group, run, limit)),
+        None => true,
+    }
 }
