@@ -6,12 +6,12 @@ use Rattle.std.specs.Result.{result_map_both}
 use Rattle.std.proofs.lemmas.Bool.{eq-eqb}
 use Rattle.std.proofs.lemmas.Bool.Decides.{nat_tests}
 use Rattle.json.proofs.Grammar.{members_end, value-begin_object, value_is}
-use Rattle.json.specs.Json.{after_end_array, members, parse_map, read_key, value}
+use Rattle.json.specs.Json.{Json, after_end_array, members, parse_map, read_key, value}
 use Rattle.json.specs.Token.{Token}
 use Rattle.serde_json.specs.Data.{Data, array, no_items, no_members, object, string}
 use Rattle.serde_json.specs.Find.{as_array}
 use Rattle.serde_json.specs.Read.{converted, of_json, of_members}
-use Rattle.etcs_form.proofs.TokenLemmas.{converted-object, item_more, key_stands, list_stands, no_items_yet, same_list, value_shorter}
+use Rattle.etcs_form.proofs.TokenLemmas.{converted-object, converted_some, item_more, key_stands, list_stands, no_items_yet, same_list, value_shorter}
 use Rattle.etcs_form.specs.Document.{◌then◌, aspect_at, aspects_of, controlled_at, each_from, group_at, has_count, in_form, message_at, only_aspect, only_values, path_of, telegram_at, telegrams_of, values_of}
 use Rattle.etcs_form.specs.DocumentFault.{DocumentFault, bad_message, bad_telegram}
 use Rattle.etcs_form.specs.DocumentTokens.{AreBalises, AreEach, AreFirst, HasGroup, IsAspect, IsAspects, IsBalises, IsFirst, IsGroup, IsList, IsMessage, IsOnlyAspect, IsTelegram}
@@ -53,6 +53,15 @@ message_taken depth text old new m begins is = record {
 pub first_shorter : {X : Type 0} (Is : Data → X → Type 0) (depth : ℕ) (old : List Token) (x : X) (new : List Token) → IsFirst Is depth old x new → length new < length old
 first_shorter Is depth old x new one = value_shorter depth old new one.found one.stands
 
+-- a list does not end where a value stands
+value_goes : (depth : ℕ) (old : List Token) (found : Json × List Token) → value depth old ≡ Some found → after_end_array old ≡ None
+value_goes depth (Token.end_array ∷ ts) found is = absurd (cc (value_is depth (Token.end_array ∷ ts)))
+value_goes depth old found is = refl
+
+first_goes : {X : Type 0} (Is : Data → X → Type 0) (depth : ℕ) (old : List Token) (x : X) (new : List Token) → IsFirst Is depth old x new → after_end_array old ≡ None
+first_goes Is depth old x new one =
+    let j = converted_some of_json (value depth old) one.found new one.stands in value_goes depth old (j.0, new) j.1
+
 pub none_first : {X : Type 0} (Is : Data → X → Type 0) (depth : ℕ) (old : List Token) → AreFirst Is depth old [] old
 none_first Is depth old = record { found = []; stand = no_items_yet depth old; are = tt }
 
@@ -63,11 +72,11 @@ each_and Is (e ∷ ds) [] d x are is = absurd are
 each_and Is (e ∷ ds) (y ∷ ys) d x are is = (are.0, each_and Is ds ys d x are.1 is)
 
 -- one more
-pub first_more : {X : Type 0} (Is : Data → X → Type 0) (depth : ℕ) (old : List Token) (xs ys : List X) (x : X) (mid new : List Token) → AreFirst Is depth old xs mid → after_end_array mid ≡ None
+pub first_more : {X : Type 0} (Is : Data → X → Type 0) (depth : ℕ) (old : List Token) (xs ys : List X) (x : X) (mid new : List Token) → AreFirst Is depth old xs mid
     → IsFirst Is depth mid x new → ys ≡ xs ++ x ∷ [] → AreFirst Is depth old ys new
-first_more Is depth old xs ys x mid new some going one pushed = rw pushed record {
+first_more Is depth old xs ys x mid new some one pushed = rw pushed record {
   found = some.found ++ one.found ∷ [];
-  stand = item_more depth some.found one.found old mid new some.stand going one.stands;
+  stand = item_more depth some.found one.found old mid new some.stand (first_goes Is depth mid x new one) one.stands;
   are = each_and Is some.found xs one.found x some.are one.is;
 }
 

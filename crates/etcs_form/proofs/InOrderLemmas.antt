@@ -27,11 +27,11 @@ module _ {X : Type 0} (Is : Data → X → Type 0) (Takes : Kept → List X → 
   none_taken was none = record { items = []; read = none_first Is depth old; takes = none }
 
   -- one more was read, and handed to the checker
-  pub one_taken : (was kept is : Kept) (mid new : List Token) → ((xs ys : List X) → Takes was xs kept → Takes kept ys is → Takes was (xs ++ ys) is) → AreTaken (λ xs. AreFirst Is depth old xs mid) Takes was kept → after_end_array mid ≡ None
+  pub one_taken : (was kept is : Kept) (mid new : List Token) → ((xs ys : List X) → Takes was xs kept → Takes kept ys is → Takes was (xs ++ ys) is) → AreTaken (λ xs. AreFirst Is depth old xs mid) Takes was kept
       → (one : X) → IsFirst Is depth mid one new → Takes kept (one ∷ []) is → AreTaken (λ xs. AreFirst Is depth old xs new) Takes was is
-  one_taken was kept is mid new joined so going one first takes = record {
+  one_taken was kept is mid new joined so one first takes = record {
     items = so.items ++ one ∷ [];
-    read = first_more Is depth old so.items (so.items ++ one ∷ []) one mid new so.read going first refl;
+    read = first_more Is depth old so.items (so.items ++ one ∷ []) one mid new so.read first refl;
     takes = joined so.items (one ∷ []) so.takes takes;
   }
 

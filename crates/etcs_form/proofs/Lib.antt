@@ -1,4 +1,5 @@
 pub mod TokenLemmas
+pub mod TokenReaderLemmas
 pub mod DocumentTokenLemmas
 pub mod InOrderLemmas
 pub mod ResultLemmas

@@ -6,3 +6,4 @@ pub mod Verdict
 pub mod DocumentTokens
 pub mod ReportText
 pub mod Laws
+pub mod TokenReader

@@ -14,9 +14,9 @@ ghost use Rattle.etcs_group.specs.Group.{Aspects};
 
 use crate::judging::check_text;
 use crate::line_error::LineError;
-use crate::token_groups::{group, message, pass_begin, pass_end, pass_key, pass_list};
+use crate::token_groups::{group, message};
+use crate::token_reader::TokenReader;
 use etcs_check::{Finding, LineChecker};
-use json::{Reader, Scratch};
 use std::alloc::Global;
 
 // How deep a document may nest.
@@ -36,7 +36,7 @@ pub struct Checked {
 // Reads the next group, and hands it to the checker.
 fn next_group(
     alloc: Global,
-    reader: &mut Reader<'_>,
+    reader: &mut TokenReader<'_>,
     depth: usize,
     checker: &mut LineChecker,
 ) -> bool
@@ -52,7 +52,7 @@ fn next_group(
 // Reads groups up to the end of their list, and hands each to the checker.
 fn each_group(
     alloc: Global,
-    reader: &mut Reader<'_>,
+    reader: &mut TokenReader<'_>,
     depth: usize,
     checker: &mut LineChecker,
 ) -> bool
@@ -69,11 +69,16 @@ fn each_group(
 }
 
 // Reads the list of groups, and hands each to the checker.
-fn groups(alloc: Global, reader: &mut Reader<'_>, depth: usize, checker: &mut LineChecker) -> bool
+fn groups(
+    alloc: Global,
+    reader: &mut TokenReader<'_>,
+    depth: usize,
+    checker: &mut LineChecker,
+) -> bool
     ensures { IsTrue result → AreTaken (λ gs. IsFirst (IsList IsGroup) depth reader.old gs reader.new)
         TakesGroups checker.old checker.new }
 {
-    if depth == 0 || !pass_list(reader) {
+    if depth == 0 || !reader.pass_list() {
         return false;
     }
     each_group(alloc, reader, depth - 1, checker)
@@ -82,7 +87,7 @@ fn groups(alloc: Global, reader: &mut Reader<'_>, depth: usize, checker: &mut Li
 // Reads the next message, and hands it to the checker.
 fn next_message(
     alloc: Global,
-    reader: &mut Reader<'_>,
+    reader: &mut TokenReader<'_>,
     depth: usize,
     checker: &mut LineChecker,
 ) -> bool
@@ -98,7 +103,7 @@ fn next_message(
 // Reads messages up to the end of their list, and hands each to the checker.
 fn each_message(
     alloc: Global,
-    reader: &mut Reader<'_>,
+    reader: &mut TokenReader<'_>,
     depth: usize,
     checker: &mut LineChecker,
 ) -> bool
@@ -115,11 +120,16 @@ fn each_message(
 }
 
 // Reads the list of messages, and hands each to the checker.
-fn messages(alloc: Global, reader: &mut Reader<'_>, depth: usize, checker: &mut LineChecker) -> bool
+fn messages(
+    alloc: Global,
+    reader: &mut TokenReader<'_>,
+    depth: usize,
+    checker: &mut LineChecker,
+) -> bool
     ensures { IsTrue result → AreTaken (λ ms. IsFirst (IsList IsMessage) depth reader.old ms reader.new)
         TakesMessages checker.old checker.new }
 {
-    if depth == 0 || !pass_list(reader) {
+    if depth == 0 || !reader.pass_list() {
         return false;
     }
     each_message(alloc, reader, depth - 1, checker)
@@ -128,14 +138,14 @@ fn messages(alloc: Global, reader: &mut Reader<'_>, depth: usize, checker: &mut 
 // Reads the groups, whose key was passed, and then the messages.
 fn groups_first(
     alloc: Global,
-    reader: &mut Reader<'_>,
+    reader: &mut TokenReader<'_>,
     depth: usize,
     checker: &mut LineChecker,
 ) -> bool
     ensures { IsTrue result → HasChecked checker.old [] [] → (old : List JsonToken)
         → read_key old ≡ Some (Some (codes "groups"), reader.old) → HasLine depth old checker.new reader.new }
 {
-    if !groups(alloc, reader, depth, checker) || !pass_key(reader, "messages") {
+    if !groups(alloc, reader, depth, checker) || !reader.pass_key("messages") {
         return false;
     }
     messages(alloc, reader, depth, checker)
@@ -144,44 +154,51 @@ fn groups_first(
 // Reads the messages, whose key was passed, and then the groups.
 fn messages_first(
     alloc: Global,
-    reader: &mut Reader<'_>,
+    reader: &mut TokenReader<'_>,
     depth: usize,
     checker: &mut LineChecker,
 ) -> bool
     ensures { IsTrue result → HasChecked checker.old [] [] → (old : List JsonToken)
         → read_key old ≡ Some (Some (codes "messages"), reader.old) → HasLine depth old checker.new reader.new }
 {
-    if !messages(alloc, reader, depth, checker) || !pass_key(reader, "groups") {
+    if !messages(alloc, reader, depth, checker) || !reader.pass_key("groups") {
         return false;
     }
     groups(alloc, reader, depth, checker)
 }
 
 // Reads the two members of a document, in whichever order they stand.
-fn members(alloc: Global, reader: &mut Reader<'_>, depth: usize, checker: &mut LineChecker) -> bool
+fn members(
+    alloc: Global,
+    reader: &mut TokenReader<'_>,
+    depth: usize,
+    checker: &mut LineChecker,
+) -> bool
     ensures { IsTrue result → HasChecked checker.old [] [] → HasLine depth reader.old checker.new reader.new }
 {
-    let Ok(Some(name)) = reader.next_key() else {
-        return false;
-    };
-    if name == "groups" {
+    if reader.pass_key("groups") {
         return groups_first(alloc, reader, depth, checker);
     }
-    if name == "messages" {
+    if reader.pass_key("messages") {
         return messages_first(alloc, reader, depth, checker);
     }
     false
 }
 
 // Reads a document, and hands its groups and messages to the checker.
-fn document(alloc: Global, reader: &mut Reader<'_>, depth: usize, checker: &mut LineChecker) -> bool
+fn document(
+    alloc: Global,
+    reader: &mut TokenReader<'_>,
+    depth: usize,
+    checker: &mut LineChecker,
+) -> bool
     ensures { IsTrue result → HasChecked checker.old [] []
         → IsFirst IsChecked depth reader.old checker.new reader.new }
 {
-    if depth == 0 || !pass_begin(reader) {
+    if depth == 0 || !reader.pass_begin() {
         return false;
     }
-    members(alloc, reader, depth - 1, checker) && pass_end(reader)
+    members(alloc, reader, depth - 1, checker) && reader.pass_end()
 }
 
 // What a checker has found.
@@ -210,27 +227,21 @@ pub(crate) fn quick_check(alloc: Global, bytes: &[u8]) -> Option<Checked>
     let Ok(text) = str::from_utf8(bytes) else {
         return None;
     };
-    let mut scratch = Scratch::new(alloc);
-    let Ok(mut reader) = Reader::new(text, &mut scratch) else {
-        return None;
-    };
+    let mut reader = TokenReader::new(text.as_bytes());
     let mut checker = LineChecker::new(alloc);
-    if !document(alloc, &mut reader, DEPTH, &mut checker) {
+    if !document(alloc, &mut reader, DEPTH, &mut checker) || !reader.is_at_end() {
         return None;
     }
-    match reader.next() {
-        None => found_by(checker),
-        Some(_) => None,
-    }
+    found_by(checker)
 }
 
 /// Checks the document of a railway line as [`check_text`] does, but keeps no group and no message: only their counts,
 /// and what is found about them.
 ///
-/// A document in which no key stands twice is read group by group and message by message, in either order of the two
-/// lists. That takes one byte of memory for each byte of the document. Besides it takes the identities, the findings,
-/// and the records of one group or message at a time. Any other document is read as by [`check_text`]. So is one that
-/// is refused, and one for which memory ran out.
+/// A document in which no key stands twice and no string has an escape is read group by group and message by message,
+/// in either order of the two lists. That takes memory for the identities, the findings, and the records of one group
+/// or message at a time. Any other document is read as by [`check_text`]. So is one that is refused, and one for which
+/// memory ran out.
 ///
 /// The error is that of [`check_text`]. After an error neither counts nor findings are returned.
 pub fn check_in_order(alloc: Global, bytes: &[u8]) -> Result<Checked, LineError>

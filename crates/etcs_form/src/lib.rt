@@ -20,6 +20,7 @@ mod line_error;
 mod refusal;
 mod report_text;
 mod token_groups;
+mod token_reader;
 mod verdict;
 
 pub use document::read_line;

@@ -20,3 +20,4 @@ pub mod PathLemmas
 pub mod AnyList
 pub mod PacketRanges
 pub mod RadioRanges
+pub mod PlainLemmas

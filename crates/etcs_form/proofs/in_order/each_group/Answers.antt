@@ -12,10 +12,10 @@ groups-init c = none_taken IsGroup TakesGroups _ _ _ (no_groups _)
 pub groups-smaller : goal.groups-smaller
 groups-smaller c =
     let one = c.next_group.ensures (search rules) in
-    omega (arith, ap length c.groups-test.ensures.1, first_shorter IsGroup _ _ _ _ one.1)
+    omega (arith, ap length c.groups-test.ensures, first_shorter IsGroup _ _ _ _ one.1)
 
 -- one more was read, and handed to the checker
 pub groups-preserved : goal.groups-preserved
 groups-preserved c =
     let one = c.next_group.ensures (search rules) in
-    one_taken IsGroup TakesGroups _ _ _ _ _ _ _ (more_groups _ _ _) c.groups.invariant c.groups-test.ensures.0 one.0 (rw c.groups-test.ensures.1 at one.1) one.2
+    one_taken IsGroup TakesGroups _ _ _ _ _ _ _ (more_groups _ _ _) c.groups.invariant one.0 (rw c.groups-test.ensures at one.1) one.2

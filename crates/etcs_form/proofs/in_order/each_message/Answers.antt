@@ -12,10 +12,10 @@ messages-init c = none_taken IsMessage TakesMessages _ _ _ (no_messages _)
 pub messages-smaller : goal.messages-smaller
 messages-smaller c =
     let one = c.next_message.ensures (search rules) in
-    omega (arith, ap length c.messages-test.ensures.1, first_shorter IsMessage _ _ _ _ one.1)
+    omega (arith, ap length c.messages-test.ensures, first_shorter IsMessage _ _ _ _ one.1)
 
 -- one more was read, and handed to the checker
 pub messages-preserved : goal.messages-preserved
 messages-preserved c =
     let one = c.next_message.ensures (search rules) in
-    one_taken IsMessage TakesMessages _ _ _ _ _ _ _ (more_messages _ _ _) c.messages.invariant c.messages-test.ensures.0 one.0 (rw c.messages-test.ensures.1 at one.1) one.2
+    one_taken IsMessage TakesMessages _ _ _ _ _ _ _ (more_messages _ _ _) c.messages.invariant one.0 (rw c.messages-test.ensures at one.1) one.2

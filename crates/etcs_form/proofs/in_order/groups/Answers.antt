@@ -8,4 +8,4 @@ pub returns : goal.returns
 returns c = λ yes.
     let deep : 0 < c.args.depth = omega arith in
     let all = c.each_group.ensures yes in
-    all_taken IsGroup TakesGroups c.args.depth _ _ _ c.pass_list.new.reader all.0 _ deep (c.pass_list.ensures (search rules)) all.1 all.2
+    all_taken IsGroup TakesGroups c.args.depth _ _ _ c.pass_list.new.self all.0 _ deep (c.pass_list.ensures (search rules)) all.1 all.2

@@ -5,4 +5,4 @@ use Rattle.etcs_form.proofs.in_order.groups_first.Goals as goal
 -- the groups, and then the messages
 pub returns : goal.returns
 returns c = λ yes empty old named.
-    groups_then c.args.depth old _ c.groups.new.reader c.pass_key.new.reader _ _ c.groups.new.checker _ empty named (c.groups.ensures (search rules)) (c.pass_key.ensures (search rules)) (c.messages.ensures yes)
+    groups_then c.args.depth old _ c.groups.new.reader c.pass_key.new.self _ _ c.groups.new.checker _ empty named (c.groups.ensures (search rules)) (c.pass_key.ensures.yes (search rules)) (c.messages.ensures yes)

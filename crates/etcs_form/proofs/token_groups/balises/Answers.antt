@@ -9,4 +9,4 @@ returns-in-Ok c =
     let deep : 0 < c.args.depth = omega arith in
     let read = c.in_ok-telegrams.ensures in
     let fits = c.in-Ok.ensures.made.0 refl in
-    rw c.in-Ok.ensures.ok (balises_taken _ _ c.in_ok-telegrams.telegrams.items _ (list_taken IsTelegram _ _ c.pass_list.new.reader read.0 _ _ deep (c.pass_list.ensures (search rules)) read.1 read.2) fits.0 fits.1)
+    rw c.in-Ok.ensures.ok (balises_taken _ _ c.in_ok-telegrams.telegrams.items _ (list_taken IsTelegram _ _ c.pass_list.new.self read.0 _ _ deep (c.pass_list.ensures (search rules)) read.1 read.2) fits.0 fits.1)
