@@ -60,7 +60,7 @@ def long_document(tests, groups=LONG):
     document = subprocess.run(command, capture_output=True, check=True).stdout
     turned = b'{"messages":[],' + document.strip().removesuffix(b',"messages":[]}').removeprefix(b"{") + b"}\n"
     twice = b'{"messages":[],' + turned.removeprefix(b"{")
-    for text, times in ((document, 4), (turned, 4), (twice, KEPT)):
+    for text, times in ((document, 2), (turned, 2), (twice, KEPT)):
         answer = limited("v", times * len(text) // 1024 + 10000, CHECK, text)
         tests.equal(f"a long document in little memory, {times} times its size", answer,
                     Answer(0, f"yes: groups {groups}, messages 0\n", ""))
