@@ -1,8 +1,9 @@
 -- The table of pairs of decimal digits, and numbers of one to five digits.
-use Rattle.std.proofs.Common.{◌≡◌, ℕ, ◌+◌, ◌*◌, ◌/◌, ◌%◌, ◌<◌, ◌≤◌, ◌^◌, Bool, true, ◌&&◌, ◌==◌, List, [], ◌∷◌, ◌++◌, slice_index, append_assoc, arith, refl, sym}
+use Rattle.std.proofs.Common.{◌≡◌, ℕ, ◌+◌, ◌*◌, ◌/◌, ◌%◌, ◌<◌, ◌≤◌, ◌^◌, Bool, true, ◌&&◌, ◌==◌, List, [], ◌∷◌, ◌++◌, slice_index, append_assoc, arith, refl, subst, sym}
 use Rattle.std.proofs.lemmas.Bool.{agree_below_at, and_parts, eqb-true}
 use Rattle.std.proofs.lemmas.Fmt.{decimal_digit, decimal_step}
 use Rattle.std.specs.Fmt.{decimal}
+use Rattle.json.specs.Filled.{Placed}
 
 -- the table of the code, byte by byte
 abbrev pub pairs : List ℕ
@@ -58,3 +59,7 @@ five_digits n lo hi =
     let far : n / 10000 ≡ n / 100 / 100 = omega arith in
     more n ((48 + n / 10000) ∷ (48 + n / 100 % 100 / 10) ∷ (48 + n / 100 % 100 % 10) ∷ []) (omega arith) (omega arith)
     (rw far (three_digits (n / 100) (omega arith) (omega arith)))
+
+-- what is written is known by another name
+pub placed_as : {a b xs ys : List ℕ} {i j : ℕ} → xs ≡ ys → Placed a b i xs j → Placed a b i ys j
+placed_as {a} {b} {xs} {ys} {i} {j} same placed = subst (λ (zs : List ℕ). Placed a b i zs j) same placed

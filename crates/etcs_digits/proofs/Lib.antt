@@ -1,2 +1,3 @@
 mod HexadecimalLemmas
 mod DecimalLemmas
+mod LineTextLemmas

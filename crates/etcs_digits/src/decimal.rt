@@ -1,10 +1,12 @@
 //! Numbers as decimal digits. Most numbers of a telegram have at most five, and each count of digits has
 //! an arm of its own, in which the compiler knows how many bytes to write.
 
-ghost use Rattle.std.specs.Prelude.{◌≡◌, ◌+◌, ◌/◌, ◌%◌, ◌<◌, ◌≤◌, ◌∷◌, [], decimal, take};
+ghost use Rattle.std.specs.Prelude.{◌≡◌, ◌+◌, ◌/◌, ◌%◌, ◌<◌, ◌≤◌, ◌∷◌, [], decimal, length};
 ghost use Rattle.json.specs.Token.{number};
+ghost use Rattle.json.specs.Filled.{Placed};
 ghost use Rattle.json.specs.Written.{Writes};
 
+use crate::text_room::place_byte;
 use json::Writer;
 use std::alloc::AllocError;
 
@@ -22,70 +24,88 @@ fn pair(n: u64) -> [u8; 2]
     [PAIRS[at], PAIRS[at + 1]]
 }
 
-// Sends the digits of a number, the first `count` of an array. They are ASCII, and so UTF-8: that is
-// proved at the call without a check, from the digits being those of the number. Asking
-// `str::from_utf8` costs 15 instructions a number. The compiler keeps an array of one, two, four or
-// eight bytes in a register, and any other in memory, from where reading it anew has to wait.
+// Writes the two digits of a number below 100 at a place, and returns the place behind them.
 #[inline(always)]
-fn send_digits<const N: usize>(
-    out: &mut Writer,
-    n: u64,
-    digits: [u8; N],
-    count: usize,
-) -> Result<(), AllocError>
-    requires within { count ≤ N }
-    requires digits { take count digits ≡ decimal n }
-    ensures { Writes result out.old out.new (number (decimal n)) }
+fn place_pair(buf: &mut [u8], at: usize, n: u64) -> usize
+    requires below { n < 100 }
+    requires room { at + 2 ≤ length buf.old }
+    ensures { Placed buf.old buf.new at ((48 + n / 10) ∷ (48 + n % 10) ∷ []) result }
 {
-    out.number(unsafe { str::from_utf8_unchecked(&digits[..count]) })
+    let digits = pair(n);
+    buf[at] = digits[0];
+    buf[at + 1] = digits[1];
+    at + 2
 }
 
-// Sends a number of six digits or more. It stands apart so that shorter numbers save fewer registers.
+// Writes one digit at a place, and returns the place behind it.
+#[inline(always)]
+fn place_digit(buf: &mut [u8], at: usize, n: u64) -> usize
+    requires below { n < 10 }
+    requires room { at < length buf.old }
+    ensures { Placed buf.old buf.new at ((48 + n) ∷ []) result }
+{
+    place_byte(buf, at, b'0' + n as u8)
+}
+
+// Writes a number digit by digit. Few numbers have six or more.
 #[cold]
 #[inline(never)]
-fn send_long(out: &mut Writer, n: u64) -> Result<(), AllocError>
-    ensures { Writes result out.old out.new (number (decimal n)) }
+fn place_long(buf: &mut [u8], at: usize, n: u64) -> usize
+    requires { at + length (decimal n) ≤ length buf.old }
+    ensures { Placed buf.old buf.new at (decimal n) result }
 {
-    out.u64(n)
+    if n < 10 {
+        return place_digit(buf, at, n);
+    }
+    let at = place_long(buf, at, n / 10);
+    place_digit(buf, at, n % 10)
 }
 
-// Sends a number of two digits or more.
+// Writes a number of two digits or more.
 #[inline(never)]
-fn send_more(out: &mut Writer, n: u64) -> Result<(), AllocError>
-    requires { 10 ≤ n }
-    ensures { Writes result out.old out.new (number (decimal n)) }
+fn place_more(buf: &mut [u8], at: usize, n: u64) -> usize
+    requires long { 10 ≤ n }
+    requires room { at + 20 ≤ length buf.old }
+    ensures { Placed buf.old buf.new at (decimal n) result }
 {
     if n < 100 {
-        return send_digits(out, n, pair(n), 2);
+        return place_pair(buf, at, n);
     }
     if n < 1000 {
-        let last = pair(n % 100);
-        let digits = [b'0' + (n / 100) as u8, last[0], last[1], 0];
-        return send_digits(out, n, digits, 3);
+        let at = place_digit(buf, at, n / 100);
+        return place_pair(buf, at, n % 100);
     }
     if n < 10_000 {
-        let first = pair(n / 100);
-        let last = pair(n % 100);
-        return send_digits(out, n, [first[0], first[1], last[0], last[1]], 4);
+        let at = place_pair(buf, at, n / 100);
+        return place_pair(buf, at, n % 100);
     }
     if n < 100_000 {
-        let middle = pair(n / 100 % 100);
-        let last = pair(n % 100);
-        let first = b'0' + (n / 10_000) as u8;
-        let digits = [first, middle[0], middle[1], last[0], last[1], 0, 0, 0];
-        return send_digits(out, n, digits, 5);
+        let at = place_digit(buf, at, n / 10_000);
+        let at = place_pair(buf, at, n / 100 % 100);
+        return place_pair(buf, at, n % 100);
     }
-    send_long(out, n)
+    place_long(buf, at, n)
 }
 
-/// Sends a number in decimal digits. The contract is that of [`Writer::u64`], its error included. Many
-/// numbers have one digit, which costs no call.
+// Writes a number in decimal digits at a place with room for 20, and returns the place behind them. Many
+// numbers have one digit, which costs no call.
 #[inline(always)]
+pub(crate) fn place_decimal(buf: &mut [u8], at: usize, n: u64) -> usize
+    requires { at + 20 ≤ length buf.old }
+    ensures { Placed buf.old buf.new at (decimal n) result }
+{
+    if n < 10 {
+        return place_digit(buf, at, n);
+    }
+    place_more(buf, at, n)
+}
+
+/// Sends a number in decimal digits. The contract is that of [`Writer::u64`], its error included.
+// The digits are ASCII, and so UTF-8: that is proved without a check.
 pub fn send_decimal(out: &mut Writer, n: u64) -> Result<(), AllocError>
     ensures { Writes result out.old out.new (number (decimal n)) }
 {
-    if n < 10 {
-        return send_digits(out, n, [b'0' + n as u8], 1);
-    }
-    send_more(out, n)
+    let mut digits = [0; 20];
+    let count = place_decimal(&mut digits, 0, n);
+    out.number(unsafe { str::from_utf8_unchecked(&digits[..count]) })
 }

@@ -8,6 +8,10 @@
 
 mod decimal;
 mod hexadecimal;
+mod line_text;
+mod plain;
+mod text_room;
 
 pub use decimal::send_decimal;
 pub use hexadecimal::{decode, decode_to_vec};
+pub use line_text::LineText;
