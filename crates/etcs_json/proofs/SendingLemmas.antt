@@ -1,9 +1,9 @@
 -- How the pieces of an object or array make its form.
-use Rattle.std.proofs.Common.{◌≡◌, ◌++◌, ◌+◌, ◌<◌, ℕ, List, [], ◌∷◌, length, take, Option, Some, None, refl, ap, sym, subst, ◌∙◌, append_assoc, append-nil, get_or, Ok}
+use Rattle.std.proofs.Common.{◌≡◌, ◌++◌, ◌+◌, ◌<◌, ℕ, List, [], ◌∷◌, length, take, Option, Some, None, refl, ap, sym, subst, ◌∙◌, append_assoc, append-nil, get_or}
 use Rattle.std.proofs.lemmas.List.{take_more}
 use Rattle.json.specs.Token.{Token, begin_array, begin_object, end_array, end_object, key}
 use Rattle.json.specs.Tree.{items_tokens, members_tokens}
-use Rattle.json.specs.Written.{Written, Writes}
+use Rattle.json.specs.Written.{Written}
 use Rattle.serde_json.specs.Data.{Data, array, object}
 use Rattle.serde_json.specs.Written.{items_outline, members_outline}
 use Rattle.etcs_json.specs.Entries.{Entry, are_apart, object_of}
@@ -11,10 +11,6 @@ use Rattle.etcs_json.specs.Sending.{Adds, SendsMembers, SendsValue, each_tokens,
 use Rattle.etcs_json.specs.Shape.{Object, items_of}
 use Rattle.etcs_json.specs.SinkLemmas.{adds_more}
 use Rattle.etcs_json.proofs.SortedLemmas.{made_members}
-
--- one token that a writer has taken
-pub one_token : {E : Type 0} {u : Unit {0}} (old new : Written) (t : Token) → Writes {E = E} (Ok u) old new t → Adds (t ∷ []) old new
-one_token old new t h = record { before = h.room.0; added = h.ok }
 
 -- ---- arrays
 

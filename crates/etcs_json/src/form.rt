@@ -1,14 +1,15 @@
 //! What has a JSON form.
 
-ghost use Rattle.std.specs.Prelude.{◌≡◌, Ok, IfOk, OnErr, OnOk};
+ghost use Rattle.std.specs.Prelude.{◌≡◌, ◌∷◌, [], Some, Ok, IfOk, OnErr, OnOk};
 ghost use Rattle.serde_json.specs.Data.{Data};
 ghost use Rattle.serde_json.specs.View.{view};
 ghost use Rattle.etcs_json.specs.Fault.{Gives, IfMemory};
-ghost use Rattle.etcs_json.specs.Sending.{SendsValue};
+ghost use Rattle.etcs_json.specs.Sending.{SendsMembers, SendsValue};
 ghost use Rattle.etcs_json.specs.Shape.{Shape};
 
 use crate::error::FormError;
 use crate::node::Node;
+use crate::writing::marks::Marks;
 use etcs_bits::Memory;
 use json::Writer;
 use serde_json::Value;
@@ -64,8 +65,27 @@ pub trait Form: Drop {
 
 /// A value whose form can be sent piece by piece, so that no value is built for it.
 pub trait InPieces: Form {
+    /// Sends the form to a writer of JSON, or to a [`LineText`](etcs_digits::LineText). The only error is
+    /// that memory runs out. After an error a part of the form may have been sent.
+    fn send_to<M: Marks>(&self, out: &mut M) -> Result<(), Memory>
+        ensures { OnOk result (SendsValue (Self.shape.to self.now)
+            (M.written out.old) (M.written out.new)) };
+
+    /// Sends a member: a key, and the form as its value.
+    #[inline(always)]
+    fn send_at<M: Marks>(&self, name: &str, out: &mut M) -> Result<(), Memory>
+        ensures { OnOk result (SendsMembers ((name.now, Some (Self.shape.to self.now)) ∷ [])
+            (M.written out.old) (M.written out.new)) }
+    {
+        out.key(name)?;
+        self.send_to(out)
+    }
+
     /// Sends the form to a writer of JSON. The only error is that the writer's buffer can't grow. After
     /// an error a part of the form may have been sent.
-    fn send(&self, out: &mut Writer) -> Result<(), Memory>
-        ensures { OnOk result (SendsValue (Self.shape.to self.now) out.old out.new) };
+    final fn send(&self, out: &mut Writer) -> Result<(), Memory>
+        ensures { OnOk result (SendsValue (Self.shape.to self.now) out.old out.new) }
+    {
+        self.send_to(out)
+    }
 }

@@ -13,8 +13,8 @@ use crate::node::Node;
 use crate::node::known_keys::check_keys;
 use crate::writing::Sink;
 use crate::writing::building::NewObject;
+use crate::writing::marks::Marks;
 use etcs_bits::{Layout, Memory};
-use json::Writer;
 use serde_json::Value;
 use std::alloc::Global;
 
@@ -92,7 +92,7 @@ impl<T: Members> Form for T {
 }
 
 impl<T: Members> InPieces for T {
-    fn send(&self, out: &mut Writer) -> Result<(), Memory> {
+    fn send_to<M: Marks>(&self, out: &mut M) -> Result<(), Memory> {
         out.begin_object()?;
         self.send_members(out)?;
         out.end_object()?;

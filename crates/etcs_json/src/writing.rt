@@ -1,5 +1,6 @@
 //! What the members of an object are sent to. How a record is written is generic over [`Sink`], so
-//! that one description serves a writer of JSON, which makes no value, and an object in memory.
+//! that one description serves what takes marks ([`marks::Marks`]), which makes no value, and an object in
+//! memory.
 
 ghost use Rattle.std.specs.Prelude.{◌≡◌, ◌++◌, ◌∷◌, [], ℕ, List, Some, None, OnOk};
 ghost use Rattle.serde_json.specs.Data.{array, string};
@@ -10,6 +11,7 @@ use crate::form::InPieces;
 use etcs_bits::Memory;
 
 pub(crate) mod building;
+pub(crate) mod marks;
 mod sending;
 
 /// What takes the members of an object, one after the other, in the byte order of their keys. The
@@ -48,6 +50,7 @@ pub(crate) trait Sink {
             self.old self.new) };
 
     /// Takes a member if there is a value, and nothing if there is none.
+    #[inline(always)]
     final fn send_key_if<T: InPieces>(
         &mut self,
         name: &str,

@@ -11,9 +11,9 @@ use crate::form::{Form, InPieces};
 use crate::node::Node;
 use crate::node::reading::{check_object, member, under};
 use crate::record::Members;
+use crate::writing::marks::Marks;
 use etcs_bits::Memory;
 use etcs_radio::Message;
-use json::Writer;
 use serde_json::Value;
 use std::alloc::Global;
 
@@ -87,10 +87,10 @@ impl Form for Message {
 
 #[tactic(auto, unfolding(crate::specs::AnyMessage::message))]
 impl InPieces for Message {
-    fn send(&self, out: &mut Writer) -> Result<(), Memory> {
+    fn send_to<M: Marks>(&self, out: &mut M) -> Result<(), Memory> {
         match self {
-            Message::Movement(message) => message.send(out),
-            Message::Position(message) => message.send(out),
+            Message::Movement(message) => message.send_to(out),
+            Message::Position(message) => message.send_to(out),
         }
     }
 }

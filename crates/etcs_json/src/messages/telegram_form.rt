@@ -13,10 +13,9 @@ use crate::node::reading::read_key;
 use crate::packets::report_form::read_identity;
 use crate::record::{Members, Record, prove_allowed};
 use crate::writing::Sink;
+use crate::writing::marks::Marks;
 use etcs_bits::{Memory, are_allowed};
-use etcs_digits::send_decimal;
 use etcs_telegram::{Header, Size, Telegram};
-use json::Writer;
 use serde_json::Value;
 use std::alloc::Global;
 
@@ -55,9 +54,14 @@ impl Form for Size {
 }
 
 impl InPieces for Size {
-    fn send(&self, out: &mut Writer) -> Result<(), Memory> {
-        send_decimal(out, user_bit_count(*self))?;
-        Ok(())
+    #[inline(always)]
+    fn send_to<M: Marks>(&self, out: &mut M) -> Result<(), Memory> {
+        out.number(user_bit_count(*self))
+    }
+
+    #[inline(always)]
+    fn send_at<M: Marks>(&self, name: &str, out: &mut M) -> Result<(), Memory> {
+        out.member(name, user_bit_count(*self))
     }
 }
 

@@ -17,9 +17,9 @@ use crate::packets::terms_form::{Terms, authority_of, read_terms};
 use crate::record::prove_allowed;
 use crate::writing::Sink;
 use crate::writing::building::NewObject;
+use crate::writing::marks::Marks;
 use etcs_bits::{Dir, Memory, Ranged, Scale, Speed};
 use etcs_profile::Authority;
-use json::Writer;
 use serde_json::Value;
 use std::alloc::Global;
 
@@ -195,7 +195,7 @@ impl Form for Authority {
 }
 
 impl InPieces for Authority {
-    fn send(&self, out: &mut Writer) -> Result<(), Memory> {
+    fn send_to<M: Marks>(&self, out: &mut M) -> Result<(), Memory> {
         out.begin_object()?;
         send_authority(out, self)?;
         out.end_object()?;

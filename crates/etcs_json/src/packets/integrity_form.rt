@@ -9,10 +9,9 @@ use crate::error::FormError;
 use crate::form::{Form, InPieces};
 use crate::node::Node;
 use crate::node::reading::{check_absent, read_key};
+use crate::writing::marks::Marks;
 use etcs_bits::{Distance, Memory, Plain};
-use etcs_digits::send_decimal;
 use etcs_radio::{Integrity, Train3};
-use json::Writer;
 use serde_json::Value;
 use std::alloc::Global;
 
@@ -87,8 +86,13 @@ impl Form for Train3 {
 }
 
 impl InPieces for Train3 {
-    fn send(&self, out: &mut Writer) -> Result<(), Memory> {
-        send_decimal(out, u64::from(self.number()))?;
-        Ok(())
+    #[inline(always)]
+    fn send_to<M: Marks>(&self, out: &mut M) -> Result<(), Memory> {
+        out.number(u64::from(self.number()))
+    }
+
+    #[inline(always)]
+    fn send_at<M: Marks>(&self, name: &str, out: &mut M) -> Result<(), Memory> {
+        out.member(name, u64::from(self.number()))
     }
 }

@@ -3,9 +3,8 @@
 use crate::error::FormError;
 use crate::form::{Form, InPieces};
 use crate::node::Node;
+use crate::writing::marks::Marks;
 use etcs_bits::{Dir, Dup, Memory, Plain, Ranged, Scale, Version};
-use etcs_digits::send_decimal;
-use json::Writer;
 use serde_json::Value;
 use std::alloc::Global;
 
@@ -39,9 +38,14 @@ impl<const W: u32> Form for Plain<W> {
 }
 
 impl<const W: u32> InPieces for Plain<W> {
-    fn send(&self, out: &mut Writer) -> Result<(), Memory> {
-        send_decimal(out, u64::from(self.number()))?;
-        Ok(())
+    #[inline(always)]
+    fn send_to<M: Marks>(&self, out: &mut M) -> Result<(), Memory> {
+        out.number(u64::from(self.number()))
+    }
+
+    #[inline(always)]
+    fn send_at<M: Marks>(&self, name: &str, out: &mut M) -> Result<(), Memory> {
+        out.member(name, u64::from(self.number()))
     }
 }
 
@@ -75,9 +79,14 @@ impl<const W: u32, const LAST: u32, const FROM: u32> Form for Ranged<W, LAST, FR
 }
 
 impl<const W: u32, const LAST: u32, const FROM: u32> InPieces for Ranged<W, LAST, FROM> {
-    fn send(&self, out: &mut Writer) -> Result<(), Memory> {
-        send_decimal(out, u64::from(self.number()))?;
-        Ok(())
+    #[inline(always)]
+    fn send_to<M: Marks>(&self, out: &mut M) -> Result<(), Memory> {
+        out.number(u64::from(self.number()))
+    }
+
+    #[inline(always)]
+    fn send_at<M: Marks>(&self, name: &str, out: &mut M) -> Result<(), Memory> {
+        out.member(name, u64::from(self.number()))
     }
 }
 
@@ -106,9 +115,14 @@ impl Form for bool {
 }
 
 impl InPieces for bool {
-    fn send(&self, out: &mut Writer) -> Result<(), Memory> {
-        send_decimal(out, if *self { 1u64 } else { 0u64 })?;
-        Ok(())
+    #[inline(always)]
+    fn send_to<M: Marks>(&self, out: &mut M) -> Result<(), Memory> {
+        out.number(if *self { 1u64 } else { 0u64 })
+    }
+
+    #[inline(always)]
+    fn send_at<M: Marks>(&self, name: &str, out: &mut M) -> Result<(), Memory> {
+        out.member(name, if *self { 1u64 } else { 0u64 })
     }
 }
 
@@ -141,9 +155,14 @@ impl Form for Dir {
 }
 
 impl InPieces for Dir {
-    fn send(&self, out: &mut Writer) -> Result<(), Memory> {
-        send_decimal(out, u64::from(self.number()))?;
-        Ok(())
+    #[inline(always)]
+    fn send_to<M: Marks>(&self, out: &mut M) -> Result<(), Memory> {
+        out.number(u64::from(self.number()))
+    }
+
+    #[inline(always)]
+    fn send_at<M: Marks>(&self, name: &str, out: &mut M) -> Result<(), Memory> {
+        out.member(name, u64::from(self.number()))
     }
 }
 
@@ -176,9 +195,14 @@ impl Form for Scale {
 }
 
 impl InPieces for Scale {
-    fn send(&self, out: &mut Writer) -> Result<(), Memory> {
-        send_decimal(out, u64::from(self.number()))?;
-        Ok(())
+    #[inline(always)]
+    fn send_to<M: Marks>(&self, out: &mut M) -> Result<(), Memory> {
+        out.number(u64::from(self.number()))
+    }
+
+    #[inline(always)]
+    fn send_at<M: Marks>(&self, name: &str, out: &mut M) -> Result<(), Memory> {
+        out.member(name, u64::from(self.number()))
     }
 }
 
@@ -211,9 +235,14 @@ impl Form for Dup {
 }
 
 impl InPieces for Dup {
-    fn send(&self, out: &mut Writer) -> Result<(), Memory> {
-        send_decimal(out, u64::from(self.number()))?;
-        Ok(())
+    #[inline(always)]
+    fn send_to<M: Marks>(&self, out: &mut M) -> Result<(), Memory> {
+        out.number(u64::from(self.number()))
+    }
+
+    #[inline(always)]
+    fn send_at<M: Marks>(&self, name: &str, out: &mut M) -> Result<(), Memory> {
+        out.member(name, u64::from(self.number()))
     }
 }
 
@@ -246,8 +275,13 @@ impl Form for Version {
 }
 
 impl InPieces for Version {
-    fn send(&self, out: &mut Writer) -> Result<(), Memory> {
-        send_decimal(out, u64::from(self.number()))?;
-        Ok(())
+    #[inline(always)]
+    fn send_to<M: Marks>(&self, out: &mut M) -> Result<(), Memory> {
+        out.number(u64::from(self.number()))
+    }
+
+    #[inline(always)]
+    fn send_at<M: Marks>(&self, name: &str, out: &mut M) -> Result<(), Memory> {
+        out.member(name, u64::from(self.number()))
     }
 }

@@ -18,9 +18,9 @@ use crate::packets::level_form::{national_system_of, read_level};
 use crate::record::prove_allowed;
 use crate::writing::Sink;
 use crate::writing::building::NewObject;
+use crate::writing::marks::Marks;
 use etcs_bits::{Country, Distance, GroupNumber, Identity, Level, Memory, Plain, Scale};
 use etcs_radio::{Integrity, Report, Train3};
-use json::Writer;
 use serde_json::Value;
 use std::alloc::Global;
 
@@ -310,7 +310,7 @@ impl Form for Report {
 }
 
 impl InPieces for Report {
-    fn send(&self, out: &mut Writer) -> Result<(), Memory> {
+    fn send_to<M: Marks>(&self, out: &mut M) -> Result<(), Memory> {
         out.begin_object()?;
         send_report(out, self)?;
         out.end_object()?;

@@ -10,9 +10,9 @@ use crate::node::Node;
 use crate::node::reading::read_first;
 use crate::packets::authority_form::{read_with_main, read_without_main};
 use crate::record::prove_allowed;
+use crate::writing::marks::Marks;
 use etcs_bits::{Memory, Ranged};
 use etcs_packet::TrackPacket;
-use json::Writer;
 use serde_json::Value;
 use std::alloc::Global;
 
@@ -71,7 +71,7 @@ impl Form for TrackPacket {
 
 #[tactic(auto, using(crate::proofs::SumLemmas::authority_to), unfolding(crate::specs::Cover::cover_marker))]
 impl InPieces for TrackPacket {
-    fn send(&self, out: &mut Writer) -> Result<(), Memory> {
-        of_each!(self, packet => packet.send(out))
+    fn send_to<M: Marks>(&self, out: &mut M) -> Result<(), Memory> {
+        of_each!(self, packet => packet.send_to(out))
     }
 }

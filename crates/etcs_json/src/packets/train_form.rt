@@ -10,9 +10,9 @@ use crate::node::Node;
 use crate::node::reading::read_first;
 use crate::packets::report_form::{read_one, read_two};
 use crate::record::prove_allowed;
+use crate::writing::marks::Marks;
 use etcs_bits::{Memory, Ranged};
 use etcs_radio::TrainPacket;
-use json::Writer;
 use serde_json::Value;
 use std::alloc::Global;
 
@@ -54,10 +54,10 @@ impl Form for TrainPacket {
 
 #[tactic(auto, using(crate::proofs::SumLemmas::report_to))]
 impl InPieces for TrainPacket {
-    fn send(&self, out: &mut Writer) -> Result<(), Memory> {
+    fn send_to<M: Marks>(&self, out: &mut M) -> Result<(), Memory> {
         match self {
-            TrainPacket::Report(report) => report.send(out),
-            TrainPacket::Raw(packet) => packet.send(out),
+            TrainPacket::Report(report) => report.send_to(out),
+            TrainPacket::Raw(packet) => packet.send_to(out),
         }
     }
 }

@@ -1,50 +1,49 @@
-//! How members are sent to a writer of JSON.
+//! How members are sent to what takes marks.
 
 ghost use Rattle.std.specs.Prelude.{OnOk};
 ghost use Rattle.etcs_json.specs.Sending.{Adds, SendsMembers, each_tokens};
 
 use crate::form::InPieces;
 use crate::writing::Sink;
+use crate::writing::marks::Marks;
 use etcs_bits::Memory;
-use etcs_digits::send_decimal;
-use json::Writer;
 
 // Sends items one after the other, without the marks of a list.
-fn send_items<T: InPieces>(out: &mut Writer, items: &[T]) -> Result<(), Memory>
-    ensures { OnOk result (Adds (each_tokens T.shape.to items.now) out.old out.new) }
+fn send_items<M: Marks, T: InPieces>(out: &mut M, items: &[T]) -> Result<(), Memory>
+    ensures { OnOk result (Adds (each_tokens T.shape.to items.now) (M.written out.old) (M.written out.new)) }
 {
     'items: for item in items {
-        item.send(out)?;
+        item.send_to(out)?;
     }
     Ok(())
 }
 
-impl Sink for Writer {
+impl<M: Marks> Sink for M {
     ghost use Rattle.etcs_json.specs.SinkLemmas.{sent_none, sent_then};
 
-    ghost takes = { SendsMembers };
+    ghost takes = { λ es old new. SendsMembers es (M.written old) (M.written new) };
 
-    ghost left_out = { sent_none };
+    ghost left_out = { λ name out. sent_none name (M.written out) };
 
-    ghost then = { sent_then };
+    ghost then = { λ es fs old mid new. sent_then es fs (M.written old) (M.written mid) (M.written new) };
 
+    #[inline(always)]
     fn send_key<T: InPieces>(&mut self, name: &str, value: &T) -> Result<(), Memory> {
-        self.key(name)?;
-        value.send(self)
+        value.send_at(name, self)
     }
 
+    #[inline(always)]
     fn send_number(&mut self, name: &str, number: u64) -> Result<(), Memory> {
-        self.key(name)?;
-        send_decimal(self, number)?;
-        Ok(())
+        self.member(name, number)
     }
 
+    #[inline(always)]
     fn send_text(&mut self, name: &str, text: &str) -> Result<(), Memory> {
         self.key(name)?;
-        self.string(text)?;
-        Ok(())
+        self.string(text)
     }
 
+    #[inline(always)]
     fn send_list_at<T: InPieces>(&mut self, name: &str, items: &[T]) -> Result<(), Memory> {
         self.key(name)?;
         self.begin_array()?;
@@ -53,6 +52,7 @@ impl Sink for Writer {
         Ok(())
     }
 
+    #[inline(always)]
     fn send_first_and<T: InPieces>(
         &mut self,
         name: &str,
@@ -61,7 +61,7 @@ impl Sink for Writer {
     ) -> Result<(), Memory> {
         self.key(name)?;
         self.begin_array()?;
-        first.send(self)?;
+        first.send_to(self)?;
         send_items(self, further)?;
         self.end_array()?;
         Ok(())

@@ -1,0 +1,10 @@
+use Rattle.etcs_json.specs.ReportSending.{sent_members}
+use Rattle.etcs_json.proofs.SendingLemmas.{sent_as}
+use Rattle.etcs_json.proofs.SumLemmas.{report_sent}
+use Rattle.etcs_json.proofs.packets.report_form.ReportInPieces.send_to.Goals as goal
+
+-- the members between the two marks of an object
+pub returns : goal.returns
+returns g c =
+    let x = c.args.self.now in
+    sent_as (sent_members x) _ _ _ _ _ (report_sent x) c.in_ok-begin_object.ensures c.in_ok-send_report.ensures c.in_ok-end_object.ensures
