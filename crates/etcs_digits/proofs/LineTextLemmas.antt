@@ -102,8 +102,8 @@ plainly ts s new a p is_key text plain same = a_text ts s new a p is_key text (s
 
 -- a key and then a number
 pub a_member : (ts : List Token) (s new : List ℕ) (a : Bool) → Prints ts s a → (name : List ℕ) (n : ℕ) → escape name ≡ name → n < 2 ^ 64
-    → new ≡ s ++ (quoted_text name 58 ++ (decimal n ++ 44 ∷ [])) → Prints (ts ++ key name ∷ number (decimal n) ∷ []) new true
+    → new ≡ (s ++ quoted_text name 58) ++ (decimal n ++ 44 ∷ []) → Prints (ts ++ key name ∷ number (decimal n) ∷ []) new true
 a_member ts s new a p name n plain small same =
     let named = plainly ts s (s ++ quoted_text name 58) a p true name plain refl in
-    let both = a_number (ts ++ key name ∷ []) (s ++ quoted_text name 58) new false named n small (same ∙ sym (append_assoc s (quoted_text name 58) (decimal n ++ 44 ∷ []))) in
-    subst (λ us. Prints us new true) (append_assoc ts (key name ∷ []) (number (decimal n) ∷ [])) both
+    subst (λ us. Prints us new true) (append_assoc ts (key name ∷ []) (number (decimal n) ∷ []))
+    (a_number (ts ++ key name ∷ []) (s ++ quoted_text name 58) new false named n small same)

@@ -101,11 +101,8 @@ pub(crate) fn place_decimal(buf: &mut [u8], at: usize, n: u64) -> usize
 }
 
 /// Sends a number in decimal digits. The contract is that of [`Writer::u64`], its error included.
-// The digits are ASCII, and so UTF-8: that is proved without a check.
 pub fn send_decimal(out: &mut Writer, n: u64) -> Result<(), AllocError>
     ensures { Writes result out.old out.new (number (decimal n)) }
 {
-    let mut digits = [0; 20];
-    let count = place_decimal(&mut digits, 0, n);
-    out.number(unsafe { str::from_utf8_unchecked(&digits[..count]) })
+    out.u64(n)
 }

@@ -2,8 +2,9 @@
 //!
 //! [`decode`] and [`decode_to_vec`] read digits by a table. A text with anything else in it is left to
 //! `hex`, which alone says what is wrong, so their contracts are the contracts of its calls.
-//! [`send_decimal`] writes a number as `json`'s writer does. Read `hexadecimal.rt`, then `decimal.rt`. The
-//! crate knows nothing of telegrams and messages.
+//! [`send_decimal`] writes a number as `json`'s writer does. [`LineText`] is a line of JSON that is written
+//! token by token, a key and its number at once. Read `hexadecimal.rt`, then `decimal.rt` and
+//! `line_text.rt`. The crate knows nothing of telegrams and messages.
 #![tactic(auto)]
 
 mod decimal;

@@ -221,7 +221,8 @@ impl LineText {
             return self.number(n);
         }
         self.text.reserve(name.len() + 24)?;
-        self.text.put_member(name.as_bytes(), n);
+        self.text.put_quoted(name.as_bytes(), b':');
+        self.text.put_number(n);
         self.after_value = true;
         Ok(())
     }

@@ -8,6 +8,7 @@ ghost use Rattle.etcs_digits.specs.LineText.{quoted_text, without};
 use crate::decimal::place_decimal;
 use std::alloc::{AllocError, Global};
 use std::marker::Model;
+use std::simd::Simd;
 
 // The fewest and the most bytes that are made ready at once.
 const LEAST_AHEAD: usize = 1024;
@@ -64,38 +65,43 @@ pub(crate) fn place_byte(buf: &mut [u8], at: usize, byte: u8) -> usize
     at + 1
 }
 
-// Writes a text at a place, and returns the place behind it.
+// Writes the first N bytes of a text, by one load and one store.
+#[inline(always)]
+fn place_front<const N: usize>(buf: &mut [u8], at: usize, text: &[u8]) -> usize
+    requires { (N ≤ length text.now) × (at + N ≤ length buf.old) }
+    ensures { Placed buf.old buf.new at (take N text.now) result }
+{
+    Simd::<u8, N>::from_slice(text).copy_to_slice(&mut buf[at..]);
+    at + N
+}
+
+// Writes a text by its first N bytes and its last N, which may overlap.
+#[inline(always)]
+fn place_ends<const N: usize>(buf: &mut [u8], at: usize, text: &[u8]) -> usize
+    requires fits { at + length text.now ≤ length buf.old }
+    requires covers { (N ≤ length text.now) × (length text.now ≤ N + N) }
+    ensures { Placed buf.old buf.new at text.now result }
+{
+    let last = text.len() - N;
+    place_front::<N>(buf, at, text);
+    place_front::<N>(buf, at + last, &text[last..])
+}
+
+// Writes a text at a place, and returns the place behind it. Most keys have 4 bytes to 16.
 #[inline(always)]
 fn place_text(buf: &mut [u8], at: usize, text: &[u8]) -> usize
     requires { at + length text.now ≤ length buf.old }
     ensures { Placed buf.old buf.new at text.now result }
 {
-    let end = at + text.len();
-    buf[at..end].copy_from_slice(text);
-    end
-}
-
-// Writes a text in quotes and then a byte, and returns the place behind them.
-#[inline(always)]
-fn place_quoted(buf: &mut [u8], at: usize, text: &[u8], close: u8) -> usize
-    requires { at + length text.now + 3 ≤ length buf.old }
-    ensures { Placed buf.old buf.new at (quoted_text text.now close) result }
-{
-    let at = place_byte(buf, at, b'"');
-    let at = place_text(buf, at, text);
-    let at = place_byte(buf, at, b'"');
-    place_byte(buf, at, close)
-}
-
-// Writes a number and then a comma, and returns the place behind them.
-#[inline(always)]
-fn place_number(buf: &mut [u8], at: usize, n: u64) -> usize
-    requires { at + 21 ≤ length buf.old }
-    ensures placed { Placed buf.old buf.new at (decimal n ++ 44 ∷ []) result }
-    ensures within { result ≤ at + 21 }
-{
-    let at = place_decimal(buf, at, n);
-    place_byte(buf, at, b',')
+    let len = text.len();
+    if 4 <= len && len <= 8 {
+        return place_ends::<4>(buf, at, text);
+    }
+    if 8 < len && len <= 16 {
+        return place_ends::<8>(buf, at, text);
+    }
+    buf[at..at + len].copy_from_slice(text);
+    at + len
 }
 
 impl TextRoom {
@@ -155,8 +161,7 @@ impl TextRoom {
     #[inline(always)]
     pub(crate) fn put(&mut self, text: &[u8])
         requires { length text.now ≤ self.old.ready }
-        ensures items { self.new.items ≡ self.old.items ++ text.now }
-        ensures spare { self.old.spare ≤ self.new.spare + length text.now }
+        ensures { self.new.items ≡ self.old.items ++ text.now }
     {
         let buf = self.bytes.as_mut_slice();
         self.len = place_text(buf, self.len, text);
@@ -167,33 +172,24 @@ impl TextRoom {
     pub(crate) fn put_quoted(&mut self, text: &[u8], close: u8)
         requires { length text.now + 3 ≤ self.old.ready }
         ensures items { self.new.items ≡ self.old.items ++ quoted_text text.now close }
-        ensures spare { self.old.spare ≤ self.new.spare + (length text.now + 3) }
+        ensures ready { self.old.ready ≤ self.new.ready + (length text.now + 3) }
     {
         let buf = self.bytes.as_mut_slice();
-        self.len = place_quoted(buf, self.len, text, close);
+        let at = place_byte(buf, self.len, b'"');
+        let at = place_text(buf, at, text);
+        let at = place_byte(buf, at, b'"');
+        self.len = place_byte(buf, at, close);
     }
 
     // Appends a number and its comma.
     #[inline(always)]
     pub(crate) fn put_number(&mut self, n: u64)
         requires { 21 ≤ self.old.ready }
-        ensures items { self.new.items ≡ self.old.items ++ (decimal n ++ 44 ∷ []) }
-        ensures spare { self.old.spare ≤ self.new.spare + 21 }
+        ensures { self.new.items ≡ self.old.items ++ (decimal n ++ 44 ∷ []) }
     {
         let buf = self.bytes.as_mut_slice();
-        self.len = place_number(buf, self.len, n);
-    }
-
-    // Appends a key, its number and a comma.
-    #[inline(always)]
-    pub(crate) fn put_member(&mut self, name: &[u8], n: u64)
-        requires { length name.now + 24 ≤ self.old.ready }
-        ensures items { self.new.items ≡ self.old.items ++ (quoted_text name.now 58 ++ (decimal n ++ 44 ∷ [])) }
-        ensures spare { self.old.spare ≤ self.new.spare + (length name.now + 24) }
-    {
-        let buf = self.bytes.as_mut_slice();
-        let at = place_quoted(buf, self.len, name, b':');
-        self.len = place_number(buf, at, n);
+        let at = place_decimal(buf, self.len, n);
+        self.len = place_byte(buf, at, b',');
     }
 
     // Takes the comma at the end off, if it is there.
@@ -201,7 +197,6 @@ impl TextRoom {
     pub(crate) fn drop_comma(&mut self, there: bool)
         requires { IsTrue there → 0 < length self.old.items }
         ensures items { self.new.items ≡ without there self.old.items }
-        ensures spare { self.old.spare ≤ self.new.spare }
         ensures ready { self.old.ready ≤ self.new.ready }
     {
         if there {
