@@ -11,6 +11,7 @@ pub mod Objects
 pub mod ListLemmas
 pub mod SendingLemmas
 pub mod ReadLemmas
+pub mod KeyedLemmas
 pub mod AuthorityLemmas
 pub mod SumLemmas
 pub mod AuthorityWidth

@@ -11,7 +11,6 @@ use Rattle.etcs_bits.specs.variables.Identity.{identity as identity_layout}
 use Rattle.etcs_bits.specs.variables.VariableFormats.{q_scale}
 use Rattle.etcs_bits.specs.variables.Variables.{plain, ranged, scale_number, scale_variable}
 use Rattle.etcs_packet.specs.Track.{track_packet as track_layout}
-use Rattle.etcs_radio.specs.Integrity.{q_length}
 use Rattle.etcs_radio.specs.Lrbg.{lrbg_rows}
 use Rattle.etcs_radio.specs.Record.{Movement, Position}
 use Rattle.etcs_radio.specs.Report.{WithOne, WithTwo, numbered_of, report as report_layout, report_variable, situation as situation_layout, with_one as with_one_layout, with_two as with_two_layout}
@@ -19,8 +18,6 @@ use Rattle.etcs_radio.specs.Required.{has_authority, has_report}
 use Rattle.etcs_radio.specs.Train3.{train3_number, train3_variable}
 use Rattle.etcs_packet.specs.PacketNumbers.{nid_track as nid_train}
 use Rattle.etcs_radio.specs.TrainPacket.{parts_of, train_packet as train_layout}
-use Rattle.etcs_radio.specs.declared.integrity.Integrity.{Integrity}
-use Rattle.etcs_radio.specs.declared.integrity.Integrity.TheVariants as lengths
 use Rattle.etcs_radio.specs.declared.message.Message.{Message}
 use Rattle.etcs_radio.specs.declared.message.Message.TheVariants as messages
 use Rattle.etcs_json.specs.AnyMessage.{message}
@@ -34,7 +31,7 @@ use Rattle.etcs_json.specs.Variables.{is_allowed, scale}
 use Rattle.etcs_json.proofs.PacketRanges.{track_keeps}
 use Rattle.etcs_json.specs.RangeLemmas.{Keeps, all_in_range, both_keep, chosen_keeps, either_keeps, last_keeps, names_keep, nid_range, number_range, parts_keep, variable_keeps}
 use Rattle.etcs_json.proofs.RawLemmas.{raw_train_fits}
-use Rattle.etcs_json.specs.Transition.{level_beside}
+use Rattle.etcs_json.specs.Transition.{level}
 
 -- ---- parts
 
@@ -47,16 +44,6 @@ lrbg_range i allowed =
     let group : i.group < 16384 = omega (arith, rest) in
     and_from _ _ (number_range (plain 10) i.country (country, refl)) (number_range (plain 14) i.group (group, refl))
 
-integrity_range : (v : Integrity) → AreAllowed (q_length.rows v) → integrity.fits v ≡ true
-unfolding alone
-integrity_range lengths.Q0 allowed = refl
-integrity_range (lengths.Q1 l) allowed = number_range (plain 15) l allowed.1.0
-integrity_range (lengths.Q2 l) allowed = number_range (plain 15) l allowed.1.0
-integrity_range lengths.Q3 allowed = refl
-
-integrity_keeps : Keeps q_length.rows integrity.fits
-integrity_keeps = record { range = integrity_range }
-
 lrbg_keeps : (country group : List ℕ) → Keeps lrbg_rows (identity country group).fits
 lrbg_keeps country group = record { range = lrbg_range }
 
@@ -67,7 +54,7 @@ situation_keeps : Keeps situation_layout.rows situation.fits
 unfolding situation state
 situation_keeps =
     both_keep (variable_keeps (plain 15)) (both_keep side_keeps (both_keep side_keeps (both_keep (variable_keeps (plain 15)) (both_keep (variable_keeps (plain 15))
-    (both_keep integrity_keeps (both_keep (variable_keeps (plain 7)) (both_keep side_keeps (both_keep (variable_keeps (plain 4)) (level_beside (codes "m_level")).keeps))))))))
+    (both_keep integrity.keeps (both_keep (variable_keeps (plain 7)) (both_keep side_keeps (both_keep (variable_keeps (plain 4)) (level (codes "m_level")).keeps))))))))
 
 scale_keeps : Keeps q_scale.rows scale.fits
 scale_keeps = names_keep scale_variable scale_number

@@ -3,6 +3,7 @@
 use Rattle.std.proofs.Common.{◌≡◌, ◌∙◌, ℕ, List, Option, Some, None, Result, Ok, Err, inl, inr, refl, sym, ap}
 use Rattle.serde_json.specs.Data.{Data, Members, no_members, object as object_data}
 use Rattle.etcs_bits.specs.declared.variables.identity.Identity.{Identity}
+use Rattle.etcs_bits.specs.layout.Rows.{alone}
 use Rattle.etcs_profile.specs.Authority.{AuthorityValue, WithMain, WithoutMain, numbered_by as authority_by, authority_value, authority_of_parts}
 use Rattle.etcs_packet.specs.Track.{authority_in, track_of}
 use Rattle.etcs_packet.specs.declared.cover.CoverMarker.{CoverMarker}
@@ -50,7 +51,7 @@ authority_in_order a = made_members (sent_members a) refl
 -- ---- a position report
 
 report_sent_by : (previous : Option Identity) (r : Report) → object_data (members_of (sent_report (report_with previous r.scale r.lrbg (situation_of r)))) ≡ either_report.to (report_by previous r)
-unfolding report_first report_middle report_last with_one with_two situation state
+unfolding report_first report_middle report_last with_one with_two situation state alone
 report_sent_by None r = ap object_data (sym (made_members ((with_number with_one).part.to (r.scale, (r.lrbg, situation_of r))) refl))
 report_sent_by (Some previous) r = ap object_data (sym (made_members ((with_number with_two).part.to (r.scale, (r.lrbg, (previous, situation_of r)))) refl))
 

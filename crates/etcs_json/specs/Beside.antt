@@ -6,6 +6,7 @@ use Rattle.etcs_bits.specs.declared.layout.fault.FaultKind.TheVariants.{Spare}
 use Rattle.etcs_bits.specs.layout.Choice.{either_rows}
 use Rattle.etcs_bits.specs.layout.Combined.{body_rows, counted_rows, option_rows, pair_rows}
 use Rattle.etcs_bits.specs.layout.Fields.{Fields}
+use Rattle.etcs_bits.specs.layout.Format.{Format}
 use Rattle.etcs_bits.specs.layout.Rows.{AreAllowed, Row, Variable, alone}
 use Rattle.etcs_bits.specs.layout.Struct.{Struct}
 use Rattle.etcs_bits.specs.variables.VariableFormats.{q_dir, q_scale}
@@ -13,7 +14,8 @@ use Rattle.etcs_bits.specs.variables.Variables.{dir_number, dir_variable, only, 
 use Rattle.etcs_json.specs.Chosen.{BehindNumber, Choice, behind as behind_form, either as either_form, last as last_form, with_number}
 use Rattle.etcs_json.specs.Entries.{are_apart}
 use Rattle.etcs_json.specs.Head.{headed as headed_form, scaled as scaled_form}
-use Rattle.etcs_json.specs.RangeLemmas.{Keeps, body_keeps, both_keep, either_keeps, first_keeps, last_keeps, list_keeps, names_keep, number_keeps, option_keeps, parts_keep, variable_keeps}
+use Rattle.etcs_json.specs.KeyedVariables.{HasKeys, variables_at as variables_at_form}
+use Rattle.etcs_json.specs.RangeLemmas.{Keeps, body_keeps, both_keep, either_keeps, first_keeps, last_keeps, list_keeps, names_keep, number_keeps, option_keeps, parts_keep, variable_keeps, variables_keep}
 use Rattle.etcs_json.specs.Shape.{Object, Part, Shape, closed as closed_form, key as key_form, key_if as key_if_form, list as list_form, list_from_one as list_from_one_form, object as object_form, struct as struct_form, ◌then◌ as ◌and_then◌}
 use Rattle.etcs_json.specs.Variables.{flag as flag_form, number as number_form, variable_of}
 
@@ -52,6 +54,10 @@ key name s = record { form = key_form name s.form; keeps = s.keeps }
 -- a key that is there exactly where the option is
 abbrev pub key_if : {X : Type 0} {rows : X → List Row} → List ℕ → ShapeBeside rows → PartBeside (option_rows rows)
 key_if name s = record { form = key_if_form name s.form; keeps = option_keeps s.keeps }
+
+-- the variables of a layout, each at its key
+abbrev pub variables_at : {X : Type 0} (ks : List (List ℕ)) (layout : Format X) → HasKeys layout.fields ks → PartBeside layout.rows
+variables_at ks layout has = record { form = variables_at_form ks layout has; keeps = variables_keep layout.rows }
 
 -- members, and then others
 infixr 5 ◌then◌

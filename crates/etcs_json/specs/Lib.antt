@@ -8,7 +8,7 @@ pub mod Shape
 pub mod Sending
 pub mod SinkLemmas
 pub mod Variables
-pub mod Choice
+pub mod KeyedVariables
 pub mod Chosen
 pub mod Head
 pub mod RangeLemmas

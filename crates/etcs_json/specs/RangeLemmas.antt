@@ -12,6 +12,7 @@ use Rattle.etcs_bits.specs.variables.Variables.{ranged}
 use Rattle.etcs_profile.specs.Elements.{elements}
 use Rattle.etcs_profile.specs.Packet.{rest}
 use Rattle.etcs_json.specs.Chosen.{BehindNumber, by_kind, is_itself, with_number}
+use Rattle.etcs_json.specs.KeyedVariables.{are_in_range}
 use Rattle.etcs_json.specs.Measured.{is_length}
 use Rattle.etcs_json.specs.Shape.{list_fits, option_fits}
 use Rattle.etcs_json.specs.Variables.{is_allowed}
@@ -28,6 +29,14 @@ number_range x n allowed = and_from _ _ (lt-ltb n (2 ^ x.width) allowed.0) allow
 pub variable_keeps : (x : Variable) → Keeps (alone x) (is_allowed x)
 unfolding alone
 variable_keeps x = record { range = λ n allowed. number_range x n allowed.0 }
+
+all_in_bits : (rows : List Row) → AreAllowed rows → are_in_range rows ≡ true
+all_in_bits [] allowed = refl
+all_in_bits (r ∷ rows) allowed = and_from _ _ (number_range r.variable r.number allowed.0) (all_in_bits rows allowed.1)
+
+-- variables, each at its key
+pub variables_keep : {X : Type 0} (rows : X → List Row) → Keeps rows (λ x. are_in_range (rows x))
+variables_keep rows = record { range = λ x allowed. all_in_bits (rows x) allowed }
 
 -- a variable whose numbers have names
 pub names_keep : {X : Type 0} (x : Variable) (tag : X → ℕ) → Keeps (λ v. alone x (tag v)) (λ _. true)

@@ -2,22 +2,22 @@
 -- standard names its variable, in small letters. The standard has the identity of a group as one
 -- variable, NID_LRBG or NID_PRVLRBG. Here its country and its number are two keys. Keys are in the order
 -- in which they are looked for.
-use Rattle.std.specs.Prelude.{◌≡◌, ◌==◌, ◌||◌, ◌⊎◌, ℕ, Bool, List, Option, Some, None, codes, if◌then◌else◌, is_some, refl}
+use Rattle.std.specs.Prelude.{◌==◌, ◌⊎◌, ℕ, List, [], ◌∷◌, codes, refl}
 use Rattle.etcs_bits.specs.declared.variables.identity.Identity.{Identity}
 use Rattle.etcs_bits.specs.declared.variables.level.Level.{Level}
 use Rattle.etcs_bits.specs.variables.Identity.{identity_struct}
 use Rattle.etcs_bits.specs.variables.Variables.{plain}
 use Rattle.etcs_bits.specs.variables.VariableFormats.{nid_bg, nid_c}
-use Rattle.etcs_radio.specs.Integrity.{l_trainint, length_number}
+use Rattle.etcs_radio.specs.Integrity.{length_numbered, q_length}
 use Rattle.etcs_radio.specs.Report.{Situation, WithOne, WithTwo, again, d_lrbg, l_doubtover, l_doubtunder, m_mode, numbered_of, report_of, v_train}
 use Rattle.etcs_radio.specs.Train3.{train3_names, train3_number, train3_of, train3_variable}
 use Rattle.etcs_radio.specs.declared.integrity.Integrity.{Integrity}
-use Rattle.etcs_radio.specs.declared.integrity.Integrity.TheVariants as lengths
 use Rattle.etcs_radio.specs.declared.report.Report.{Report}
 use Rattle.etcs_radio.specs.declared.train3.Train3.{Train3}
-use Rattle.etcs_json.specs.Choice.{decided}
+use Rattle.etcs_json.specs.Beside.{PartBeside, variables_at}
 use Rattle.etcs_json.specs.Chosen.{Choice, behind, chosen, either, last}
 use Rattle.etcs_json.specs.Head.{Packet}
+use Rattle.etcs_json.specs.KeyedVariables.{HasKeys, keys_by}
 use Rattle.etcs_json.specs.Shape.{Part, Shape, key, renamed, struct, ◌then◌}
 use Rattle.etcs_json.specs.Transition.{level}
 use Rattle.etcs_json.specs.Variables.{is_allowed, named_numbers, number, scale}
@@ -30,47 +30,20 @@ identity country group = struct identity_struct (key country (number nid_c.field
 abbrev pub side : Shape Train3
 side = named_numbers train3_variable train3_number train3_of train3_names
 
--- ---- whether the train is whole, and its length
+pub length_keys : (n : ℕ) → HasKeys (length_numbered.next n) (codes "l_trainint" ∷ [])
+length_keys n = keys_by _ _ _ (n == 0) tt (keys_by _ _ _ (n == 1) (λ _. tt) (keys_by _ _ _ (n == 2) (λ _. tt) tt))
 
--- L_TRAININT: the length that is confirmed
-abbrev pub confirmed : Integrity → Option ℕ
-confirmed lengths.Q0 = None
-confirmed (lengths.Q1 l) = Some l
-confirmed (lengths.Q2 l) = Some l
-confirmed lengths.Q3 = None
-
--- what has this Q_LENGTH and this L_TRAININT
-abbrev pub integrity_with : ℕ → Option ℕ → Integrity
-integrity_with n None = if n == 0 then lengths.Q0 else lengths.Q3
-integrity_with n (Some l) = if n == 1 then lengths.Q1 l else lengths.Q2 l
-
--- the numbers of Q_LENGTH at which integrity is confirmed
-abbrev pub is_confirmed : ℕ → Bool
-is_confirmed n = (n == 1) || (n == 2)
-
-pub has_length : (v : Integrity) → is_confirmed (length_number v) ≡ is_some (confirmed v)
-has_length lengths.Q0 = refl
-has_length (lengths.Q1 l) = refl
-has_length (lengths.Q2 l) = refl
-has_length lengths.Q3 = refl
-
-pub integrity_again : (v : Integrity) → integrity_with (length_number v) (confirmed v) ≡ v
-integrity_again lengths.Q0 = refl
-integrity_again (lengths.Q1 l) = refl
-integrity_again (lengths.Q2 l) = refl
-integrity_again lengths.Q3 = refl
-
--- Q_LENGTH; L_TRAININT is wanted exactly at 1 and 2
-abbrev pub integrity : Part Integrity
-integrity = decided (codes "q_length") (is_allowed (plain 2)) is_confirmed (codes "l_trainint") (number l_trainint.fields) length_number confirmed integrity_with has_length integrity_again
+-- Q_LENGTH and L_TRAININT, which is there exactly at 1 and 2: whether the train is whole, and its length
+abbrev pub integrity : PartBeside q_length.rows
+integrity = variables_at (codes "q_length" ∷ codes "l_trainint" ∷ []) q_length length_keys
 
 -- ---- the members behind the groups
 
 -- whether the train is whole, how it runs, and in which mode and level
 unfoldable pub state : Part (Integrity × (ℕ × (Train3 × (ℕ × Level))))
 state =
-    integrity then key (codes "v_train") (number v_train.fields) then key (codes "q_dirtrain") side then key (codes "m_mode") (number m_mode.fields)
-    then level (codes "m_level")
+    integrity.form then key (codes "v_train") (number v_train.fields) then key (codes "q_dirtrain") side then key (codes "m_mode") (number m_mode.fields)
+    then (level (codes "m_level")).form
 
 -- where the train is, as seen from the group, and its state
 unfoldable pub situation : Part Situation

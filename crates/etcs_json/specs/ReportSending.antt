@@ -1,27 +1,27 @@
 -- What is sent of a position report: its members in the byte order of their keys.
 use Rattle.std.specs.Prelude.{List, [], ◌∷◌, ◌++◌, Some, codes, option_map}
-use Rattle.etcs_bits.specs.variables.Level.{level_number}
-use Rattle.etcs_radio.specs.Integrity.{length_number}
+use Rattle.etcs_bits.specs.variables.Level.{level_number, m_level}
+use Rattle.etcs_radio.specs.Integrity.{length_number, q_length}
 use Rattle.etcs_radio.specs.Report.{report_number}
 use Rattle.etcs_radio.specs.declared.report.Report.{Report}
 use Rattle.etcs_json.specs.Entries.{Entry}
-use Rattle.etcs_json.specs.Report.{confirmed, side}
+use Rattle.etcs_json.specs.KeyedVariables.{number_in}
+use Rattle.etcs_json.specs.Report.{side}
 use Rattle.etcs_json.specs.Shape.{optional, number_data}
-use Rattle.etcs_json.specs.Transition.{national_system}
 use Rattle.etcs_json.specs.Variables.{scale}
 
 -- distances and lengths, the level's number and the mode
 unfoldable pub first_members : Report → List Entry
 first_members r =
     (codes "d_lrbg", Some (number_data r.distance)) ∷ (codes "l_doubtover", Some (number_data r.doubt_over))
-    ∷ (codes "l_doubtunder", Some (number_data r.doubt_under)) ∷ (codes "l_trainint", optional number_data (confirmed r.length))
+    ∷ (codes "l_doubtunder", Some (number_data r.doubt_under)) ∷ (codes "l_trainint", optional number_data (number_in 1 (q_length.rows r.length)))
     ∷ (codes "m_level", Some (number_data (level_number r.level))) ∷ (codes "m_mode", Some (number_data r.mode)) ∷ []
 
 -- the groups, the national system, and the packet's number; the group before is there in packet 1 alone
 unfoldable pub middle_members : Report → List Entry
 middle_members r =
     (codes "nid_bg", Some (number_data r.lrbg.group)) ∷ (codes "nid_c", Some (number_data r.lrbg.country))
-    ∷ (codes "nid_ntc", optional number_data (national_system r.level)) ∷ (codes "nid_packet", Some (number_data (report_number r)))
+    ∷ (codes "nid_ntc", optional number_data (number_in 1 (m_level.rows r.level))) ∷ (codes "nid_packet", Some (number_data (report_number r)))
     ∷ (codes "prv_nid_bg", optional number_data (option_map (λ i. i.group) r.previous))
     ∷ (codes "prv_nid_c", optional number_data (option_map (λ i. i.country) r.previous)) ∷ []
 

@@ -1,9 +1,10 @@
 //! The form of a train's integrity, with the length that is confirmed.
 
 ghost use Rattle.std.specs.Prelude.{◌≡◌};
-ghost use Rattle.etcs_radio.specs.Integrity.{length_number as number_of_length};
+ghost use Rattle.etcs_radio.specs.Integrity.{length_number as number_of_length, q_length};
 ghost use Rattle.etcs_json.specs.Fault.{Gives};
-ghost use Rattle.etcs_json.specs.Report.{confirmed, integrity};
+ghost use Rattle.etcs_json.specs.KeyedVariables.{number_in};
+ghost use Rattle.etcs_json.specs.Report.{integrity};
 
 use crate::error::FormError;
 use crate::form::{Form, InPieces};
@@ -28,8 +29,9 @@ pub(crate) fn length_number(integrity: Integrity) -> u64
 }
 
 /// The length that is confirmed: L_TRAININT, 15 bits, at Q_LENGTH 1 and 2.
+#[tactic(auto, unfolding(etcs_bits::specs::layout::Rows::alone))]
 pub(crate) fn confirmed_length(integrity: Integrity) -> Option<Distance>
-    ensures { result ≡ confirmed integrity }
+    ensures { result ≡ number_in 1 (q_length.rows integrity) }
 {
     match integrity {
         Integrity::Q1(length) => Some(length),
@@ -40,8 +42,9 @@ pub(crate) fn confirmed_length(integrity: Integrity) -> Option<Distance>
 }
 
 /// Reads Q_LENGTH and L_TRAININT. L_TRAININT has to be there at 1 and 2, and nowhere else.
+#[tactic(auto, using(crate::proofs::KeyedLemmas::length_numbers))]
 pub(crate) fn read_integrity<N: Node>(alloc: Global, node: &N) -> Result<Integrity, FormError>
-    ensures { Gives (λ v. v) result (integrity.of (N.shows node.now)) }
+    ensures { Gives (λ v. v) result (integrity.form.of (N.shows node.now)) }
 {
     let number: Plain<2> = read_key(alloc, node, "q_length")?;
     if number.number() == 1 {

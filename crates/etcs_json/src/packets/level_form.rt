@@ -2,7 +2,9 @@
 
 ghost use Rattle.std.specs.Prelude.{◌≡◌};
 ghost use Rattle.etcs_json.specs.Fault.{Gives};
-ghost use Rattle.etcs_json.specs.Transition.{level, national_system};
+ghost use Rattle.etcs_bits.specs.variables.Level.{m_level};
+ghost use Rattle.etcs_json.specs.KeyedVariables.{number_in};
+ghost use Rattle.etcs_json.specs.Transition.{level};
 
 use crate::error::FormError;
 use crate::node::Node;
@@ -11,8 +13,9 @@ use etcs_bits::{Level, Plain, Ranged};
 use std::alloc::Global;
 
 /// The national system of level NTC: NID_NTC, 8 bits.
+#[tactic(auto, unfolding(etcs_bits::specs::layout::Rows::alone))]
 pub(crate) fn national_system_of(level: Level) -> Option<Plain<8>>
-    ensures { result ≡ national_system level }
+    ensures { result ≡ number_in 1 (m_level.rows level) }
 {
     match level {
         Level::Ntc(ntc) => Plain::new(u32::from(ntc)),
@@ -22,12 +25,13 @@ pub(crate) fn national_system_of(level: Level) -> Option<Plain<8>>
 
 /// Reads the members of a level. `name` is the key of its number. NID_NTC has to be there at level
 /// NTC, and nowhere else.
+#[tactic(auto, using(crate::proofs::KeyedLemmas::level_numbers))]
 pub(crate) fn read_level<N: Node>(
     alloc: Global,
     node: &N,
     name: &'static str,
 ) -> Result<Level, FormError>
-    ensures { Gives (λ v. v) result ((level name.now).of (N.shows node.now)) }
+    ensures { Gives (λ v. v) result ((level name.now).form.of (N.shows node.now)) }
 {
     let number: Ranged<3, 4, 8> = read_key(alloc, node, name)?;
     if number.number() == 1 {
