@@ -1,4 +1,4 @@
-//! Hexadecimal digits become bytes by a table, and a text with anything else is left to `hex`.
+//! Hexadecimal digits become bytes by tables, and a text with anything else is left to `hex`.
 
 ghost use Rattle.std.specs.Prelude.{◌≡◌, ◌*◌, true, false, length, ◌%◌, ◌⊎◌, IsTrue, IfOk, IfErr, Ok, MatchResult};
 ghost use Rattle.hex.specs.Hex.{decode_of, decode_pairs, decode_sized};

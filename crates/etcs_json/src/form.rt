@@ -83,9 +83,9 @@ pub trait InPieces: Form {
 
     /// Sends the form to a writer of JSON. The only error is that the writer's buffer can't grow. After
     /// an error a part of the form may have been sent.
-    final fn send(&self, out: &mut Writer) -> Result<(), Memory>
-        ensures { OnOk result (SendsValue (Self.shape.to self.now) out.old out.new) }
+    final fn send(&self, writer: &mut Writer) -> Result<(), Memory>
+        ensures { OnOk result (SendsValue (Self.shape.to self.now) writer.old writer.new) }
     {
-        self.send_to(out)
+        self.send_to(writer)
     }
 }

@@ -1,4 +1,4 @@
-use Rattle.std.proofs.Common.{rules, sym, ◌∙◌}
+use Rattle.std.proofs.Common.{sym, ◌∙◌}
 use Rattle.etcs_group.specs.Packets.{said_by}
 use Rattle.etcs_check.proofs.SummaryLemmas.{reached-from_enough, reached-without_authority}
 use Rattle.etcs_check.proofs.summary.is_quiet_in.Goals as goal
