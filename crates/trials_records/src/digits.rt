@@ -1,6 +1,6 @@
 //! Digits that are read and written by tables, against `hex` and `json`, which know them all.
 
-use etcs_digits::{decode, decode_to_vec, send_decimal};
+use etcs_digits::{LineText, decode, decode_to_vec, send_decimal};
 use json::Writer;
 use std::alloc::{AllocError, Global};
 use std::test::Fail;
@@ -53,24 +53,90 @@ fn is_sent_as_by_json(alloc: Global, number: u64) -> Result<bool, AllocError> {
     Ok(out.into_inner().as_slice() == wanted.into_inner().as_slice())
 }
 
+// The least and the greatest number of some counts of digits.
+const BOUNDS: [u64; 12] = [
+    0,
+    9,
+    10,
+    99,
+    100,
+    999,
+    1000,
+    9999,
+    10_000,
+    99_999,
+    100_000,
+    u64::MAX,
+];
+
 #[test]
 fn numbers_are_written_as_by_json(rt: HostRuntime) -> Result<(), Fail> {
-    let bounds = [
-        0,
-        9,
-        10,
-        99,
-        100,
-        999,
-        1000,
-        9999,
-        10_000,
-        99_999,
-        100_000,
-        u64::MAX,
-    ];
-    for number in bounds {
+    for number in BOUNDS {
         assert!(rt; is_sent_as_by_json(rt.alloc(), number)?, "{number}");
+    }
+    Ok(())
+}
+
+// A line of a list: of an object with a number and a text, and of a number.
+fn line_of(alloc: Global, text: &str, number: u64) -> Result<Vec<u8>, AllocError> {
+    let mut out = LineText::new(Vec::new(alloc));
+    out.begin_array()?;
+    out.begin_object()?;
+    out.member(text, number)?;
+    out.key(text)?;
+    out.string(text)?;
+    out.end_object()?;
+    out.number(number)?;
+    out.end_array()?;
+    out.into_line()
+}
+
+// The same list as `json` writes it, and the end of the line.
+fn line_by_json(alloc: Global, text: &str, number: u64) -> Result<Vec<u8>, AllocError> {
+    let mut out = Writer::new(Vec::new(alloc));
+    out.begin_array()?;
+    out.begin_object()?;
+    out.key(text)?;
+    out.u64(number)?;
+    out.key(text)?;
+    out.string(text)?;
+    out.end_object()?;
+    out.u64(number)?;
+    out.end_array()?;
+    let mut line = out.into_inner();
+    line.push(b'\n')?;
+    Ok(line)
+}
+
+// Whether the line is the one that `json` writes.
+fn is_line_as_by_json(alloc: Global, text: &str, number: u64) -> Result<bool, AllocError> {
+    let line = line_of(alloc, text, number)?;
+    let wanted = line_by_json(alloc, text, number)?;
+    Ok(line.as_slice() == wanted.as_slice())
+}
+
+#[test]
+fn lines_are_written_as_by_json(rt: HostRuntime) -> Result<(), Fail> {
+    for number in BOUNDS {
+        assert!(rt;
+            is_line_as_by_json(rt.alloc(), "nid_bg", number)?,
+            "{number}"
+        );
+    }
+    let texts = [
+        "",
+        "q",
+        "ab",
+        "seventeen letters",
+        "more than thirty-two letters in a row",
+        "\"",
+        "a\\b",
+        "\n",
+        "\u{1}\u{1f}",
+        "\u{e9}",
+    ];
+    for text in texts {
+        assert!(rt; is_line_as_by_json(rt.alloc(), text, 7)?, "{text}");
     }
     Ok(())
 }
