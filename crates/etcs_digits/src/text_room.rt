@@ -11,7 +11,7 @@ use std::marker::Model;
 use std::simd::Simd;
 
 // The fewest and the most bytes that are made ready at once.
-const LEAST_AHEAD: usize = 1024;
+const LEAST_AHEAD: usize = 2048;
 
 const MOST_AHEAD: usize = 16 * 1024;
 

@@ -145,7 +145,7 @@ impl TrackPacket {
 
     /// Reads what follows the number of a packet whose layout is known. After an error the cursor
     /// may stand anywhere.
-    #[inline]
+    #[inline(always)]
     pub(crate) fn scan_known(
         alloc: Global,
         number: u64,
