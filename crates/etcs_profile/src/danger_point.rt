@@ -1,5 +1,6 @@
 //! The danger point beyond a movement authority's end.
 
+use crate::each::{each_allowed, each_same, put_each, scan_each};
 use etcs_bits::{Bits, Cursor, DecodeError, Distance, Layout, Memory, ReleaseSpeed, Same};
 use std::alloc::Global;
 
@@ -22,7 +23,7 @@ impl Layout for DangerPoint {
 
     #[tactic(auto, using(etcs_bits::proofs::PutLemmas::allowed_both))]
     fn is_allowed(&self) -> bool {
-        self.distance.is_allowed() && self.release_speed.is_allowed()
+        each_allowed!(self; distance, release_speed)
     }
 
     #[tactic(auto, using(etcs_bits::proofs::WidthLemmas::width_both), unfolding(etcs_bits::specs::layout::Rows::alone))]
@@ -32,20 +33,16 @@ impl Layout for DangerPoint {
 
     #[tactic(auto, using(etcs_bits::proofs::PutLemmas::puts_then, etcs_bits::proofs::PutLemmas::keeps_front, etcs_bits::proofs::PutLemmas::allowed_both))]
     fn put(&self, out: &mut Bits) -> Result<(), Memory> {
-        self.distance.put(out)?;
-        self.release_speed.put(out)
+        put_each!(self, out; distance, release_speed)
     }
 
     fn scan(alloc: Global, cur: &mut Cursor<'_>) -> Result<Self, DecodeError> {
-        Ok(DangerPoint {
-            distance: Layout::scan(alloc, cur)?,
-            release_speed: Layout::scan(alloc, cur)?,
-        })
+        scan_each!(DangerPoint, alloc, cur; distance, release_speed)
     }
 }
 
 impl Same for DangerPoint {
     fn same(&self, other: &Self) -> bool {
-        self.distance.same(&other.distance) && self.release_speed.same(&other.release_speed)
+        each_same!(self, other; distance, release_speed)
     }
 }

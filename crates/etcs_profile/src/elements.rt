@@ -3,6 +3,7 @@
 ghost use Rattle.std.specs.Prelude.{◌≡◌, ◌<◌, ◌≤◌, ◌*◌, length, IfSome};
 ghost use Rattle.etcs_profile.specs.Reach.{way_to_mark};
 
+use crate::each::{each_allowed, each_same, put_each, scan_each};
 use crate::element::Element;
 use crate::error::BuildError;
 use crate::factor::factor;
@@ -126,7 +127,7 @@ impl<T: Layout> Layout for Elements<T> {
     ghost grows = { Unit {0} };
 
     fn is_allowed(&self) -> bool {
-        self.scale.is_allowed() && self.first.is_allowed() && self.further.is_allowed()
+        each_allowed!(self; scale, first, further)
     }
 
     #[tactic(auto, using(etcs_bits::proofs::WidthLemmas::width_both), unfolding(etcs_bits::specs::layout::Rows::alone))]
@@ -138,24 +139,16 @@ impl<T: Layout> Layout for Elements<T> {
     }
 
     fn put(&self, out: &mut Bits) -> Result<(), Memory> {
-        self.scale.put(out)?;
-        self.first.put(out)?;
-        self.further.put(out)
+        put_each!(self, out; scale, first, further)
     }
 
     fn scan(alloc: Global, cur: &mut Cursor<'_>) -> Result<Self, DecodeError> {
-        Ok(Elements {
-            scale: Layout::scan(alloc, cur)?,
-            first: Layout::scan(alloc, cur)?,
-            further: Layout::scan(alloc, cur)?,
-        })
+        scan_each!(Elements, alloc, cur; scale, first, further)
     }
 }
 
 impl<T: Same> Same for Elements<T> {
     fn same(&self, other: &Self) -> bool {
-        self.scale.same(&other.scale)
-            && self.first.same(&other.first)
-            && self.further.same(&other.further)
+        each_same!(self, other; scale, first, further)
     }
 }

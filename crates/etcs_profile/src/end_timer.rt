@@ -1,5 +1,6 @@
 //! The timer of a movement authority's end section.
 
+use crate::each::{each_allowed, each_same, put_each, scan_each};
 use etcs_bits::{Bits, Cursor, DecodeError, Distance, Layout, Memory, Same, Time};
 use std::alloc::Global;
 
@@ -21,7 +22,7 @@ impl Layout for EndTimer {
 
     #[tactic(auto, using(etcs_bits::proofs::PutLemmas::allowed_both))]
     fn is_allowed(&self) -> bool {
-        self.time.is_allowed() && self.start.is_allowed()
+        each_allowed!(self; time, start)
     }
 
     #[tactic(auto, using(etcs_bits::proofs::WidthLemmas::width_both), unfolding(etcs_bits::specs::layout::Rows::alone))]
@@ -31,20 +32,16 @@ impl Layout for EndTimer {
 
     #[tactic(auto, using(etcs_bits::proofs::PutLemmas::puts_then, etcs_bits::proofs::PutLemmas::keeps_front, etcs_bits::proofs::PutLemmas::allowed_both))]
     fn put(&self, out: &mut Bits) -> Result<(), Memory> {
-        self.time.put(out)?;
-        self.start.put(out)
+        put_each!(self, out; time, start)
     }
 
     fn scan(alloc: Global, cur: &mut Cursor<'_>) -> Result<Self, DecodeError> {
-        Ok(EndTimer {
-            time: Layout::scan(alloc, cur)?,
-            start: Layout::scan(alloc, cur)?,
-        })
+        scan_each!(EndTimer, alloc, cur; time, start)
     }
 }
 
 impl Same for EndTimer {
     fn same(&self, other: &Self) -> bool {
-        self.time.same(&other.time) && self.start.same(&other.start)
+        each_same!(self, other; time, start)
     }
 }

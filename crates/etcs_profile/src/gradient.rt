@@ -2,6 +2,7 @@
 
 ghost use Rattle.std.specs.Prelude.{◌<◌, ◌==◌};
 
+use crate::each::{each_allowed, each_same, put_each, scan_each};
 use crate::element::Element;
 use crate::elements::Elements;
 use crate::error::BuildError;
@@ -62,11 +63,7 @@ impl GradientElement {
         ensures gives { Gives gradient_element.rows result (rows_at gradient_element.fields cur.old) cur.new }
         ensures memory { IfMemory result ⊥ }
     {
-        Ok(GradientElement {
-            distance: Layout::scan(alloc, cur)?,
-            uphill: Layout::scan(alloc, cur)?,
-            gradient: Layout::scan(alloc, cur)?,
-        })
+        scan_each!(GradientElement, alloc, cur; distance, uphill, gradient)
     }
 }
 
@@ -77,7 +74,7 @@ impl Layout for GradientElement {
 
     #[tactic(auto, using(etcs_bits::proofs::PutLemmas::allowed_both))]
     fn is_allowed(&self) -> bool {
-        self.distance.is_allowed() && self.uphill.is_allowed() && self.gradient.is_allowed()
+        each_allowed!(self; distance, uphill, gradient)
     }
 
     #[tactic(auto, using(etcs_bits::proofs::WidthLemmas::width_both), unfolding(etcs_bits::specs::layout::Rows::alone))]
@@ -87,9 +84,7 @@ impl Layout for GradientElement {
 
     #[tactic(auto, using(etcs_bits::proofs::PutLemmas::puts_then, etcs_bits::proofs::PutLemmas::keeps_front, etcs_bits::proofs::PutLemmas::allowed_both))]
     fn put(&self, out: &mut Bits) -> Result<(), Memory> {
-        self.distance.put(out)?;
-        self.uphill.put(out)?;
-        self.gradient.put(out)
+        put_each!(self, out; distance, uphill, gradient)
     }
 
     #[inline(always)]
@@ -108,9 +103,7 @@ impl Layout for GradientElement {
 
 impl Same for GradientElement {
     fn same(&self, other: &Self) -> bool {
-        self.distance.same(&other.distance)
-            && self.uphill.same(&other.uphill)
-            && self.gradient.same(&other.gradient)
+        each_same!(self, other; distance, uphill, gradient)
     }
 }
 

@@ -14,6 +14,7 @@
 
 mod authority;
 mod danger_point;
+mod each;
 mod element;
 mod elements;
 mod end_timer;

@@ -2,6 +2,7 @@
 
 ghost use Rattle.std.specs.Prelude.{◌<◌, length};
 
+use crate::each::{each_allowed, each_same, put_each, scan_each};
 use crate::elements::Elements;
 use crate::error::BuildError;
 use crate::packet::Packet;
@@ -71,14 +72,7 @@ impl Link {
         ensures gives { Gives link.rows result (rows_at link.fields cur.old) cur.new }
         ensures memory { IfMemory result ⊥ }
     {
-        Ok(Link {
-            distance: Layout::scan(alloc, cur)?,
-            country: Layout::scan(alloc, cur)?,
-            group: Layout::scan(alloc, cur)?,
-            nominal: Layout::scan(alloc, cur)?,
-            reaction: Layout::scan(alloc, cur)?,
-            accuracy: Layout::scan(alloc, cur)?,
-        })
+        scan_each!(Link, alloc, cur; distance, country, group, nominal, reaction, accuracy)
     }
 }
 
@@ -89,12 +83,7 @@ impl Layout for Link {
 
     #[tactic(auto, using(etcs_bits::proofs::PutLemmas::allowed_both, etcs_bits::proofs::FitLemmas::some_fit))]
     fn is_allowed(&self) -> bool {
-        self.distance.is_allowed()
-            && self.country.is_allowed()
-            && self.group.is_allowed()
-            && self.nominal.is_allowed()
-            && self.reaction.is_allowed()
-            && self.accuracy.is_allowed()
+        each_allowed!(self; distance, country, group, nominal, reaction, accuracy)
     }
 
     #[tactic(auto, using(etcs_bits::proofs::WidthLemmas::width_both), unfolding(etcs_bits::specs::layout::Rows::alone))]
@@ -104,12 +93,7 @@ impl Layout for Link {
 
     #[tactic(auto, using(etcs_bits::proofs::PutLemmas::puts_then, etcs_bits::proofs::PutLemmas::keeps_front, etcs_bits::proofs::PutLemmas::allowed_both))]
     fn put(&self, out: &mut Bits) -> Result<(), Memory> {
-        self.distance.put(out)?;
-        self.country.put(out)?;
-        self.group.put(out)?;
-        self.nominal.put(out)?;
-        self.reaction.put(out)?;
-        self.accuracy.put(out)
+        put_each!(self, out; distance, country, group, nominal, reaction, accuracy)
     }
 
     #[inline(always)]
@@ -139,11 +123,6 @@ impl Layout for Link {
 
 impl Same for Link {
     fn same(&self, other: &Self) -> bool {
-        self.distance.same(&other.distance)
-            && self.country.same(&other.country)
-            && self.group.same(&other.group)
-            && self.nominal.same(&other.nominal)
-            && self.reaction.same(&other.reaction)
-            && self.accuracy.same(&other.accuracy)
+        each_same!(self, other; distance, country, group, nominal, reaction, accuracy)
     }
 }

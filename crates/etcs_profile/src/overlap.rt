@@ -1,5 +1,6 @@
 //! The overlap beyond a movement authority's end.
 
+use crate::each::{each_allowed, each_same, put_each, scan_each};
 use etcs_bits::{Bits, Cursor, DecodeError, Distance, Layout, Memory, ReleaseSpeed, Same, Time};
 use std::alloc::Global;
 
@@ -27,10 +28,7 @@ impl Layout for Overlap {
 
     #[tactic(auto, using(etcs_bits::proofs::PutLemmas::allowed_both))]
     fn is_allowed(&self) -> bool {
-        self.start.is_allowed()
-            && self.time.is_allowed()
-            && self.length.is_allowed()
-            && self.release_speed.is_allowed()
+        each_allowed!(self; start, time, length, release_speed)
     }
 
     #[tactic(auto, using(etcs_bits::proofs::WidthLemmas::width_both), unfolding(etcs_bits::specs::layout::Rows::alone))]
@@ -40,27 +38,16 @@ impl Layout for Overlap {
 
     #[tactic(auto, using(etcs_bits::proofs::PutLemmas::puts_then, etcs_bits::proofs::PutLemmas::keeps_front, etcs_bits::proofs::PutLemmas::allowed_both))]
     fn put(&self, out: &mut Bits) -> Result<(), Memory> {
-        self.start.put(out)?;
-        self.time.put(out)?;
-        self.length.put(out)?;
-        self.release_speed.put(out)
+        put_each!(self, out; start, time, length, release_speed)
     }
 
     fn scan(alloc: Global, cur: &mut Cursor<'_>) -> Result<Self, DecodeError> {
-        Ok(Overlap {
-            start: Layout::scan(alloc, cur)?,
-            time: Layout::scan(alloc, cur)?,
-            length: Layout::scan(alloc, cur)?,
-            release_speed: Layout::scan(alloc, cur)?,
-        })
+        scan_each!(Overlap, alloc, cur; start, time, length, release_speed)
     }
 }
 
 impl Same for Overlap {
     fn same(&self, other: &Self) -> bool {
-        self.start.same(&other.start)
-            && self.time.same(&other.time)
-            && self.length.same(&other.length)
-            && self.release_speed.same(&other.release_speed)
+        each_same!(self, other; start, time, length, release_speed)
     }
 }

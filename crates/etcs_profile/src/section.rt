@@ -1,5 +1,6 @@
 //! A section of a movement authority.
 
+use crate::each::{each_allowed, each_same, put_each, scan_each};
 use etcs_bits::{Bits, Cursor, DecodeError, Distance, Layout, Memory, Same, Time};
 use std::alloc::Global;
 
@@ -20,7 +21,7 @@ impl Layout for Section {
 
     #[tactic(auto, using(etcs_bits::proofs::PutLemmas::allowed_both, etcs_bits::proofs::FitLemmas::some_fit))]
     fn is_allowed(&self) -> bool {
-        self.length.is_allowed() && self.timer.is_allowed()
+        each_allowed!(self; length, timer)
     }
 
     #[tactic(auto, using(etcs_bits::proofs::WidthLemmas::width_both), unfolding(etcs_bits::specs::layout::Rows::alone))]
@@ -30,21 +31,17 @@ impl Layout for Section {
 
     #[tactic(auto, using(etcs_bits::proofs::PutLemmas::puts_then, etcs_bits::proofs::PutLemmas::keeps_front, etcs_bits::proofs::PutLemmas::allowed_both))]
     fn put(&self, out: &mut Bits) -> Result<(), Memory> {
-        self.length.put(out)?;
-        self.timer.put(out)
+        put_each!(self, out; length, timer)
     }
 
     fn scan(alloc: Global, cur: &mut Cursor<'_>) -> Result<Self, DecodeError> {
-        Ok(Section {
-            length: Layout::scan(alloc, cur)?,
-            timer: Layout::scan(alloc, cur)?,
-        })
+        scan_each!(Section, alloc, cur; length, timer)
     }
 }
 
 impl Same for Section {
     fn same(&self, other: &Self) -> bool {
-        self.length.same(&other.length) && self.timer.same(&other.timer)
+        each_same!(self, other; length, timer)
     }
 }
 
@@ -66,7 +63,7 @@ impl Layout for SectionTimer {
 
     #[tactic(auto, using(etcs_bits::proofs::PutLemmas::allowed_both))]
     fn is_allowed(&self) -> bool {
-        self.time.is_allowed() && self.stop.is_allowed()
+        each_allowed!(self; time, stop)
     }
 
     #[tactic(auto, using(etcs_bits::proofs::WidthLemmas::width_both), unfolding(etcs_bits::specs::layout::Rows::alone))]
@@ -76,20 +73,16 @@ impl Layout for SectionTimer {
 
     #[tactic(auto, using(etcs_bits::proofs::PutLemmas::puts_then, etcs_bits::proofs::PutLemmas::keeps_front, etcs_bits::proofs::PutLemmas::allowed_both))]
     fn put(&self, out: &mut Bits) -> Result<(), Memory> {
-        self.time.put(out)?;
-        self.stop.put(out)
+        put_each!(self, out; time, stop)
     }
 
     fn scan(alloc: Global, cur: &mut Cursor<'_>) -> Result<Self, DecodeError> {
-        Ok(SectionTimer {
-            time: Layout::scan(alloc, cur)?,
-            stop: Layout::scan(alloc, cur)?,
-        })
+        scan_each!(SectionTimer, alloc, cur; time, stop)
     }
 }
 
 impl Same for SectionTimer {
     fn same(&self, other: &Self) -> bool {
-        self.time.same(&other.time) && self.stop.same(&other.stop)
+        each_same!(self, other; time, stop)
     }
 }

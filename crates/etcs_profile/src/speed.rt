@@ -2,6 +2,7 @@
 
 ghost use Rattle.std.specs.Prelude.{◌==◌, ◌≤◌, length};
 
+use crate::each::{each_allowed, each_same, put_each, scan_each};
 use crate::element::Element;
 use crate::elements::Elements;
 use crate::error::BuildError;
@@ -66,11 +67,7 @@ impl Difference {
         ensures gives { Gives difference.rows result (rows_at difference.fields cur.old) cur.new }
         ensures memory { IfMemory result ⊥ }
     {
-        Ok(Difference {
-            kind: Layout::scan(alloc, cur)?,
-            category: Layout::scan(alloc, cur)?,
-            speed: Layout::scan(alloc, cur)?,
-        })
+        scan_each!(Difference, alloc, cur; kind, category, speed)
     }
 }
 
@@ -81,7 +78,7 @@ impl Layout for Difference {
 
     #[tactic(auto, using(etcs_bits::proofs::PutLemmas::allowed_both))]
     fn is_allowed(&self) -> bool {
-        self.kind.is_allowed() && self.category.is_allowed() && self.speed.is_allowed()
+        each_allowed!(self; kind, category, speed)
     }
 
     #[tactic(auto, using(etcs_bits::proofs::WidthLemmas::width_both), unfolding(etcs_bits::specs::layout::Rows::alone))]
@@ -91,9 +88,7 @@ impl Layout for Difference {
 
     #[tactic(auto, using(etcs_bits::proofs::PutLemmas::puts_then, etcs_bits::proofs::PutLemmas::keeps_front, etcs_bits::proofs::PutLemmas::allowed_both))]
     fn put(&self, out: &mut Bits) -> Result<(), Memory> {
-        self.kind.put(out)?;
-        self.category.put(out)?;
-        self.speed.put(out)
+        put_each!(self, out; kind, category, speed)
     }
 
     #[inline(always)]
@@ -118,9 +113,7 @@ impl Layout for Difference {
 
 impl Same for Difference {
     fn same(&self, other: &Self) -> bool {
-        self.kind.same(&other.kind)
-            && self.category.same(&other.category)
-            && self.speed.same(&other.speed)
+        each_same!(self, other; kind, category, speed)
     }
 }
 
@@ -151,12 +144,7 @@ impl SpeedElement {
     fn scan_fields(alloc: Global, cur: &mut Cursor<'_>) -> Result<Self, DecodeError>
         ensures gives { Gives speed_element.rows result (rows_at speed_element.fields cur.old) cur.new }
     {
-        Ok(SpeedElement {
-            distance: Layout::scan(alloc, cur)?,
-            speed: Layout::scan(alloc, cur)?,
-            front: Layout::scan(alloc, cur)?,
-            differences: Layout::scan(alloc, cur)?,
-        })
+        scan_each!(SpeedElement, alloc, cur; distance, speed, front, differences)
     }
 }
 
@@ -172,10 +160,7 @@ impl Layout for SpeedElement {
 
     #[tactic(auto, using(etcs_bits::proofs::PutLemmas::allowed_both, etcs_bits::proofs::FitLemmas::all_fit))]
     fn is_allowed(&self) -> bool {
-        self.distance.is_allowed()
-            && self.speed.is_allowed()
-            && self.front.is_allowed()
-            && self.differences.is_allowed()
+        each_allowed!(self; distance, speed, front, differences)
     }
 
     #[tactic(auto, using(etcs_bits::proofs::WidthLemmas::width_both), unfolding(etcs_bits::specs::layout::Rows::alone))]
@@ -185,10 +170,7 @@ impl Layout for SpeedElement {
 
     #[tactic(auto, using(etcs_bits::proofs::PutLemmas::puts_then, etcs_bits::proofs::PutLemmas::keeps_front, etcs_bits::proofs::PutLemmas::allowed_both))]
     fn put(&self, out: &mut Bits) -> Result<(), Memory> {
-        self.distance.put(out)?;
-        self.speed.put(out)?;
-        self.front.put(out)?;
-        self.differences.put(out)
+        put_each!(self, out; distance, speed, front, differences)
     }
 
     #[inline(always)]
@@ -212,10 +194,7 @@ impl Layout for SpeedElement {
 
 impl Same for SpeedElement {
     fn same(&self, other: &Self) -> bool {
-        self.distance.same(&other.distance)
-            && self.speed.same(&other.speed)
-            && self.front.same(&other.front)
-            && self.differences.same(&other.differences)
+        each_same!(self, other; distance, speed, front, differences)
     }
 }
 

@@ -1,6 +1,7 @@
 //! What the two movement authority packets have in common.
 
 use crate::danger_point::DangerPoint;
+use crate::each::{each_allowed, each_same, put_each, scan_each};
 use crate::end_timer::EndTimer;
 use crate::overlap::Overlap;
 use crate::section::{Section, SectionTimer};
@@ -43,14 +44,10 @@ impl Layout for Terms {
 
     #[tactic(auto, using(etcs_bits::proofs::PutLemmas::allowed_both, etcs_bits::proofs::FitLemmas::some_fit, etcs_bits::proofs::FitLemmas::all_fit))]
     fn is_allowed(&self) -> bool {
-        self.end_speed.is_allowed()
-            && self.end_timeout.is_allowed()
-            && self.sections.is_allowed()
-            && self.l_endsection.is_allowed()
-            && self.section_timer.is_allowed()
-            && self.end_timer.is_allowed()
-            && self.danger_point.is_allowed()
-            && self.overlap.is_allowed()
+        each_allowed!(
+            self; end_speed, end_timeout, sections, l_endsection, section_timer, end_timer,
+            danger_point, overlap
+        )
     }
 
     #[tactic(auto, using(etcs_bits::proofs::WidthLemmas::width_both), unfolding(etcs_bits::specs::layout::Rows::alone))]
@@ -66,39 +63,25 @@ impl Layout for Terms {
 
     #[tactic(auto, using(etcs_bits::proofs::PutLemmas::puts_then, etcs_bits::proofs::PutLemmas::keeps_front, etcs_bits::proofs::PutLemmas::allowed_both))]
     fn put(&self, out: &mut Bits) -> Result<(), Memory> {
-        self.end_speed.put(out)?;
-        self.end_timeout.put(out)?;
-        self.sections.put(out)?;
-        self.l_endsection.put(out)?;
-        self.section_timer.put(out)?;
-        self.end_timer.put(out)?;
-        self.danger_point.put(out)?;
-        self.overlap.put(out)
+        put_each!(
+            self, out; end_speed, end_timeout, sections, l_endsection, section_timer, end_timer,
+            danger_point, overlap
+        )
     }
 
     fn scan(alloc: Global, cur: &mut Cursor<'_>) -> Result<Self, DecodeError> {
-        Ok(Terms {
-            end_speed: Layout::scan(alloc, cur)?,
-            end_timeout: Layout::scan(alloc, cur)?,
-            sections: Layout::scan(alloc, cur)?,
-            l_endsection: Layout::scan(alloc, cur)?,
-            section_timer: Layout::scan(alloc, cur)?,
-            end_timer: Layout::scan(alloc, cur)?,
-            danger_point: Layout::scan(alloc, cur)?,
-            overlap: Layout::scan(alloc, cur)?,
-        })
+        scan_each!(
+            Terms, alloc, cur; end_speed, end_timeout, sections, l_endsection, section_timer,
+            end_timer, danger_point, overlap
+        )
     }
 }
 
 impl Same for Terms {
     fn same(&self, other: &Self) -> bool {
-        self.end_speed.same(&other.end_speed)
-            && self.end_timeout.same(&other.end_timeout)
-            && self.sections.same(&other.sections)
-            && self.l_endsection.same(&other.l_endsection)
-            && self.section_timer.same(&other.section_timer)
-            && self.end_timer.same(&other.end_timer)
-            && self.danger_point.same(&other.danger_point)
-            && self.overlap.same(&other.overlap)
+        each_same!(
+            self, other; end_speed, end_timeout, sections, l_endsection, section_timer, end_timer,
+            danger_point, overlap
+        )
     }
 }

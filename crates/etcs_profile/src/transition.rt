@@ -2,6 +2,7 @@
 
 ghost use Rattle.std.specs.Prelude.{◌≡◌, ◌<◌, length};
 
+use crate::each::{each_allowed, each_same, put_each, scan_each};
 use crate::error::BuildError;
 use crate::packet::Packet;
 use etcs_bits::{
@@ -105,10 +106,7 @@ impl Layout for LevelOrders {
     ghost grows = { Unit {0} };
 
     fn is_allowed(&self) -> bool {
-        self.scale.is_allowed()
-            && self.d_leveltr.is_allowed()
-            && self.first.is_allowed()
-            && self.further.is_allowed()
+        each_allowed!(self; scale, d_leveltr, first, further)
     }
 
     #[tactic(auto, using(etcs_bits::proofs::WidthLemmas::width_both), unfolding(etcs_bits::specs::layout::Rows::alone))]
@@ -120,28 +118,17 @@ impl Layout for LevelOrders {
     }
 
     fn put(&self, out: &mut Bits) -> Result<(), Memory> {
-        self.scale.put(out)?;
-        self.d_leveltr.put(out)?;
-        self.first.put(out)?;
-        self.further.put(out)
+        put_each!(self, out; scale, d_leveltr, first, further)
     }
 
     fn scan(alloc: Global, cur: &mut Cursor<'_>) -> Result<Self, DecodeError> {
-        Ok(LevelOrders {
-            scale: Layout::scan(alloc, cur)?,
-            d_leveltr: Layout::scan(alloc, cur)?,
-            first: Layout::scan(alloc, cur)?,
-            further: Layout::scan(alloc, cur)?,
-        })
+        scan_each!(LevelOrders, alloc, cur; scale, d_leveltr, first, further)
     }
 }
 
 impl Same for LevelOrders {
     fn same(&self, other: &Self) -> bool {
-        self.scale.same(&other.scale)
-            && self.d_leveltr.same(&other.d_leveltr)
-            && self.first.same(&other.first)
-            && self.further.same(&other.further)
+        each_same!(self, other; scale, d_leveltr, first, further)
     }
 }
 
@@ -164,7 +151,7 @@ impl Layout for LevelOrder {
 
     #[tactic(auto, using(etcs_bits::proofs::PutLemmas::allowed_both))]
     fn is_allowed(&self) -> bool {
-        self.level.is_allowed() && self.acknowledge.is_allowed()
+        each_allowed!(self; level, acknowledge)
     }
 
     #[tactic(auto, using(etcs_bits::proofs::WidthLemmas::width_both), unfolding(etcs_bits::specs::layout::Rows::alone))]
@@ -174,20 +161,16 @@ impl Layout for LevelOrder {
 
     #[tactic(auto, using(etcs_bits::proofs::PutLemmas::puts_then, etcs_bits::proofs::PutLemmas::keeps_front, etcs_bits::proofs::PutLemmas::allowed_both))]
     fn put(&self, out: &mut Bits) -> Result<(), Memory> {
-        self.level.put(out)?;
-        self.acknowledge.put(out)
+        put_each!(self, out; level, acknowledge)
     }
 
     fn scan(alloc: Global, cur: &mut Cursor<'_>) -> Result<Self, DecodeError> {
-        Ok(LevelOrder {
-            level: Layout::scan(alloc, cur)?,
-            acknowledge: Layout::scan(alloc, cur)?,
-        })
+        scan_each!(LevelOrder, alloc, cur; level, acknowledge)
     }
 }
 
 impl Same for LevelOrder {
     fn same(&self, other: &Self) -> bool {
-        self.level.same(&other.level) && self.acknowledge.same(&other.acknowledge)
+        each_same!(self, other; level, acknowledge)
     }
 }
