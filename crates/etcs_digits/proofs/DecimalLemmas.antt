@@ -1,64 +1,92 @@
--- The table of pairs of decimal digits, and numbers of one to five digits.
-use Rattle.std.proofs.Common.{◌≡◌, ℕ, ◌+◌, ◌*◌, ◌/◌, ◌%◌, ◌<◌, ◌≤◌, ◌^◌, Bool, true, ◌&&◌, ◌==◌, List, [], ◌∷◌, ◌++◌, slice_index, append_assoc, arith, refl, subst, sym}
-use Rattle.std.proofs.lemmas.Bool.{agree_below_at, and_parts, eqb-true}
+-- The table of digits, and numbers that are written after it.
+use Rattle.std.proofs.Common.{◌≡◌, ℕ, ◌+◌, ◌/◌, ◌%◌, ◌<◌, ◌≤◌, ◌^◌, Bool, true, false, cond, ◌&&◌, ◌==◌, nat_lt, List, [], ◌∷◌, ◌++◌, slice_index, take, length, append_assoc, arith, refl, subst, sym, ap, ◌∙◌}
+use Rattle.std.proofs.lemmas.Bool.{and_parts, eqb-true, ltb-false, ltb-true}
 use Rattle.std.proofs.lemmas.Fmt.{decimal_digit, decimal_step}
+use Rattle.std.proofs.lemmas.List.{length-take-le, take-take}
+use Rattle.std.proofs.Math.Seq.{take-append-add}
 use Rattle.std.specs.Fmt.{decimal}
 use Rattle.json.specs.Filled.{Placed}
 
--- the table of the code, byte by byte
-abbrev pub pairs : List ℕ
-pairs =
-    48 ∷ 48 ∷ 48 ∷ 49 ∷ 48 ∷ 50 ∷ 48 ∷ 51 ∷ 48 ∷ 52 ∷ 48 ∷ 53 ∷ 48 ∷ 54 ∷ 48 ∷ 55 ∷ 48 ∷ 56 ∷ 48 ∷ 57
-    ∷ 49 ∷ 48 ∷ 49 ∷ 49 ∷ 49 ∷ 50 ∷ 49 ∷ 51 ∷ 49 ∷ 52 ∷ 49 ∷ 53 ∷ 49 ∷ 54 ∷ 49 ∷ 55 ∷ 49 ∷ 56 ∷ 49 ∷ 57
-    ∷ 50 ∷ 48 ∷ 50 ∷ 49 ∷ 50 ∷ 50 ∷ 50 ∷ 51 ∷ 50 ∷ 52 ∷ 50 ∷ 53 ∷ 50 ∷ 54 ∷ 50 ∷ 55 ∷ 50 ∷ 56 ∷ 50 ∷ 57
-    ∷ 51 ∷ 48 ∷ 51 ∷ 49 ∷ 51 ∷ 50 ∷ 51 ∷ 51 ∷ 51 ∷ 52 ∷ 51 ∷ 53 ∷ 51 ∷ 54 ∷ 51 ∷ 55 ∷ 51 ∷ 56 ∷ 51 ∷ 57
-    ∷ 52 ∷ 48 ∷ 52 ∷ 49 ∷ 52 ∷ 50 ∷ 52 ∷ 51 ∷ 52 ∷ 52 ∷ 52 ∷ 53 ∷ 52 ∷ 54 ∷ 52 ∷ 55 ∷ 52 ∷ 56 ∷ 52 ∷ 57
-    ∷ 53 ∷ 48 ∷ 53 ∷ 49 ∷ 53 ∷ 50 ∷ 53 ∷ 51 ∷ 53 ∷ 52 ∷ 53 ∷ 53 ∷ 53 ∷ 54 ∷ 53 ∷ 55 ∷ 53 ∷ 56 ∷ 53 ∷ 57
-    ∷ 54 ∷ 48 ∷ 54 ∷ 49 ∷ 54 ∷ 50 ∷ 54 ∷ 51 ∷ 54 ∷ 52 ∷ 54 ∷ 53 ∷ 54 ∷ 54 ∷ 54 ∷ 55 ∷ 54 ∷ 56 ∷ 54 ∷ 57
-    ∷ 55 ∷ 48 ∷ 55 ∷ 49 ∷ 55 ∷ 50 ∷ 55 ∷ 51 ∷ 55 ∷ 52 ∷ 55 ∷ 53 ∷ 55 ∷ 54 ∷ 55 ∷ 55 ∷ 55 ∷ 56 ∷ 55 ∷ 57
-    ∷ 56 ∷ 48 ∷ 56 ∷ 49 ∷ 56 ∷ 50 ∷ 56 ∷ 51 ∷ 56 ∷ 52 ∷ 56 ∷ 53 ∷ 56 ∷ 54 ∷ 56 ∷ 55 ∷ 56 ∷ 56 ∷ 56 ∷ 57
-    ∷ 57 ∷ 48 ∷ 57 ∷ 49 ∷ 57 ∷ 50 ∷ 57 ∷ 51 ∷ 57 ∷ 52 ∷ 57 ∷ 53 ∷ 57 ∷ 54 ∷ 57 ∷ 55 ∷ 57 ∷ 56 ∷ 57 ∷ 57 ∷ []
+-- whether two texts are the same
+unfoldable pub same : List ℕ → List ℕ → Bool
+same [] [] = true
+same [] (y ∷ ys) = false
+same (x ∷ xs) [] = false
+same (x ∷ xs) (y ∷ ys) = x == y && same xs ys
 
--- whether the table has the digits of a number at its place
-abbrev is_pair : ℕ → Bool
-is_pair p = slice_index pairs (2 * p) == 48 + p / 10 && slice_index pairs (2 * p + 1) == 48 + p % 10
+pub are_same : (xs ys : List ℕ) → same xs ys ≡ true → xs ≡ ys
+unfolding same
+are_same [] [] is = refl
+are_same [] (y ∷ ys) is = absurd cc
+are_same (x ∷ xs) [] is = absurd cc
+are_same (x ∷ xs) (y ∷ ys) is =
+    let parts = and_parts (x == y) (same xs ys) is in
+    let head = eqb-true x y parts.0 in
+    let tail = are_same xs ys parts.1 in
+    rw (head, tail) refl
 
--- the two digits of a number below 100, from the table
-pub pair_at : (n : ℕ) → n < 100 → slice_index pairs (2 * n) ∷ slice_index pairs (2 * n + 1) ∷ [] ≡ (48 + n / 10) ∷ (48 + n % 10) ∷ []
-pair_at n lt =
-    let parts = and_parts (slice_index pairs (2 * n) == 48 + n / 10) (slice_index pairs (2 * n + 1) == 48 + n % 10) (agree_below_at is_pair (λ _. true) 100 n refl lt) in
-    let a = eqb-true _ _ parts.0 in
-    let b = eqb-true _ _ parts.1 in
-    rw (a, b) refl
+-- the row of a number, by its digits
+abbrev pub row_by : ℕ → List ℕ
+row_by n = cond (nat_lt n 10) ((48 + n) ∷ 0 ∷ 0 ∷ 1 ∷ [])
+    (cond (nat_lt n 100) ((48 + n / 10) ∷ (48 + n % 10) ∷ 0 ∷ 2 ∷ [])
+    ((48 + n / 100) ∷ (48 + n / 10 % 10) ∷ (48 + n % 10) ∷ 3 ∷ []))
 
 pub one_digit : (n : ℕ) → n < 10 → (48 + n) ∷ [] ≡ decimal n
 one_digit n lt = sym (decimal_digit n lt)
 
-pub two_digits : (n : ℕ) → 10 ≤ n → n < 100 → (48 + n / 10) ∷ (48 + n % 10) ∷ [] ≡ decimal n
-two_digits n lo hi = sym (rw (decimal_step n lo (omega arith), decimal_digit (n / 10) (omega arith)) refl)
+-- a digit more
+more : (n : ℕ) (front : List ℕ) → 10 ≤ n → n < 2 ^ 64 → front ≡ decimal (n / 10) → front ++ ((48 + n % 10) ∷ []) ≡ decimal n
+more n front lo hi is = sym (rw (decimal_step n lo hi, is) refl)
 
--- two digits more
-more : (n : ℕ) (front : List ℕ) → 100 ≤ n → n < 2 ^ 64 → front ≡ decimal (n / 100) → front ++ ((48 + n % 100 / 10) ∷ (48 + n % 100 % 10) ∷ []) ≡ decimal n
-more n front lo hi is =
-    let a : n / 10 / 10 ≡ n / 100 = omega arith in
-    let b : n / 10 % 10 ≡ n % 100 / 10 = omega arith in
-    let c : n % 10 ≡ n % 100 % 10 = omega arith in
-    sym (rw (decimal_step n (omega arith) hi, decimal_step (n / 10) (omega arith) (omega arith), append_assoc, a, b, c, is) refl)
+two_digits : (n : ℕ) → 10 ≤ n → n < 100 → (48 + n / 10) ∷ (48 + n % 10) ∷ [] ≡ decimal n
+two_digits n lo hi = more n ((48 + n / 10) ∷ []) lo (omega arith) (one_digit (n / 10) (omega arith))
 
-pub three_digits : (n : ℕ) → 100 ≤ n → n < 1000 → (48 + n / 100) ∷ (48 + n % 100 / 10) ∷ (48 + n % 100 % 10) ∷ [] ≡ decimal n
-three_digits n lo hi = more n ((48 + n / 100) ∷ []) lo (omega arith) (one_digit (n / 100) (omega arith))
+three_digits : (n : ℕ) → 100 ≤ n → n < 1000 → (48 + n / 100) ∷ (48 + n / 10 % 10) ∷ (48 + n % 10) ∷ [] ≡ decimal n
+three_digits n lo hi =
+    let far : n / 100 ≡ n / 10 / 10 = omega arith in
+    more n ((48 + n / 100) ∷ (48 + n / 10 % 10) ∷ []) (omega arith) (omega arith)
+    (rw far (two_digits (n / 10) (omega arith) (omega arith)))
 
-pub four_digits : (n : ℕ) → 1000 ≤ n → n < 10000
-    → (48 + n / 100 / 10) ∷ (48 + n / 100 % 10) ∷ (48 + n % 100 / 10) ∷ (48 + n % 100 % 10) ∷ [] ≡ decimal n
-four_digits n lo hi =
-    more n ((48 + n / 100 / 10) ∷ (48 + n / 100 % 10) ∷ []) (omega arith) (omega arith) (two_digits (n / 100) (omega arith) (omega arith))
+-- three digits more
+pub three_more : (n : ℕ) → 1000 ≤ n → n < 2 ^ 64 → decimal (n / 1000) ++ ((48 + n / 100 % 10) ∷ (48 + n / 10 % 10) ∷ (48 + n % 10) ∷ []) ≡ decimal n
+three_more n lo hi =
+    let a : n / 10 / 10 / 10 ≡ n / 1000 = omega arith in
+    let b : n / 10 / 10 % 10 ≡ n / 100 % 10 = omega arith in
+    sym (rw (
+      decimal_step n (omega arith) hi,
+      decimal_step (n / 10) (omega arith) (omega arith),
+      decimal_step (n / 10 / 10) (omega arith) (omega arith),
+      append_assoc,
+      append_assoc,
+      a,
+      b,
+    ) refl)
 
-pub five_digits : (n : ℕ) → 10000 ≤ n → n < 100000
-    → (48 + n / 10000) ∷ (48 + n / 100 % 100 / 10) ∷ (48 + n / 100 % 100 % 10) ∷ (48 + n % 100 / 10) ∷ (48 + n % 100 % 10) ∷ [] ≡ decimal n
-five_digits n lo hi =
-    let far : n / 10000 ≡ n / 100 / 100 = omega arith in
-    more n ((48 + n / 10000) ∷ (48 + n / 100 % 100 / 10) ∷ (48 + n / 100 % 100 % 10) ∷ []) (omega arith) (omega arith)
-    (rw far (three_digits (n / 100) (omega arith) (omega arith)))
+-- the row has the digits of a number, and counts them
+abbrev pub HasDigits : ℕ → List ℕ → Type 0
+HasDigits n r = (take (slice_index r 3) r ≡ decimal n) × (slice_index r 3 ≤ 3)
+
+by_count : (n : ℕ) → n < 1000 → (a b : Bool) → (a ≡ true → n < 10) → (a ≡ false → 10 ≤ n) → (b ≡ true → n < 100) → (b ≡ false → 100 ≤ n)
+    → HasDigits n (cond a ((48 + n) ∷ 0 ∷ 0 ∷ 1 ∷ []) (cond b ((48 + n / 10) ∷ (48 + n % 10) ∷ 0 ∷ 2 ∷ [])
+    ((48 + n / 100) ∷ (48 + n / 10 % 10) ∷ (48 + n % 10) ∷ 3 ∷ [])))
+by_count n lt true b one _ _ _ = (one_digit n (one refl), omega arith)
+by_count n lt false true _ two few _ = (two_digits n (two refl) (few refl), omega arith)
+by_count n lt false false _ _ _ three = (three_digits n (three refl) lt, omega arith)
+
+pub row_by_has : (n : ℕ) → n < 1000 → HasDigits n (row_by n)
+row_by_has n lt = by_count n lt (nat_lt n 10) (nat_lt n 100) (ltb-true n 10) (ltb-false n 10) (ltb-true n 100) (ltb-false n 100)
+
+-- of four bytes that are written the first k count
+pub placed_front : {a b : List ℕ} (row : List ℕ) {i j : ℕ} (k : ℕ) → i + 4 ≤ length a → k ≤ 3 → length row ≡ 4 → Placed a b i (take 4 row) j → Placed a b i (take k row) (i + k)
+placed_front {a} {b} row {i} {j} k room few four placed =
+    let end : j ≡ i + 4 = omega (arith, placed.moved, length-take-le 4 row (omega arith)) in
+    let front : length (take i a) ≡ i = length-take-le i a (omega arith) in
+    record {
+      bytes = sym (take-take (i + k) j b (omega arith)) ∙ ap (take (i + k)) placed.bytes ∙ ap (λ m. take (m + k) (take i a ++ take 4 row)) (sym front)
+          ∙ take-append-add (take i a) (take 4 row) k ∙ ap (λ x. take i a ++ x) (take-take k 4 row (omega arith));
+      moved = omega (arith, length-take-le k row (omega arith));
+      len = placed.len;
+    }
 
 -- what is written is known by another name
 pub placed_as : {a b xs ys : List ℕ} {i j : ℕ} → xs ≡ ys → Placed a b i xs j → Placed a b i ys j

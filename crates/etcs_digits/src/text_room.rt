@@ -67,7 +67,7 @@ pub(crate) fn place_byte(buf: &mut [u8], at: usize, byte: u8) -> usize
 
 // Writes the first N bytes of a text, by one load and one store.
 #[inline(always)]
-fn place_front<const N: usize>(buf: &mut [u8], at: usize, text: &[u8]) -> usize
+pub(crate) fn place_front<const N: usize>(buf: &mut [u8], at: usize, text: &[u8]) -> usize
     requires { (N ≤ length text.now) × (at + N ≤ length buf.old) }
     ensures { Placed buf.old buf.new at (take N text.now) result }
 {
