@@ -80,16 +80,20 @@ two_shifts x r w k e =
 pub place_of : (from : ℕ) → from ≡ 8 * (from / 8) + from % 8
 place_of from = omega arith
 
-pub num_by_word : (bs : List ℕ) (x from w : ℕ) → x ≡ num_of_bits (bits_of_bytes (take 8 (drop (from / 8) bs))) → from / 8 + 8 ≤ length bs → w ≤ 32
-    → x * 2 ^ (from % 8) % 2 ^ 64 / 2 ^ (64 - w) ≡ num_of_bits (take w (drop from (bits_of_bytes bs)))
-num_by_word bs x from w is within small =
-    let r = from % 8 in
-    let q = from / 8 in
+-- a field of eight bytes, whose number the word is
+pub num_in_word : (bs : List ℕ) (x q r w : ℕ) → x ≡ num_of_bits (bits_of_bytes (take 8 (drop q bs))) → q + 8 ≤ length bs → r + w ≤ 64
+    → x * 2 ^ r % 2 ^ 64 / 2 ^ (64 - w) ≡ num_of_bits (take w (drop (8 * q + r) (bits_of_bytes bs)))
+num_in_word bs x q r w is within small =
     let k = 64 - w - r in
     let l : length (take 8 (drop q bs)) ≡ 8 = length-take-le 8 (drop q bs) (rw length-drop (omega arith)) in
     two_shifts x r w k (omega arith)
     ∙ ap (λ n. n / 2 ^ k % 2 ^ w) is
     ∙ sym (num_of_part bs q r w 8 k l (omega arith))
+
+pub num_by_word : (bs : List ℕ) (x from w : ℕ) → x ≡ num_of_bits (bits_of_bytes (take 8 (drop (from / 8) bs))) → from / 8 + 8 ≤ length bs → w ≤ 32
+    → x * 2 ^ (from % 8) % 2 ^ 64 / 2 ^ (64 - w) ≡ num_of_bits (take w (drop from (bits_of_bytes bs)))
+num_by_word bs x from w is within small =
+    num_in_word bs x (from / 8) (from % 8) w is within (omega arith)
     ∙ ap (λ j. num_of_bits (take w (drop j (bits_of_bytes bs)))) (sym (place_of from))
 
 pub num_by_few : (bs : List ℕ) (x from w n : ℕ) → x ≡ num_of_bits (bits_of_bytes (take n (drop (from / 8) bs))) → n ≡ (from % 8 + w + 7) / 8 → from + w ≤ 8 * length bs → 1 ≤ w → w ≤ 32

@@ -36,9 +36,9 @@ fn few_bytes(bytes: &[u8]) -> u64
     total
 }
 
-// The number of a field where fewer than eight bytes are left.
+// The number of a field of fewer than eight bytes.
 #[inline(never)]
-fn num_near_end(bytes: &[u8], from: usize, width: u32) -> u64
+fn num_of_few(bytes: &[u8], from: usize, width: u32) -> u64
     requires low { 1 ≤ width }
     requires high { width ≤ 32 }
     requires inside { from + width ≤ 8 * length bytes.now }
@@ -51,7 +51,8 @@ fn num_near_end(bytes: &[u8], from: usize, width: u32) -> u64
     (block >> (8 * count - skipped - width)) & ((1 << width) - 1)
 }
 
-// The number that the `width` bits from place `from` spell.
+// The number that the `width` bits from place `from` spell. Near the end it is in the last eight bytes,
+// so one load serves there too.
 #[inline(always)]
 pub fn num_at(bytes: &[u8], from: usize, width: u32) -> u64
     requires low { 1 ≤ width }
@@ -59,11 +60,11 @@ pub fn num_at(bytes: &[u8], from: usize, width: u32) -> u64
     requires inside { from + width ≤ 8 * length bytes.now }
     ensures { result ≡ num_of_bits (take width (drop from (bits_of_bytes bytes.now))) }
 {
-    let first = from / 8;
-    if bytes.len() - first < 8 {
-        return num_near_end(bytes, from, width);
+    if bytes.len() < 8 {
+        return num_of_few(bytes, from, width);
     }
-    let skipped = (from % 8) as u32;
+    let first = (from / 8).min(bytes.len() - 8);
+    let skipped = (from - 8 * first) as u32;
     (word_at(bytes, first) << skipped) >> (64 - width)
 }
 

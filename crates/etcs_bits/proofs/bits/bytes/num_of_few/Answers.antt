@@ -1,7 +1,7 @@
 use Rattle.std.proofs.Common.{◌+◌, ◌/◌, ◌%◌, ◌∙◌, arith, refl, ap, take, drop}
 use Rattle.etcs_bits.specs.bits.Number.{num_of_bits, bits_of_bytes}
 use Rattle.etcs_bits.proofs.LoadLemmas.{num_by_few}
-use Rattle.etcs_bits.proofs.bits.bytes.num_near_end.Goals as goal
+use Rattle.etcs_bits.proofs.bits.bytes.num_of_few.Goals as goal
 
 pub returns : goal.returns
 returns c =
