@@ -1,7 +1,9 @@
 //! The danger point beyond a movement authority's end.
 
 use crate::each::{each_allowed, each_same, put_each, scan_each};
-use etcs_bits::{Bits, Cursor, DecodeError, Distance, Layout, Memory, ReleaseSpeed, Same};
+use etcs_bits::{
+    Bits, Cursor, DecodeError, Distance, Layout, Memory, Plain, Ranged, ReleaseSpeed, Same,
+};
 use std::alloc::Global;
 
 /// The place beyond the end of the authority that the front of a train may reach without danger: 22
@@ -36,7 +38,19 @@ impl Layout for DangerPoint {
         put_each!(self, out; distance, release_speed)
     }
 
+    #[inline(always)]
     fn scan(alloc: Global, cur: &mut Cursor<'_>) -> Result<Self, DecodeError> {
+        // Far from the end both fields are there.
+        let mut ahead = cur.fork();
+        if let Some(numbers) = ahead.take_two(15, 7) {
+            if let Some(release_speed) = Ranged::new(numbers.1 as u32) {
+                *cur = ahead;
+                return Ok(DangerPoint {
+                    distance: Plain::of_field(numbers.0),
+                    release_speed,
+                });
+            }
+        }
         scan_each!(DangerPoint, alloc, cur; distance, release_speed)
     }
 }

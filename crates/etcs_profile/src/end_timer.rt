@@ -1,7 +1,7 @@
 //! The timer of a movement authority's end section.
 
 use crate::each::{each_allowed, each_same, put_each, scan_each};
-use etcs_bits::{Bits, Cursor, DecodeError, Distance, Layout, Memory, Same, Time};
+use etcs_bits::{Bits, Cursor, DecodeError, Distance, Layout, Memory, Plain, Same, Time};
 use std::alloc::Global;
 
 /// How long the end section is granted: 25 bits (SUBSET-026, 3.8 and 7.4.2).
@@ -35,7 +35,15 @@ impl Layout for EndTimer {
         put_each!(self, out; time, start)
     }
 
+    #[inline(always)]
     fn scan(alloc: Global, cur: &mut Cursor<'_>) -> Result<Self, DecodeError> {
+        // Far from the end both fields are there.
+        if let Some(numbers) = cur.take_two(10, 15) {
+            return Ok(EndTimer {
+                time: Plain::of_field(numbers.0),
+                start: Plain::of_field(numbers.1),
+            });
+        }
         scan_each!(EndTimer, alloc, cur; time, start)
     }
 }

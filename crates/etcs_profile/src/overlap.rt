@@ -1,7 +1,9 @@
 //! The overlap beyond a movement authority's end.
 
 use crate::each::{each_allowed, each_same, put_each, scan_each};
-use etcs_bits::{Bits, Cursor, DecodeError, Distance, Layout, Memory, ReleaseSpeed, Same, Time};
+use etcs_bits::{
+    Bits, Cursor, DecodeError, Distance, Layout, Memory, Plain, Ranged, ReleaseSpeed, Same, Time,
+};
 use std::alloc::Global;
 
 /// The track beyond the end of the authority that is kept free for a while: 47 bits (SUBSET-026,
@@ -42,6 +44,21 @@ impl Layout for Overlap {
     }
 
     fn scan(alloc: Global, cur: &mut Cursor<'_>) -> Result<Self, DecodeError> {
+        // Far from the end all fields are there.
+        let mut ahead = cur.fork();
+        if let Some(head) = ahead.take_two(15, 10) {
+            if let Some(tail) = ahead.take_two(15, 7) {
+                if let Some(release_speed) = Ranged::new(tail.1 as u32) {
+                    *cur = ahead;
+                    return Ok(Overlap {
+                        start: Plain::of_field(head.0),
+                        time: Plain::of_field(head.1),
+                        length: Plain::of_field(tail.0),
+                        release_speed,
+                    });
+                }
+            }
+        }
         scan_each!(Overlap, alloc, cur; start, time, length, release_speed)
     }
 }

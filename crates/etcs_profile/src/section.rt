@@ -1,7 +1,7 @@
 //! A section of a movement authority.
 
 use crate::each::{each_allowed, each_same, put_each, scan_each};
-use etcs_bits::{Bits, Cursor, DecodeError, Distance, Layout, Memory, Same, Time};
+use etcs_bits::{Bits, Cursor, DecodeError, Distance, Layout, Memory, Plain, Same, Time};
 use std::alloc::Global;
 
 /// A section of a movement authority: a stretch of track that follows the section before it. 16
@@ -34,7 +34,23 @@ impl Layout for Section {
         put_each!(self, out; length, timer)
     }
 
+    #[inline(always)]
     fn scan(alloc: Global, cur: &mut Cursor<'_>) -> Result<Self, DecodeError> {
+        // Far from the end the length and the qualifier are there.
+        if let Some(head) = cur.take_two(15, 1) {
+            let length = Plain::of_field(head.0);
+            if head.1 == 0 {
+                return Ok(Section {
+                    length,
+                    timer: None,
+                });
+            }
+            let timer = SectionTimer::scan(alloc, cur)?;
+            return Ok(Section {
+                length,
+                timer: Some(timer),
+            });
+        }
         scan_each!(Section, alloc, cur; length, timer)
     }
 }
@@ -76,7 +92,15 @@ impl Layout for SectionTimer {
         put_each!(self, out; time, stop)
     }
 
+    #[inline(always)]
     fn scan(alloc: Global, cur: &mut Cursor<'_>) -> Result<Self, DecodeError> {
+        // Far from the end both fields are there.
+        if let Some(numbers) = cur.take_two(10, 15) {
+            return Ok(SectionTimer {
+                time: Plain::of_field(numbers.0),
+                stop: Plain::of_field(numbers.1),
+            });
+        }
         scan_each!(SectionTimer, alloc, cur; time, stop)
     }
 }

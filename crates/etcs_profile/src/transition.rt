@@ -1,12 +1,16 @@
 //! Level transition orders, packet 41.
 
-ghost use Rattle.std.specs.Prelude.{◌≡◌, ◌<◌, length};
+ghost use Rattle.std.specs.Prelude.{◌≡◌, ◌<◌, length, Ok, IfSome};
+ghost use Rattle.etcs_bits.specs.layout.Reading.{forward, rows_at, taken};
+ghost use Rattle.etcs_bits.specs.layout.Results.{Gives, IfMemory};
+ghost use Rattle.etcs_bits.specs.layout.Rows.{Place};
+ghost use Rattle.etcs_bits.specs.variables.Level.{m_level};
 
 use crate::each::{each_allowed, each_same, put_each, scan_each};
 use crate::error::BuildError;
 use crate::packet::Packet;
 use etcs_bits::{
-    Bits, Cursor, DecodeError, Dir, Distance, Items, Layout, Level, Memory, Same, Scale,
+    Bits, Cursor, DecodeError, Dir, Distance, Items, Layout, Level, Memory, Plain, Same, Scale,
 };
 use std::alloc::Global;
 use std::marker::Model;
@@ -144,6 +148,35 @@ pub struct LevelOrder {
     pub acknowledge: Distance,
 }
 
+// The level of this number. None says only that NID_NTC may follow, or that the number is spare.
+#[inline(always)]
+fn level_alone(number: u64) -> Option<Level>
+    ensures { (p : Place) → taken 3 p ≡ Ok (number, forward p 3)
+        → IfSome result (λ v. rows_at m_level.fields p ≡ Ok (m_level.rows v, forward p 3)) }
+{
+    match number {
+        0 => Some(Level::L0),
+        2 => Some(Level::L1),
+        3 => Some(Level::L2),
+        4 => Some(Level::L3),
+        _ => None,
+    }
+}
+
+impl LevelOrder {
+    ghost use Rattle.etcs_profile.specs.Transition.{level_order};
+
+    // Reads the fields one by one, wherever the bits end. It stands apart so that the way of those far
+    // from the end saves fewer registers.
+    #[inline(never)]
+    fn scan_fields(alloc: Global, cur: &mut Cursor<'_>) -> Result<Self, DecodeError>
+        ensures gives { Gives level_order.rows result (rows_at level_order.fields cur.old) cur.new }
+        ensures memory { IfMemory result ⊥ }
+    {
+        scan_each!(LevelOrder, alloc, cur; level, acknowledge)
+    }
+}
+
 impl Layout for LevelOrder {
     ghost use Rattle.etcs_profile.specs.Transition.{level_order};
 
@@ -164,8 +197,20 @@ impl Layout for LevelOrder {
         put_each!(self, out; level, acknowledge)
     }
 
+    #[inline(always)]
     fn scan(alloc: Global, cur: &mut Cursor<'_>) -> Result<Self, DecodeError> {
-        scan_each!(LevelOrder, alloc, cur; level, acknowledge)
+        // Far from the end all fields are there. NID_NTC comes only at level NTC.
+        let mut ahead = cur.fork();
+        if let Some(numbers) = ahead.take_two(3, 15) {
+            if let Some(level) = level_alone(numbers.0) {
+                *cur = ahead;
+                return Ok(LevelOrder {
+                    level,
+                    acknowledge: Plain::of_field(numbers.1),
+                });
+            }
+        }
+        LevelOrder::scan_fields(alloc, cur)
     }
 }
 

@@ -137,6 +137,29 @@ impl<'a> Cursor<'a> {
         ))
     }
 
+    /// The numbers of the next two fields of these widths, 1 to 32 bits each. The cursor then stands
+    /// after them.
+    ///
+    /// None says only that the bits may end soon, or that the two have more than 32 bits. The cursor
+    /// then has not moved.
+    #[inline(always)]
+    pub fn take_two(&mut self, first: u32, second: u32) -> Option<(u64, u64)>
+        requires first { (1 ≤ first) × (first ≤ 32) }
+        requires second { (1 ≤ second) × (second ≤ 32) }
+        ensures first { IfSome result (λ n. taken first self.old ≡ Ok (n.0, forward self.old first)) }
+        ensures second { IfSome result (λ n. taken second (forward self.old first) ≡ Ok (n.1, self.new)) }
+        ensures small { IfSome result (λ n. (n.0 < 2 ^ first) × (n.1 < 2 ^ second)) }
+        ensures none { result ≡ None → self.new ≡ self.old }
+    {
+        let both = first + second;
+        if 32 < both || self.bits.len() - self.at < 64 {
+            return None;
+        }
+        let n = self.bits.num_far(self.at, both);
+        self.at += both as usize;
+        Some((field_in(n, second, first), field_in(n, 0, second)))
+    }
+
     // What `take` promises, wherever the bits end.
     #[inline(never)]
     fn take_near_end(&mut self, width: u32) -> Result<u64, Fault>
