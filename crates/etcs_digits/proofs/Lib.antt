@@ -1,3 +1,5 @@
 mod HexadecimalLemmas
+mod BlockLemmas
 mod DecimalLemmas
+mod LaneLemmas
 mod LineTextLemmas

@@ -1,11 +1,14 @@
-//! Hexadecimal digits become bytes by tables, and a text with anything else is left to `hex`.
+//! Hexadecimal digits become bytes 32 at once, and the last ones by tables. A text with anything else is left
+//! to `hex`.
 
-ghost use Rattle.std.specs.Prelude.{◌≡◌, ◌*◌, true, false, length, ◌%◌, ◌⊎◌, IsTrue, IfOk, IfErr, Ok, MatchResult};
-ghost use Rattle.hex.specs.Hex.{decode_of, decode_pairs, decode_sized};
+ghost use Rattle.std.specs.Prelude.{ℕ, ◌≡◌, ◌+◌, ◌*◌, ◌<◌, ◌≤◌, true, false, length, get_or, map, ◌%◌, ◌⊎◌, IsTrue, IfOk, IfErr, Ok, MatchResult};
+ghost use Rattle.hex.specs.Hex.{decode_of, decode_pairs, decode_sized, pair_value};
 ghost use Rattle.hex.specs.declared.error.FromHexError.TheVariants.{OddLength, OutOfMemory};
+ghost use Rattle.etcs_digits.specs.Hexadecimal.{worth_of};
 
 use hex::FromHexError;
 use std::alloc::Global;
+use std::simd::prelude::*;
 
 // What each byte adds to that of its pair: its value as a hexadecimal digit, of this unit, or 256.
 macro_rules! table {
@@ -38,16 +41,56 @@ static HIGH: [u16; 256] = table!(16);
 
 static LOW: [u16; 256] = table!(1);
 
-// Writes the bytes that pairs of digits spell. An answer of false says nothing. There is one test for
-// the whole text, since what is no digit makes `seen` too great for all that follow.
+// How many bytes are made at once, of twice as many digits.
+const BLOCK: usize = 16;
+
+// What each digit is worth, and 255 where a byte is none.
+#[inline(always)]
+fn worth(text: u8x16) -> u8x16
+    ensures { result ≡ map worth_of text }
+{
+    let digit = text - u8x16::splat(b'0');
+    let letter = (text | u8x16::splat(0x20)) - u8x16::splat(b'a');
+    let of_letter = letter
+        .simd_lt(u8x16::splat(6))
+        .select(letter + u8x16::splat(10), u8x16::splat(255));
+    digit.simd_lt(u8x16::splat(10)).select(digit, of_letter)
+}
+
+// The bytes of the first 32 digits, and whether each of these is a digit. If not, the bytes say nothing.
+#[inline(always)]
+fn block(text: &[u8]) -> (u8x16, bool)
+    requires { 32 ≤ length text.now }
+    ensures len { length result.0 ≡ 16 }
+    ensures bytes { IsTrue result.1 → (j place : ℕ) → j < 16
+        → pair_value (get_or text.now (2 * j) 0) (get_or text.now (2 * j + 1) 0) place ≡ Ok (get_or result.0 j 0) }
+{
+    let front = worth(u8x16::from_slice(text));
+    let back = worth(u8x16::from_slice(&text[BLOCK..]));
+    let (high, low) = front.deinterleave(back);
+    let are_digits = (high | low).simd_lt(u8x16::splat(16)).all();
+    ((high << u8x16::splat(4)) | low, are_digits)
+}
+
+// Writes the bytes that pairs of digits spell. An answer of false says nothing. Behind the blocks there is
+// one test for all digits, since what is no digit makes `seen` too great for all that follow.
 #[inline(always)]
 fn decode_quickly(text: &[u8], out: &mut [u8]) -> bool
     requires { length text.now ≡ 2 * length out.old }
     ensures value { IsTrue result → decode_pairs 0 text.now ≡ Ok out.new }
     ensures len { length out.new ≡ length out.old }
 {
+    let mut done = 0;
+    'sixteens: while BLOCK <= out.len() - done {
+        let (bytes, are_digits) = block(&text[2 * done..]);
+        if !are_digits {
+            return false;
+        }
+        bytes.copy_to_slice(&mut out[done..]);
+        done += BLOCK;
+    }
     let mut seen = 0u16;
-    'bytes: for i in 0..out.len() {
+    'bytes: for i in done..out.len() {
         let byte = HIGH[text[2 * i] as usize] | LOW[text[2 * i + 1] as usize];
         seen |= byte;
         out[i] = (byte % 256) as u8;
