@@ -2,7 +2,6 @@
 
 ghost use Rattle.std.specs.Prelude.{◌≡◌};
 
-use crate::each::{each_same, put_each};
 use crate::number::Number;
 use etcs_bits::{Bits, Body, Cursor, DecodeError, Dir, Layout, Memory, Same};
 use std::alloc::Global;
@@ -98,7 +97,8 @@ impl<const N: u32, T: Layout> Layout for Packet<N, T> {
     fn put(&self, out: &mut Bits) -> Result<(), Memory> {
         let number = Number::<N>;
         number.put(out)?;
-        put_each!(self, out; dir, body)
+        self.dir.put(out)?;
+        self.body.put(out)
     }
 
     fn scan(alloc: Global, cur: &mut Cursor<'_>) -> Result<Self, DecodeError> {
@@ -109,6 +109,6 @@ impl<const N: u32, T: Layout> Layout for Packet<N, T> {
 
 impl<const N: u32, T: Layout + Same> Same for Packet<N, T> {
     fn same(&self, other: &Self) -> bool {
-        each_same!(self, other; dir, body)
+        self.dir.same(&other.dir) && self.body.same(&other.body)
     }
 }
