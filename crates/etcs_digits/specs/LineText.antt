@@ -1,42 +1,46 @@
 -- A line of JSON as it is written: each token's text, and behind a value the comma that may follow it.
-use Rattle.std.specs.Prelude.{◌≡◌, ◌-◌, ◌++◌, ℕ, Bool, true, false, cond, List, [], ◌∷◌, length, take, OnErr, OnOk, Result}
-use Rattle.json.specs.Lex.{tokens}
-use Rattle.json.specs.Print.{ends_value, print, ArePrintable}
-use Rattle.json.specs.Token.{Token, key, string}
-use Rattle.json.specs.Written.{Written}
-use Rattle.etcs_digits.specs.declared.line_text.LineText.TheInside.{Inside}
+use Rattle.std.specs.Prelude.{◌≡◌, ◌-◌, ◌++◌, ℕ, Bool, false, cond, fold, List, [], ◌∷◌, length, refl, take, OnErr, OnOk, Result}
+use Rattle.std.specs.Coded.{Coded, code_by, coded×, coded_bool, coded_list, coded_ℕ}
+use Rattle.std.proofs.Common.{sym}
+use Rattle.std.proofs.lemmas.List.Sums.{fold-append}
+use Rattle.json.specs.Print.{begins, ends, token_text}
+use Rattle.json.specs.Token.{Token}
+
+-- the text, and whether it ends with a value and the comma that may follow it
+pub record Line : Type 0 where
+  pub text : List ℕ
+  pub after_value : Bool
+
+abbrev pub line_code : Coded Line
+line_code = code_by (List ℕ × Bool) (coded× (coded_list coded_ℕ) coded_bool) (λ l. (l.text, l.after_value)) (λ p. record { text = p.0; after_value = p.1 }) (λ _. refl)
+
+abbrev pub empty_line : Line
+empty_line = record { text = []; after_value = false }
 
 -- a text in quotes that needs no escape, and then a byte
 abbrev pub quoted_text : List ℕ → ℕ → List ℕ
 quoted_text text close = 34 ∷ (text ++ 34 ∷ close ∷ [])
 
-abbrev pub text_token : Bool → List ℕ → Token
-text_token is_key text = cond is_key (key text) (string text)
-
 -- a text without the comma at its end, if one is there
 abbrev pub without : Bool → List ℕ → List ℕ
-without true s = take (length s - 1) s
-without false s = s
+without there s = cond there (take (length s - 1) s) s
 
 -- the comma that may follow a value
 abbrev pub comma_after : Bool → List ℕ
 comma_after after_value = cond after_value (44 ∷ []) []
 
--- these tokens are printed, and a comma is written ahead
-pub record Prints (ts : List Token) (s : List ℕ) (after_value : Bool) : Type 0 where
-  pub printable : ArePrintable ts
-  pub text : s ≡ print ts ++ comma_after after_value
-  pub place : after_value ≡ ends_value ts
+-- a token more, where a closing mark takes the place of the comma
+abbrev pub put : Line → Token → Line
+put l t = record { text = cond (begins t) l.text (without l.after_value l.text) ++ (token_text t ++ comma_after (ends t)); after_value = ends t }
 
--- the tokens are those that a reader finds in the text
-abbrev pub line_view : Inside → Written
-line_view w = record { before = []; tokens = tokens (without w.after_value w.text.items); spare = w.text.spare }
+abbrev pub puts : Line → List Token → Line
+puts = fold put
 
-abbrev pub IsLine : Inside → Type 0
-IsLine w = (ts : List Token) × Prints ts w.text.items w.after_value
+-- some tokens, and then others
+pub puts_then : (a b : List Token) (x y z : Line) → y ≡ puts x a → z ≡ puts y b → z ≡ puts x (a ++ b)
+puts_then a b x y z one two = rw (two, one) (sym (fold-append put x a b))
 
--- these tokens were appended, or none
-pub record Appends {E : Type 0} (r : Result (Unit {0}) E) (old new : Written) (ts : List Token) : Type 0 where
-  pub ok : OnOk r (new.tokens ≡ old.tokens ++ ts)
-  pub err : OnErr r (new.tokens ≡ old.tokens)
-  pub before : new.before ≡ old.before
+-- the line became the wanted one, or stayed
+pub record Becomes {E : Type 0} (r : Result (Unit {0}) E) (old new wanted : Line) : Type 0 where
+  pub ok : OnOk r (new ≡ wanted)
+  pub err : OnErr r (new ≡ old)

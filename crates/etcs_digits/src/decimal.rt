@@ -6,7 +6,8 @@ ghost use Rattle.json.specs.Token.{number};
 ghost use Rattle.json.specs.Filled.{Placed};
 ghost use Rattle.json.specs.Written.{Writes};
 
-use crate::text_room::{place_byte, place_front};
+use crate::text_room::{place_byte, place_front, place_text};
+use itoa::Buffer;
 use json::Writer;
 use std::alloc::AllocError;
 
@@ -104,18 +105,14 @@ fn place_few(buf: &mut [u8], at: usize, n: u64) -> usize
     at + row[3] as usize
 }
 
-// Writes a number digit by digit. Few numbers have seven or more.
+// Writes a number of any count of digits. Few numbers have seven or more.
 #[cold]
 #[inline(never)]
 fn place_long(buf: &mut [u8], at: usize, n: u64) -> usize
     requires { at + length (decimal n) ≤ length buf.old }
     ensures { Placed buf.old buf.new at (decimal n) result }
 {
-    if n < 10 {
-        return place_digit(buf, at, n);
-    }
-    let at = place_long(buf, at, n / 10);
-    place_digit(buf, at, n % 10)
+    place_text(buf, at, Buffer::new().format(n).as_bytes())
 }
 
 // Writes a number of four digits or more.

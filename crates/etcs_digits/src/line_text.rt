@@ -1,18 +1,19 @@
 //! A line of JSON, token by token. The comma that may follow a value is written with the value, and a
 //! closing mark takes its place. So most tokens are appended as they are, a member with its number at once.
 
-ghost use Rattle.std.specs.Prelude.{◌≡◌, ◌++◌, ◌∷◌, [], IfOk, OnOk, cond, decimal};
-ghost use Rattle.json.specs.Print.{ends, print, token_text};
-ghost use Rattle.json.specs.Token.{begin_array, begin_object, end_array, end_object, key, number, string};
-ghost use Rattle.etcs_digits.specs.LineText.{Appends, comma_after, text_token};
+ghost use Rattle.std.specs.Prelude.{◌≡◌, ◌++◌, ◌∷◌, [], IfOk, List, OnOk, cond, decimal, false, not, true};
+ghost use Rattle.json.specs.Print.{begins, ends, print, IsPrintable};
+ghost use Rattle.json.specs.Reads.{token_of};
+ghost use Rattle.json.specs.Token.{Token as JsonToken, key, number};
+ghost use Rattle.etcs_digits.specs.LineText.{Becomes, comma_after, empty_line, put, puts, quoted_text, without};
 
 use crate::plain::is_plain;
 use crate::text_room::TextRoom;
-use json::Writer;
-use std::alloc::{AllocError, Global};
+use json::{Token, Writer};
+use std::alloc::AllocError;
 use std::marker::Model;
 
-/// A line of JSON that is being written. Clauses see the tokens, as they see those of [`json::Writer`].
+/// A line of JSON that is being written. Clauses see its text and whether a comma ends it.
 #[derive(Drop)]
 pub struct LineText {
     text: TextRoom,
@@ -21,64 +22,38 @@ pub struct LineText {
 }
 
 impl Model for LineText {
-    ghost use Rattle.json.specs.Written.{Written, written_code};
+    ghost use Rattle.etcs_digits.specs.LineText.{Line, line_code};
 
-    ghost Value = { Written };
+    ghost Value = { Line };
 
-    ghost coded = { written_code };
+    ghost coded = { line_code };
 
-    ghost use Rattle.etcs_digits.specs.LineText.{IsLine, line_view};
-
-    ghost view = { line_view };
-
-    ghost invariant = { IsLine };
+    ghost view = { λ w. record { text = w.text.items; after_value = w.after_value } };
 }
 
-// The mark that begins a list or an object.
+// Whether a token is the last of a value.
 #[inline(always)]
-fn opening(list: bool) -> u8
-    ensures { result ≡ cond list 91 123 }
+fn ends_value(token: Token<'_>) -> bool
+    ensures { result ≡ ends (token_of token.entry) }
 {
-    if list { b'[' } else { b'{' }
+    !matches!(
+        token,
+        Token::BeginObject | Token::BeginArray | Token::Key(_)
+    )
 }
 
-// The mark that ends a list or an object.
+// The comma that may follow a value.
 #[inline(always)]
-fn closing(list: bool) -> u8
-    ensures { result ≡ cond list 93 125 }
+fn comma(after_value: bool) -> &'static [u8]
+    ensures { result.now ≡ comma_after after_value }
 {
-    if list { b']' } else { b'}' }
-}
-
-// What stands behind a key or a string: its colon, or the comma ahead.
-#[inline(always)]
-fn behind_text(is_key: bool) -> u8
-    ensures { result ≡ cond is_key 58 44 }
-{
-    if is_key { b':' } else { b',' }
-}
-
-// The text of a key or a string, as `json` writes it, with what stands behind it.
-fn escaped(alloc: Global, text: &str, is_key: bool) -> Result<Vec<u8>, AllocError>
-    ensures { IfOk result (λ v. v.items
-        ≡ token_text (text_token is_key text.now) ++ comma_after (ends (text_token is_key text.now))) }
-{
-    let mut writer = Writer::new(Vec::new(alloc));
-    if is_key {
-        writer.key(text)?;
-        return Ok(writer.into_inner());
-    }
-    writer.string(text)?;
-    let mut out = writer.into_inner();
-    out.push(b',')?;
-    Ok(out)
+    if after_value { b"," } else { b"" }
 }
 
 impl LineText {
     /// A line without a token, in the room of an earlier text. What stands there is lost.
     pub fn new(room: Vec<u8>) -> LineText
-        ensures before { result.before ≡ [] }
-        ensures tokens { result.tokens ≡ [] }
+        ensures { result ≡ empty_line }
     {
         LineText {
             text: TextRoom::new(room),
@@ -86,9 +61,10 @@ impl LineText {
         }
     }
 
-    /// The line, with its `\n`. The only error is that memory runs out.
+    /// The line of the tokens that were appended, with its `\n`. The only error is that memory runs out.
     pub fn into_line(self) -> Result<Vec<u8>, AllocError>
-        ensures { IfOk result (λ line. line.items ≡ print self.tokens ++ 10 ∷ []) }
+        ensures { IfOk result (λ line.
+            (ts : List JsonToken) → self ≡ puts empty_line ts → line.items ≡ print ts ++ 10 ∷ []) }
     {
         let LineText {
             mut text,
@@ -102,63 +78,82 @@ impl LineText {
 
     // Appends the mark that begins a list or an object.
     #[inline(always)]
-    fn begin(&mut self, list: bool) -> Result<(), AllocError>
-        ensures { Appends result self.old self.new (cond list begin_array begin_object ∷ []) }
+    fn open(&mut self, mark: u8) -> Result<(), AllocError>
+        ensures { Becomes result self.old self.new
+            (record { text = self.old.text ++ mark ∷ []; after_value = false }) }
     {
         self.text.reserve(1)?;
-        self.text.put(&[opening(list)]);
+        self.text.put(&[mark]);
         self.after_value = false;
         Ok(())
     }
 
     // Appends the mark that ends a list or an object, in the place of the comma behind its last value.
     #[inline(always)]
-    fn end(&mut self, list: bool) -> Result<(), AllocError>
-        ensures { Appends result self.old self.new (cond list end_array end_object ∷ []) }
+    fn close(&mut self, mark: u8) -> Result<(), AllocError>
+        ensures { Becomes result self.old self.new
+            (record { text = without self.old.after_value self.old.text ++ mark ∷ 44 ∷ []; after_value = true }) }
     {
         self.text.reserve(2)?;
         self.text.drop_comma(self.after_value);
-        self.text.put(&[closing(list), b',']);
+        self.text.put(&[mark, b',']);
         self.after_value = true;
         Ok(())
     }
 
-    /// Appends the mark that begins an object.
+    // Appends a key or a string that needs no escape.
     #[inline(always)]
-    pub fn begin_object(&mut self) -> Result<(), AllocError>
-        ensures { Appends result self.old self.new (begin_object ∷ []) }
+    fn put_plain(&mut self, text: &str, is_key: bool) -> Result<(), AllocError>
+        ensures { Becomes result self.old self.new
+            (record { text = self.old.text ++ quoted_text text.now (cond is_key 58 44); after_value = not is_key }) }
     {
-        self.begin(false)
+        self.text.reserve(text.len() + 3)?;
+        let behind = if is_key { b':' } else { b',' };
+        self.text.put_quoted(text.as_bytes(), behind);
+        self.after_value = !is_key;
+        Ok(())
     }
 
-    /// Appends the mark that ends an object.
-    #[inline(always)]
-    pub fn end_object(&mut self) -> Result<(), AllocError>
-        ensures { Appends result self.old self.new (end_object ∷ []) }
+    // Appends a token that begins a value or a member, as `json` writes it. No name of a record comes here.
+    #[cold]
+    #[inline(never)]
+    fn put_by_json(&mut self, token: Token<'_>) -> Result<(), AllocError>
+        requires begins { begins (token_of token) ≡ true }
+        requires printable { IsPrintable (token_of token) }
+        ensures { Becomes result self.old self.new (put self.old (token_of token.entry)) }
     {
-        self.end(false)
+        let mut writer = Writer::new(Vec::new(self.text.allocator()));
+        writer.token(token)?;
+        let mut text = writer.into_inner();
+        let after_value = ends_value(token);
+        text.extend_from_slice(comma(after_value))?;
+        self.text.reserve(text.len())?;
+        self.text.put(text.as_slice());
+        self.after_value = after_value;
+        Ok(())
     }
 
-    /// Appends the mark that begins a list.
+    /// Appends a token.
     #[inline(always)]
-    pub fn begin_array(&mut self) -> Result<(), AllocError>
-        ensures { Appends result self.old self.new (begin_array ∷ []) }
+    pub fn token(&mut self, token: Token<'_>) -> Result<(), AllocError>
+        requires { IsPrintable (token_of token) }
+        ensures { Becomes result self.old self.new (puts self.old (token_of token.entry ∷ [])) }
     {
-        self.begin(true)
-    }
-
-    /// Appends the mark that ends a list.
-    #[inline(always)]
-    pub fn end_array(&mut self) -> Result<(), AllocError>
-        ensures { Appends result self.old self.new (end_array ∷ []) }
-    {
-        self.end(true)
+        match token {
+            Token::BeginObject => self.open(b'{'),
+            Token::EndObject => self.close(b'}'),
+            Token::BeginArray => self.open(b'['),
+            Token::EndArray => self.close(b']'),
+            Token::Key(name) if is_plain(name.as_bytes()) => self.put_plain(name, true),
+            Token::String(text) if is_plain(text.as_bytes()) => self.put_plain(text, false),
+            _ => self.put_by_json(token),
+        }
     }
 
     /// Appends a number.
     #[inline(always)]
     pub fn number(&mut self, n: u64) -> Result<(), AllocError>
-        ensures { Appends result self.old self.new (number (decimal n) ∷ []) }
+        ensures { Becomes result self.old self.new (puts self.old (number (decimal n) ∷ [])) }
     {
         self.text.reserve(21)?;
         self.text.put_number(n);
@@ -166,58 +161,13 @@ impl LineText {
         Ok(())
     }
 
-    // Appends a key or a string that needs escapes. No name of a record does.
-    #[cold]
-    #[inline(never)]
-    fn put_escaped(&mut self, text: &str, is_key: bool) -> Result<(), AllocError>
-        ensures { Appends result self.old self.new (text_token is_key text.now ∷ []) }
-    {
-        let escaped = escaped(self.text.allocator(), text, is_key)?;
-        self.text.reserve(escaped.len())?;
-        self.text.put(escaped.as_slice());
-        self.after_value = !is_key;
-        Ok(())
-    }
-
-    // Appends a key or a string.
-    #[inline(always)]
-    fn put_text(&mut self, text: &str, is_key: bool) -> Result<(), AllocError>
-        ensures { Appends result self.old self.new (text_token is_key text.now ∷ []) }
-    {
-        if !is_plain(text.as_bytes()) {
-            return self.put_escaped(text, is_key);
-        }
-        self.text.reserve(text.len() + 3)?;
-        self.text.put_quoted(text.as_bytes(), behind_text(is_key));
-        self.after_value = !is_key;
-        Ok(())
-    }
-
-    /// Appends a key.
-    #[inline(always)]
-    pub fn key(&mut self, name: &str) -> Result<(), AllocError>
-        ensures { Appends result self.old self.new (key name.now ∷ []) }
-    {
-        self.put_text(name, true)
-    }
-
-    /// Appends a string.
-    #[inline(always)]
-    pub fn string(&mut self, text: &str) -> Result<(), AllocError>
-        ensures { Appends result self.old self.new (string text.now ∷ []) }
-    {
-        self.put_text(text, false)
-    }
-
     /// Appends a key and then a number, after one test of room. After an error the key may stand there.
     #[inline(always)]
     pub fn member(&mut self, name: &str, n: u64) -> Result<(), AllocError>
-        ensures tokens { OnOk result (self.new.tokens
-            ≡ self.old.tokens ++ key name.now ∷ number (decimal n) ∷ []) }
-        ensures before { self.new.before ≡ self.old.before }
+        ensures { OnOk result (self.new ≡ puts self.old (key name.now ∷ number (decimal n) ∷ [])) }
     {
         if !is_plain(name.as_bytes()) {
-            self.put_escaped(name, true)?;
+            self.put_by_json(Token::Key(name))?;
             return self.number(n);
         }
         self.text.reserve(name.len() + 24)?;

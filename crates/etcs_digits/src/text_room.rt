@@ -1,7 +1,7 @@
 //! The bytes of a text that grows, in a vector that holds more. What lies behind the text is initialized
 //! ahead, so that a member is written after one test of room.
 
-ghost use Rattle.std.specs.Prelude.{◌≡◌, ◌+◌, ◌-◌, ◌<◌, ◌≤◌, ◌++◌, ◌∷◌, [], IsTrue, OnErr, OnOk, decimal, length, take, vec_capacity, vec_len};
+ghost use Rattle.std.specs.Prelude.{◌≡◌, ◌+◌, ◌-◌, ◌<◌, ◌≤◌, ◌++◌, ◌∷◌, [], OnErr, OnOk, decimal, length, take, vec_capacity, vec_len};
 ghost use Rattle.json.specs.Filled.{MakesSpare, Placed};
 ghost use Rattle.etcs_digits.specs.LineText.{quoted_text, without};
 
@@ -89,7 +89,7 @@ fn place_ends<const N: usize>(buf: &mut [u8], at: usize, text: &[u8]) -> usize
 
 // Writes a text at a place, and returns the place behind it. Most keys have 4 bytes to 16.
 #[inline(always)]
-fn place_text(buf: &mut [u8], at: usize, text: &[u8]) -> usize
+pub(crate) fn place_text(buf: &mut [u8], at: usize, text: &[u8]) -> usize
     requires { at + length text.now ≤ length buf.old }
     ensures { Placed buf.old buf.new at text.now result }
 {
@@ -195,12 +195,11 @@ impl TextRoom {
     // Takes the comma at the end off, if it is there.
     #[inline(always)]
     pub(crate) fn drop_comma(&mut self, there: bool)
-        requires { IsTrue there → 0 < length self.old.items }
         ensures items { self.new.items ≡ without there self.old.items }
         ensures ready { self.old.ready ≤ self.new.ready }
     {
         if there {
-            self.len -= 1;
+            self.len = self.len.saturating_sub(1);
         }
     }
 }

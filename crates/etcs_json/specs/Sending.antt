@@ -53,10 +53,6 @@ pub record Adds (tokens : List Token) (old new : Written) : Type 0 where
   pub before : new.before ≡ old.before
   pub added : new.tokens ≡ old.tokens ++ tokens
 
--- these members were sent, in this order
-pub record SendsMembers (entries : List Entry) (old new : Written) : Type 0 where
-  pub sent : Adds (entries_tokens entries) old new
-
 -- this value was sent
 abbrev pub SendsValue : Data → Written → Written → Type 0
 SendsValue d = Adds (tokens_of d)

@@ -1,12 +1,15 @@
 -- Members that are taken one after the other: by a writer of JSON, and by an object in memory.
-use Rattle.std.proofs.Common.{◌≡◌, ◌∙◌, ◌++◌, ℕ, List, [], ◌∷◌, None, refl, ap, sym, append_assoc, append-nil}
+use Rattle.std.proofs.Common.{◌≡◌, ◌∙◌, ◌++◌, List, [], ◌∷◌, refl, ap, sym, append_assoc, append-nil}
 use Rattle.json.specs.Token.{Token}
 use Rattle.json.specs.Written.{Written}
 use Rattle.serde_json.specs.Data.{Members}
 use Rattle.etcs_json.specs.Entries.{Entry, members_onto, put_or}
-use Rattle.etcs_json.specs.Sending.{Adds, SendsMembers, entries_tokens, entry_tokens}
+use Rattle.etcs_json.specs.Sending.{Adds, entries_tokens, entry_tokens}
 
--- ---- a writer
+-- ---- what takes tokens
+
+pub adds_none : (out : Written) → Adds [] out out
+adds_none out = record { before = refl; added = sym (append-nil out.tokens) }
 
 -- tokens, and then others
 pub adds_more : (a b : List Token) (old mid new : Written) → Adds a old mid → Adds b mid new → Adds (a ++ b) old new
@@ -20,12 +23,9 @@ entries_append [] fs = refl
 entries_append (e ∷ es) fs =
     ap (λ ts. entry_tokens e.0 e.1 ++ ts) (entries_append es fs) ∙ sym (append_assoc (entry_tokens e.0 e.1) (entries_tokens es) (entries_tokens fs))
 
-pub sent_then : (es fs : List Entry) (old mid new : Written) → SendsMembers es old mid → SendsMembers fs mid new → SendsMembers (es ++ fs) old new
-sent_then es fs old mid new some others =
-    record { sent = rw (entries_append es fs) (adds_more (entries_tokens es) (entries_tokens fs) old mid new some.sent others.sent) }
-
-pub sent_none : (name : List ℕ) (out : Written) → SendsMembers ((name, None) ∷ []) out out
-sent_none name out = record { sent = record { before = refl; added = sym (append-nil out.tokens) } }
+pub sent_then : {M : Type 0} (adds : List Token → M → M → Type 0) (then : (ts us : List Token) (old mid new : M) → adds ts old mid → adds us mid new → adds (ts ++ us) old new)
+    → (es fs : List Entry) (old mid new : M) → adds (entries_tokens es) old mid → adds (entries_tokens fs) mid new → adds (entries_tokens (es ++ fs)) old new
+sent_then adds then es fs old mid new some others = rw (entries_append es fs) (then (entries_tokens es) (entries_tokens fs) old mid new some others)
 
 -- ---- an object
 

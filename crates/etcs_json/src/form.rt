@@ -4,14 +4,14 @@ ghost use Rattle.std.specs.Prelude.{◌≡◌, ◌∷◌, [], Some, Ok, IfOk, On
 ghost use Rattle.serde_json.specs.Data.{Data};
 ghost use Rattle.serde_json.specs.View.{view};
 ghost use Rattle.etcs_json.specs.Fault.{Gives, IfMemory};
-ghost use Rattle.etcs_json.specs.Sending.{SendsMembers, SendsValue};
+ghost use Rattle.etcs_json.specs.Sending.{SendsValue, entries_tokens, tokens_of};
 ghost use Rattle.etcs_json.specs.Shape.{Shape};
 
 use crate::error::FormError;
 use crate::node::Node;
 use crate::writing::marks::Marks;
 use etcs_bits::Memory;
-use json::Writer;
+use json::{Token, Writer};
 use serde_json::Value;
 use std::alloc::Global;
 
@@ -68,17 +68,17 @@ pub trait InPieces: Form {
     /// Sends the form to a writer of JSON, or to a [`LineText`](etcs_digits::LineText). The only error is
     /// that memory runs out. After an error a part of the form may have been sent.
     fn send_to<M: Marks>(&self, out: &mut M) -> Result<(), Memory>
-        ensures { OnOk result (SendsValue (Self.shape.to self.now)
-            (M.written out.old) (M.written out.new)) };
+        ensures { OnOk result (M.adds (tokens_of (Self.shape.to self.now)) out.old out.new) };
 
     /// Sends a member: a key, and the form as its value.
     #[inline(always)]
     fn send_at<M: Marks>(&self, name: &str, out: &mut M) -> Result<(), Memory>
-        ensures { OnOk result (SendsMembers ((name.now, Some (Self.shape.to self.now)) ∷ [])
-            (M.written out.old) (M.written out.new)) }
+        ensures { OnOk result (M.adds
+            (entries_tokens ((name.now, Some (Self.shape.to self.now)) ∷ [])) out.old out.new) }
     {
-        out.key(name)?;
-        self.send_to(out)
+        out.token(Token::Key(name))?;
+        self.send_to(out)?;
+        Ok(())
     }
 
     /// Sends the form to a writer of JSON. The only error is that the writer's buffer can't grow. After

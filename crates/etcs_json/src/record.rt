@@ -15,6 +15,7 @@ use crate::writing::Sink;
 use crate::writing::building::NewObject;
 use crate::writing::marks::Marks;
 use etcs_bits::{Layout, Memory};
+use json::Token;
 use serde_json::Value;
 use std::alloc::Global;
 
@@ -93,9 +94,9 @@ impl<T: Members> Form for T {
 
 impl<T: Members> InPieces for T {
     fn send_to<M: Marks>(&self, out: &mut M) -> Result<(), Memory> {
-        out.begin_object()?;
+        out.token(Token::BeginObject)?;
         self.send_members(out)?;
-        out.end_object()?;
+        out.token(Token::EndObject)?;
         Ok(())
     }
 }

@@ -4,7 +4,6 @@ pub mod FillLemmas
 pub mod AnswerLemmas
 pub mod RunLemmas
 pub mod CommandLemmas
-pub mod JsonLineLemmas
 pub mod HexTextLemmas
 pub mod FormLemmas
 pub mod WholeLemmas

@@ -1,7 +1,7 @@
 //! Digits that are read and written by tables, against `hex` and `json`, which know them all.
 
 use etcs_digits::{LineText, decode, decode_to_vec, send_decimal};
-use json::Writer;
+use json::{Token, Writer};
 use std::alloc::{AllocError, Global};
 use std::test::Fail;
 
@@ -77,17 +77,19 @@ fn numbers_are_written_as_by_json(rt: HostRuntime) -> Result<(), Fail> {
     Ok(())
 }
 
-// A line of a list: of an object with a number and a text, and of a number.
+// A line of a list: of an object with a number and a text, of a number, and of tokens that `json` writes.
 fn line_of(alloc: Global, text: &str, number: u64) -> Result<Vec<u8>, AllocError> {
     let mut out = LineText::new(Vec::new(alloc));
-    out.begin_array()?;
-    out.begin_object()?;
+    out.token(Token::BeginArray)?;
+    out.token(Token::BeginObject)?;
     out.member(text, number)?;
-    out.key(text)?;
-    out.string(text)?;
-    out.end_object()?;
+    out.token(Token::Key(text))?;
+    out.token(Token::String(text))?;
+    out.token(Token::EndObject)?;
     out.number(number)?;
-    out.end_array()?;
+    out.token(Token::Null)?;
+    out.token(Token::Bool(true))?;
+    out.token(Token::EndArray)?;
     out.into_line()
 }
 
@@ -102,6 +104,8 @@ fn line_by_json(alloc: Global, text: &str, number: u64) -> Result<Vec<u8>, Alloc
     out.string(text)?;
     out.end_object()?;
     out.u64(number)?;
+    out.null()?;
+    out.boolean(true)?;
     out.end_array()?;
     let mut line = out.into_inner();
     line.push(b'\n')?;

@@ -20,6 +20,7 @@ use crate::writing::building::NewObject;
 use crate::writing::marks::Marks;
 use etcs_bits::{Dir, Memory, Ranged, Scale, Speed};
 use etcs_profile::Authority;
+use json::Token;
 use serde_json::Value;
 use std::alloc::Global;
 
@@ -196,9 +197,9 @@ impl Form for Authority {
 
 impl InPieces for Authority {
     fn send_to<M: Marks>(&self, out: &mut M) -> Result<(), Memory> {
-        out.begin_object()?;
+        out.token(Token::BeginObject)?;
         send_authority(out, self)?;
-        out.end_object()?;
+        out.token(Token::EndObject)?;
         Ok(())
     }
 }

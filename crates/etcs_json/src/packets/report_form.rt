@@ -21,6 +21,7 @@ use crate::writing::building::NewObject;
 use crate::writing::marks::Marks;
 use etcs_bits::{Country, Distance, GroupNumber, Identity, Level, Memory, Plain, Scale};
 use etcs_radio::{Integrity, Report, Train3};
+use json::Token;
 use serde_json::Value;
 use std::alloc::Global;
 
@@ -311,9 +312,9 @@ impl Form for Report {
 
 impl InPieces for Report {
     fn send_to<M: Marks>(&self, out: &mut M) -> Result<(), Memory> {
-        out.begin_object()?;
+        out.token(Token::BeginObject)?;
         send_report(out, self)?;
-        out.end_object()?;
+        out.token(Token::EndObject)?;
         Ok(())
     }
 }

@@ -1,147 +1,86 @@
 //! What takes the text of a JSON value piece by piece: a writer of JSON, and a line of text.
 
-ghost use Rattle.std.specs.Prelude.{◌∷◌, [], OnOk, decimal};
-ghost use Rattle.json.specs.Token.{begin_array, begin_object, end_array, end_object, key, number, string};
-ghost use Rattle.json.specs.Written.{Written};
-ghost use Rattle.etcs_json.specs.Sending.{Adds};
+ghost use Rattle.std.specs.Prelude.{◌≡◌, ◌++◌, ◌∷◌, [], List, OnOk, decimal};
+ghost use Rattle.json.specs.Print.{IsPrintable};
+ghost use Rattle.json.specs.Reads.{token_of};
+ghost use Rattle.json.specs.Token.{Token as JsonToken, key, number};
 
 use etcs_bits::Memory;
 use etcs_digits::{LineText, send_decimal};
-use json::Writer;
+use json::{Token, Writer};
 
-/// What takes marks, keys, numbers and texts, one after the other, and places the commas. The only error
-/// is that memory runs out.
+/// What takes tokens, one after the other, and places the commas. The only error is that memory runs out.
 pub trait Marks {
-    /// What was taken so far.
-    ghost written: { Self → Written };
+    /// These tokens were taken, in this order, by what was the first and became the second.
+    ghost adds: { List JsonToken → Self → Self → Type 0 };
 
-    /// Takes the mark that begins an object.
-    fn begin_object(&mut self) -> Result<(), Memory>
-        ensures { OnOk result (Adds (begin_object ∷ []) (written self.old) (written self.new)) };
-
-    /// Takes the mark that ends an object.
-    fn end_object(&mut self) -> Result<(), Memory>
-        ensures { OnOk result (Adds (end_object ∷ []) (written self.old) (written self.new)) };
-
-    /// Takes the mark that begins a list.
-    fn begin_array(&mut self) -> Result<(), Memory>
-        ensures { OnOk result (Adds (begin_array ∷ []) (written self.old) (written self.new)) };
-
-    /// Takes the mark that ends a list.
-    fn end_array(&mut self) -> Result<(), Memory>
-        ensures { OnOk result (Adds (end_array ∷ []) (written self.old) (written self.new)) };
-
-    /// Takes a key.
-    fn key(&mut self, name: &str) -> Result<(), Memory>
-        ensures { OnOk result (Adds (key name.now ∷ []) (written self.old) (written self.new)) };
-
-    /// Takes a text.
-    fn string(&mut self, text: &str) -> Result<(), Memory>
-        ensures { OnOk result (Adds (string text.now ∷ []) (written self.old) (written self.new)) };
+    /// Takes a token.
+    fn token(&mut self, token: Token<'_>) -> Result<(), Memory>
+        requires { IsPrintable (token_of token) }
+        ensures { OnOk result (adds (token_of token.entry ∷ []) self.old self.new) };
 
     /// Takes a number.
     fn number(&mut self, n: u64) -> Result<(), Memory>
-        ensures { OnOk result (Adds (number (decimal n) ∷ []) (written self.old) (written self.new)) };
+        ensures { OnOk result (adds (number (decimal n) ∷ []) self.old self.new) };
 
     /// Takes a key and then a number.
     fn member(&mut self, name: &str, n: u64) -> Result<(), Memory>
-        ensures { OnOk result (Adds (key name.now ∷ number (decimal n) ∷ [])
-            (written self.old) (written self.new)) };
+        ensures { OnOk result (adds (key name.now ∷ number (decimal n) ∷ []) self.old self.new) };
+
+    /// Where no token comes, nothing changes.
+    ghost none: { (out : Self) → adds [] out out };
+
+    /// Some tokens, and then others.
+    ghost then: { (ts us : List JsonToken) (old mid new : Self)
+        → adds ts old mid → adds us mid new → adds (ts ++ us) old new };
 }
 
 impl Marks for Writer {
-    ghost written = { λ w. w };
+    ghost use Rattle.etcs_json.specs.Sending.{Adds};
+    ghost use Rattle.etcs_json.specs.SinkLemmas.{adds_more, adds_none};
 
-    fn begin_object(&mut self) -> Result<(), Memory> {
-        Writer::begin_object(self)?;
-        Ok(())
-    }
+    ghost adds = { λ ts old new. Adds ts old new };
 
-    fn end_object(&mut self) -> Result<(), Memory> {
-        Writer::end_object(self)?;
-        Ok(())
-    }
+    ghost none = { λ out. adds_none out };
 
-    fn begin_array(&mut self) -> Result<(), Memory> {
-        Writer::begin_array(self)?;
-        Ok(())
-    }
+    ghost then = { λ ts us old mid new. adds_more ts us old mid new };
 
-    fn end_array(&mut self) -> Result<(), Memory> {
-        Writer::end_array(self)?;
-        Ok(())
-    }
-
-    fn key(&mut self, name: &str) -> Result<(), Memory> {
-        Writer::key(self, name)?;
-        Ok(())
-    }
-
-    fn string(&mut self, text: &str) -> Result<(), Memory> {
-        Writer::string(self, text)?;
-        Ok(())
+    fn token(&mut self, token: Token<'_>) -> Result<(), Memory> {
+        Ok(Writer::token(self, token)?)
     }
 
     fn number(&mut self, n: u64) -> Result<(), Memory> {
-        send_decimal(self, n)?;
-        Ok(())
+        Ok(send_decimal(self, n)?)
     }
 
     fn member(&mut self, name: &str, n: u64) -> Result<(), Memory> {
-        Writer::key(self, name)?;
-        send_decimal(self, n)?;
-        Ok(())
+        self.key(name)?;
+        Ok(self.u64(n)?)
     }
 }
 
 impl Marks for LineText {
-    ghost written = { λ w. w };
+    ghost use Rattle.std.specs.Prelude.{refl};
+    ghost use Rattle.etcs_digits.specs.LineText.{puts, puts_then};
+
+    ghost adds = { λ ts old new. new ≡ puts old ts };
+
+    ghost none = { λ out. refl };
+
+    ghost then = { λ ts us old mid new. puts_then ts us old mid new };
 
     #[inline(always)]
-    fn begin_object(&mut self) -> Result<(), Memory> {
-        LineText::begin_object(self)?;
-        Ok(())
-    }
-
-    #[inline(always)]
-    fn end_object(&mut self) -> Result<(), Memory> {
-        LineText::end_object(self)?;
-        Ok(())
-    }
-
-    #[inline(always)]
-    fn begin_array(&mut self) -> Result<(), Memory> {
-        LineText::begin_array(self)?;
-        Ok(())
-    }
-
-    #[inline(always)]
-    fn end_array(&mut self) -> Result<(), Memory> {
-        LineText::end_array(self)?;
-        Ok(())
-    }
-
-    #[inline(always)]
-    fn key(&mut self, name: &str) -> Result<(), Memory> {
-        LineText::key(self, name)?;
-        Ok(())
-    }
-
-    #[inline(always)]
-    fn string(&mut self, text: &str) -> Result<(), Memory> {
-        LineText::string(self, text)?;
-        Ok(())
+    fn token(&mut self, token: Token<'_>) -> Result<(), Memory> {
+        Ok(LineText::token(self, token)?)
     }
 
     #[inline(always)]
     fn number(&mut self, n: u64) -> Result<(), Memory> {
-        LineText::number(self, n)?;
-        Ok(())
+        Ok(LineText::number(self, n)?)
     }
 
     #[inline(always)]
     fn member(&mut self, name: &str, n: u64) -> Result<(), Memory> {
-        LineText::member(self, name, n)?;
-        Ok(())
+        Ok(LineText::member(self, name, n)?)
     }
 }

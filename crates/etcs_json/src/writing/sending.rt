@@ -1,16 +1,17 @@
 //! How members are sent to what takes marks.
 
 ghost use Rattle.std.specs.Prelude.{OnOk};
-ghost use Rattle.etcs_json.specs.Sending.{Adds, SendsMembers, each_tokens};
+ghost use Rattle.etcs_json.specs.Sending.{each_tokens, entries_tokens};
 
 use crate::form::InPieces;
 use crate::writing::Sink;
 use crate::writing::marks::Marks;
 use etcs_bits::Memory;
+use json::Token;
 
 // Sends items one after the other, without the marks of a list.
 fn send_items<M: Marks, T: InPieces>(out: &mut M, items: &[T]) -> Result<(), Memory>
-    ensures { OnOk result (Adds (each_tokens T.shape.to items.now) (M.written out.old) (M.written out.new)) }
+    ensures { OnOk result (M.adds (each_tokens T.shape.to items.now) out.old out.new) }
 {
     'items: for item in items {
         item.send_to(out)?;
@@ -19,13 +20,13 @@ fn send_items<M: Marks, T: InPieces>(out: &mut M, items: &[T]) -> Result<(), Mem
 }
 
 impl<M: Marks> Sink for M {
-    ghost use Rattle.etcs_json.specs.SinkLemmas.{sent_none, sent_then};
+    ghost use Rattle.etcs_json.specs.SinkLemmas.{sent_then};
 
-    ghost takes = { λ es old new. SendsMembers es (M.written old) (M.written new) };
+    ghost takes = { λ es old new. M.adds (entries_tokens es) old new };
 
-    ghost left_out = { λ name out. sent_none name (M.written out) };
+    ghost left_out = { λ name out. M.none out };
 
-    ghost then = { λ es fs old mid new. sent_then es fs (M.written old) (M.written mid) (M.written new) };
+    ghost then = { λ es fs old mid new. sent_then M.adds M.then es fs old mid new };
 
     #[inline(always)]
     fn send_key<T: InPieces>(&mut self, name: &str, value: &T) -> Result<(), Memory> {
@@ -39,16 +40,17 @@ impl<M: Marks> Sink for M {
 
     #[inline(always)]
     fn send_text(&mut self, name: &str, text: &str) -> Result<(), Memory> {
-        self.key(name)?;
-        self.string(text)
+        self.token(Token::Key(name))?;
+        self.token(Token::String(text))?;
+        Ok(())
     }
 
     #[inline(always)]
     fn send_list_at<T: InPieces>(&mut self, name: &str, items: &[T]) -> Result<(), Memory> {
-        self.key(name)?;
-        self.begin_array()?;
+        self.token(Token::Key(name))?;
+        self.token(Token::BeginArray)?;
         send_items(self, items)?;
-        self.end_array()?;
+        self.token(Token::EndArray)?;
         Ok(())
     }
 
@@ -59,11 +61,11 @@ impl<M: Marks> Sink for M {
         first: &T,
         further: &[T],
     ) -> Result<(), Memory> {
-        self.key(name)?;
-        self.begin_array()?;
+        self.token(Token::Key(name))?;
+        self.token(Token::BeginArray)?;
         first.send_to(self)?;
         send_items(self, further)?;
-        self.end_array()?;
+        self.token(Token::EndArray)?;
         Ok(())
     }
 }

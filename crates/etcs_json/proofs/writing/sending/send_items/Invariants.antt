@@ -1,7 +1,7 @@
 use Rattle.std.proofs.Common.{take}
-use Rattle.etcs_json.specs.Sending.{Adds, each_tokens}
+use Rattle.etcs_json.specs.Sending.{each_tokens}
 use Rattle.etcs_json.proofs.writing.sending.send_items.Given as goal
 
 -- the items so far were sent
 abbrev pub invariant-items : goal.invariant-items
-invariant-items g l = Adds (each_tokens g.T.Form.shape.to (take l.item-index l.items)) (g.M.Marks.written l.initial.out) (g.M.Marks.written l.out)
+invariant-items g l = g.M.Marks.adds (each_tokens g.T.Form.shape.to (take l.item-index l.items)) l.initial.out l.out

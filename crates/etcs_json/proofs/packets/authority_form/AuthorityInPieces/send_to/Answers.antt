@@ -7,4 +7,4 @@ use Rattle.etcs_json.proofs.packets.authority_form.AuthorityInPieces.send_to.Goa
 pub returns : goal.returns
 returns g c =
     let x = c.args.self.now in
-    sent_as (sent_members x) _ _ _ _ _ (authority_sent x) c.in_ok-begin_object.ensures c.in_ok-send_authority.ensures c.in_ok-end_object.ensures
+    sent_as g.M.Marks.adds g.met.M.Marks.then (sent_members x) _ _ _ _ _ (authority_sent x) c.in_ok-token.ensures c.in_ok-send_authority.ensures c.in_ok-token-2.ensures
