@@ -10,6 +10,7 @@ use crate::error::FormError;
 use crate::form::{Form, InPieces};
 use crate::node::Node;
 use crate::node::reading::{check_absent, read_key};
+use crate::packets::number_forms::read_number;
 use crate::writing::marks::Marks;
 use etcs_bits::{Distance, Memory, Plain};
 use etcs_radio::{Integrity, Train3};
@@ -75,16 +76,7 @@ impl Form for Train3 {
     }
 
     fn of_node<N: Node>(alloc: Global, node: &N) -> Result<Self, FormError> {
-        match node.number() {
-            None => Err(FormError::kind(alloc)),
-            Some(number) => match u32::try_from(number) {
-                Err(_) => Err(FormError::range(alloc)),
-                Ok(number) => match Train3::new(number) {
-                    None => Err(FormError::range(alloc)),
-                    Some(side) => Ok(side),
-                },
-            },
-        }
+        read_number!(alloc, node, Train3)
     }
 }
 

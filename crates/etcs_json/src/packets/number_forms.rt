@@ -1,4 +1,8 @@
 //! Variables as whole numbers.
+#![tactic(auto, unfolding(crate::specs::Reading::allowed_number))]
+
+ghost use Rattle.etcs_bits.specs.variables.Variables.{plain, ranged};
+ghost use Rattle.etcs_json.specs.Variables.{direction, duplicate, flag, scale, variable, version};
 
 use crate::error::FormError;
 use crate::form::{Form, InPieces};
@@ -8,11 +12,25 @@ use etcs_bits::{Dir, Dup, Memory, Plain, Ranged, Scale, Version};
 use serde_json::Value;
 use std::alloc::Global;
 
-#[tactic(auto, unfolding(crate::specs::Reading::allowed_number))]
-impl<const W: u32> Form for Plain<W> {
-    ghost use Rattle.etcs_bits.specs.variables.Variables.{plain};
-    ghost use Rattle.etcs_json.specs.Variables.{variable};
+// The variable whose number this is. A number may be too high for `$kind::new` to be asked.
+macro_rules! read_number {
+    ($alloc:ident, $node:ident, $kind:ident) => {
+        match $node.number() {
+            None => Err(FormError::kind($alloc)),
+            Some(number) => match u32::try_from(number) {
+                Err(_) => Err(FormError::range($alloc)),
+                Ok(number) => match $kind::new(number) {
+                    None => Err(FormError::range($alloc)),
+                    Some(variable) => Ok(variable),
+                },
+            },
+        }
+    };
+}
 
+pub(crate) use read_number;
+
+impl<const W: u32> Form for Plain<W> {
     ghost shape = { variable (plain W) };
 
     ghost builds = { ⊥ };
@@ -24,16 +42,7 @@ impl<const W: u32> Form for Plain<W> {
     }
 
     fn of_node<N: Node>(alloc: Global, node: &N) -> Result<Self, FormError> {
-        match node.number() {
-            None => Err(FormError::kind(alloc)),
-            Some(number) => match u32::try_from(number) {
-                Err(_) => Err(FormError::range(alloc)),
-                Ok(number) => match Plain::new(number) {
-                    None => Err(FormError::range(alloc)),
-                    Some(variable) => Ok(variable),
-                },
-            },
-        }
+        read_number!(alloc, node, Plain)
     }
 }
 
@@ -49,11 +58,7 @@ impl<const W: u32> InPieces for Plain<W> {
     }
 }
 
-#[tactic(auto, unfolding(crate::specs::Reading::allowed_number))]
 impl<const W: u32, const LAST: u32, const FROM: u32> Form for Ranged<W, LAST, FROM> {
-    ghost use Rattle.etcs_bits.specs.variables.Variables.{ranged};
-    ghost use Rattle.etcs_json.specs.Variables.{variable};
-
     ghost shape = { variable (ranged W LAST FROM) };
 
     ghost builds = { ⊥ };
@@ -65,16 +70,7 @@ impl<const W: u32, const LAST: u32, const FROM: u32> Form for Ranged<W, LAST, FR
     }
 
     fn of_node<N: Node>(alloc: Global, node: &N) -> Result<Self, FormError> {
-        match node.number() {
-            None => Err(FormError::kind(alloc)),
-            Some(number) => match u32::try_from(number) {
-                Err(_) => Err(FormError::range(alloc)),
-                Ok(number) => match Ranged::new(number) {
-                    None => Err(FormError::range(alloc)),
-                    Some(variable) => Ok(variable),
-                },
-            },
-        }
+        read_number!(alloc, node, Ranged)
     }
 }
 
@@ -90,10 +86,7 @@ impl<const W: u32, const LAST: u32, const FROM: u32> InPieces for Ranged<W, LAST
     }
 }
 
-#[tactic(auto, unfolding(crate::specs::Reading::allowed_number))]
 impl Form for bool {
-    ghost use Rattle.etcs_json.specs.Variables.{flag};
-
     ghost shape = { flag };
 
     ghost builds = { ⊥ };
@@ -126,10 +119,7 @@ impl InPieces for bool {
     }
 }
 
-#[tactic(auto, unfolding(crate::specs::Reading::allowed_number))]
 impl Form for Dir {
-    ghost use Rattle.etcs_json.specs.Variables.{direction};
-
     ghost shape = { direction };
 
     ghost builds = { ⊥ };
@@ -141,16 +131,7 @@ impl Form for Dir {
     }
 
     fn of_node<N: Node>(alloc: Global, node: &N) -> Result<Self, FormError> {
-        match node.number() {
-            None => Err(FormError::kind(alloc)),
-            Some(number) => match u32::try_from(number) {
-                Err(_) => Err(FormError::range(alloc)),
-                Ok(number) => match Dir::new(number) {
-                    None => Err(FormError::range(alloc)),
-                    Some(dir) => Ok(dir),
-                },
-            },
-        }
+        read_number!(alloc, node, Dir)
     }
 }
 
@@ -166,10 +147,7 @@ impl InPieces for Dir {
     }
 }
 
-#[tactic(auto, unfolding(crate::specs::Reading::allowed_number))]
 impl Form for Scale {
-    ghost use Rattle.etcs_json.specs.Variables.{scale};
-
     ghost shape = { scale };
 
     ghost builds = { ⊥ };
@@ -181,16 +159,7 @@ impl Form for Scale {
     }
 
     fn of_node<N: Node>(alloc: Global, node: &N) -> Result<Self, FormError> {
-        match node.number() {
-            None => Err(FormError::kind(alloc)),
-            Some(number) => match u32::try_from(number) {
-                Err(_) => Err(FormError::range(alloc)),
-                Ok(number) => match Scale::new(number) {
-                    None => Err(FormError::range(alloc)),
-                    Some(scale) => Ok(scale),
-                },
-            },
-        }
+        read_number!(alloc, node, Scale)
     }
 }
 
@@ -206,10 +175,7 @@ impl InPieces for Scale {
     }
 }
 
-#[tactic(auto, unfolding(crate::specs::Reading::allowed_number))]
 impl Form for Dup {
-    ghost use Rattle.etcs_json.specs.Variables.{duplicate};
-
     ghost shape = { duplicate };
 
     ghost builds = { ⊥ };
@@ -221,16 +187,7 @@ impl Form for Dup {
     }
 
     fn of_node<N: Node>(alloc: Global, node: &N) -> Result<Self, FormError> {
-        match node.number() {
-            None => Err(FormError::kind(alloc)),
-            Some(number) => match u32::try_from(number) {
-                Err(_) => Err(FormError::range(alloc)),
-                Ok(number) => match Dup::new(number) {
-                    None => Err(FormError::range(alloc)),
-                    Some(dup) => Ok(dup),
-                },
-            },
-        }
+        read_number!(alloc, node, Dup)
     }
 }
 
@@ -246,10 +203,7 @@ impl InPieces for Dup {
     }
 }
 
-#[tactic(auto, unfolding(crate::specs::Reading::allowed_number))]
 impl Form for Version {
-    ghost use Rattle.etcs_json.specs.Variables.{version};
-
     ghost shape = { version };
 
     ghost builds = { ⊥ };
@@ -261,16 +215,7 @@ impl Form for Version {
     }
 
     fn of_node<N: Node>(alloc: Global, node: &N) -> Result<Self, FormError> {
-        match node.number() {
-            None => Err(FormError::kind(alloc)),
-            Some(number) => match u32::try_from(number) {
-                Err(_) => Err(FormError::range(alloc)),
-                Ok(number) => match Version::new(number) {
-                    None => Err(FormError::range(alloc)),
-                    Some(version) => Ok(version),
-                },
-            },
-        }
+        read_number!(alloc, node, Version)
     }
 }
 
