@@ -1,9 +1,7 @@
 -- The table of digits, and numbers that are written after it.
-use Rattle.std.proofs.Common.{◌≡◌, ℕ, ◌+◌, ◌/◌, ◌%◌, ◌<◌, ◌≤◌, ◌^◌, Bool, true, false, cond, ◌&&◌, ◌==◌, nat_lt, List, [], ◌∷◌, ◌++◌, slice_index, take, length, append_assoc, arith, refl, subst, sym, ap, ◌∙◌}
+use Rattle.std.proofs.Common.{◌≡◌, ℕ, ◌+◌, ◌/◌, ◌%◌, ◌<◌, ◌≤◌, ◌^◌, Bool, true, false, cond, ◌&&◌, ◌==◌, nat_lt, List, [], ◌∷◌, ◌++◌, slice_index, take, append_assoc, arith, refl, subst, sym}
 use Rattle.std.proofs.lemmas.Bool.{and_parts, eqb-true, ltb-false, ltb-true}
 use Rattle.std.proofs.lemmas.Fmt.{decimal_digit, decimal_step}
-use Rattle.std.proofs.lemmas.List.{length-take-le, take-take}
-use Rattle.std.proofs.Math.Seq.{take-append-add}
 use Rattle.std.specs.Fmt.{decimal}
 use Rattle.json.specs.Filled.{Placed}
 
@@ -75,18 +73,6 @@ by_count n lt false false _ _ _ three = (three_digits n (three refl) lt, omega a
 
 pub row_by_has : (n : ℕ) → n < 1000 → HasDigits n (row_by n)
 row_by_has n lt = by_count n lt (nat_lt n 10) (nat_lt n 100) (ltb-true n 10) (ltb-false n 10) (ltb-true n 100) (ltb-false n 100)
-
--- of four bytes that are written the first k count
-pub placed_front : {a b : List ℕ} (row : List ℕ) {i j : ℕ} (k : ℕ) → i + 4 ≤ length a → k ≤ 3 → length row ≡ 4 → Placed a b i (take 4 row) j → Placed a b i (take k row) (i + k)
-placed_front {a} {b} row {i} {j} k room few four placed =
-    let end : j ≡ i + 4 = omega (arith, placed.moved, length-take-le 4 row (omega arith)) in
-    let front : length (take i a) ≡ i = length-take-le i a (omega arith) in
-    record {
-      bytes = sym (take-take (i + k) j b (omega arith)) ∙ ap (take (i + k)) placed.bytes ∙ ap (λ m. take (m + k) (take i a ++ take 4 row)) (sym front)
-          ∙ take-append-add (take i a) (take 4 row) k ∙ ap (λ x. take i a ++ x) (take-take k 4 row (omega arith));
-      moved = omega (arith, length-take-le k row (omega arith));
-      len = placed.len;
-    }
 
 -- what is written is known by another name
 pub placed_as : {a b xs ys : List ℕ} {i j : ℕ} → xs ≡ ys → Placed a b i xs j → Placed a b i ys j

@@ -33,6 +33,7 @@ printed x a (t ∷ ts) =
     ap (λ l. without (puts l ts).after_value (puts l ts).text) (put_as x a t) ∙ printed (x ++ (separator a t ++ token_text t)) (ends t) ts ∙ simp append_assoc
 
 -- a token that `json` printed alone
-pub by_json : (l : Line) (t : Token) → begins t ≡ true → record { text = l.text ++ (print (t ∷ []) ++ comma_after (ends t)); after_value = ends t } ≡ put l t
+pub by_json : (l : Line) (t : Token) (text : List ℕ) (after_value : Bool) → begins t ≡ true → text ≡ l.text ++ (print (t ∷ []) ++ comma_after (ends t)) → after_value ≡ ends t
+    → record { text = text; after_value = after_value } ≡ put l t
 unfolding print_from
-by_json l t is = rw (is, append-nil (token_text t)) refl
+by_json l t text after_value begin is end = rw (is, end, begin, append-nil (token_text t)) refl

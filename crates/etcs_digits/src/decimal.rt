@@ -6,7 +6,7 @@ ghost use Rattle.json.specs.Token.{number};
 ghost use Rattle.json.specs.Filled.{Placed};
 ghost use Rattle.json.specs.Written.{Writes};
 
-use crate::text_room::{place_byte, place_front, place_text};
+use crate::text_room::{place_byte, place_text};
 use itoa::Buffer;
 use json::Writer;
 use std::alloc::AllocError;
@@ -101,7 +101,7 @@ fn place_few(buf: &mut [u8], at: usize, n: u64) -> usize
     ensures few { result ≤ at + 3 }
 {
     let row = row_of(n);
-    place_front::<4>(buf, at, &row);
+    buf[at..at + 4].copy_from_slice(&row);
     at + row[3] as usize
 }
 

@@ -1,14 +1,14 @@
 //! A line of JSON, token by token. The comma that may follow a value is written with the value, and a
 //! closing mark takes its place. So most tokens are appended as they are, a member with its number at once.
 
-ghost use Rattle.std.specs.Prelude.{◌≡◌, ◌++◌, ◌∷◌, [], IfOk, List, OnOk, cond, decimal, false, not, true};
+ghost use Rattle.std.specs.Prelude.{◌≡◌, ◌-◌, ◌++◌, ◌∷◌, [], IfOk, List, OnOk, cond, decimal, false, not, true};
 ghost use Rattle.json.specs.Print.{begins, ends, print, IsPrintable};
 ghost use Rattle.json.specs.Reads.{token_of};
 ghost use Rattle.json.specs.Token.{Token as JsonToken, key, number};
 ghost use Rattle.etcs_digits.specs.LineText.{Becomes, comma_after, empty_line, put, puts, quoted_text, without};
 
 use crate::plain::is_plain;
-use crate::text_room::TextRoom;
+use crate::text_room::{make_ready, place_byte, place_number, place_quoted};
 use json::{Token, Writer};
 use std::alloc::AllocError;
 use std::marker::Model;
@@ -16,19 +16,23 @@ use std::marker::Model;
 /// A line of JSON that is being written. Clauses see its text and whether a comma ends it.
 #[derive(Drop)]
 pub struct LineText {
-    text: TextRoom,
+    bytes: Vec<u8>,
+    len: usize,
     // Whether the text ends with a value and the comma that may follow it.
     after_value: bool,
 }
 
 impl Model for LineText {
+    ghost use Rattle.std.specs.Prelude.{◌≤◌, length, take};
     ghost use Rattle.etcs_digits.specs.LineText.{Line, line_code};
 
     ghost Value = { Line };
 
     ghost coded = { line_code };
 
-    ghost view = { λ w. record { text = w.text.items; after_value = w.after_value } };
+    ghost view = { λ w. record { text = take w.len w.bytes.items; after_value = w.after_value } };
+
+    ghost invariant = { λ w. w.len ≤ length w.bytes.items };
 }
 
 // Whether a token is the last of a value.
@@ -50,13 +54,22 @@ fn comma(after_value: bool) -> &'static [u8]
     if after_value { b"," } else { b"" }
 }
 
+// Where the text ends without the comma at its end, if one is there.
+#[inline(always)]
+fn end_of(len: usize, comma: bool) -> usize
+    ensures { result ≡ len - cond comma 1 0 }
+{
+    if comma { len.saturating_sub(1) } else { len }
+}
+
 impl LineText {
     /// A line without a token, in the room of an earlier text. What stands there is lost.
     pub fn new(room: Vec<u8>) -> LineText
         ensures { result ≡ empty_line }
     {
         LineText {
-            text: TextRoom::new(room),
+            bytes: room,
+            len: 0,
             after_value: false,
         }
     }
@@ -67,13 +80,13 @@ impl LineText {
             (ts : List JsonToken) → self ≡ puts empty_line ts → line.items ≡ print ts ++ 10 ∷ []) }
     {
         let LineText {
-            mut text,
+            mut bytes,
+            len,
             after_value,
         } = self;
-        text.drop_comma(after_value);
-        text.reserve(1)?;
-        text.put(b"\n");
-        Ok(text.into_vec())
+        bytes.truncate(end_of(len, after_value));
+        bytes.push(b'\n')?;
+        Ok(bytes)
     }
 
     // Appends the mark that begins a list or an object.
@@ -82,8 +95,8 @@ impl LineText {
         ensures { Becomes result self.old self.new
             (record { text = self.old.text ++ mark ∷ []; after_value = false }) }
     {
-        self.text.reserve(1)?;
-        self.text.put(&[mark]);
+        make_ready(&mut self.bytes, self.len, 1)?;
+        self.len = place_byte(self.bytes.as_mut_slice(), self.len, mark);
         self.after_value = false;
         Ok(())
     }
@@ -94,9 +107,10 @@ impl LineText {
         ensures { Becomes result self.old self.new
             (record { text = without self.old.after_value self.old.text ++ mark ∷ 44 ∷ []; after_value = true }) }
     {
-        self.text.reserve(2)?;
-        self.text.drop_comma(self.after_value);
-        self.text.put(&[mark, b',']);
+        make_ready(&mut self.bytes, self.len, 2)?;
+        let buf = self.bytes.as_mut_slice();
+        let at = place_byte(buf, end_of(self.len, self.after_value), mark);
+        self.len = place_byte(buf, at, b',');
         self.after_value = true;
         Ok(())
     }
@@ -107,9 +121,10 @@ impl LineText {
         ensures { Becomes result self.old self.new
             (record { text = self.old.text ++ quoted_text text.now (cond is_key 58 44); after_value = not is_key }) }
     {
-        self.text.reserve(text.len() + 3)?;
+        make_ready(&mut self.bytes, self.len, text.len() + 3)?;
         let behind = if is_key { b':' } else { b',' };
-        self.text.put_quoted(text.as_bytes(), behind);
+        let buf = self.bytes.as_mut_slice();
+        self.len = place_quoted(buf, self.len, text.as_bytes(), behind);
         self.after_value = !is_key;
         Ok(())
     }
@@ -122,13 +137,14 @@ impl LineText {
         requires printable { IsPrintable (token_of token) }
         ensures { Becomes result self.old self.new (put self.old (token_of token.entry)) }
     {
-        let mut writer = Writer::new(Vec::new(self.text.allocator()));
+        let mut writer = Writer::new(Vec::new(*self.bytes.allocator()));
         writer.token(token)?;
         let mut text = writer.into_inner();
         let after_value = ends_value(token);
         text.extend_from_slice(comma(after_value))?;
-        self.text.reserve(text.len())?;
-        self.text.put(text.as_slice());
+        self.bytes.truncate(self.len);
+        self.bytes.extend_from_slice(text.as_slice())?;
+        self.len = self.bytes.len();
         self.after_value = after_value;
         Ok(())
     }
@@ -155,8 +171,8 @@ impl LineText {
     pub fn number(&mut self, n: u64) -> Result<(), AllocError>
         ensures { Becomes result self.old self.new (puts self.old (number (decimal n) ∷ [])) }
     {
-        self.text.reserve(21)?;
-        self.text.put_number(n);
+        make_ready(&mut self.bytes, self.len, 21)?;
+        self.len = place_number(self.bytes.as_mut_slice(), self.len, n);
         self.after_value = true;
         Ok(())
     }
@@ -170,9 +186,10 @@ impl LineText {
             self.put_by_json(Token::Key(name))?;
             return self.number(n);
         }
-        self.text.reserve(name.len() + 24)?;
-        self.text.put_quoted(name.as_bytes(), b':');
-        self.text.put_number(n);
+        make_ready(&mut self.bytes, self.len, name.len() + 24)?;
+        let buf = self.bytes.as_mut_slice();
+        let at = place_quoted(buf, self.len, name.as_bytes(), b':');
+        self.len = place_number(buf, at, n);
         self.after_value = true;
         Ok(())
     }

@@ -1,10 +1,16 @@
-use Rattle.std.proofs.Common.{◌∙◌, ◌++◌, [], ◌∷◌, ap, false}
+use Rattle.std.proofs.Common.{◌≡◌, ◌∙◌, ◌-◌, ◌++◌, ◌≤◌, ℕ, Bool, true, false, List, [], ◌∷◌, ap, arith, cond, length, length-take-le, sym, take, take-take}
 use Rattle.etcs_digits.specs.LineText.{without}
 use Rattle.etcs_digits.proofs.LineTextLemmas.{printed}
 use Rattle.etcs_digits.proofs.line_text.LineText.into_line.Goals as goal
 
+cut : (a : Bool) (len : ℕ) (s : List ℕ) → len ≤ length s → take (len - cond a 1 0) s ≡ without a (take len s)
+cut true len s within = rw (length-take-le len s within) (sym (take-take (len - 1) len s (omega arith)))
+cut false len s within = let same : len - 0 ≡ len = omega arith in ap (λ n. take n s) same
+
 -- what is left without the comma ahead is printed
 pub returns : goal.returns
 returns c = λ ts is.
-    c.into_vec.ensures ∙ (rw (c.in_ok-reserve.ensures.items, c.drop_comma.ensures.items) at c.put.ensures)
-    ∙ ap (λ s. s ++ 10 ∷ []) (ap (λ l. without l.after_value l.text) (c.self.view_is ∙ is) ∙ printed [] false ts)
+    c.in_ok-push.ensures.items
+    ∙ ap (λ s. s ++ 10 ∷ [])
+    (c.truncate.ensures.items ∙ (λ i. take (c.end_of.ensures i) c.self.inside.bytes.items) ∙ cut c.self.inside.after_value c.self.inside.len c.self.inside.bytes.items c.self.invariant
+    ∙ ap (λ l. without l.after_value l.text) (c.self.view_is ∙ is) ∙ printed [] false ts)

@@ -1,4 +1,4 @@
-use Rattle.std.proofs.Common.{◌∙◌, ap}
+use Rattle.std.proofs.Common.{◌∙◌, ap, arith, take_all}
 use Rattle.json.specs.Reads.{token_of}
 use Rattle.etcs_digits.specs.LineText.{put}
 use Rattle.etcs_digits.proofs.LineTextLemmas.{by_json}
@@ -7,20 +7,20 @@ use Rattle.etcs_digits.proofs.line_text.LineText.put_by_json.Goals as goal
 -- the token's text and its comma stand behind the line's
 pub returns : goal.returns
 returns c = record {
-  ok = rw (
-    c.put.ensures,
-    c.in_ok-reserve.ensures.items,
-    c.as_slice.ensures.value,
-    c.in_ok-extend_from_slice.ensures.items,
-    c.into_inner-text.ensures.items,
-    c.in_ok-token.ensures.ok,
-    c.in_ok-token.ensures.room.0,
-    c.new-writer.ensures.tokens,
-    c.new-writer.ensures.before,
-    c.new.ensures.items,
-    c.comma.ensures,
-    c.ends_value-after_value.ensures,
-  )
-      (by_json _ _ c.requires.begins ∙ ap (λ l. put l (token_of c.args.token)) c.self.view_is);
+  ok = by_json _ _ _ _ c.requires.begins
+      (take_all _ _ (omega arith) ∙ (rw (
+        c.truncate.ensures.items,
+        c.as_slice.ensures.value,
+        c.in_ok-extend_from_slice.ensures.items,
+        c.into_inner-text.ensures.items,
+        c.in_ok-token.ensures.ok,
+        c.in_ok-token.ensures.room.0,
+        c.new-writer.ensures.tokens,
+        c.new-writer.ensures.before,
+        c.new.ensures.items,
+        c.comma.ensures,
+        c.ends_value-after_value.ensures,
+      )
+      at c.in_ok-extend_from_slice-2.ensures.items)) c.ends_value-after_value.ensures ∙ ap (λ l. put l (token_of c.args.token)) c.self.view_is;
   err = tt;
 }

@@ -1,11 +1,11 @@
 use Rattle.std.proofs.Common.{◌≡◌, ◌-◌, ◌≤◌, take, vec_capacity, vec_len}
-use Rattle.etcs_digits.proofs.text_room.fill_to.Given as goal
+use Rattle.etcs_digits.proofs.text_room.fill.Given as goal
 
 -- the bytes that stood there stay, and there is room
 abbrev pub invariant-filling : goal.invariant-filling
 invariant-filling l =
     (take (vec_len l.fn.bytes) l.bytes.items ≡ l.fn.bytes.items) × (vec_len l.fn.bytes ≤ vec_len l.bytes)
-    × (vec_len l.bytes ≤ l.len) × (vec_capacity l.fn.bytes ≤ vec_capacity l.bytes)
+    × (l.end ≤ vec_capacity l.bytes) × (vec_capacity l.fn.bytes ≤ vec_capacity l.bytes)
 
 abbrev pub decreases-filling : goal.decreases-filling
-decreases-filling l = l.len - vec_len l.bytes
+decreases-filling l = l.end - vec_len l.bytes
