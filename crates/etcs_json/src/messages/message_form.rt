@@ -24,13 +24,9 @@ fn is_three<N: Node>(alloc: Global, node: &N) -> Result<bool, FormError>
 {
     match node.number() {
         None => Err(FormError::kind(alloc)),
-        Some(number) => {
-            if number == 3 || number == 136 {
-                Ok(number == 3)
-            } else {
-                Err(FormError::range(alloc))
-            }
-        }
+        Some(3) => Ok(true),
+        Some(136) => Ok(false),
+        Some(_) => Err(FormError::range(alloc)),
     }
 }
 

@@ -204,13 +204,8 @@ fn check_number<N: Node>(alloc: Global, node: &N, number: u64) -> Result<(), For
 {
     match node.number() {
         None => Err(FormError::kind(alloc)),
-        Some(found) => {
-            if found == number {
-                Ok(())
-            } else {
-                Err(FormError::range(alloc))
-            }
-        }
+        Some(found) if found == number => Ok(()),
+        Some(_) => Err(FormError::range(alloc)),
     }
 }
 

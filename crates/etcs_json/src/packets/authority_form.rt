@@ -29,6 +29,22 @@ type WithMain = (Dir, (Scale, (Speed, Terms)));
 
 type WithoutMain = (Dir, (Scale, Terms));
 
+// The keys of packet 12, in byte order. Packet 15 lacks the last.
+const KEYS: [&str; 12] = [
+    "danger_point",
+    "end_speed",
+    "end_timeout",
+    "end_timer",
+    "l_endsection",
+    "nid_packet",
+    "overlap",
+    "q_dir",
+    "q_scale",
+    "section_timer",
+    "sections",
+    "v_main",
+];
+
 // NID_PACKET: 12 if the authority has V_MAIN, else 15.
 fn packet_number(authority: &Authority) -> u64
     ensures { result ≡ authority_number authority.now }
@@ -79,47 +95,14 @@ fn send_authority<S: Sink>(out: &mut S, authority: &Authority) -> Result<(), Mem
 fn check_keys_with_main<N: Node>(alloc: Global, node: &N) -> Result<(), FormError>
     ensures { Gives (λ u. u) result (object_with (with_number with_main.form).part.keys (N.shows node.now)) }
 {
-    check_keys(
-        alloc,
-        node,
-        &[
-            "danger_point",
-            "end_speed",
-            "end_timeout",
-            "end_timer",
-            "l_endsection",
-            "nid_packet",
-            "overlap",
-            "q_dir",
-            "q_scale",
-            "section_timer",
-            "sections",
-            "v_main",
-        ],
-    )
+    check_keys(alloc, node, &KEYS)
 }
 
 // Refuses what is no object, and an object with a key that packet 15 does not have.
 fn check_keys_without_main<N: Node>(alloc: Global, node: &N) -> Result<(), FormError>
     ensures { Gives (λ u. u) result (object_with (with_number without_main.form).part.keys (N.shows node.now)) }
 {
-    check_keys(
-        alloc,
-        node,
-        &[
-            "danger_point",
-            "end_speed",
-            "end_timeout",
-            "end_timer",
-            "l_endsection",
-            "nid_packet",
-            "overlap",
-            "q_dir",
-            "q_scale",
-            "section_timer",
-            "sections",
-        ],
-    )
+    check_keys(alloc, node, &KEYS[..11])
 }
 
 // Reads the members of packet 12.

@@ -33,13 +33,8 @@ fn length_in<N: Node>(alloc: Global, node: &N, head: u32) -> Result<u32, FormErr
 {
     match node.number() {
         None => Err(FormError::kind(alloc)),
-        Some(length) => {
-            if length < 8192 && u64::from(head) <= length {
-                Ok(length as u32)
-            } else {
-                Err(FormError::range(alloc))
-            }
-        }
+        Some(length) if length < 8192 && u64::from(head) <= length => Ok(length as u32),
+        Some(_) => Err(FormError::range(alloc)),
     }
 }
 

@@ -30,13 +30,8 @@ fn number_in<N: Node>(alloc: Global, node: &N) -> Result<u8, FormError>
 {
     match node.number() {
         None => Err(FormError::kind(alloc)),
-        Some(number) => {
-            if number < 256 && RawTrainPacket::has_number(number) {
-                Ok(number as u8)
-            } else {
-                Err(FormError::range(alloc))
-            }
-        }
+        Some(number) if number < 256 && RawTrainPacket::has_number(number) => Ok(number as u8),
+        Some(_) => Err(FormError::range(alloc)),
     }
 }
 

@@ -230,20 +230,14 @@ fn send_first<S: Sink>(out: &mut S, report: &Report) -> Result<(), Memory>
 fn previous_group(report: &Report) -> Option<GroupNumber>
     ensures { result ≡ option_map (λ i. i.group) report.now.previous }
 {
-    match report.previous {
-        None => None,
-        Some(previous) => Some(previous.group),
-    }
+    report.previous.map(|previous| previous.group)
 }
 
 // The country of the group before.
 fn previous_country(report: &Report) -> Option<Country>
     ensures { result ≡ option_map (λ i. i.country) report.now.previous }
 {
-    match report.previous {
-        None => None,
-        Some(previous) => Some(previous.country),
-    }
+    report.previous.map(|previous| previous.country)
 }
 
 // Sends the members of the second run: the groups, the national system, and the packet's number.

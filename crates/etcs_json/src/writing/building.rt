@@ -42,10 +42,8 @@ impl NewObject {
         ensures { OnOk result (members_view self.new.members.entries
             ≡ with_member name.now (view value) (members_view self.old.members.entries)) }
     {
-        match put(&mut self.members, self.alloc, name, value) {
-            Ok(()) => Ok(()),
-            Err(_) => Err(Memory),
-        }
+        put(&mut self.members, self.alloc, name, value)?;
+        Ok(())
     }
 }
 
@@ -56,9 +54,7 @@ fn build_items<T: Form>(alloc: Global, items: &[T]) -> Result<Vec<Value>, Memory
     let mut values = Vec::new(alloc);
     'items: for item in items {
         let form = item.to_form(alloc)?;
-        if values.push(form).is_err() {
-            return Err(Memory);
-        }
+        values.push(form)?;
     }
     Ok(values)
 }
@@ -102,9 +98,7 @@ impl Sink for NewObject {
     ) -> Result<(), Memory> {
         let mut values = build_items(self.alloc, further)?;
         let form = first.to_form(self.alloc)?;
-        if values.insert(0, form).is_err() {
-            return Err(Memory);
-        }
+        values.insert(0, form)?;
         self.put(name, Value::Array(values))
     }
 }

@@ -4,6 +4,4 @@ use Rattle.etcs_json.proofs.packets.cover_form.CoverMarkerMembers.send_members.G
 -- the members one after the other
 pub returns : goal.returns
 unfolding cover_marker cover
-returns g c =
-    let then = g.met.S.Sink.then in
-    then _ _ _ _ _ c.in_ok-send_number.ensures c.in_ok-send_key.ensures
+returns g c = let then = g.met.S.Sink.then in then _ _ _ _ _ c.in_ok-send_number.ensures c.in_ok-send_key.ensures
