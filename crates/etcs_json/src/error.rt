@@ -122,20 +122,15 @@ impl FormError {
     pub fn missing(alloc: Global, name: &'static str) -> FormError
         ensures { IsFault result (at_once Missing (key name.now)) }
     {
-        match longer(Vec::new(alloc), Step::Key(name)) {
-            Ok(path) => FormError::Missing(path),
-            Err(Memory) => FormError::Memory,
-        }
+        FormError::Missing(Vec::new(alloc)).under(Step::Key(name))
     }
 
     /// What stands at this key is not allowed.
     pub(crate) fn range_at(alloc: Global, name: &'static str) -> FormError
         ensures { IsFault result (at_once Range (key name.now)) }
     {
-        match longer(Vec::new(alloc), Step::Key(name)) {
-            Ok(path) => FormError::Range(path),
-            Err(Memory) => FormError::Memory,
-        }
+        let here = FormError::Range(Vec::new(alloc));
+        here.under(Step::Key(name))
     }
 
     // The same fault, seen from the enclosing value: its path gets this step in front.

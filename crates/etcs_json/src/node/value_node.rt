@@ -28,28 +28,18 @@ impl<'v> Node for &'v Value {
     }
 
     fn has_only(&self, keys: &[&str]) -> Option<bool> {
-        match self.as_object() {
-            None => None,
-            Some(members) => Some(all_among(members, keys)),
-        }
+        Some(all_among(self.as_object()?, keys))
     }
 
     #[tactic(auto, using(crate::proofs::AnyList::data_items))]
     fn items(&self) -> Option<&'v [Value]> {
         let value: &'v Value = *self;
-        match value.as_array() {
-            None => None,
-            Some(items) => Some(items.as_slice()),
-        }
+        Some(value.as_array()?.as_slice())
     }
 
     fn next_item(items: &mut &'v [Value]) -> Option<&'v Value> {
-        match items.split_first() {
-            None => None,
-            Some((first, more)) => {
-                *items = more;
-                Some(first)
-            }
-        }
+        let (first, more) = items.split_first()?;
+        *items = more;
+        Some(first)
     }
 }
