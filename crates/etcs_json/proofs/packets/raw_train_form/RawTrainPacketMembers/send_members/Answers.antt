@@ -4,7 +4,6 @@ use Rattle.etcs_json.proofs.packets.raw_train_form.RawTrainPacketMembers.send_me
 -- the members one after the other
 pub returns : goal.returns
 unfolding raw_train_packet
-returns g c =
-    let then = g.met.S.Sink.then in
+returns g c = let then = g.met.S.Sink.then in
     then _ _ _ _ _ (rw c.body.ensures.bits at c.in_ok-send_body.ensures) (then _ _ _ _ _ (rw c.body-2.ensures.bits at c.in_ok-send_length.ensures)
     (rw (c.from.ensures, c.number.ensures.number) at c.in_ok-send_number.ensures))
