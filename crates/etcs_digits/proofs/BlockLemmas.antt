@@ -2,6 +2,7 @@
 use Rattle.std.proofs.Common.{◌≡◌, ℕ, zero, suc, ◌+◌, ◌*◌, ◌^◌, ◌%◌, ◌<◌, ◌≤◌, ◌==◌, Bool, true, false, cond, ltb, List, [], ◌∷◌, ◌++◌, get_or, map, length, take, drop, Option, Some, None, Ok, bit_or, refl, sym, ap, ap₂, subst, ◌∙◌, arith}
 use Rattle.std.specs.Prelude.{IsTrue}
 use Rattle.std.specs.List.{range_with_len}
+use Rattle.std.specs.Option.{unwrap_or}
 use Rattle.std.specs.Simd.Lanes.{chunk, mask_l, top}
 use Rattle.std.proofs.Math.Nat.{two-pow-succ}
 use Rattle.std.proofs.Math.Seq.{take-add}
@@ -12,11 +13,14 @@ use Rattle.std.proofs.lemmas.Nat.{le_or_l, le_or_r, or_shifted}
 use Rattle.std.proofs.lemmas.Simd.{mask_l-mod}
 use Rattle.hex.specs.Hex.{decode_pairs, digit_or_error, hex_digit_value, pair_value, value_at}
 use Rattle.hex.proofs.Pairs.{cons_byte, decode_pairs-ok_pair, drop-pair, prepend, prepend-cons_byte}
-use Rattle.etcs_digits.specs.Hexadecimal.{worth, worth_of}
 
 -- ---- a pair of digits
 
-is_worth : (o : Option ℕ) → worth o < 16 → o ≡ Some (worth o)
+-- what a digit is worth, and 255 where a byte is none
+abbrev pub worth_of : ℕ → ℕ
+worth_of c = unwrap_or (hex_digit_value c) 255
+
+is_worth : (o : Option ℕ) → unwrap_or o 255 < 16 → o ≡ Some (unwrap_or o 255)
 is_worth (Some v) small = refl
 is_worth None small = absurd (omega arith)
 

@@ -2,9 +2,9 @@
 //! to `hex`.
 
 ghost use Rattle.std.specs.Prelude.{ℕ, ◌≡◌, ◌+◌, ◌*◌, ◌<◌, ◌≤◌, true, false, length, get_or, map, ◌%◌, ◌⊎◌, IsTrue, IfOk, IfErr, Ok, MatchResult};
-ghost use Rattle.hex.specs.Hex.{decode_of, decode_pairs, decode_sized, pair_value};
+ghost use Rattle.std.specs.Option.{unwrap_or};
+ghost use Rattle.hex.specs.Hex.{decode_of, decode_pairs, decode_sized, hex_digit_value, pair_value};
 ghost use Rattle.hex.specs.declared.error.FromHexError.TheVariants.{OddLength, OutOfMemory};
-ghost use Rattle.etcs_digits.specs.Hexadecimal.{worth_of};
 
 use hex::FromHexError;
 use std::alloc::Global;
@@ -47,7 +47,7 @@ const BLOCK: usize = 16;
 // What each digit is worth, and 255 where a byte is none.
 #[inline(always)]
 fn worth(text: u8x16) -> u8x16
-    ensures { result ≡ map worth_of text }
+    ensures { result ≡ map (λ c. unwrap_or (hex_digit_value c) 255) text }
 {
     let digit = text - u8x16::splat(b'0');
     let letter = (text | u8x16::splat(0x20)) - u8x16::splat(b'a');

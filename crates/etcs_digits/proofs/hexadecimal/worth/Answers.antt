@@ -1,7 +1,7 @@
 use Rattle.std.proofs.Common.{ℕ, ◌+◌, ◌-◌, ◌%◌, ◌≡◌, ◌<◌, ◌∙◌, ◌==◌, true, cond, ltb, bit_or, refl}
 use Rattle.std.proofs.lemmas.Bool.{agree_below_at, eqb-true}
 use Rattle.std.proofs.lemmas.Simd.{splat_is_map, zip2_splat}
-use Rattle.etcs_digits.specs.Hexadecimal.{worth_of}
+use Rattle.etcs_digits.proofs.BlockLemmas.{worth_of}
 use Rattle.etcs_digits.proofs.LaneLemmas.{choose, same_lanes, splat}
 use Rattle.etcs_digits.proofs.hexadecimal.worth.Goals as goal
 
