@@ -78,8 +78,7 @@ fn answer_line<M: TextLineMeaning, W: Write>(
     ensures counts { CountsDevice result writer.old writer.new }
     ensures unflushed { FlushesNone writer.old writer.new }
 {
-    let mut earlier = mem::replace(room, Vec::new(alloc));
-    earlier.clear();
+    let earlier = mem::replace(room, Vec::new(alloc));
     match meaning.text(alloc, earlier, line) {
         Ok(text) => {
             put(writer, text.as_slice())?;

@@ -1,7 +1,7 @@
 //! `EncodingTelegrams` and `EncodingMessages`: a line of JSON, the form of a telegram or of a radio
 //! message, becomes a line of hexadecimal text. Each line is read once, into a tape of its tokens.
 
-ghost use Rattle.std.specs.Prelude.{◌≡◌, ◌++◌, [], codes, IfOk};
+ghost use Rattle.std.specs.Prelude.{◌≡◌, ◌++◌, codes, IfOk};
 ghost use Rattle.serde_json.specs.View.{view};
 ghost use Rattle.etcs_run.specs.FormLines.{message_line, or_fault, record_in, telegram_line, value_in};
 ghost use Rattle.etcs_run.specs.TextLineMeaning.{Gives};
@@ -71,10 +71,10 @@ fn record_in_line<T: Form>(
 
 // The digits with the end of the line, in the room of an earlier line.
 fn ended_line(room: Vec<u8>, digits: &str) -> Result<Vec<u8>, Memory>
-    requires { room.items ≡ [] }
     ensures { IfOk result (λ line. line.items ≡ digits.now ++ codes "\n") }
 {
     let mut line = room;
+    line.clear();
     line.extend_from_slice(digits.as_bytes())?;
     line.push(b'\n')?;
     Ok(line)
@@ -82,7 +82,6 @@ fn ended_line(room: Vec<u8>, digits: &str) -> Result<Vec<u8>, Memory>
 
 // The telegram's text as a line, in the room of an earlier line.
 fn telegram_text(alloc: Global, room: Vec<u8>, telegram: &Telegram) -> Result<Vec<u8>, Unwritten>
-    requires { room.items ≡ [] }
     ensures { Gives (λ line. line.items) result (telegram_line telegram.now) }
 {
     match etcs_telegram::to_hex(alloc, telegram) {
@@ -94,7 +93,6 @@ fn telegram_text(alloc: Global, room: Vec<u8>, telegram: &Telegram) -> Result<Ve
 
 // The message's text as a line, in the room of an earlier line.
 fn message_text(alloc: Global, room: Vec<u8>, message: &Message) -> Result<Vec<u8>, Unwritten>
-    requires { room.items ≡ [] }
     ensures { Gives (λ line. line.items) result (message_line message.now) }
 {
     match etcs_radio::to_hex(alloc, message) {

@@ -51,7 +51,6 @@ fn refuse<W: Write>(
 
 // The JSON line of the message that these bytes are, in the room of an earlier line.
 fn message_line(alloc: Global, room: Vec<u8>, bytes: &[u8]) -> Result<Vec<u8>, DecodeError>
-    requires { room.items ≡ [] }
     ensures { Means (λ line. line.items) result (line_for (message_of bytes.now)) }
 {
     let message = decode(alloc, bytes)?;
@@ -76,8 +75,7 @@ fn write_message<W: Write>(
     ensures counts { CountsDevice result writer.old writer.new }
     ensures unflushed { FlushesNone writer.old writer.new }
 {
-    let mut earlier = mem::replace(room, Vec::new(alloc));
-    earlier.clear();
+    let earlier = mem::replace(room, Vec::new(alloc));
     match message_line(alloc, earlier, bytes) {
         Ok(line) => {
             put(writer, line.as_slice())?;

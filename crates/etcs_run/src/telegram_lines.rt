@@ -1,6 +1,6 @@
 //! `DecodingTelegrams`: a line of hexadecimal text, a telegram, becomes a line of JSON.
 
-ghost use Rattle.std.specs.Prelude.{◌≡◌, [], Err};
+ghost use Rattle.std.specs.Prelude.{◌≡◌, Err};
 ghost use Rattle.etcs_telegram.specs.declared.error.TextError.{TextError};
 ghost use Rattle.etcs_run.specs.TextLineMeaning.{Gives};
 ghost use Rattle.etcs_run.specs.TelegramLines.{IsEarly};
@@ -27,7 +27,6 @@ impl TextLineMeaning for DecodingTelegrams {
     /// `Memory`: a request for memory was refused. Else the line is refused for the first reason. A
     /// reason that is found before any packet is read is always answered: it needs no memory.
     fn text(&mut self, alloc: Global, room: Vec<u8>, line: &[u8]) -> Result<Vec<u8>, Unwritten>
-        requires { room.items ≡ [] }
         ensures means { Gives (λ text. text.items) result (decoded_of line.now) }
         ensures early { (why : TextError) → IsEarly why line.now
             → result ≡ Err (Unwritten.Refused (LineFault.Text why)) }

@@ -1,6 +1,6 @@
 //! `TextLineMeaning`: what a line of the input means to a command.
 
-ghost use Rattle.std.specs.Prelude.{◌≡◌, []};
+ghost use Rattle.std.specs.Prelude.{◌≡◌};
 ghost use Rattle.etcs_run.specs.TextLineMeaning.{Gives, Meaning};
 
 use etcs_bits::Memory;
@@ -32,12 +32,10 @@ pub trait TextLineMeaning: Drop {
     /// The text that is written for a line, or the words that say why the line is refused.
     ghost meaning: { Meaning };
 
-    /// The text of a line, with its `\n`. It is made in the room of an earlier text, which has to
-    /// be empty.
+    /// The text of a line, with its `\n`. It is made in the room of an earlier text, which is lost.
     ///
     /// `Memory`: a request for memory was refused. Else the line is refused for a reason. After either
     /// error the room is lost.
     fn text(&mut self, alloc: Global, room: Vec<u8>, line: &[u8]) -> Result<Vec<u8>, Unwritten>
-        requires { room.items ≡ [] }
         ensures { Gives (λ text. text.items) result (meaning line.now) };
 }
