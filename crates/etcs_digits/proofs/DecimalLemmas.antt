@@ -1,27 +1,9 @@
 -- The table of digits, and numbers that are written after it.
-use Rattle.std.proofs.Common.{◌≡◌, ℕ, ◌+◌, ◌/◌, ◌%◌, ◌<◌, ◌≤◌, ◌^◌, Bool, true, false, cond, ◌&&◌, ◌==◌, nat_lt, List, [], ◌∷◌, ◌++◌, slice_index, take, append_assoc, arith, refl, subst, sym}
-use Rattle.std.proofs.lemmas.Bool.{and_parts, eqb-true, ltb-false, ltb-true}
+use Rattle.std.proofs.Common.{◌≡◌, ℕ, ◌+◌, ◌/◌, ◌%◌, ◌<◌, ◌≤◌, ◌^◌, Bool, true, false, cond, nat_lt, List, [], ◌∷◌, ◌++◌, slice_index, take, append_assoc, arith, refl, subst, sym}
+use Rattle.std.proofs.lemmas.Bool.{ltb-false, ltb-true}
 use Rattle.std.proofs.lemmas.Fmt.{decimal_digit, decimal_step}
 use Rattle.std.specs.Fmt.{decimal}
 use Rattle.json.specs.Filled.{Placed}
-
--- whether two texts are the same
-unfoldable pub same : List ℕ → List ℕ → Bool
-same [] [] = true
-same [] (y ∷ ys) = false
-same (x ∷ xs) [] = false
-same (x ∷ xs) (y ∷ ys) = x == y && same xs ys
-
-pub are_same : (xs ys : List ℕ) → same xs ys ≡ true → xs ≡ ys
-unfolding same
-are_same [] [] is = refl
-are_same [] (y ∷ ys) is = absurd cc
-are_same (x ∷ xs) [] is = absurd cc
-are_same (x ∷ xs) (y ∷ ys) is =
-    let parts = and_parts (x == y) (same xs ys) is in
-    let head = eqb-true x y parts.0 in
-    let tail = are_same xs ys parts.1 in
-    rw (head, tail) refl
 
 -- the row of a number, by its digits
 abbrev pub row_by : ℕ → List ℕ

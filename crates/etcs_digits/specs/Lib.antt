@@ -1,1 +1,2 @@
 pub mod LineText
+pub mod LineLemmas

@@ -1,8 +1,6 @@
 -- A line of JSON as it is written: each token's text, and behind a value the comma that may follow it.
 use Rattle.std.specs.Prelude.{◌≡◌, ◌-◌, ◌++◌, ℕ, Bool, false, cond, fold, List, [], ◌∷◌, length, refl, take, OnErr, OnOk, Result}
 use Rattle.std.specs.Coded.{Coded, code_by, coded×, coded_bool, coded_list, coded_ℕ}
-use Rattle.std.proofs.Common.{sym}
-use Rattle.std.proofs.lemmas.List.Sums.{fold-append}
 use Rattle.json.specs.Print.{begins, ends, token_text}
 use Rattle.json.specs.Token.{Token}
 
@@ -35,10 +33,6 @@ put l t = record { text = cond (begins t) l.text (without l.after_value l.text) 
 
 abbrev pub puts : Line → List Token → Line
 puts = fold put
-
--- some tokens, and then others
-pub puts_then : (a b : List Token) (x y z : Line) → y ≡ puts x a → z ≡ puts y b → z ≡ puts x (a ++ b)
-puts_then a b x y z one two = rw (two, one) (sym (fold-append put x a b))
 
 -- the line became the wanted one, or stayed
 pub record Becomes {E : Type 0} (r : Result (Unit {0}) E) (old new wanted : Line) : Type 0 where

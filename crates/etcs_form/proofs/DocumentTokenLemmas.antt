@@ -182,9 +182,6 @@ aspects_taken depth old xs new one is = record {
 
 -- ---- groups
 
-pub only_taken : (depth : ℕ) (old : List Token) (group : List Telegram) (aspects : List (List Telegram)) (new : List Token) → IsFirst IsBalises depth old group new → aspects ≡ group ∷ [] → IsFirst IsOnlyAspect depth old aspects new
-only_taken depth old group aspects new one is = record { found = one.found; stands = one.stands; is = (group, is, one.is) }
-
 only_read : (d : Data) (aspects : List (List Telegram)) → IsOnlyAspect d aspects → IsGroup (with_key (codes "balises") d) aspects
 unfolding group_at only_aspect
 only_read d aspects is = λ g.

@@ -61,7 +61,8 @@ impl Marks for Writer {
 
 impl Marks for LineText {
     ghost use Rattle.std.specs.Prelude.{refl};
-    ghost use Rattle.etcs_digits.specs.LineText.{puts, puts_then};
+    ghost use Rattle.etcs_digits.specs.LineText.{puts};
+    ghost use Rattle.etcs_digits.specs.LineLemmas.{puts_then};
 
     ghost adds = { λ ts old new. new ≡ puts old ts };
 

@@ -1,22 +1,18 @@
-use Rattle.std.proofs.Common.{◌≡◌, ℕ, ◌<◌, Bool, true, List, [], slice_index_or, refl, subst, sym}
-use Rattle.std.proofs.lemmas.Bool.{agree_below_at}
-use Rattle.etcs_digits.proofs.DecimalLemmas.{HasDigits, are_same, row_by, row_by_has, same}
+use Rattle.std.proofs.Common.{◌≡◌, ◌∙◌, ℕ, ◌<◌, [], ap, arith, map, refl, slice_index_or, subst, sym}
+use Rattle.std.specs.List.{range_with_len}
+use Rattle.std.proofs.lemmas.List.FromFn.{get_or-map-range_with_len}
+use Rattle.etcs_digits.proofs.DecimalLemmas.{HasDigits, row_by, row_by_has}
 use Rattle.etcs_digits.proofs.decimal.row_of.Goals as goal
 use Rattle.etcs_digits.specs.declared.decimal.TheConstants.{DIGITS}
 
-abbrev row : ℕ → List ℕ
-row n = slice_index_or DIGITS n []
+table_is : DIGITS ≡ map row_by (range_with_len 0 1000)
+table_is = refl
 
-abbrev is_row : ℕ → Bool
-is_row n = same (row n) (row_by n)
-
--- the table, row by row
-row_is : (n : ℕ) → n < 1000 → row n ≡ row_by n
-unfolding same
-row_is n lt = are_same _ _ (agree_below_at is_row (λ _. true) 1000 n refl lt)
-
-row_has : (n : ℕ) → n < 1000 → HasDigits n (row n)
-row_has n lt = subst (HasDigits n) (sym (row_is n lt)) (row_by_has n lt)
+row_has : (n : ℕ) → n < 1000 → HasDigits n (slice_index_or DIGITS n [])
+row_has n lt =
+    let is : slice_index_or DIGITS n [] ≡ row_by n =
+    ap (λ t. slice_index_or t n []) table_is ∙ get_or-map-range_with_len row_by 0 1000 n n [] lt (omega arith) in
+    subst (HasDigits n) (sym is) (row_by_has n lt)
 
 pub returns-clause-digits : goal.returns-clause-digits
 returns-clause-digits c = (row_has c.args.n c.requires).0

@@ -1,12 +1,19 @@
-use Rattle.std.proofs.Common.{◌≡◌, ◌+◌, ◌-◌, ◌*◌, ◌<◌, ◌∙◌, Ok, ap, ap₂, sym, arith, drop, get_or, length, take, length-set}
+use Rattle.std.proofs.Common.{◌≡◌, ◌+◌, ◌-◌, ◌*◌, ◌<◌, ◌∙◌, Ok, ap, ap₂, sym, arith, drop, get_or, length, refl, take, length-set}
 use Rattle.std.proofs.lemmas.Bool.Decides.{nat_tests}
 use Rattle.std.proofs.lemmas.List.{get_or-drop, get_or-take}
 use Rattle.std.proofs.lemmas.Simd.{length-put_chunk, take_more_put_chunk}
 use Rattle.hex.specs.Hex.{decode_pairs, pair_value}
 use Rattle.hex.proofs.Pairs.{decode_done, prepend}
 use Rattle.etcs_digits.proofs.BlockLemmas.{decode_run}
-use Rattle.etcs_digits.proofs.HexadecimalLemmas.{decode_more}
+use Rattle.etcs_digits.proofs.HexadecimalLemmas.{decode_more, entry_at, table}
 use Rattle.etcs_digits.proofs.hexadecimal.decode_quickly.Goals as goal
+use Rattle.etcs_digits.specs.declared.hexadecimal.TheConstants.{HIGH, LOW}
+
+high_is : HIGH ≡ table 16
+high_is = refl
+
+low_is : LOW ≡ table 1
+low_is = refl
 
 -- sixteen bytes more
 pub sixteens-preserved : goal.sixteens-preserved
@@ -35,7 +42,8 @@ sixteens-preserved c =
 pub bytes-preserved : goal.bytes-preserved
 bytes-preserved c = (
   c.bytes.invariant.0 ∙ ap (λ n. 2 * n) (sym (length-set c.bytes.out c.bytes.i _)),
-  λ low. decode_more c.args.text.now c.bytes.out c.bytes.i c.bytes.seen (omega (arith, c.bytes.invariant.0)) (omega arith) c.type_inv.text c.bytes.invariant.1 low,
+  λ low. decode_more c.args.text.now c.bytes.out c.bytes.i c.bytes.seen _ _ (omega (arith, c.bytes.invariant.0)) (omega arith)
+      (entry_at HIGH 16 _ high_is (c.type_inv.text _).fits) (entry_at LOW 1 _ low_is (c.type_inv.text _).fits) c.bytes.invariant.1 low,
 )
 
 pub returns-clause-value : goal.returns-clause-value
