@@ -1,6 +1,6 @@
 //! A place among bits, from which fields are read.
 
-ghost use Rattle.std.specs.Prelude.{◌≡◌, ◌↔◌, ◌+◌, ◌/◌, ◌%◌, ◌<◌, ◌≤◌, ◌^◌, length, take, drop, Ok, Err, Some, None, IfSome, IsOk, IfOk, IfErr, MatchResult, OnOk, OnErr};
+ghost use Rattle.std.specs.Prelude.{◌≡◌, ◌↔◌, ◌+◌, ◌/◌, ◌%◌, ◌<◌, ◌≤◌, ◌^◌, length, take, drop, Ok, Err, Some, None, IfSome, IsSome, IsOk, IfOk, IfErr, MatchResult, OnOk, OnErr};
 ghost use Rattle.etcs_bits.specs.layout.Fault.{short};
 ghost use Rattle.etcs_bits.specs.layout.Reading.{forward, taken};
 
@@ -110,8 +110,8 @@ impl<'a> Cursor<'a> {
     /// The numbers of the next three fields of these widths, 1 to 32 bits each. The cursor then
     /// stands after them.
     ///
-    /// None says only that the bits may end soon, or that the three have more than 32 bits. The cursor
-    /// then has not moved.
+    /// None where the three have more than 32 bits, or fewer than 64 bits are left. The cursor then has
+    /// not moved.
     #[inline(always)]
     pub fn take_three(&mut self, first: u32, second: u32, third: u32) -> Option<(u64, u64, u64)>
         requires first { (1 ≤ first) × (first ≤ 32) }
@@ -122,6 +122,8 @@ impl<'a> Cursor<'a> {
             ≡ Ok (n.1, forward (forward self.old first) second)) }
         ensures third { IfSome result (λ n. taken third (forward (forward self.old first) second) ≡ Ok (n.2, self.new)) }
         ensures small { IfSome result (λ n. (n.0 < 2 ^ first) × (n.1 < 2 ^ second) × (n.2 < 2 ^ third)) }
+        ensures far { IsSome result
+            ↔ (first + second + third ≤ 32) × (self.old.at + 64 ≤ length self.old.bits) }
         ensures none { result ≡ None → self.new ≡ self.old }
     {
         let whole = first + second + third;
@@ -140,8 +142,8 @@ impl<'a> Cursor<'a> {
     /// The numbers of the next two fields of these widths, 1 to 32 bits each. The cursor then stands
     /// after them.
     ///
-    /// None says only that the bits may end soon, or that the two have more than 32 bits. The cursor
-    /// then has not moved.
+    /// None where the two have more than 32 bits, or fewer than 64 bits are left. The cursor then has not
+    /// moved.
     #[inline(always)]
     pub fn take_two(&mut self, first: u32, second: u32) -> Option<(u64, u64)>
         requires first { (1 ≤ first) × (first ≤ 32) }
@@ -149,6 +151,7 @@ impl<'a> Cursor<'a> {
         ensures first { IfSome result (λ n. taken first self.old ≡ Ok (n.0, forward self.old first)) }
         ensures second { IfSome result (λ n. taken second (forward self.old first) ≡ Ok (n.1, self.new)) }
         ensures small { IfSome result (λ n. (n.0 < 2 ^ first) × (n.1 < 2 ^ second)) }
+        ensures far { IsSome result ↔ (first + second ≤ 32) × (self.old.at + 64 ≤ length self.old.bits) }
         ensures none { result ≡ None → self.new ≡ self.old }
     {
         let both = first + second;
