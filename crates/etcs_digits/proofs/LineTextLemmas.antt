@@ -1,9 +1,9 @@
 -- The text of a line, as `json` prints its tokens.
-use Rattle.std.proofs.Common.{◌≡◌, ◌∙◌, ◌-◌, ◌++◌, ◌&&◌, ℕ, Bool, true, false, List, [], ◌∷◌, length, take, ap, append-nil, append_assoc, arith, cond, length-append, refl, sym}
-use Rattle.std.proofs.lemmas.List.{take_at}
+use Rattle.std.proofs.Common.{◌≡◌, ◌∙◌, ◌-◌, ◌++◌, ◌≤◌, ◌&&◌, ℕ, Bool, true, false, List, [], ◌∷◌, length, take, Result, Ok, Err, OnErr, is_err, ap, append-nil, append_assoc, arith, cond, length-append, length-take-le, refl, sym, take-take}
+use Rattle.std.proofs.lemmas.List.{length-take, take_at}
 use Rattle.json.specs.Print.{begins, ends, print, print_from, separator, token_text}
 use Rattle.json.specs.Token.{Token}
-use Rattle.etcs_digits.specs.LineText.{Line, comma_after, put, puts, without}
+use Rattle.etcs_digits.specs.LineText.{Becomes, Line, comma_after, put, puts, without}
 
 without_comma : (a : Bool) (x : List ℕ) → without a (x ++ comma_after a) ≡ x ++ []
 without_comma true x =
@@ -37,3 +37,24 @@ pub by_json : (l : Line) (t : Token) (text : List ℕ) (after_value : Bool) → 
     → record { text = text; after_value = after_value } ≡ put l t
 unfolding print_from
 by_json l t text after_value begin is end = rw (is, end, begin, append-nil (token_text t)) refl
+
+-- what stood in front of a text that was appended
+cut_back : (bytes old rest : List ℕ) (at len : ℕ) → take at bytes ≡ old ++ rest → length old ≡ len → take len bytes ≡ old
+cut_back bytes old rest at len is long =
+    let within : len ≤ at = omega (arith, ap length is, length-append old rest, length-take at bytes) in
+    sym (take-take len at bytes within) ∙ ap (take len) is ∙ take_at old rest len long
+
+-- a line that is cut back to where it stood before a token, since no more had room
+pub restored : {E : Type 0} (r : Result (Unit {0}) E) (bytes before : List ℕ) (len at : ℕ) (after later : Bool) (t : Token) (old mid end wanted : Line)
+    → record { text = take len before; after_value = after } ≡ old → len ≤ length before → mid ≡ put old t → begins t ≡ true
+    → record { text = take at bytes; after_value = later } ≡ end → OnErr r (end ≡ mid) → is_err r ≡ true
+    → Becomes r old (record { text = take len bytes; after_value = after }) wanted
+restored (Ok u) bytes before len at after later t old mid end wanted was within put_is begin is failed err = absurd (cc)
+restored (Err e) bytes before len at after later t old mid end wanted was within put_is begin is failed err =
+    let front : take at bytes ≡ old.text ++ (token_text t ++ comma_after (ends t)) =
+    ap (λ l. l.text) (is ∙ failed ∙ put_is) ∙ ap (λ b. cond b old.text (without old.after_value old.text) ++ (token_text t ++ comma_after (ends t))) begin in
+    let long : length old.text ≡ len = ap (λ l. length l.text) (sym was) ∙ length-take-le len before within in
+    record {
+      ok = tt;
+      err = ap (λ s. record { text = s; after_value = after }) (cut_back bytes old.text _ at len front long ∙ ap (λ l. l.text) (sym was)) ∙ was;
+    }

@@ -115,15 +115,19 @@ pub fn decode(text: &[u8], out: &mut [u8]) -> bool
 
 /// The bytes that pairs of hexadecimal digits spell, in upper or lower case, the high four bits first.
 ///
-/// The errors are those of [`hex::decode`]. A text of an odd length takes no memory. One with a byte
-/// that is no digit may take the memory of its bytes twice.
+/// The errors are those of [`hex::decode`]. An empty text and one of an odd length take no memory. One with
+/// a byte that is no digit may take the memory of its bytes twice.
 pub fn decode_to_vec(alloc: Global, text: &[u8]) -> Result<Vec<u8>, FromHexError>
     ensures ok { IfOk result (λ bytes. decode_of text.now ≡ Ok bytes.items) }
     ensures err { IfErr result (λ e. (e ≡ OutOfMemory) ⊎ (decode_of text.now ≡ Err e)) }
     ensures odd { length text.now % 2 ≡ 1 → result ≡ Err OddLength }
+    ensures memory { result ≡ Err OutOfMemory → 0 < length text.now }
 {
     if text.len() % 2 != 0 {
         return Err(FromHexError::OddLength);
+    }
+    if text.is_empty() {
+        return Ok(Vec::new(alloc));
     }
     let mut out = vec![in alloc; 0u8; text.len() / 2]?;
     if decode_quickly(text, out.as_mut_slice()) {

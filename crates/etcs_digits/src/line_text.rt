@@ -177,14 +177,29 @@ impl LineText {
         Ok(())
     }
 
-    /// Appends a key and then a number, after one test of room. After an error the key may stand there.
+    // Appends a key that needs an escape, and then a number. Without room for the number the key goes again.
+    #[cold]
+    #[inline(never)]
+    fn member_by_json(&mut self, name: &str, n: u64) -> Result<(), AllocError>
+        ensures { Becomes result self.old self.new (puts self.old (key name.now ∷ number (decimal n) ∷ [])) }
+    {
+        let (len, after_value) = (self.len, self.after_value);
+        self.put_by_json(Token::Key(name))?;
+        let added = self.number(n);
+        if added.is_err() {
+            self.len = len;
+            self.after_value = after_value;
+        }
+        added
+    }
+
+    /// Appends a key and then a number, after one test of room.
     #[inline(always)]
     pub fn member(&mut self, name: &str, n: u64) -> Result<(), AllocError>
-        ensures { OnOk result (self.new ≡ puts self.old (key name.now ∷ number (decimal n) ∷ [])) }
+        ensures { Becomes result self.old self.new (puts self.old (key name.now ∷ number (decimal n) ∷ [])) }
     {
         if !is_plain(name.as_bytes()) {
-            self.put_by_json(Token::Key(name))?;
-            return self.number(n);
+            return self.member_by_json(name, n);
         }
         make_ready(&mut self.bytes, self.len, name.len() + 24)?;
         let buf = self.bytes.as_mut_slice();

@@ -1,6 +1,6 @@
 //! Texts that are JSON, held as tapes.
 
-ghost use Rattle.std.specs.Prelude.{◌≡◌, ◌<◌, ◌+◌, ◌⊎◌, length, vec_capacity, Some, None, Err, IfOk, true};
+ghost use Rattle.std.specs.Prelude.{◌≡◌, ◌<◌, ◌+◌, ◌⊎◌, ◌↔◌, length, vec_capacity, Some, None, Err, IfOk, true};
 ghost use Rattle.json.specs.Lex.{tokens};
 ghost use Rattle.json.specs.Scratch.{tape_room};
 ghost use Rattle.serde_json.specs.Read.{read};
@@ -11,12 +11,15 @@ use crate::node::tape_node::TapeNode;
 use crate::node::tape_range::are_in_range;
 use json::{Scratch, Tape};
 
+// The most bytes of a text that has a tape.
+const LONGEST: usize = 4_294_967_040;
+
 /// Why a text was not read.
 #[derive(Clone, Copy, Debug, Drop, PartialEq, Eq)]
 pub enum JsonError {
     /// Memory ran out.
     Memory,
-    /// The text has more than 4,294,967,040 bytes. It may be JSON or not.
+    /// The text has more than 4,294,967,040 bytes. It is not looked at.
     TooLong,
     /// The text is no JSON, a number is out of range, or lists and objects nest deeper than 127.
     NotJson,
@@ -46,14 +49,16 @@ impl<'a> JsonText<'a> {
         ensures memory { result ≡ Err JsonError.Memory
             → (vec_capacity room.entry < length (tokens text.now))
             ⊎ (tape_room scratch.old < length text.now + 64) }
-        ensures too_long { result ≡ Err JsonError.TooLong → 4_294_967_040 < length text.now }
+        ensures too_long { result ≡ Err JsonError.TooLong ↔ (4_294_967_040 < length text.now) }
     {
+        if LONGEST < text.len() {
+            return Err(JsonError::TooLong);
+        }
         let tape = match Tape::parse(text, scratch, room) {
             Ok(tape) => tape,
             Err(json::Error::OutOfMemory) => return Err(JsonError::Memory),
-            Err(json::Error::TooLong) => return Err(JsonError::TooLong),
             Err(json::Error::Invalid) => return Err(JsonError::NotJson),
-            Err(json::Error::DuplicateKey) => unreachable!(),
+            Err(json::Error::TooLong | json::Error::DuplicateKey) => unreachable!(),
         };
         if are_in_range(tape.nodes()) {
             Ok(JsonText { tape })
