@@ -7,7 +7,7 @@
 # same bytes, by the program of bench/json, which is proved and built first. The first failure ends the run
 # with status 1. The rates are by processor time, which the load of the machine changes less than the time
 # elapsed. Where valgrind is there, it counts the instructions of `check` for each byte of 1,000 groups.
-# 100,000 groups take 44 MB of the temporary folder, which TMPDIR names, and twice that of memory.
+# 100,000 groups take 44 MB of the temporary folder, which TMPDIR names, and `check` takes 45 MiB of memory.
 #
 # BALISECHECK names another program to measure.
 set -euo pipefail
