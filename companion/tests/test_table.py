@@ -338,6 +338,33 @@ class TestWorkbooks:
             ("7", Decimal("13.85"), 1, ALONE), ("8", Decimal("14"), None, OTHER)]
         assert read.encoding == "xlsx"
 
+    def test_kilometres_to_the_millimetre(self, tmp_path: Path) -> None:
+        """A number has the places that a text may have, and no more: a sum may be wrong behind them."""
+        rows: List[List[Any]] = [["group", "km", "telegram"], ["A", 13.8505, FIRST], ["A", 13.85 + 0.003, SECOND],
+                                 ["B", 14.1234564, OTHER], ["C", 20.0000000001, OTHER]]
+        read = tables.read(str(self.book(tmp_path, rows)))
+        assert [str(row.km) for row in read.rows] == ["13.8505", "13.853", "14.123456", "20.0"]
+
+    @pytest.mark.filterwarnings("error")
+    def test_what_openpyxl_would_not_write_again(self, tmp_path: Path) -> None:
+        """Lists to choose from, as workbooks have them: nothing of the table is lost, and nobody is warned."""
+        path = self.book(tmp_path, [["group", "telegram"], ["A", ALONE]])
+        with zipfile.ZipFile(path) as parts:
+            held = {name: parts.read(name) for name in parts.namelist()}
+        held["xl/worksheets/sheet1.xml"] = held["xl/worksheets/sheet1.xml"].replace(
+            b"</worksheet>", b'<extLst><ext uri="{CCE6A557-97BC-4b89-ADB6-D9C93CAAB3DF}"/></extLst></worksheet>')
+        with zipfile.ZipFile(path, "w") as parts:
+            for name, content in held.items():
+                parts.writestr(name, content)
+        assert [row.telegram for row in tables.read(str(path)).rows] == [ALONE]
+
+    def test_another_zip(self, tmp_path: Path) -> None:
+        """As LibreOffice saves a table, or a folder that was packed."""
+        pytest.importorskip("openpyxl")
+        with zipfile.ZipFile(tmp_path / "table.ods", "w") as parts:
+            parts.writestr("mimetype", "application/vnd.oasis.opendocument.spreadsheet")
+        assert fault(tmp_path / "table.ods") == "it is no .xlsx, but an .ods or another zip: save it as .xlsx or CSV"
+
     def test_sheets(self, tmp_path: Path) -> None:
         """The sheet that has the headings, or the one that is named."""
         good: List[List[Any]] = [["group", "telegram"], ["A", ALONE]]

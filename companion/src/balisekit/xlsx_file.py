@@ -3,6 +3,7 @@ from __future__ import annotations
 
 import datetime
 import io
+import warnings
 import zipfile
 from decimal import Decimal
 from typing import Any, Dict, List, Optional, Tuple
@@ -12,9 +13,12 @@ from balisekit.errors import TableError
 
 BEGINS = (b"PK\x03\x04", b"\xd0\xcf\x11\xe0")
 """A zip, which a workbook is, and what an .xls or a workbook with a password begins with."""
+CONTENTS = "[Content_Types].xml"
+"""A part that each workbook has."""
 GREATEST = 500_000_000
 """So many bytes may be in a workbook when it is unpacked."""
-GREATEST_ROW = 1_048_576
+PLACES = 6
+"""A number is rounded to so many places, as many as a kilometre may have: sums have wrong ones further on."""
 DATES = (datetime.date, datetime.time, datetime.timedelta)
 
 
@@ -24,24 +28,30 @@ def read(content: bytes, name: Optional[str]) -> Sheet:
         import openpyxl
     except ImportError as error:
         raise TableError("reading .xlsx needs openpyxl (Debian: python3-openpyxl); or save it as CSV") from error
-    _look_at_size(content)
+    _look_at_parts(content)
     try:
-        book = openpyxl.load_workbook(io.BytesIO(content), read_only=True, data_only=True, keep_links=False)
-        return _sheet(book, name)
+        with warnings.catch_warnings():
+            warnings.simplefilter("ignore")     # (openpyxl warns of what it would not write again)
+            book = openpyxl.load_workbook(io.BytesIO(content), read_only=True, data_only=True, keep_links=False)
+            return _sheet(book, name)
     except TableError:
         raise
     except Exception as error:  # openpyxl raises whatever its parsers raise
         raise TableError(f"it is no workbook that can be read: {type(error).__name__}: {error}") from error
 
 
-def _look_at_size(content: bytes) -> None:
+def _look_at_parts(content: bytes) -> None:
+    """TableError is raised for what is no workbook by the names of its parts, or is too large."""
     try:
         with zipfile.ZipFile(io.BytesIO(content)) as parts:
             size = sum(part.file_size for part in parts.infolist())
+            names = parts.namelist()
     except zipfile.BadZipFile as error:
         raise TableError("it is an .xls, or protected by a password: save it as .xlsx or CSV") from error
     if size > GREATEST:
         raise TableError(f"the workbook has {size:,} bytes unpacked, more than {GREATEST:,}")
+    if CONTENTS not in names:
+        raise TableError("it is no .xlsx, but an .ods or another zip: save it as .xlsx or CSV")
 
 
 def _sheet(book: Any, name: Optional[str]) -> Sheet:
@@ -86,7 +96,7 @@ def _text(value: Any) -> Tuple[str, str]:
     if isinstance(value, (int, float)):
         exact = Decimal(repr(value))
         whole = exact == exact.to_integral_value()
-        return (str(int(exact)) if whole else f"{round(exact, 3):f}"), "number"
+        return (str(int(exact)) if whole else f"{round(exact, PLACES).normalize():f}"), "number"
     if isinstance(value, DATES):
         return str(value), "date"
     return str(value), ""
