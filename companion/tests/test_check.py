@@ -28,6 +28,8 @@ HEADING = "group,name,km,aspect,telegram"
 SOUND = [HEADING, f"Signal A,A1,13.850,,{FIRST}", f"Signal A,A2,13.853,,{SECOND}", f"Signal B,B1,15,,{OTHER}"]
 ASPECTS = "aspects found: 1 in {} groups"
 YES = "program: yes: groups 2, messages 0"
+STARTED = [sys.executable, str(TOP / "balisekit")]
+"""The start script, as a process of its own."""
 
 
 def test_yes(run: Run, table: Write) -> None:
@@ -333,9 +335,34 @@ def test_start_script(table: Write, tmp_path: Path) -> None:
     words: List[str] = [sys.executable, str(link), "check", str(table(*SOUND))]
     done = subprocess.run(words, cwd=tmp_path, stdout=subprocess.PIPE, check=False)
     assert (done.returncode, done.stdout.decode().splitlines()[-1]) == (0, YES)
-    with open("/dev/full", "wb") as full:
-        done = subprocess.run(words, stdout=full, stderr=subprocess.PIPE, check=False)
-    assert done.returncode == 3 and b"Traceback" not in done.stderr
+
+
+FULL = "balisekit: standard output or a temporary file: No space left on device\n"
+CLOSED = "balisekit: standard output was closed\n"
+
+
+@pytest.mark.parametrize("words, streams, unbuffered, status, said", [
+    ("check table.csv", ">/dev/full", "", 3, FULL), ("show table.csv", ">/dev/full", "1", 3, FULL),
+    ("check table.csv", ">&-", "", 3, CLOSED), ("check table.csv --json -", "2>/dev/full", "1", 3, ""),
+    ("check none", "2>/dev/full", "", 2, ""), ("check none", "2>&-", "", 2, "")])
+def test_streams_that_take_nothing(words: str, streams: str, unbuffered: str, status: int, said: str, table: Write,
+                                   tmp_path: Path) -> None:
+    """One line where it can be said, and in no other stream. No yes and no finding is answered by the status."""
+    table(*SOUND)
+    done = subprocess.run(["sh", "-c", f'exec "$@" {streams}', "sh", *STARTED, *words.split()], cwd=tmp_path, text=True,
+                          env={**os.environ, "PYTHONUNBUFFERED": unbuffered}, capture_output=True, check=False)
+    assert (done.returncode, done.stderr) == (status, said) and "balisekit: " not in done.stdout
+
+
+def test_a_reader_that_has_gone(table: Write) -> None:
+    path = str(table(*SOUND))
+    for words in (["check", path], ["--help"]):
+        reads, writes = os.pipe()
+        os.close(reads)
+        with open(writes, "wb") as out:
+            done = subprocess.run([*STARTED, *words], stdout=out, stderr=subprocess.PIPE, text=True, check=False,
+                                  env={**os.environ, "PYTHONUNBUFFERED": ""})
+        assert (done.returncode, done.stderr) == (3, CLOSED)
 
 
 def test_findings_of_one_cause_have_a_heading(run: Run, table: Write, tmp_path: Path) -> None:

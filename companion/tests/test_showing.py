@@ -18,7 +18,8 @@ from balisekit.geometry import Kilometres
 from balisekit.places import Here
 from balisekit.showing import WIDTH, form_lines, text
 from cases_of_program import CASES, EXAMPLES, TOP, value_at
-from telegrams import SPARE
+from conftest import Run
+from telegrams import ALONE, OTHER, SPARE
 
 READ = [case for case in (*CASES, *EXAMPLES[False], *EXAMPLES[True]) if not case.answer.startswith("refused: ")]
 NAME = r"(?:user bits|body|[A-Z]+_[A-Z]+(?: of NID_PRVLRBG)?)"
@@ -109,6 +110,22 @@ def test_standard_input_that_is_no_text(content: bytes, monkeypatch: pytest.Monk
     _input(monkeypatch, content)
     assert cli.main(["show"]) == 2
     assert not set(capsys.readouterr().out) & set("\x00\x1b\u202e\r")
+
+
+@pytest.mark.parametrize("encoding", ["utf-8", "utf-8-sig", "utf-16"])
+def test_standard_input_as_windows_writes_it(encoding: str, monkeypatch: pytest.MonkeyPatch,
+                                             capsys: pytest.CaptureFixture[str]) -> None:
+    """With a mark before the first telegram, which is none of its digits."""
+    _input(monkeypatch, f"{ALONE}\r\n{OTHER}\r\n".encode(encoding))
+    assert cli.main(["show"]) == 0
+    assert [line for line in capsys.readouterr().out.split("\n") if line.startswith("line ")] == ["line 1", "line 2"]
+
+
+def test_no_standard_input(monkeypatch: pytest.MonkeyPatch, run: Run, tmp_path: Path) -> None:
+    monkeypatch.setattr("sys.stdin", None)
+    monkeypatch.chdir(tmp_path)
+    assert run("show") == (2, [], ["balisekit: standard input is closed: name a TABLE, or --messages"])
+    assert run("check", "-") == (2, [], ["balisekit: -: standard input is not read: name a file"])
 
 
 def test_the_document_has_what_is_shown(capsys: pytest.CaptureFixture[str], monkeypatch: pytest.MonkeyPatch) -> None:

@@ -5,15 +5,16 @@ import argparse
 import gc
 import os
 import sys
-from typing import List, Optional
+from typing import List, Optional, TextIO
 
 from balisekit import (__version__, check_command, diff_command, draw_command, links_command, report_command,
                        show_command)
-from balisekit.errors import KitError
+from balisekit.errors import KitError, NoAnswer
 from balisekit.wording import clean
 
 COMMANDS = (check_command.COMMAND, show_command.COMMAND, draw_command.COMMAND, report_command.COMMAND,
             links_command.COMMAND, diff_command.COMMAND)
+CLOSED = "standard output was closed"
 STATUSES = """\
 exit status:
   0  the program says yes to all that was handed in, nothing is open or found, or the command has done what it is
@@ -42,13 +43,13 @@ def parser() -> argparse.ArgumentParser:
 
 def main(arguments: Optional[List[str]] = None) -> int:
     """Runs the words of the command line. The answer is the exit status."""
-    for stream in (sys.stdout, sys.stderr):
-        if hasattr(stream, "reconfigure"):
-            stream.reconfigure(encoding="utf-8", errors="backslashreplace")
-    words = parser().parse_args(arguments)
+    if _is_closed():
+        return _ended(NoAnswer(CLOSED), False, CLOSED)
+    words = argparse.Namespace(debug=False)
     collects = gc.isenabled()
     gc.disable()    # (what is made here holds nothing that holds it, so that all is freed without a search for circles)
     try:
+        _parse(arguments, words)
         status: int = words.run(words)
         sys.stdout.flush()
         return status
@@ -57,10 +58,12 @@ def main(arguments: Optional[List[str]] = None) -> int:
     except KeyboardInterrupt as error:
         return _ended(error, words.debug, "interrupted")
     except BrokenPipeError as error:
-        os.dup2(os.open(os.devnull, os.O_WRONLY), sys.stdout.fileno())
-        return _ended(error, words.debug, "standard output was closed")
+        return _ended(error, words.debug, CLOSED)
     except MemoryError as error:
         return _ended(error, words.debug, "memory")
+    except OSError as error:
+        place = "standard output or a temporary file" if error.filename is None else str(error.filename)
+        return _ended(error, words.debug, f"{place}: {error.strerror or error}")
     except Exception as error:
         said = f"an error of balisekit itself, {type(error).__name__}: {error}; --debug shows where it comes from"
         return _ended(error, words.debug, said)
@@ -69,10 +72,43 @@ def main(arguments: Optional[List[str]] = None) -> int:
             gc.enable()
 
 
+def _parse(arguments: Optional[List[str]], words: argparse.Namespace) -> None:
+    """Puts the words into the namespace. SystemExit is raised for wrong ones, and once help has been written."""
+    try:
+        parser().parse_args(arguments, words)
+    except SystemExit:
+        sys.stdout.flush()
+        raise
+
+
+def _is_closed() -> bool:
+    """Whether there is no standard output. What is said to a stream that is closed goes nowhere, and not to another."""
+    closed = sys.stdout is None
+    sys.stdout, sys.stderr = (open(os.devnull, "w", encoding="utf-8") if stream is None else stream
+                              for stream in (sys.stdout, sys.stderr))
+    for stream in (sys.stdout, sys.stderr):
+        if hasattr(stream, "reconfigure"):
+            stream.reconfigure(encoding="utf-8", errors="backslashreplace")
+    return closed
+
+
 def _ended(error: BaseException, debug: bool, *lines: str, status: int = 3) -> int:
-    """Tells why there is no answer."""
+    """Tells why there is no answer. Where nobody can be told the status still says it."""
     if debug:
         raise error
-    for line in lines:
-        print(f"balisekit: {clean(line)}", file=sys.stderr)
+    try:
+        for line in lines:
+            print(f"balisekit: {clean(line)}", file=sys.stderr)
+    except OSError:
+        pass
+    for stream in (sys.stdout, sys.stderr):
+        _let_go(stream)
     return status
+
+
+def _let_go(stream: TextIO) -> None:
+    """Drops what a stream cannot take: Python would try again at its end, and end with a status of its own."""
+    try:
+        stream.flush()
+    except OSError:
+        os.dup2(os.open(os.devnull, os.O_WRONLY), stream.fileno())

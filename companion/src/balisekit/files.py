@@ -36,7 +36,8 @@ def read(path: str) -> Input:
             content = file.read()
         after = os.stat(path)
     except OSError as error:
-        raise _fault(path, error.strerror or str(error)) from error
+        why = "standard input is not read: name a file" if path == "-" else error.strerror or str(error)
+        raise _fault(path, why) from error
     except ValueError as error:  # a NUL in the path
         raise _fault(path, str(error)) from error
     if (before.st_size, before.st_mtime_ns) != (after.st_size, after.st_mtime_ns) or len(content) != after.st_size:

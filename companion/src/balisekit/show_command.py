@@ -2,6 +2,7 @@
 from __future__ import annotations
 
 import argparse
+import codecs
 import re
 import sys
 import textwrap
@@ -12,6 +13,7 @@ from balisekit.bit_places import bit_lines
 from balisekit.cells import digits as digits_of
 from balisekit.checking import ALL_HELP, greatest_refused, until_too_many
 from balisekit.commands import Command, add_input_words, inputs
+from balisekit.errors import TableError
 from balisekit.geometry import DIRECTIONS, infill, kilometres
 from balisekit.grammar import Refusal
 from balisekit.model import Group, Messages, Table
@@ -66,8 +68,12 @@ class _Shown:
             yield from self._messages(program, messages_beside, Identities(table.groups, forms))
 
     def _standard_input(self, program: Program) -> Iterator[List[str]]:
-        """The telegrams of standard input, one a line."""
-        said = sys.stdin.buffer.read().decode("utf-8", "backslashreplace")
+        """The telegrams of standard input, one a line. It may begin as other text of Windows does."""
+        if sys.stdin is None:
+            raise TableError("standard input is closed: name a TABLE, or --messages")
+        content = sys.stdin.buffer.read()
+        wide = content.startswith((codecs.BOM_UTF16_LE, codecs.BOM_UTF16_BE))
+        said = content.decode("utf-16" if wide else "utf-8-sig", "backslashreplace")
         lines = enumerate(re.split("\r\n|\r|\n", said), 1)
         texts = [(number, digits_of(line) or line.strip()) for number, line in lines if line.strip()]
         tried = 0
