@@ -260,6 +260,17 @@ def test_targets_that_cannot_be_written(run: Run, table: Write, tmp_path: Path, 
     assert (status, out, len(err)) == (3, [], 1) and err[0].startswith(f"balisekit: {path}: ")
 
 
+def test_a_target_that_is_named_twice(run: Run, table: Write, tmp_path: Path) -> None:
+    """Wrong words: one answer would be lost."""
+    path, out = table(*SOUND), tmp_path / "out"
+    for one, two in (("--document", "--json"), ("--propose", "--junit")):
+        status, _, err = run("check", path, one, out, two, f"{tmp_path}/./out")
+        assert (status, len(err)) == (2, 1) and err[0].endswith("out: it is named twice")
+    for words in (["check", path, "--json", "-", "--junit", "-"], ["diff", path, path, "--json", "-", "--html", "-"]):
+        assert run(*words) == (2, [], ["balisekit: standard output is named twice"])
+    assert not out.exists()
+
+
 def test_nothing_half_written(run: Run, table: Write, tmp_path: Path) -> None:
     run("check", table("group,telegram", ",00"), "--json", tmp_path / "out.json")
     run("check", table(*SOUND), "--program", "/bin/false", "--document", tmp_path / "line.json")

@@ -36,11 +36,8 @@ def add_words(parser: argparse.ArgumentParser) -> None:
 
 def run(words: argparse.Namespace) -> int:
     """Does it. The answer is the exit status."""
-    targets = [path for path in (words.json, words.document, words.propose, words.junit) if path]
-    if targets.count("-") > 1:
-        raise NoAnswer("standard output is named twice")
-    for path in targets:
-        files.look_at_target(path)
+    targets = (words.json, words.document, words.propose, words.junit)
+    files.look_at_targets(targets)
     if words.propose and os.path.exists(words.propose):
         raise NoAnswer(f"{words.propose}: it is there already: name a new file, so that no entry is lost")
     entries = accepted.read(words.accepted) if words.accepted else None

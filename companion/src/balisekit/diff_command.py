@@ -11,7 +11,7 @@ from balisekit.check_command import finding_words
 from balisekit.checking import Checked
 from balisekit.commands import Command
 from balisekit.difference import Changed, Difference, by_place, compare
-from balisekit.errors import NoAnswer, TableError
+from balisekit.errors import TableError
 from balisekit.model import Messages, Table
 from balisekit.pages import hash_of, pieces, style
 from balisekit.program import Program
@@ -36,16 +36,15 @@ def add_words(parser: argparse.ArgumentParser) -> None:
 
 def run(words: argparse.Namespace) -> int:
     """Does it. The answer is the exit status."""
-    targets = [path for path in (words.html, words.json) if path]
-    if targets.count("-") > 1:
-        raise NoAnswer("standard output is named twice")
-    for path in targets:
-        files.look_at_target(path)
+    targets = (words.html, words.json)
+    files.look_at_targets(targets)
     sides = [_read(words.old, words.old_messages, words.sheet), _read(words.new, words.new_messages, words.sheet)]
-    if any(is_document for _, _, is_document in sides):
+    named = not any(is_document for _, _, is_document in sides)
+    if not named:
         sides = [(by_place(table), messages, is_document) for table, messages, is_document in sides]
     program = Program.find(words.program)
-    found = compare(*(checking.check(program, table, messages) for table, messages, _ in sides))
+    old, new = (checking.check(program, table, messages) for table, messages, _ in sides)
+    found = compare(old, new, named)
     if words.html:
         _page(words.html, found)
     if words.json:

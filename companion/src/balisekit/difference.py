@@ -129,12 +129,13 @@ def by_place(table: Table) -> Table:
     return replace(table, groups=tuple(groups))
 
 
-def compare(old_checked: Checked, new_checked: Checked) -> Difference:
-    """What differs between two releases."""
+def compare(old_checked: Checked, new_checked: Checked, named: bool = True) -> Difference:
+    """What differs between two releases. There are notes on names and kilometres if both have some of their own."""
     old, new = Side.of(old_checked), Side.of(new_checked)
     found = _Found([], [], [], [], [], [])
     pairs, groups_removed, groups_added = _paired(_keyed(old), _keyed(new))
     for before, after in pairs:
+        found.notes += _renamed(new, before, after) if named else []
         _group(found, old, new, before, after)
     _messages(found, old, new)
     ones, others = _findings(old, pairs, 0), _findings(new, pairs, 1)
@@ -173,7 +174,6 @@ Placed = Tuple[str, Row, int]
 
 def _group(found: _Found, old: Side, new: Side, before: Group, after: Group) -> None:
     """Compares the telegrams of two groups by aspect and position; those that are left by aspect and place."""
-    found.notes += _renamed(new, before, after)
     ones, others = list(_placed(old, before)), list(_placed(new, after))
     pairs, gone, come = _paired([((one[0], old.forms[one[1].number]["n_pig"]), one) for one in ones],
                                 [((one[0], new.forms[one[1].number]["n_pig"]), one) for one in others])

@@ -8,7 +8,7 @@ import sys
 import tempfile
 from contextlib import contextmanager
 from dataclasses import dataclass
-from typing import IO, Iterator
+from typing import IO, Iterator, Optional, Sequence, Set
 
 from balisekit.errors import NoAnswer, TableError
 
@@ -65,6 +65,17 @@ def look_at_target(path: str) -> None:
             raise NoAnswer(f"{path}: nothing can be written into {folder}")
     except ValueError as error:
         raise NoAnswer(f"{path}: {error}") from error
+
+
+def look_at_targets(paths: Sequence[Optional[str]]) -> None:
+    """As above for each of those that are asked for. TableError is raised where one is named twice."""
+    seen: Set[str] = set()
+    for path in filter(None, paths):
+        look_at_target(path)
+        place = path if path == "-" else os.path.realpath(path)
+        if place in seen:
+            raise TableError("standard output is named twice" if path == "-" else f"{path}: it is named twice")
+        seen.add(place)
 
 
 @contextmanager
