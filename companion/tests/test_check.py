@@ -430,6 +430,18 @@ def test_each_value_that_differs_is_told(run: Run, table: Write, program: Progra
         f'({flags[0]}), and {form["q_link"]} ({flags[1]}) in balise 0 of aspect "red", row 2')
 
 
+def test_the_rows_of_an_aspect_and_no_others(run: Run, table: Write, program: Program) -> None:
+    """Those of other aspects may stand between the fixed balise and the switched one."""
+    forms = [line_table.telegram(1, 0, 1, 255), line_table.telegram(1, 1, 1, 1),
+             line_table.telegram(1, 1, 1, 2, line_table.authority(100, 100))]
+    fixed, red, green = [one.line for one in program.encode(forms)]
+    rows = [f"A,{aspect},{text}" for aspect, text in (("*", fixed), ("red", red), ("green", green))]
+    assert _said(run("check", table("group,aspect,telegram", *rows))[1], "F10") == [
+        'rows 2, 4  A  aspect "green"  nominal: no gradient']
+    assert _said(run("check", table("group,aspect,telegram", *[rows[place] for place in (0, 2, 1)]))[1], "F10") == [
+        'rows 2 to 3  A  aspect "green"  nominal: no gradient']
+
+
 def test_a_missing_balise_renumbers_the_others(run: Run, table: Write) -> None:
     """The table's own number stands beside the program's, and which position no telegram has."""
     out = run("check", table("group,name,balise,telegram", f"A,A2,2,{SECOND}"))[1]

@@ -24,7 +24,7 @@ from balisekit.premises import of_document, premises
 from balisekit.program import Program
 from balisekit.values import metres
 from cases_of_program import TOP
-from telegrams import FIRST, MESSAGE, SECOND
+from telegrams import FIRST, MESSAGE, OTHER, SECOND
 
 LINE = TOP / "examples" / "table" / "line.csv"
 HEADER = "a1007f802000" + "f" * 40 + "c0"
@@ -83,6 +83,12 @@ def test_the_page_has_all_that_was_said(tmp_path: Path, capsys: pytest.CaptureFi
         for number, row in enumerate(csv.DictReader(file), 2):
             assert f"r{number}" in ids and row["telegram"] in text
     assert not re.search(r"https?://(?!www\.w3\.org/2000/svg)|<script|<img|<link", page)
+
+
+def test_the_rows_of_a_block(tmp_path: Path) -> None:
+    _, page = _report(_table(tmp_path / "t.csv", {"group": "A", "telegram": FIRST}, {"group": "A", "telegram": SECOND},
+                             {"group": "B", "telegram": OTHER}), tmp_path / "report.html")
+    assert re.findall("<p>(.*) of the table</p>", page) == ["rows 2 to 3", "row 4"]
 
 
 def _accepted(path: Path, *rows: Dict[str, str]) -> Path:

@@ -25,7 +25,7 @@ from balisekit.show_command import places_of_rows
 from balisekit.showing import text
 from balisekit.values import Form
 from balisekit.wording import (balise_words, clean, group_words, message_refused, message_words, passed_over,
-                               telegram_refused)
+                               rows_words, telegram_refused)
 
 
 @dataclass(frozen=True)
@@ -214,12 +214,10 @@ def _row(group: Group, number: int) -> Row:
 
 def _where(group: Group) -> str:
     """The group's kilometre and track, and its rows."""
-    rows = list(group.rows())
-    km = rows[0].km
-    numbers = sorted(row.number for row in rows)
-    parts = [f"km {kilometre(km)}"] if km is not None else []
-    parts += [f"track {clean(rows[0].track)}"] if rows[0].track else []
-    return ", ".join([*parts, f"rows {numbers[0]} to {numbers[-1]} of the table"])
+    first = group.aspects[0].rows[0]
+    parts = [f"km {kilometre(first.km)}"] if first.km is not None else []
+    parts += [f"track {clean(first.track)}"] if first.track else []
+    return ", ".join([*parts, f"{rows_words(group)} of the table"])
 
 
 def _telegrams(group: Group, forms: Mapping[int, Form], refused: Mapping[int, Tuple[str, str]]) -> Iterator[Telegram]:

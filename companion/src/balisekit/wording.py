@@ -50,11 +50,19 @@ def balise_words(group: Optional[Group], row: Row) -> str:
 
 def group_words(group: Group, aspect: Optional[str] = None) -> str:
     """Where a group is: rows, name and kilometre, and which aspect is meant."""
+    parts = [rows_words(group, aspect), clean(group.name), *_where(group.aspects[0].rows[0])]
+    return "  ".join([*parts, *([f"aspect {quoted(aspect)}"] if aspect else [])])
+
+
+def rows_words(group: Group, aspect: Optional[str] = None) -> str:
+    """The rows of a group, which stand together, or those of an aspect, between which others may stand."""
     rows = [row for one in group.aspects if aspect in (None, one.name) for row in one.rows]
     numbers = sorted({row.number for row in rows})
-    shown = f"row {numbers[0]}" if len(numbers) == 1 else f"rows {numbers[0]} to {numbers[-1]}"
-    parts = [shown, clean(group.name), *_where(group.aspects[0].rows[0])]
-    return "  ".join([*parts, *([f"aspect {quoted(aspect)}"] if aspect else [])])
+    if len(numbers) == 1:
+        return f"row {numbers[0]}"
+    if aspect is None or numbers[-1] - numbers[0] + 1 == len(numbers):
+        return f"rows {numbers[0]} to {numbers[-1]}"
+    return f"rows {', '.join(map(str, numbers))}"
 
 
 def message_words(message: Message) -> str:
