@@ -173,6 +173,8 @@ BAD: Sequence[Any] = [
     (["group,nominal,telegram", f"A,up,{FIRST}"], "row 2, column nominal: up is neither rising nor falling"),
     (["group,nominal,telegram", f"A,rising,{FIRST}", f"A,falling,{FIRST}"],
      "row 3, column nominal: falling, and row 2 of the group says rising"),
+    (["group,track,telegram", f"A,,{FIRST}", f"A,1,{SECOND}", f"B,1,{ALONE}", f"B,2,{ALONE}"],
+     "row 5, column track: 2, and row 4 of the group says 1"),
     ([H, f'"A\nB",{ALONE}'], "row 2, column group: a line end stands in the cell"),
     ([H, f'A,"{ALONE}'], "row 2: a quote is not closed"),
     ([H, f'A,"{ALONE}"x'], "row 2: a quote stands inside a cell"),

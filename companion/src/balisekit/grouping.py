@@ -110,7 +110,8 @@ def _aspects(name: str, block: List[Row], by_position: bool) -> Tuple[Tuple[Aspe
     _look_at_counts(name, aspects)
     notes += _numbered_otherwise(name, aspects)
     _look_at_places(aspects)
-    _look_at_nominal(block)
+    _look_at_alike(block, "nominal")
+    _look_at_alike(block, "track")
     if not by_position:
         _look_at_same(aspects, "name")
         _look_at_same(aspects, "km")
@@ -232,12 +233,14 @@ def _look_at_places(aspects: List[Aspect]) -> None:
                                  row=row.number)
 
 
-def _look_at_nominal(block: List[Row]) -> None:
-    said = [row for row in block if row.nominal]
+def _look_at_alike(block: List[Row], column: str) -> None:
+    """The rows of a group that have something in this column have the same."""
+    said = [row for row in block if getattr(row, column)]
     for row in said:
-        if row.nominal != said[0].nominal:
-            raise TableError(f"{row.nominal}, and row {said[0].number} of the group says {said[0].nominal}",
-                             row=row.number, column="nominal")
+        here, there = getattr(row, column), getattr(said[0], column)
+        if here != there:
+            raise TableError(f"{here}, and row {said[0].number} of the group says {there}", row=row.number,
+                             column=column)
 
 
 def _look_at_same(aspects: List[Aspect], column: str) -> None:
