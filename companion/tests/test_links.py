@@ -66,6 +66,17 @@ def test_each_rule_finds_its_fault_alone(run: Run, name: str) -> None:
     assert out[-1] == f"links: 1 found ({rules[0]} 1) in 4 groups"
 
 
+def test_columns_passed_over_are_named(run: Run, table: Write, tmp_path: Path) -> None:
+    """A mistyped one may be that of the kilometres, the track or the direction, without which little is compared."""
+    heading, *lines = (FOLDER / "line.csv").read_text("utf-8").splitlines()
+    status, out, _ = run("links", table(heading.replace("nominal", "nominl"), *lines), "--json", tmp_path / "out.json")
+    assert status == 0 and out[1] == 'columns passed over: nominl (did you mean "nominal"?)'
+    assert json.loads((tmp_path / "out.json").read_text("utf-8"))["table"]["passed_over"] == ["nominl"]
+    path = table(heading.replace("km", "kmm"), *lines)
+    assert run("links", path) == (2, [], [f"balisekit: {path}: no row has a kilometre: links needs the column km; "
+                                          'columns passed over: kmm (did you mean "km"?)'])
+
+
 def test_the_last_line_counts_by_rules(run: Run, table: Write) -> None:
     """Two faults of one rule and one of another. Beside a refused telegram all of it is about the rest."""
     lines = (FOLDER / "distance-differs.csv").read_text("utf-8").splitlines()

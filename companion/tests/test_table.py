@@ -175,6 +175,8 @@ BAD: Sequence[Any] = [
      "row 3, column nominal: falling, and row 2 of the group says rising"),
     (["group,track,telegram", f"A,,{FIRST}", f"A,1,{SECOND}", f"B,1,{ALONE}", f"B,2,{ALONE}"],
      "row 5, column track: 2, and row 4 of the group says 1"),
+    (["group,aspect,telegram", f"#BEZUG!,,{ALONE}"], "row 2, column group: #BEZUG! is an error of the spreadsheet"),
+    (["group,aspect,telegram", f"A,#N/A,{ALONE}"], "row 2, column aspect: #N/A is an error of the spreadsheet"),
     ([H, f'"A\nB",{ALONE}'], "row 2, column group: a line end stands in the cell"),
     ([H, f'A,"{ALONE}'], "row 2: a quote is not closed"),
     ([H, f'A,"{ALONE}"x'], "row 2: a quote stands inside a cell"),
@@ -315,6 +317,8 @@ def test_messages(table: Write) -> None:
     assert [(one.number, one.text, one.name) for one in read.messages] == [(1, MESSAGE, "to train 7"), (3, MESSAGE, "")]
     with pytest.raises(TableErrors, match="line 1: no message before the semicolon"):
         messages_file.read(str(table("; name")))
+    with pytest.raises(TableError, match="it is a workbook or another zip: save it as text, such as CSV"):
+        messages_file.read(str(table(content=b"PK\x03\x04\x81")))
 
 
 class TestWorkbooks:

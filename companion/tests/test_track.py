@@ -182,6 +182,17 @@ def test_groups_that_are_left_out(run: Run, table: Write) -> None:
         "left out, no kilometre: G3, G4, G5, G6, G7 and 2 more"])
 
 
+def test_columns_passed_over_are_named(run: Run, table: Write) -> None:
+    """A mistyped one may be that of the track or of the kilometres."""
+    heading, *lines = (LINKS / "line.csv").read_text("utf-8").splitlines()
+    said = 'columns passed over: {} (did you mean "{}"?)'
+    path = table(heading.replace("nominal", "nominl"), *lines)
+    assert run("draw", path, "--track")[2][0] == said.format("nominl", "nominal")
+    path = table(heading.replace("km", "kmm"), *lines)
+    why = f'there is no track "" with kilometres in {path}: no group has a kilometre'
+    assert run("draw", path, "--track")[2] == [f"balisekit: {why}; {said.format('kmm', 'km')}"]
+
+
 def test_aspects(run: Run, tmp_path: Path) -> None:
     for aspect, wanted in (("green", "160 km/h"), ("yellow", "120 km/h"), ("red", "train trip")):
         run("draw", LINE, "--track", "--aspect", aspect, "--svg", tmp_path / "t.svg")

@@ -11,6 +11,8 @@ NEEDED = COLUMNS[:2]
 BLANKS = " \t\u00a0\u2000-\u200b\u202f\u3000"
 QUOTES = "\"'\u2018\u2019\u201c\u201d\u201e\u00ab\u00bb"
 DIGITS = re.compile("[0-9A-Fa-f]+")
+ERROR = re.compile("#[A-Z/0]+[!?]|#N/A|#NV")
+"""What a spreadsheet has in a cell whose formula failed, in one language or another."""
 PAIRS = re.compile(r"[^:-]{2}(?:([:-])[^:-]{2})(?:\1[^:-]{2})*")
 
 

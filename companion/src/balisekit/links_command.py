@@ -15,7 +15,7 @@ from balisekit.errors import TableError
 from balisekit.links import Found, Links, look
 from balisekit.stations import line_of
 from balisekit.track_words import add_tolerance
-from balisekit.wording import balise_words, clean, message_refused, message_words, telegram_refused
+from balisekit.wording import balise_words, clean, message_refused, message_words, passed_over, telegram_refused
 
 NOT_PROVED = "L1 to L9 are rules of balisekit, which is not proved: they compare what the program has decoded"
 
@@ -34,7 +34,8 @@ def run(words: argparse.Namespace) -> int:
         files.look_at_target(words.json)
     program, table, messages = inputs(words)
     if all(row.km is None for row in table.rows):
-        raise TableError(f"{table.path}: no row has a kilometre: links needs the column km")
+        why = f"{table.path}: no row has a kilometre: links needs the column km"
+        raise TableError("; ".join([why, *passed_over(table)]))
     checked = checking.check(program, table, messages, words.by_position)
     links = look(line_of(checked), words.tolerance)
     status = status_of(checked, links)
@@ -60,6 +61,7 @@ def lines(checked: Checked, links: Links, explained: bool = False) -> Iterator[s
     """The answer in words."""
     table = checked.table
     yield f"{clean(table.path)}: {len(table.rows)} telegrams of {len(table.groups)} groups"
+    yield from passed_over(table)
     yield NOT_PROVED
     yield from (f"note: {clean(note)}" for note in (*table.notes, *links.notes))
     groups = {row.number: group for group in table.groups for row in group.rows()}
@@ -107,7 +109,7 @@ def as_json(checked: Checked, links: Links, status: int) -> Dict[str, Any]:
     return {
         "status": status, "last_line": last_line(checked, links), "not_proved": NOT_PROVED,
         "program": {"path": checked.program.path, "sha256": checked.program.sha256},
-        "table": {"path": table.path, "sha256": table.sha256},
+        "table": {"path": table.path, "sha256": table.sha256, "passed_over": list(table.passed_over)},
         "counts": {"telegrams": len(table.rows), "groups": len(table.groups), "refused": len(checked.refused),
                    "refused_messages": len(checked.refused_messages), "not_looked_at": checked.not_looked_at},
         "notes": [*table.notes, *links.notes],

@@ -50,7 +50,7 @@ def run(words: argparse.Namespace) -> int:
         for piece in page:
             file.write(piece.encode("utf-8"))
     if words.html != "-":
-        print(f"written: {words.html}")
+        print(f"written: {clean(words.html)}")
         for said in closing_lines(judged, last_line(checked)) if judged else (last_line(checked),):
             print(said)
     return judged.status if judged else checked.status

@@ -7,7 +7,7 @@ from difflib import get_close_matches
 from typing import Callable, Dict, List, Mapping, Optional, Sequence, Tuple, TypeVar
 
 from balisekit import csv_file, files, xlsx_file
-from balisekit.cells import COLUMNS, NEEDED, Sheet, digits, headings
+from balisekit.cells import COLUMNS, ERROR, NEEDED, Sheet, digits, headings
 from balisekit.errors import TableError, TableErrors
 from balisekit.grouping import groups_of
 from balisekit.model import Row, Table
@@ -130,6 +130,8 @@ class _Fields:
             cell = cells[place] if place < len(cells) else ""
             if "\n" in cell or "\r" in cell:
                 raise TableError("a line end stands in the cell")
+            if ERROR.fullmatch(cell.strip()):
+                raise TableError(f"{cell.strip()} is an error of the spreadsheet: its formula failed")
             if column != "telegram" and len(cell) > GREATEST_NAME:
                 raise TableError(f"it has more than {GREATEST_NAME:,} characters")
             return reader(cell.strip(), self.sheet.kinds.get((self.index, place), ""))

@@ -5,12 +5,15 @@ from typing import Tuple
 
 from balisekit.errors import TableError
 
+ZIP = b"PK\x03\x04"
 ZEROS_WITHIN = 100
 """UTF-16 without a mark is known by the zeros among so many bytes."""
 
 
 def text_of(content: bytes) -> Tuple[str, str]:
     """The text, and the name of its encoding."""
+    if content.startswith(ZIP):
+        raise TableError("it is a workbook or another zip: save it as text, such as CSV")
     text, encoding = _decoded(content)
     if "\0" in text:
         raise TableError(f"a NUL stands at character {text.index(chr(0)) + 1}: it is no table of text")

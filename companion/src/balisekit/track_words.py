@@ -19,7 +19,8 @@ from balisekit.program import Program
 from balisekit.stations import Line, line_of
 from balisekit.track_drawing import note, track_pictures, tracks_of
 from balisekit.track_view import undrawn
-from balisekit.wording import balise_words, clean, message_refused, message_words, quoted, telegram_refused
+from balisekit.wording import (balise_words, clean, message_refused, message_words, passed_over, quoted,
+                               telegram_refused)
 
 NAMED = 5
 """So many groups, rows or lines are named."""
@@ -58,8 +59,9 @@ def draw_track(words: argparse.Namespace, program: Program, table: Table, messag
     known = tracks_of(line)
     track = known[0] if not words.track and len(known) == 1 else words.track
     if track not in known:
-        raise TableError(f"there is no track {quoted(track)} with kilometres in {clean(table.path)}: "
-                         f"{', '.join(map(quoted, known)) or 'no group has a kilometre'}")
+        why = (f"there is no track {quoted(track)} with kilometres in {clean(table.path)}: "
+               f"{', '.join(map(quoted, known)) or 'no group has a kilometre'}")
+        raise TableError("; ".join([why, *passed_over(table)]))
     look_at_aspect(table, words.aspect)
     pictures = list(track_pictures(line, wrong_distances(line, words.tolerance), track, words.aspect))
     pictures[:0] = [] if checked.whole else [note(_refused(checked))]
@@ -71,7 +73,7 @@ def draw_track(words: argparse.Namespace, program: Program, table: Table, messag
             file.write(piece.encode("utf-8"))
     for said in _refusals(checked):
         print(f"balisekit: {said}", file=sys.stderr)
-    for said in _written(line, track, words, len(checked.accepted_messages)):
+    for said in [*passed_over(table), *_written(line, track, words, len(checked.accepted_messages))]:
         print(said, file=sys.stderr if words.svg == "-" else sys.stdout)
     return 0 if checked.whole else 2
 
