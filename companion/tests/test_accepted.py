@@ -148,7 +148,9 @@ def test_messages_are_named(run: Run, table: Write) -> None:
     ([HEADING, entry(rule="")], "row 2, column rule: nothing is none of F1 to F16"),
     ([HEADING, entry(nid_bg="x")], "row 2, column nid_bg: x is no whole number"),
     ([HEADING, entry(direction="up")], "row 2, column direction: up is neither nominal nor reverse"),
-    ([HEADING, entry(date="26.11.2026")], "row 2, column date: 26.11.2026 is no date: write it as 2026-11-26"),
+    ([HEADING, entry(date="26.11.2026")],
+     "row 2, column date: 26.11.2026 is no date: write it as 2026-11-26; a spreadsheet changes it unless the column is "
+     "text"),
     ([HEADING, entry(until="2026-02-30")], "row 2, column until: 2026-02-30 is no date"),
     ([HEADING, entry() + ",more,still"], "row 2: it has 14 cells, and the heading 12"),
     ([HEADING, entry(reason="a\nb")], "row 2, column reason: a line end stands in the cell"),
@@ -167,7 +169,7 @@ def test_files_that_cannot_be_read_or_written(run: Run, table: Write, tmp_path: 
     status, _, err = run("check", path, "--propose", kept)
     assert status == 3 and "it is there already" in err[0] and kept.read_text("utf-8") == "signed\n"
     assert run("check", path, "--propose", tmp_path / "none" / "x.csv")[0] == 3
-    assert run("check", path, "--propose", "-", "--json", "-")[0] == 3
+    assert run("check", path, "--propose", "-", "--json", "-")[0] == 2
 
 
 def test_what_is_proposed_has_to_be_signed(run: Run, table: Write, tmp_path: Path) -> None:

@@ -84,8 +84,9 @@ def test_by_position(run: Run, table: Write) -> None:
     path = table(HEADING, f"A,,,,{SECOND}", f"A,,,,{FIRST}")
     assert run("check", path)[0] == 1
     status, out, _ = run("check", path, "--by-position")
-    assert (status, out[1:]) == (0, ["balises are ordered by N_PIG, as --by-position says",
-                                     "aspects found: 1 in 1 group", "program: yes: groups 1, messages 0"])
+    assert (status, out[1:]) == (0, [
+        "note: balises are ordered by N_PIG, as --by-position says, which hides a wrong N_PIG",
+        "aspects found: 1 in 1 group", "program: yes: groups 1, messages 0"])
 
 
 def test_aspects_are_counted(run: Run, table: Write, tmp_path: Path) -> None:

@@ -85,6 +85,14 @@ def test_the_page_has_all_that_was_said(tmp_path: Path, capsys: pytest.CaptureFi
     assert not re.search(r"https?://(?!www\.w3\.org/2000/svg)|<script|<img|<link", page)
 
 
+def test_the_cover_says_how_balises_are_ordered(tmp_path: Path) -> None:
+    """By N_PIG a wrong one is not found: a yes of such a page says less."""
+    path = _table(tmp_path / "t.csv", {"group": "A", "telegram": SECOND}, {"group": "A", "telegram": FIRST})
+    for words, status in (((), 1), (("--by-position",), 0)):
+        found, page = _report(path, tmp_path / "report.html", *words)
+        assert found == status and ("ordered by N_PIG, as --by-position says" in page) == bool(words)
+
+
 def test_the_rows_of_a_block(tmp_path: Path) -> None:
     _, page = _report(_table(tmp_path / "t.csv", {"group": "A", "telegram": FIRST}, {"group": "A", "telegram": SECOND},
                              {"group": "B", "telegram": OTHER}), tmp_path / "report.html")

@@ -161,7 +161,8 @@ def _date(name: str, value: str) -> Optional[datetime.date]:
             return datetime.date.fromisoformat(value)
     except ValueError:
         pass
-    raise TableError(f"{value[:40]} is no date: write it as 2026-11-26", column=name)
+    raise TableError(f"{value[:40]} is no date: write it as 2026-11-26; a spreadsheet changes it unless the column is "
+                     "text", column=name)
 
 
 def keys(checked: Checked) -> List[Key]:

@@ -47,7 +47,7 @@ def run(words: argparse.Namespace) -> int:
     status = judged.status if judged else checked.status
     _write(words, checked, judged)
     out: TextIO = sys.stderr if "-" in targets else sys.stdout
-    for line in lines(checked, words.explain, words.by_position, judged):
+    for line in lines(checked, words.explain, judged):
         print(line, file=out)
     return status
 
@@ -74,14 +74,11 @@ def _file(path: str, text: str) -> None:
         file.write(text.encode("utf-8", "backslashreplace"))
 
 
-def lines(checked: Checked, explained: bool = False, by_position: bool = False,
-          judged: Optional[Judged] = None) -> Iterator[str]:
+def lines(checked: Checked, explained: bool = False, judged: Optional[Judged] = None) -> Iterator[str]:
     """The answer in words. The last line is the program's, or says that the answer is not whole."""
     table = checked.table
     yield f"{clean(table.path)}: {len(table.rows)} telegrams of {len(table.groups)} groups"
     yield from passed_over(table)
-    if by_position:
-        yield "balises are ordered by N_PIG, as --by-position says"
     yield from (f"note: {clean(note)}" for note in table.notes)
     groups = {row.number: group for group in table.groups for row in group.rows()}
     for refused in checked.refused:

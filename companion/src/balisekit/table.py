@@ -18,6 +18,7 @@ SCIENTIFIC = re.compile(r"[0-9]+[.,][0-9]+[eE]\+?[0-9]+|[0-9][eE]\+[0-9]+")
 TELEGRAM = re.compile("[0-9A-Fa-f]{20,}")
 ALIKE = 0.75
 """How much of a heading that is passed over has to be as in a known one to be taken for it."""
+BY_POSITION = "balises are ordered by N_PIG, as --by-position says, which hides a wrong N_PIG"
 GREATEST_NAME = 1000
 """So many characters a cell may have that is no telegram, and are shown of a heading."""
 Read = TypeVar("Read")
@@ -45,7 +46,7 @@ def read(path: str, sheet: Optional[str] = None, by_position: bool = False) -> T
             fault.path = path
         raise TableErrors(faults) from error
     return Table(path, file.sha256, cells.encoding, cells.separator, passed_over, rows, groups,
-                 (*cells.notes, *notes), meant)
+                 (*cells.notes, *([BY_POSITION] if by_position else []), *notes), meant)
 
 
 def _places(sheet: Sheet) -> Dict[str, int]:
