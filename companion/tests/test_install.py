@@ -47,3 +47,19 @@ def test_in_a_release_the_program_itself_stands_beside(tmp_path: Path, monkeypat
     (tmp_path / "balisecheck").write_bytes(b"\x7fELF and more")
     monkeypatch.setattr(program_file, "TOP", tmp_path)
     assert program_file.find(None) == str(tmp_path / "balisecheck")
+
+
+def test_in_a_clone_the_start_script_stands_for_its_program(tmp_path: Path, monkeypatch: pytest.MonkeyPatch) -> None:
+    """So a report has the checksum of the program, and not that of a script, however the script is named."""
+    (tmp_path / "companion").mkdir()
+    (tmp_path / "companion" / "pyproject.toml").touch()
+    script, program, link = tmp_path / "balisecheck", tmp_path / "program", tmp_path / "link"
+    script.write_text(f'#!/bin/sh\n[ "$BALISECHECK_PATH" = 1 ] && echo {program}\n')
+    program.write_text("#!/bin/sh\n")
+    for path in (script, program):
+        path.chmod(0o755)
+    link.symlink_to(script)
+    monkeypatch.setattr(program_file, "TOP", tmp_path)
+    assert {program_file.find(str(path)) for path in (script, link, program)} == {str(program)}
+    monkeypatch.setenv("BALISECHECK", str(script))
+    assert program_file.find(None) == str(program)

@@ -15,20 +15,23 @@ TOP = Path(__file__).resolve().parents[3]
 
 
 def find(named: Optional[str]) -> str:
-    """Where the program is."""
+    """Where the program is. The start script of the clone stands for the program that it would run."""
     named = named or os.environ.get("BALISECHECK")
     script = TOP / "balisecheck"
+    is_clone = (TOP / "companion" / "pyproject.toml").is_file() and script.is_file()
     if named:
         path = shutil.which(named)
         if path is None:
             raise NoAnswer(f"there is no program {named}")
-    elif (TOP / "companion" / "pyproject.toml").is_file() and script.is_file():
-        # (in a clone it is the start script; in a release it is the program itself)
-        path = str(script) if script.read_bytes()[:4] == b"\x7fELF" else _stored(str(script))
+    elif is_clone:
+        path = str(script)
     else:
         path = shutil.which("balisecheck")
         if path is None:
             raise NoAnswer("there is no balisecheck on the path: name one by --program or BALISECHECK")
+    # (in a clone it is the start script; in a release it is the program itself)
+    if is_clone and os.path.samefile(path, script) and script.read_bytes()[:4] != b"\x7fELF":
+        path = _stored(str(script))
     return os.path.abspath(path)
 
 
