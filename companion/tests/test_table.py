@@ -208,8 +208,6 @@ def test_several_faults_have_a_line_each(table: Write) -> None:
     (b"\xd0\xcf\x11\xe0more", "it is an .xls, or protected by a password: save it as .xlsx or CSV"),
     (b"PK\x03\x04more", "it is an .xls, or protected by a password")])
 def test_contents_that_cannot_be_read(table: Write, content: bytes, said: str) -> None:
-    if content.startswith((b"PK", b"\xd0")):
-        pytest.importorskip("openpyxl")
     assert fault(table(content=content)).startswith(said)
 
 
@@ -364,9 +362,10 @@ class TestWorkbooks:
                 parts.writestr(name, content)
         assert [row.telegram for row in tables.read(str(path)).rows] == [ALONE]
 
-    def test_another_zip(self, tmp_path: Path) -> None:
-        """As LibreOffice saves a table, or a folder that was packed."""
-        pytest.importorskip("openpyxl")
+    def test_another_zip(self, tmp_path: Path, monkeypatch: pytest.MonkeyPatch) -> None:
+        """As LibreOffice saves a table, or a folder that was packed. Nobody is sent for openpyxl in vain."""
+        modules: Dict[str, Any] = sys.modules
+        monkeypatch.setitem(modules, "openpyxl", None)
         with zipfile.ZipFile(tmp_path / "table.ods", "w") as parts:
             parts.writestr("mimetype", "application/vnd.oasis.opendocument.spreadsheet")
         assert fault(tmp_path / "table.ods") == "it is no .xlsx, but an .ods or another zip: save it as .xlsx or CSV"

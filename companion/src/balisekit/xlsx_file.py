@@ -24,11 +24,11 @@ DATES = (datetime.date, datetime.time, datetime.timedelta)
 
 def read(content: bytes, name: Optional[str]) -> Sheet:
     """The cells of the sheet of this name, else of the one that has the needed headings."""
+    _look_at_parts(content)
     try:
         import openpyxl
     except ImportError as error:
         raise TableError("reading .xlsx needs openpyxl (Debian: python3-openpyxl); or save it as CSV") from error
-    _look_at_parts(content)
     try:
         with warnings.catch_warnings():
             warnings.simplefilter("ignore")     # (openpyxl warns of what it would not write again)
