@@ -14,7 +14,6 @@ import pytest
 
 import line_table
 from balisekit import checking, explain
-from balisekit.errors import TableErrors
 from balisekit.grammar import Finding
 from balisekit.model import Aspect, Group, Message, Row
 from balisekit.program import Program
@@ -317,8 +316,9 @@ def test_a_heading_that_may_be_mistyped(run: Run, table: Write, tmp_path: Path) 
 
 def test_a_traceback_is_for_debug_alone(run: Run, table: Write, monkeypatch: pytest.MonkeyPatch) -> None:
     path = table("group,telegram", ",00")
-    with pytest.raises(TableErrors):
-        run("check", path, "--debug")
+    status, out, err = run("check", path, "--debug")    # (the status stays: 1 would be that of findings)
+    assert (status, out, err[0]) == (2, [], "Traceback (most recent call last):")
+    assert err[-1] == f"balisekit: {path}: row 2, column group: no group; fill merged cells"
 
     def wrong(*_: object) -> None:
         raise RuntimeError("wrong")

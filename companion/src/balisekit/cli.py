@@ -5,6 +5,7 @@ import argparse
 import gc
 import os
 import sys
+import traceback
 from typing import List, Optional, TextIO
 
 from balisekit import (__version__, check_command, diff_command, draw_command, links_command, report_command,
@@ -94,9 +95,9 @@ def _is_closed() -> bool:
 
 def _ended(error: BaseException, debug: bool, *lines: str, status: int = 3) -> int:
     """Tells why there is no answer. Where nobody can be told the status still says it."""
-    if debug:
-        raise error
     try:
+        if debug:
+            traceback.print_exception(type(error), error, error.__traceback__)
         for line in lines:
             print(f"balisekit: {clean(line)}", file=sys.stderr)
     except OSError:
