@@ -1,9 +1,10 @@
 """Writes COUNT radio messages, 80 bytes each on average, the same ones each time: messages.py COUNT COUNTS [JSON TEXT]
 
-About half of them are messages 3, and the others messages 136, in varying order and size. They are drawn from 20,000 different ones.
-Each holds its required packet, and then packets in varying order, until the last of them fills it. The bytes go to
-standard output. How many messages, packets and bytes they are goes to the file COUNTS, as `bench/radio` prints it, and
-with JSON and TEXT their lines of JSON and of hexadecimal digits to the files of these names; no bit is read back.
+About half of them are messages 3, and the others messages 136, in varying order and size. They are drawn from 20,000
+different ones. Each holds its required packet, and then packets in varying order, until the last of them fills it. The
+bytes go to standard output. How many messages, packets and bytes they are goes to the file COUNTS, as `bench/radio`
+prints it, and with JSON and TEXT their lines of JSON and of hexadecimal digits to the files of these names; no bit is
+read back.
 """
 import contextlib
 import sys
