@@ -189,6 +189,12 @@ def yes_to(document):
     return f"yes: groups {len(line['groups'])}, messages {len(line['messages'])}\n"
 
 
+def texts_read(document):
+    """The telegrams and messages that are read of a document: of a key that comes twice the last value counts."""
+    read = json.dumps(json.loads(document)).encode()
+    return [text.decode() for text in TEXT.findall(read)]
+
+
 def is_one_message(line):
     """Whether a line of digits is one message, by its L_MESSAGE, and no part of one."""
     return re.fullmatch(rb"[0-9a-fA-F]{6,}", line) and len(line) % 2 == 0 and (int(line[2:6], 16) >> 6) * 2 == len(line)
@@ -199,7 +205,7 @@ def batch(program, tests, words, choice, corpus):
     inputs = [mutated(choice, words, corpus) for _ in range(LINES)]
     if words == CHECK:
         accepted = test_whole(program, tests, words, inputs)
-        records_in(program, tests, sorted({text.decode() for data, _ in accepted for text in TEXT.findall(data)}))
+        records_in(program, tests, sorted({text for data, _ in accepted for text in texts_read(data)}))
     else:
         lines = [data for data in inputs if b"\n" not in data and data not in (b"", b"\r")]
         whole = [data for data in lines if words == DECODE_RADIO and not is_one_message(data)][:LINES // 20]
