@@ -22,8 +22,8 @@ pub record Kept : Type 0 where
 abbrev pub HasKept : (ℕ → Bool) → List Aspects → Type 0
 HasKept is_kept groups = (n : ℕ) → is_kept n ≡ is_among groups n
 
--- A checker holds this after it has taken these groups and messages, each kind in this order. It may hold this after
--- others too: as many of each kind, with equal findings and identities.
+-- A checker holds this after it has taken these groups and messages, each kind in this order. Others may leave
+-- it holding the same: as many of each kind, with equal findings and identities.
 pub record HasChecked (kept : Kept) (groups : List Aspects) (messages : List Message) : Type 0 where
   pub about_groups : kept.about_groups ≡ findings groups []
   pub about_messages : kept.about_messages ≡ findings [] messages

@@ -1,4 +1,4 @@
--- A group against which no fact stands but that its identity may be used.
+-- A group against which no fact stands, but perhaps that an earlier group has its identity.
 use Rattle.std.specs.Prelude.{◌≡◌, ℕ, ◌+◌, ◌||◌, not, Bool, true, false, [], slice_get, take, Option, Some, None}
 use Rattle.std.specs.Cmp.Lexicographic.{pointwise}
 use Rattle.std.specs.List.{AllPass}

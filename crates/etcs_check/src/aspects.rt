@@ -136,7 +136,7 @@ fn is_taken(table: &[u64], telegram: &Telegram) -> bool
     counter < 254 && is_marked(table, counter)
 }
 
-// Appends a finding for each balise of an aspect whose counter is.
+// Appends a finding for each balise of an aspect whose counter is below 254 and marked.
 fn note_taken_in(
     found: &mut Vec<Finding>,
     spot: Spot,

@@ -101,7 +101,7 @@ pub(crate) fn same_telegram(this: &Telegram, that: &Telegram) -> bool
 }
 
 /// Whether two telegrams have equal lists of packets that hold in the running direction, in the same
-/// order. So the two balises of a pair of duplicates have to (SUBSET-026, 3.16.2). Takes no memory.
+/// order, as the two balises of a pair of duplicates have to (SUBSET-026, 3.16.2). Takes no memory.
 pub fn same_packets(this: &Telegram, that: &Telegram, run: Run) -> bool
     ensures { IsTrue result ↔ (held_by run this.now ≡ held_by run that.now) }
 {

@@ -103,7 +103,7 @@ fn note_messages(found: &mut Vec<Finding>, messages: &[Message]) -> Result<(), M
 /// - The aspects of a group are contents of one group, and their counters distinguish them. So a train
 ///   that passes while the group is switched refuses what it reads, unless one aspect has all of it.
 ///
-/// Memory is asked for only if there is a finding. An identity that repeats is one, and then the number of each
+/// Memory is asked for only if there is a finding. A repeated identity is one; then the number of each group's
 /// identity is kept besides. The only error is that memory runs out; then no finding is returned.
 pub fn check(alloc: Global, line: &Line) -> Result<Vec<Finding>, Memory>
     ensures ok { IfOk result (λ found. found.items ≡ findings line.now.groups.items line.now.messages.items) }

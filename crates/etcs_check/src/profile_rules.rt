@@ -59,7 +59,7 @@ fn limit_held(packet: &TrackPacket, run: Run) -> Option<u64>
     }
 }
 
-// The greatest supervised location of the packets that hold, or this one if it is greater.
+// The greatest of `so_far` and the supervised locations of the packets that hold.
 fn greatest_held(packets: &[TrackPacket], run: Run, so_far: Option<u64>) -> Option<u64>
     ensures { result ≡ greater so_far (greatest (filter (holds run) packets.now)) }
 {
@@ -191,7 +191,7 @@ pub(crate) fn is_silent(run: Run, telegram: &Telegram, count: usize, place: usiz
     }
 }
 
-// The greatest supervised location that the balise at this place says, or this one if it is greater.
+// The greatest of `so_far` and the supervised locations that the balise at this place says.
 fn greatest_at(group: &[Telegram], run: Run, place: usize, so_far: Option<u64>) -> Option<u64>
     requires { place < length group.now }
     ensures { (t : Telegram) → slice_get group.now place ≡ Some t

@@ -1,5 +1,6 @@
 -- The document of a railway line read from the tokens of its text, and checked group by group and message by
--- message, with no value and no line built for it. A text that this reader does not know is left to that of values.
+-- message, with no value and no line built for it. A text that this reader does not know is left to the reader
+-- of values.
 use Rattle.std.specs.Prelude.{◌≡◌, ℕ, true, List, [], ◌∷◌, codes, length, Option, Some, Ok}
 use Rattle.json.specs.Token.{Token}
 use Rattle.serde_json.specs.Data.{Data, array, no_items}

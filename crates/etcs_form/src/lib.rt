@@ -2,8 +2,9 @@
 //!
 //! [`read_line`] reads the document, and [`check_text`] finds all facts against the line: of these read
 //! `document.rt` first, with `specs/Document.antt`, and then `specs/Verdict.antt`, which states what a
-//! yes says. [`check_in_order`] checks a document group by group, and builds no JSON value. What it does
-//! not know it leaves to [`check_text`], whose answer its is (`in_order.rt`, `specs/DocumentTokens.antt`).
+//! yes says. [`check_in_order`] checks a document group by group, and builds no JSON value. Its answer
+//! is that of [`check_text`], to which it leaves what it does not know (`in_order.rt`,
+//! `specs/DocumentTokens.antt`).
 //! [`report`] says what is found about a line, and [`refusal_text`] why an input is refused. The JSON
 //! forms of telegrams and messages are the forms of `etcs_json`, whose names are exported here too.
 #![tactic(auto)]

@@ -16,7 +16,7 @@ use thiserror::Error;
 /// aspects, balises and messages count from 0.
 #[derive(Debug, Drop, Error)]
 pub enum LineError {
-    /// Memory ran out. A fault may then go unseen. It stands inside no other error.
+    /// Memory ran out. A fault may then go unseen. No other error holds this one.
     #[error("out of memory")]
     Memory,
     /// The bytes are not UTF-8, are no JSON, hold more than one value, or nest more than 127 levels.

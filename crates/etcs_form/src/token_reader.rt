@@ -20,7 +20,7 @@ enum Place {
     AfterComma,
 }
 
-/// What a text says, if it is the right one for its place.
+/// Which kind of text is due.
 #[derive(Clone, Copy, Drop)]
 pub(crate) enum TextKind {
     /// A telegram.

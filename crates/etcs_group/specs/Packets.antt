@@ -1,5 +1,6 @@
 -- The message of an accepted list, and what a group says with nothing missed (this project's rule,
--- after SUBSET-026, 3.16.2). Of a pair of duplicates the one that is passed first speaks.
+-- after SUBSET-026, 3.16.2). Of two duplicates that are both read, the one that is passed first
+-- speaks.
 use Rattle.std.specs.Prelude.{◌≡◌, ℕ, ◌+◌, nat_lt, Bool, false, if◌then◌else◌, List, [], length, Some, take, filter, flat_map}
 use Rattle.std.specs.List.{enumerate_from, list_any}
 use Rattle.etcs_bits.specs.declared.variables.duplicate.Dup.{Dup}

@@ -15,7 +15,7 @@ use etcs_packet::{Run, TrackPacket};
 use etcs_telegram::Telegram;
 use std::alloc::Global;
 
-// Whether the telegram's mark names a position that was passed earlier.
+// Whether the telegram's mark names the position of a telegram that was read earlier.
 fn is_named_before(earlier: &[&Telegram], telegram: &Telegram) -> bool
     ensures { result ≡ list_any (λ u. names telegram.now u.header.position) (pointed earlier.now) }
 {
@@ -64,7 +64,7 @@ fn packets<'a>(
 
 /// The message that a train makes of telegrams, which stand in the order in which it passed their
 /// balises: their packets that hold in the running direction, in that order. A telegram whose mark names
-/// a position that was passed earlier gives none, since its duplicate gave them. The packets are not
+/// the position of one that stands before it gives none, since that one gave them. The packets are not
 /// copied. (This project's rule, after SUBSET-026, 3.16.2.)
 ///
 /// Telegrams that make no message are refused for the first reason of [`Refused`] that holds, even if no

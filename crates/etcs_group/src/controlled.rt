@@ -7,7 +7,7 @@ use crate::group::Group;
 use std::marker::Model;
 
 /// The balise group of a signal: it shows one of several contents, its aspects. Each of them is a group,
-/// and all have one count of balises. Whether they agree is not asked of it. (This project's rule, after
+/// and all have the same count of balises. In all else they need not agree. (This project's rule, after
 /// SUBSET-026, 3.16.2.)
 ///
 /// Contracts see it as the list of its aspects.

@@ -16,7 +16,8 @@ pub fn readings_are_decided()
 {}
 
 /// In a well-formed group, what the group says is the message of the reading with nothing missed. If the
-/// two balises of each pair have equal packets that hold, it is the message of each covered reading.
+/// two balises of each pair have the same packets for the running direction, it is the message of each
+/// covered reading.
 pub fn readings_say_the_same()
     ensures { ReadingsSayTheSame }
 {}

@@ -69,8 +69,8 @@ impl Controlled {
         Missed(bits)
     }
 
-    /// Whether each missed balise has a partner that is read, whatever that shows. Partners are the partners
-    /// in the first aspect. The mixture has to fit.
+    /// Whether each missed balise has a partner that is read, in whatever aspect. The marks of the first
+    /// aspect say who is whose partner. The mixture has to fit.
     pub fn covers(&self, mixture: &Mixture) -> bool
         requires { Fits self.now (shown_in mixture.now.shown) }
         ensures { IsTrue result ↔ Covers self.now (shown_in mixture.now.shown) }
