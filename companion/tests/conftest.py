@@ -7,11 +7,12 @@ from typing import Callable, List, Tuple
 
 import pytest
 
-from balisekit import cli
-from balisekit.program import Program
+from balisekit.cli import main as cli
+from balisekit.engine.program import Program
 
 try:
     from hypothesis import settings
+
     settings.register_profile("gate", derandomize=True, deadline=None, database=None, max_examples=100)
     settings.load_profile("gate")
 except ImportError:
@@ -35,6 +36,7 @@ def program() -> Program:
 @pytest.fixture
 def run(capsys: pytest.CaptureFixture[str]) -> Run:
     """Runs words of the command line."""
+
     def one(*words: object) -> Answer:
         try:
             status = cli.main([str(word) for word in words])
@@ -42,14 +44,17 @@ def run(capsys: pytest.CaptureFixture[str]) -> Run:
             status = int(ended.code or 0)
         said = capsys.readouterr()
         return status, said.out.splitlines(), said.err.splitlines()
+
     return one
 
 
 @pytest.fixture
 def table(tmp_path: Path) -> Callable[..., Path]:
     """Writes a table of these lines, or bytes."""
+
     def write(*lines: str, content: bytes = b"", name: str = "table.csv") -> Path:
         path = tmp_path / name
         path.write_bytes(content or "".join(f"{line}\n" for line in lines).encode())
         return path
+
     return write

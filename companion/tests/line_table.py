@@ -15,8 +15,8 @@ from typing import Any, Dict, Iterator, List, Sequence, Tuple
 HERE = Path(__file__).resolve().parent
 sys.path.insert(0, str(HERE.parent / "src"))
 
-from balisekit.layout import telegram_fields, user_bits  # noqa: E402  (the path comes first)
-from balisekit.program import Program, Text  # noqa: E402
+from balisekit.engine.program import Program, Text  # noqa: E402
+from balisekit.etcs.layout import telegram_fields, user_bits  # noqa: E402  (the path comes first)
 
 LINE = HERE.parents[1] / "examples" / "table" / "line.csv"
 HEADING = ("group", "name", "km", "aspect", "balise", "telegram")
@@ -52,38 +52,59 @@ def steps(places: Sequence[Tuple[int, int]], at: int, reach: int) -> Iterator[Tu
 
 def gradients(at: int, reach: int) -> Form:
     """The gradient profile of so many metres."""
-    return packet(21, elements=[
-        {"d_gradient": distance, "q_gdir": int(value >= 0 and value < 1000), "g_a": min(abs(value), 255)}
-        for distance, value in steps(GRADIENTS, at, reach)])
+    return packet(
+        21,
+        elements=[
+            {"d_gradient": distance, "q_gdir": int(value >= 0 and value < 1000), "g_a": min(abs(value), 255)}
+            for distance, value in steps(GRADIENTS, at, reach)
+        ],
+    )
 
 
 def speeds(at: int, reach: int) -> Form:
     """The speed profile of so many metres."""
-    return packet(27, elements=[
-        {"d_static": distance, "v_static": 127 if value == 1000 else value // 5, "q_front": 0, "differences": []}
-        for distance, value in steps(SPEEDS, at, reach)])
+    return packet(
+        27,
+        elements=[
+            {"d_static": distance, "v_static": 127 if value == 1000 else value // 5, "q_front": 0, "differences": []}
+            for distance, value in steps(SPEEDS, at, reach)
+        ],
+    )
 
 
 def authority(length: int, speed: int) -> Form:
     """The authority up to a signal, with an overlap behind it."""
     overlap = {"d_startol": 300, "t_ol": 60, "d_ol": OVERLAP, "v_releaseol": 126}
-    return packet(12, v_main=speed // 5, end_speed=0, end_timeout=1023, sections=[], l_endsection=length,
-                  overlap=overlap)
+    return packet(
+        12, v_main=speed // 5, end_speed=0, end_timeout=1023, sections=[], l_endsection=length, overlap=overlap
+    )
 
 
 def linking(signal: int) -> List[Form]:
     """The groups up to the second signal from here, as far as the table goes, and the infill group among them."""
     places = [(at, 101 + one) for one, at in enumerate(SIGNALS.values())]
-    ahead = sorted([*places[signal + 1:signal + 3], *([INFILL] if signal in (1, 2) else [])])
-    links = [{"d_link": at - before, "nid_bg": identity, "q_linkorientation": 1, "q_linkreaction": 1, "q_locacc": 5}
-             for (before, _), (at, identity) in zip([places[signal], *ahead], ahead)]
+    ahead = sorted([*places[signal + 1 : signal + 3], *([INFILL] if signal in (1, 2) else [])])
+    links = [
+        {"d_link": at - before, "nid_bg": identity, "q_linkorientation": 1, "q_linkreaction": 1, "q_locacc": 5}
+        for (before, _), (at, identity) in zip([places[signal], *ahead], ahead)
+    ]
     return [packet(5, links=links)] if links else []
 
 
 def telegram(identity: int, position: int, total: int, counter: int, *packets: Form) -> Form:
     """A long telegram."""
-    return {"m_version": 33, "n_pig": position, "n_total": total, "m_dup": 0, "m_mcount": counter, "nid_c": 352,
-            "nid_bg": identity, "q_link": 1, "user_bits": 830, "packets": list(packets)}
+    return {
+        "m_version": 33,
+        "n_pig": position,
+        "n_total": total,
+        "m_dup": 0,
+        "m_mcount": counter,
+        "nid_c": 352,
+        "nid_bg": identity,
+        "q_link": 1,
+        "user_bits": 830,
+        "packets": list(packets),
+    }
 
 
 def aspects(signal: int, name: str) -> Iterator[Tuple[str, List[Form]]]:
@@ -124,7 +145,7 @@ def with_spare_direction(digits: str) -> str:
     """The telegram with 3 as Q_DIR of its second packet."""
     bits = user_bits(digits)
     field = [one for one in telegram_fields(bits) if one.name == "Q_DIR"][1]
-    spoilt = (bits[:field.at] + "11" + bits[field.at + 2:]).ljust(len(digits) * 4, "0")
+    spoilt = (bits[: field.at] + "11" + bits[field.at + 2 :]).ljust(len(digits) * 4, "0")
     return f"{int(spoilt, 2):0{len(digits)}x}"
 
 

@@ -15,7 +15,7 @@ from typing import Any, Callable, Dict, List, Tuple
 HERE = Path(__file__).resolve().parent
 sys.path.insert(0, str(HERE.parent / "src"))
 
-from balisekit.program import Program, Text  # noqa: E402  (the path comes first)
+from balisekit.engine.program import Program, Text  # noqa: E402  (the path comes first)
 
 FOLDER = HERE.parents[1] / "examples" / "links"
 HEADING = ("group", "name", "km", "nominal", "telegram")
@@ -25,14 +25,29 @@ Item = Tuple[str, str, str, str, Form]
 
 def telegram(identity: int, position: int, total: int, linked: int, *packets: Form, size: int = 210) -> Form:
     """A telegram of country 352."""
-    return {"m_version": 33, "n_pig": position, "n_total": total, "m_dup": 0, "m_mcount": 255, "nid_c": 352,
-            "nid_bg": identity, "q_link": linked, "user_bits": size, "packets": list(packets)}
+    return {
+        "m_version": 33,
+        "n_pig": position,
+        "n_total": total,
+        "m_dup": 0,
+        "m_mcount": 255,
+        "nid_c": 352,
+        "nid_bg": identity,
+        "q_link": linked,
+        "user_bits": size,
+        "packets": list(packets),
+    }
 
 
 def link(distance: int, identity: int, orientation: int) -> Form:
     """A group that is linked, with 5 m to either side."""
-    return {"d_link": distance, "nid_bg": identity, "q_linkorientation": orientation, "q_linkreaction": 1,
-            "q_locacc": 5}
+    return {
+        "d_link": distance,
+        "nid_bg": identity,
+        "q_linkorientation": orientation,
+        "q_linkreaction": 1,
+        "q_locacc": 5,
+    }
 
 
 def linking(direction: int, *links: Form) -> Form:
@@ -44,35 +59,59 @@ def authority() -> List[Form]:
     """An authority of 1,000 m with its profiles."""
     head = {"q_dir": 1, "q_scale": 1}
     return [
-        {"nid_packet": 12, **head, "v_main": 20, "end_speed": 0, "end_timeout": 1023, "sections": [],
-         "l_endsection": 1000},
-        {"nid_packet": 21, **head, "elements": [{"d_gradient": 0, "q_gdir": 1, "g_a": 5},
-                                                {"d_gradient": 1000, "q_gdir": 0, "g_a": 255}]},
-        {"nid_packet": 27, **head, "elements": [
-            {"d_static": 0, "v_static": 20, "q_front": 0, "differences": []},
-            {"d_static": 1000, "v_static": 127, "q_front": 0, "differences": []}]}]
+        {
+            "nid_packet": 12,
+            **head,
+            "v_main": 20,
+            "end_speed": 0,
+            "end_timeout": 1023,
+            "sections": [],
+            "l_endsection": 1000,
+        },
+        {
+            "nid_packet": 21,
+            **head,
+            "elements": [{"d_gradient": 0, "q_gdir": 1, "g_a": 5}, {"d_gradient": 1000, "q_gdir": 0, "g_a": 255}],
+        },
+        {
+            "nid_packet": 27,
+            **head,
+            "elements": [
+                {"d_static": 0, "v_static": 20, "q_front": 0, "differences": []},
+                {"d_static": 1000, "v_static": 127, "q_front": 0, "differences": []},
+            ],
+        },
+    ]
 
 
 def items() -> List[Item]:
     """The rows of the line without fault, a form in place of the telegram."""
-    level = {"nid_packet": 41, "q_dir": 2, "q_scale": 1, "d_leveltr": 500,
-             "transitions": [{"m_leveltr": 2, "l_ackleveltr": 0}]}
+    level = {
+        "nid_packet": 41,
+        "q_dir": 2,
+        "q_scale": 1,
+        "d_leveltr": 500,
+        "transitions": [{"m_leveltr": 2, "l_ackleveltr": 0}],
+    }
     return [
         ("A", "A1", "10.000", "", telegram(1, 0, 1, 1, linking(1, link(1000, 2, 0), link(1000, 3, 1)))),
         ("A", "A2", "10.003", "", telegram(1, 1, 1, 1, *authority(), size=830)),
         ("B", "B1", "11.000", "", telegram(2, 0, 1, 1, linking(0, link(1000, 3, 1)))),
         ("B", "B2", "10.997", "", telegram(2, 1, 1, 1)),
         ("C", "C1", "12.000", "rising", telegram(3, 0, 0, 1)),
-        ("D", "D1", "12.500", "rising", telegram(4, 0, 0, 0, level))]
+        ("D", "D1", "12.500", "rising", telegram(4, 0, 0, 0, level)),
+    ]
 
 
 def _set(row: int, *path: Any) -> Callable[[List[Item]], None]:
     """Sets the last of the path, the others of which lead to it in the telegram of the row."""
+
     def change(rows: List[Item]) -> None:
         form: Any = rows[row][4]
         for key in path[:-2]:
             form = form[key]
         form[path[-2]] = path[-1]
+
     return change
 
 

@@ -9,13 +9,14 @@ from pathlib import Path
 from typing import Any, Callable, Dict, List
 
 import pytest
-
-from balisekit import correct_data, csv_writing
-from balisekit.accepted import COLUMNS, FIELDS
-from balisekit.program import Program, Text
 from cases_of_program import TOP
 from conftest import Run
 from telegrams import ALONE, MESSAGE, OTHER, SPARE
+
+from balisekit.engine.program import Program, Text
+from balisekit.io import csv_writing
+from balisekit.rules import correct_data
+from balisekit.rules.accepted import COLUMNS, FIELDS
 
 Write = Callable[..., Path]
 LINE = TOP / "examples" / "table" / "line.csv"
@@ -37,8 +38,15 @@ def twice(table: Write, *first: str) -> Path:
 
 def entry(**fields: str) -> str:
     """A row of the file."""
-    values = {"rule": "F14", "nid_c": "1", "nid_bg": "1", "reason": "by design", "who": "J. Doe", "date": "2026-01-02",
-              **fields}
+    values = {
+        "rule": "F14",
+        "nid_c": "1",
+        "nid_bg": "1",
+        "reason": "by design",
+        "who": "J. Doe",
+        "date": "2026-01-02",
+        **fields,
+    }
     return csv_writing.text([values.get(name, "") for name in COLUMNS], []).rstrip("\n")
 
 
@@ -46,9 +54,14 @@ def test_nothing_open(run: Run, table: Write) -> None:
     path, file = twice(table), table(HEADING, entry(), name="accepted.csv")
     status, out, _ = run("check", path, "--accepted", file)
     assert status == 0 and out[1:] == [
-        "row 3  B: identity used before by row 2  A", "    program: F14 group 1: identity used before",
-        "    accepted: by design (J. Doe, 2026-01-02)", "aspects found: 1 in 2 groups", "program: no: findings 1",
-        "findings 1: accepted 1, open 0", "no open findings"]
+        "row 3  B: identity used before by row 2  A",
+        "    program: F14 group 1: identity used before",
+        "    accepted: by design (J. Doe, 2026-01-02)",
+        "aspects found: 1 in 2 groups",
+        "program: no: findings 1",
+        "findings 1: accepted 1, open 0",
+        "no open findings",
+    ]
     assert not any("yes" in line for line in out)
 
 
@@ -58,12 +71,19 @@ def test_one_is_open(run: Run, table: Write) -> None:
     assert status == 1 and out[-2:] == ["program: no: findings 2", "findings 2: accepted 1, open 1"]
 
 
-@pytest.mark.parametrize("fields, why", [
-    ({"reason": ""}, "no reason"), ({"who": ""}, "no who"), ({"date": ""}, "no date"),
-    ({"until": "2026-05-27"}, "until 2026-05-27 is past"),
-    ({"reason": "", "who": "", "until": "2020-01-01"}, "no reason, no who, until 2020-01-01 is past")])
-def test_an_entry_that_is_not_in_order_accepts_nothing(run: Run, table: Write, fields: Dict[str, str],
-                                                       why: str) -> None:
+@pytest.mark.parametrize(
+    "fields, why",
+    [
+        ({"reason": ""}, "no reason"),
+        ({"who": ""}, "no who"),
+        ({"date": ""}, "no date"),
+        ({"until": "2026-05-27"}, "until 2026-05-27 is past"),
+        ({"reason": "", "who": "", "until": "2020-01-01"}, "no reason, no who, until 2020-01-01 is past"),
+    ],
+)
+def test_an_entry_that_is_not_in_order_accepts_nothing(
+    run: Run, table: Write, fields: Dict[str, str], why: str
+) -> None:
     file = table(HEADING, entry(**fields), name="accepted.csv")
     status, out, _ = run("check", twice(table), "--accepted", file)
     assert status == 1 and f"{file}: row 2: {why}" in out
@@ -80,23 +100,30 @@ def test_an_unused_entry_is_no_success(run: Run, table: Write) -> None:
     file = table(HEADING, entry(), entry(rule="F1", balise="0"), name="accepted.csv")
     status, out, _ = run("check", twice(table), "--accepted", file)
     assert status == 1 and out[-3:] == [
-        f"{file}: row 3: unused: no finding is as it says", "program: no: findings 1",
-        "findings 1: accepted 1, open 0; entries at fault 1"]
+        f"{file}: row 3: unused: no finding is as it says",
+        "program: no: findings 1",
+        "findings 1: accepted 1, open 0; entries at fault 1",
+    ]
 
 
 def test_a_yes_and_no_entry(run: Run, table: Write) -> None:
-    status, out, _ = run("check", table("group,telegram", f"A,{ALONE}"), "--accepted",
-                         table(HEADING, name="accepted.csv"))
-    assert status == 0 and out[-3:] == ["program: yes: groups 1, messages 0", "findings 0: accepted 0, open 0",
-                                        "no open findings"]
+    status, out, _ = run(
+        "check", table("group,telegram", f"A,{ALONE}"), "--accepted", table(HEADING, name="accepted.csv")
+    )
+    assert status == 0 and out[-3:] == [
+        "program: yes: groups 1, messages 0",
+        "findings 0: accepted 0, open 0",
+        "no open findings",
+    ]
 
 
 def test_incomplete_stays_incomplete(run: Run, table: Write) -> None:
     path = twice(table, f"X,{SPARE}")
     status, out, _ = run("check", path, "--accepted", table(HEADING, entry(), name="accepted.csv"))
-    assert status == 2 and out[-2:] == ["findings 1: accepted 1, open 0",
-                                        "INCOMPLETE: 1 of 3 telegrams refused, 1 of 3 groups left out; "
-                                        "findings in the rest: 1"]
+    assert status == 2 and out[-2:] == [
+        "findings 1: accepted 1, open 0",
+        "INCOMPLETE: 1 of 3 telegrams refused, 1 of 3 groups left out; " "findings in the rest: 1",
+    ]
 
 
 def test_a_group_that_is_put_in_before_moves_nothing(run: Run, table: Write) -> None:
@@ -104,10 +131,21 @@ def test_a_group_that_is_put_in_before_moves_nothing(run: Run, table: Write) -> 
     assert run("check", twice(table, f"New,{OTHER}"), "--accepted", file)[0] == 0
 
 
-@pytest.mark.parametrize("fields, status", [
-    ({"aspect": "*", "balise": "*", "packet": "*", "direction": "*", "message": "*"}, 0),
-    ({name: "*" for name in FIELDS}, 0), ({"balise": "0"}, 1), ({"direction": "nominal"}, 1), ({"aspect": "x"}, 1),
-    ({"nid_c": ""}, 1), ({"nid_bg": "01"}, 0), ({"nid_bg": "2"}, 1), ({"rule": "f14"}, 0), ({"message": "B"}, 1)])
+@pytest.mark.parametrize(
+    "fields, status",
+    [
+        ({"aspect": "*", "balise": "*", "packet": "*", "direction": "*", "message": "*"}, 0),
+        ({name: "*" for name in FIELDS}, 0),
+        ({"balise": "0"}, 1),
+        ({"direction": "nominal"}, 1),
+        ({"aspect": "x"}, 1),
+        ({"nid_c": ""}, 1),
+        ({"nid_bg": "01"}, 0),
+        ({"nid_bg": "2"}, 1),
+        ({"rule": "f14"}, 0),
+        ({"message": "B"}, 1),
+    ],
+)
 def test_fields(run: Run, table: Write, fields: Dict[str, str], status: int) -> None:
     file = table(HEADING, entry(**fields), name="accepted.csv")
     assert run("check", twice(table), "--accepted", file)[0] == status
@@ -141,20 +179,28 @@ def test_messages_are_named(run: Run, table: Write) -> None:
     assert run("check", path, "--messages", bare, "--accepted", star)[0] == 0
 
 
-@pytest.mark.parametrize("lines, why", [
-    ([], "row 1: no column rule"), (["rule,reason"], "row 1: no column nid_c"),
-    ([HEADING + ",untill"], "row 1: there is no column untill"), ([HEADING + ",who"], "row 1: the heading who stands"),
-    ([HEADING, entry(rule="F17")], "row 2, column rule: F17 is none of F1 to F16"),
-    ([HEADING, entry(rule="")], "row 2, column rule: nothing is none of F1 to F16"),
-    ([HEADING, entry(nid_bg="x")], "row 2, column nid_bg: x is no whole number"),
-    ([HEADING, entry(direction="up")], "row 2, column direction: up is neither nominal nor reverse"),
-    ([HEADING, entry(date="26.11.2026")],
-     "row 2, column date: 26.11.2026 is no date: write it as 2026-11-26; a spreadsheet changes it unless the column is "
-     "text"),
-    ([HEADING, entry(until="2026-02-30")], "row 2, column until: 2026-02-30 is no date"),
-    ([HEADING, entry() + ",more,still"], "row 2: it has 14 cells, and the heading 12"),
-    ([HEADING, entry(reason="a\nb")], "row 2, column reason: a line end stands in the cell"),
-    ([HEADING, '"open'], "row 2: a quote is not closed")])
+@pytest.mark.parametrize(
+    "lines, why",
+    [
+        ([], "row 1: no column rule"),
+        (["rule,reason"], "row 1: no column nid_c"),
+        ([HEADING + ",untill"], "row 1: there is no column untill"),
+        ([HEADING + ",who"], "row 1: the heading who stands"),
+        ([HEADING, entry(rule="F17")], "row 2, column rule: F17 is none of F1 to F16"),
+        ([HEADING, entry(rule="")], "row 2, column rule: nothing is none of F1 to F16"),
+        ([HEADING, entry(nid_bg="x")], "row 2, column nid_bg: x is no whole number"),
+        ([HEADING, entry(direction="up")], "row 2, column direction: up is neither nominal nor reverse"),
+        (
+            [HEADING, entry(date="26.11.2026")],
+            "row 2, column date: 26.11.2026 is no date: write it as 2026-11-26; a spreadsheet changes it unless the column is "
+            "text",
+        ),
+        ([HEADING, entry(until="2026-02-30")], "row 2, column until: 2026-02-30 is no date"),
+        ([HEADING, entry() + ",more,still"], "row 2: it has 14 cells, and the heading 12"),
+        ([HEADING, entry(reason="a\nb")], "row 2, column reason: a line end stands in the cell"),
+        ([HEADING, '"open'], "row 2: a quote is not closed"),
+    ],
+)
 def test_bad_input(run: Run, table: Write, lines: List[str], why: str) -> None:
     file = table(*lines, name="accepted.csv")
     status, out, err = run("check", twice(table), "--accepted", file)
@@ -190,8 +236,12 @@ def test_proposed_entries_are_about_their_findings(run: Run, tmp_path: Path) -> 
     assert run("check", LINE, "--propose", file)[0] == 2
     rows = list(csv.reader(io.StringIO(file.read_text("utf-8"))))
     assert [(row[0], row[8].split(":")[0]) for row in rows[1:]] == [
-        ("F10", "Stop aspect of level 1 without profiles"), ("F12", "Stop aspect of level 1 without profiles"),
-        ("F9", "Infill, packet 136"), ("F9", "Infill, packet 136"), ("F11", "")]
+        ("F10", "Stop aspect of level 1 without profiles"),
+        ("F12", "Stop aspect of level 1 without profiles"),
+        ("F9", "Infill, packet 136"),
+        ("F9", "Infill, packet 136"),
+        ("F11", ""),
+    ]
     signed = [[*row[:9], "J. Doe", "2026-05-28", *row[11:]] for row in rows[1:]]
     file.write_text(csv_writing.text(rows[0], signed), "utf-8")
     out = run("check", LINE, "--accepted", file)[1]
@@ -215,19 +265,40 @@ def test_correct_data_is_recognized(run: Run, table: Write, tmp_path: Path) -> N
     assert run("check", table(*lines), "--messages", radio, "--propose", file)[0] == 1
     rows = list(csv.DictReader(io.StringIO(file.read_text("utf-8"))))
     assert [(row["rule"], row["reason"].split(":")[0][:28]) for row in rows] == [
-        ("F10", "Stop aspect of level 1 witho"), ("F12", "Stop aspect of level 1 witho"),
-        ("F16", "One controlled balise, all o"), ("F6", "Default telegram as an aspec"),
-        ("F9", "Default telegram as an aspec"), ("F16", "Default telegram as an aspec"),
-        ("F9", "Infill, packet 136"), ("F9", "Virtual balise cover marker"),
-        ("F10", "Message 3 whose profiles wer"), ("F12", "Message 3 whose profiles wer")]
+        ("F10", "Stop aspect of level 1 witho"),
+        ("F12", "Stop aspect of level 1 witho"),
+        ("F16", "One controlled balise, all o"),
+        ("F6", "Default telegram as an aspec"),
+        ("F9", "Default telegram as an aspec"),
+        ("F16", "Default telegram as an aspec"),
+        ("F9", "Infill, packet 136"),
+        ("F9", "Virtual balise cover marker"),
+        ("F10", "Message 3 whose profiles wer"),
+        ("F12", "Message 3 whose profiles wer"),
+    ]
 
 
 def test_a_controlled_pair_has_no_reason(run: Run, table: Write, tmp_path: Path, program: Program) -> None:
     def telegram(place: int, level: int) -> Any:
-        packet = {"nid_packet": 41, "q_dir": 2, "q_scale": 1, "d_leveltr": 500,
-                  "transitions": [{"m_leveltr": level, "l_ackleveltr": 0}]}
-        return {"m_version": 33, "n_pig": place, "n_total": 1, "m_dup": place + 1, "m_mcount": 7, "nid_c": 1,
-                "nid_bg": 1, "q_link": 1, "user_bits": 210, "packets": [packet]}
+        packet = {
+            "nid_packet": 41,
+            "q_dir": 2,
+            "q_scale": 1,
+            "d_leveltr": 500,
+            "transitions": [{"m_leveltr": level, "l_ackleveltr": 0}],
+        }
+        return {
+            "m_version": 33,
+            "n_pig": place,
+            "n_total": 1,
+            "m_dup": place + 1,
+            "m_mcount": 7,
+            "nid_c": 1,
+            "nid_bg": 1,
+            "q_link": 1,
+            "user_bits": 210,
+            "packets": [packet],
+        }
 
     forms = [telegram(place, level) for level in (2, 3) for place in (0, 1)]
     texts = [one.line for one in program.encode(forms) if isinstance(one, Text)]
@@ -259,8 +330,11 @@ def test_formulas_are_never_written_as_such(run: Run, table: Write, tmp_path: Pa
 def test_csv_is_written_in_one_place() -> None:
     """Nothing else in the package makes a CSV file, so that each cell of one is made safe."""
     package = TOP / "companion" / "src" / "balisekit"
-    assert [path.name for path in sorted(package.glob("*.py"))
-            if re.search(r"csv\.(writer|DictWriter)", path.read_text("utf-8"))] == ["csv_writing.py"]
+    assert [
+        path.name
+        for path in sorted(package.glob("*.py"))
+        if re.search(r"csv\.(writer|DictWriter)", path.read_text("utf-8"))
+    ] == ["csv_writing.py"]
 
 
 def test_cells_come_back() -> None:

@@ -8,9 +8,9 @@ from pathlib import Path
 from typing import List
 
 import pytest
-
-from balisekit import cli
 from cases_of_program import TOP
+
+from balisekit.cli import main as cli
 
 CHROMIUM = shutil.which("chromium")
 pytestmark = pytest.mark.skipif(CHROMIUM is None, reason="there is no chromium (Debian: chromium)")
@@ -21,9 +21,18 @@ PICTURES = Path(__file__).with_name("pictures")
 def browse(room: Path, page: Path, *words: str) -> "subprocess.CompletedProcess[str]":
     """Opens the page in a profile of its own, without a network."""
     command: List[str] = [
-        str(CHROMIUM), "--headless", "--no-sandbox", "--disable-gpu", "--disable-dev-shm-usage",
-        f"--user-data-dir={room / 'profile'}", "--host-resolver-rules=MAP * ~NOTFOUND", "--enable-logging=stderr",
-        "--hide-scrollbars", *words, page.as_uri()]
+        str(CHROMIUM),
+        "--headless",
+        "--no-sandbox",
+        "--disable-gpu",
+        "--disable-dev-shm-usage",
+        f"--user-data-dir={room / 'profile'}",
+        "--host-resolver-rules=MAP * ~NOTFOUND",
+        "--enable-logging=stderr",
+        "--hide-scrollbars",
+        *words,
+        page.as_uri(),
+    ]
     return subprocess.run(command, capture_output=True, text=True, timeout=300, check=True)
 
 

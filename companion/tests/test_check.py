@@ -10,16 +10,17 @@ from importlib.util import find_spec
 from pathlib import Path
 from typing import Callable, List
 
-import pytest
-
 import line_table
-from balisekit import checking, explain
-from balisekit.grammar import Finding
-from balisekit.model import Aspect, Group, Message, Row
-from balisekit.program import Program
-from balisekit.repeats import headings
+import pytest
 from conftest import Run
 from telegrams import ALONE, FAULTY, FIRST, MESSAGE, OTHER, SECOND, SPARE
+
+from balisekit.engine.grammar import Finding
+from balisekit.engine.program import Program
+from balisekit.present import explanations as explain
+from balisekit.present.headings import headings
+from balisekit.rules import checking
+from balisekit.tables.model import Aspect, Group, Message, Row
 
 Write = Callable[..., Path]
 TOP = Path(__file__).resolve().parents[2]
@@ -40,15 +41,21 @@ def test_findings(run: Run, table: Write) -> None:
     status, out, _ = run("check", table(*SOUND, f"Signal C,C1,16,,{OTHER}"))
     assert status == 1 and out[1:] == [
         "row 5  Signal C  km 16.000: identity used before by row 4  Signal B  km 15.000",
-        "    program: F14 group 2: identity used before", ASPECTS.format(3), "program: no: findings 1"]
+        "    program: F14 group 2: identity used before",
+        ASPECTS.format(3),
+        "program: no: findings 1",
+    ]
 
 
 def test_refused(run: Run, table: Write) -> None:
     status, out, _ = run("check", table(HEADING, f"A,A1,13.850,green,{FAULTY}", f"B,,,,{ALONE}"))
     assert status == 2 and out[1:] == [
         'row 2  A  km 13.850  aspect "green"  balise 0 "A1": Q_DIR of packet 21 (second packet) is 3, which is spare',
-        "    program: spare at 127 end 129", "left out: row 2  A  km 13.850: refused: row 2", ASPECTS.format(2),
-        "INCOMPLETE: 1 of 2 telegrams refused, 1 of 2 groups left out"]
+        "    program: spare at 127 end 129",
+        "left out: row 2  A  km 13.850: refused: row 2",
+        ASPECTS.format(2),
+        "INCOMPLETE: 1 of 2 telegrams refused, 1 of 2 groups left out",
+    ]
 
 
 def test_all_refused_and_nothing_is_checked(run: Run, table: Write, tmp_path: Path) -> None:
@@ -68,33 +75,53 @@ def test_messages(run: Run, table: Write) -> None:
     path = table(*SOUND)
     radio = table(f"{MESSAGE};to train 7", f"{MESSAGE[:-2]};cut", "0400c0", MESSAGE[1:], name="messages.txt")
     status, out, _ = run("check", path, "--messages", radio)
-    assert status == 2 and out[1:3] == ["line 2  cut: L_MESSAGE is 18, but the message has 17 bytes",
-                                        "    program: length at 8 end 18"]
+    assert status == 2 and out[1:3] == [
+        "line 2  cut: L_MESSAGE is 18, but the message has 17 bytes",
+        "    program: length at 8 end 18",
+    ]
     assert "line 3: NID_MESSAGE is 4; 3 and 136 are read" in out
     odd = "line 4: it has 35 digits, an odd number: a digit is missing, or one too many; a message 3 begins with 03"
     assert odd in out
     assert "message of line 1  to train 7  nominal: no gradient" in out
     assert out[-1] == (
         "INCOMPLETE: 0 of 3 telegrams refused, 3 of 4 messages refused, 0 of 2 groups left out; "
-        "findings in the rest: 2")
+        "findings in the rest: 2"
+    )
 
 
 def test_by_position(run: Run, table: Write) -> None:
     path = table(HEADING, f"A,,,,{SECOND}", f"A,,,,{FIRST}")
     assert run("check", path)[0] == 1
     status, out, _ = run("check", path, "--by-position")
-    assert (status, out[1:]) == (0, [
-        "note: balises are ordered by N_PIG, as --by-position says, which hides a wrong N_PIG",
-        "aspects found: 1 in 1 group", "program: yes: groups 1, messages 0"])
+    assert (status, out[1:]) == (
+        0,
+        [
+            "note: balises are ordered by N_PIG, as --by-position says, which hides a wrong N_PIG",
+            "aspects found: 1 in 1 group",
+            "program: yes: groups 1, messages 0",
+        ],
+    )
 
 
 def test_aspects_are_counted(run: Run, table: Write, tmp_path: Path) -> None:
-    path = table("group,aspect,telegram", f"A,x,{ALONE}", f"A,y,{ALONE}", f"B,,{OTHER}", f"C,x,{ALONE}",
-                 f"C,y,{ALONE}", f"D,x,{SPARE}", f"D,y,{SPARE}", f"D,z,{SPARE}")
+    path = table(
+        "group,aspect,telegram",
+        f"A,x,{ALONE}",
+        f"A,y,{ALONE}",
+        f"B,,{OTHER}",
+        f"C,x,{ALONE}",
+        f"C,y,{ALONE}",
+        f"D,x,{SPARE}",
+        f"D,y,{SPARE}",
+        f"D,z,{SPARE}",
+    )
     _, out, _ = run("check", path, "--json", tmp_path / "out.json")
     assert out[-2] == "aspects found: 3 in 1 group (D), 2 in 2 (A, C), 1 in 1 (B)"
     assert json.loads((tmp_path / "out.json").read_text())["counts"]["aspects"] == [
-        {"aspects": 3, "groups": 1}, {"aspects": 2, "groups": 2}, {"aspects": 1, "groups": 1}]
+        {"aspects": 3, "groups": 1},
+        {"aspects": 2, "groups": 2},
+        {"aspects": 1, "groups": 1},
+    ]
 
 
 def lines_of(kinds: str) -> List[str]:
@@ -103,35 +130,52 @@ def lines_of(kinds: str) -> List[str]:
     return ["group,aspect,telegram", *rows]
 
 
-@pytest.mark.parametrize("kinds, said", [
-    ("A:ryg B:yg", ['look: B:yg has 2 aspects, 1 other has 3: "r" too']),
-    ("A:ryg B:r C:ryg D:", ['look: B:r has 1 aspect, 2 others have 3: "g", "y" too']),
-    ("A:ryg B:ryg C:ryg D:ryg E:rg F:rg G:rg", [
-        f'look: {name}:rg has 2 aspects, 4 others have 3: "y" too' for name in "EFG"]),
-    ("A:ryg B:ryg C:ryg D:ryg E:rg F:rg G:rg H:rg", []),
-    ("A:ryg B:ryg C:ryx D:rgx E:rx", []),
-    ("A:rygw B:rygw C:rg D:rg E:rg F:rg G:xy H:xy I:rgw", ['look: I:rgw has 3 aspects, 2 others have 4: "y" too']),
-    ("A: B:ryg C:x D:", []), ("A:ryg B:ryx", [])])
+@pytest.mark.parametrize(
+    "kinds, said",
+    [
+        ("A:ryg B:yg", ['look: B:yg has 2 aspects, 1 other has 3: "r" too']),
+        ("A:ryg B:r C:ryg D:", ['look: B:r has 1 aspect, 2 others have 3: "g", "y" too']),
+        (
+            "A:ryg B:ryg C:ryg D:ryg E:rg F:rg G:rg",
+            [f'look: {name}:rg has 2 aspects, 4 others have 3: "y" too' for name in "EFG"],
+        ),
+        ("A:ryg B:ryg C:ryg D:ryg E:rg F:rg G:rg H:rg", []),
+        ("A:ryg B:ryg C:ryx D:rgx E:rx", []),
+        ("A:rygw B:rygw C:rg D:rg E:rg F:rg G:xy H:xy I:rgw", ['look: I:rgw has 3 aspects, 2 others have 4: "y" too']),
+        ("A: B:ryg C:x D:", []),
+        ("A:ryg B:ryx", []),
+    ],
+)
 def test_fewer_aspects_than_others(run: Run, table: Write, tmp_path: Path, kinds: str, said: List[str]) -> None:
     """A remark before the count, and no more: verdict and status are as without it."""
     _, out, _ = run("check", table(*lines_of(kinds)), "--json", tmp_path / "out.json")
-    assert [line for line in out if line.startswith("look: ")] == said == out[-2 - len(said):-2]
+    assert [line for line in out if line.startswith("look: ")] == said == out[-2 - len(said) : -2]
     assert json.loads((tmp_path / "out.json").read_text())["counts"]["look"] == said
     assert out[-1].startswith("program: ")
 
 
 def test_a_remark_on_aspects_changes_no_yes(run: Run, table: Write) -> None:
-    status, out, _ = run("check", table("group,aspect,telegram", *[f"A,{one},{ALONE}" for one in "xyz"],
-                                        *[f"B,{one},{OTHER}" for one in "xy"]))
-    assert status == 0 and out[-3:] == ['look: B has 2 aspects, 1 other has 3: "z" too', "aspects found: "
-                                        "3 in 1 group (A), 2 in 1 (B)", "program: yes: groups 2, messages 0"]
+    status, out, _ = run(
+        "check",
+        table("group,aspect,telegram", *[f"A,{one},{ALONE}" for one in "xyz"], *[f"B,{one},{OTHER}" for one in "xy"]),
+    )
+    assert status == 0 and out[-3:] == [
+        'look: B has 2 aspects, 1 other has 3: "z" too',
+        "aspects found: " "3 in 1 group (A), 2 in 1 (B)",
+        "program: yes: groups 2, messages 0",
+    ]
 
 
-@pytest.mark.parametrize("rows, said", [
-    (["A1,13.850", "A2,13.950"], []), (["A1,", "A2,13.950"], []),
-    (["A1,13.850", "A2,13.9501"], ['row 2 "A1" (km 13.850) and row 3 "A2" (km 13.950) stand 100.1 m apart by km']),
-    (["A1,18.850", "A2,13.850"], ['row 2 "A1" (km 18.850) and row 3 "A2" (km 13.850) stand 5000 m apart by km']),
-    ([",-1", ",1"], ["row 2 (km -1.000) and row 3 (km 1.000) stand 2000 m apart by km"])])
+@pytest.mark.parametrize(
+    "rows, said",
+    [
+        (["A1,13.850", "A2,13.950"], []),
+        (["A1,", "A2,13.950"], []),
+        (["A1,13.850", "A2,13.9501"], ['row 2 "A1" (km 13.850) and row 3 "A2" (km 13.950) stand 100.1 m apart by km']),
+        (["A1,18.850", "A2,13.850"], ['row 2 "A1" (km 18.850) and row 3 "A2" (km 13.850) stand 5000 m apart by km']),
+        ([",-1", ",1"], ["row 2 (km -1.000) and row 3 (km 1.000) stand 2000 m apart by km"]),
+    ],
+)
 def test_balises_far_apart(run: Run, table: Write, tmp_path: Path, rows: List[str], said: List[str]) -> None:
     """A remark, on the cover of a report as well: verdict and status are as without it."""
     lines = [f"A,{row},{one},{text}" for one in "xy" for row, text in zip(rows, (FIRST, SECOND))]
@@ -146,28 +190,44 @@ def test_balises_far_apart(run: Run, table: Write, tmp_path: Path, rows: List[st
         assert [line for line in page.splitlines() if "look: " in line] == [f"<p><bdi>{one}</bdi></p>" for one in looks]
 
 
-@pytest.mark.parametrize("telegram, said, program", [
-    ("0" * 86, "it is coded (341 bits in 86 digits): export user bits", "wrong size"),
-    ("0" * 256, "it is coded (1023 bits in 256 digits): export user bits", "wrong size"),
-    ("0" * 50, "it has 50 digits, 4 short of 54: a short telegram has 54, a long one 208", "wrong size"),
-    (ALONE[:-1], "it has 53 digits, 1 short of 54: a short telegram has 54, a long one 208", "not hexadecimal"),
-    ("0" * 201, "it has 201 digits, 7 short of 208: a short telegram has 54, a long one 208", "not hexadecimal"),
-    ("0" * 210, "it has 210 digits, 2 more than 208: a short telegram has 54, a long one 208", "wrong size"),
-    ("O" + ALONE[1:], 'character 1 is "O", no hexadecimal digit', "not hexadecimal"),
-    ("\u0430" + ALONE[1:], 'character 1 is "\u0430" (U+0430), no hexadecimal digit', "not hexadecimal"),
-    (ALONE[:-1] + "1", "the last 6 bits are not all 0: the text has to end with zeros", "pad bits set"),
-    ("90" + ALONE[2:], "M_VERSION is 16 (1.0); 32 (2.0) and 33 (2.1) are read", "version at 1 end 8"),
-    ("a180" + ALONE[4:], "Q_MEDIA is 1: it is for a loop, not for a balise", "loop at 8 end 9"),
-    ("2" + ALONE[1:], "Q_UPDOWN is 0: it goes from train to track", "down-link at 0 end 1"),
-    (SPARE, "M_DUP is 3, which is spare", "spare at 15 end 17"),
-    ("a1007f802000c5501bc0001fe0".ljust(52, "f") + "c0",
-     "L_PACKET of packet 21 (first packet) is 55, but its fields have 54 bits", "length at 60 end 104"),
-    ("a1007f802000cb200b".ljust(54, "0"),
-     "L_PACKET of packet 44 (first packet) is 22, less than the 23 bits of its head", "length at 60 end 73"),
-    ("a1007f802000cb2050".ljust(54, "0"), "no packet 255 behind packet 44: the packets end at bit 210",
-     "no end at 210 end 210"),
-    ("a1007f802000cb205080".ljust(54, "0"), "body of packet 44 (first packet) needs 138 bits, and 137 are left",
-     "short at 73 end 210")])
+@pytest.mark.parametrize(
+    "telegram, said, program",
+    [
+        ("0" * 86, "it is coded (341 bits in 86 digits): export user bits", "wrong size"),
+        ("0" * 256, "it is coded (1023 bits in 256 digits): export user bits", "wrong size"),
+        ("0" * 50, "it has 50 digits, 4 short of 54: a short telegram has 54, a long one 208", "wrong size"),
+        (ALONE[:-1], "it has 53 digits, 1 short of 54: a short telegram has 54, a long one 208", "not hexadecimal"),
+        ("0" * 201, "it has 201 digits, 7 short of 208: a short telegram has 54, a long one 208", "not hexadecimal"),
+        ("0" * 210, "it has 210 digits, 2 more than 208: a short telegram has 54, a long one 208", "wrong size"),
+        ("O" + ALONE[1:], 'character 1 is "O", no hexadecimal digit', "not hexadecimal"),
+        ("\u0430" + ALONE[1:], 'character 1 is "\u0430" (U+0430), no hexadecimal digit', "not hexadecimal"),
+        (ALONE[:-1] + "1", "the last 6 bits are not all 0: the text has to end with zeros", "pad bits set"),
+        ("90" + ALONE[2:], "M_VERSION is 16 (1.0); 32 (2.0) and 33 (2.1) are read", "version at 1 end 8"),
+        ("a180" + ALONE[4:], "Q_MEDIA is 1: it is for a loop, not for a balise", "loop at 8 end 9"),
+        ("2" + ALONE[1:], "Q_UPDOWN is 0: it goes from train to track", "down-link at 0 end 1"),
+        (SPARE, "M_DUP is 3, which is spare", "spare at 15 end 17"),
+        (
+            "a1007f802000c5501bc0001fe0".ljust(52, "f") + "c0",
+            "L_PACKET of packet 21 (first packet) is 55, but its fields have 54 bits",
+            "length at 60 end 104",
+        ),
+        (
+            "a1007f802000cb200b".ljust(54, "0"),
+            "L_PACKET of packet 44 (first packet) is 22, less than the 23 bits of its head",
+            "length at 60 end 73",
+        ),
+        (
+            "a1007f802000cb2050".ljust(54, "0"),
+            "no packet 255 behind packet 44: the packets end at bit 210",
+            "no end at 210 end 210",
+        ),
+        (
+            "a1007f802000cb205080".ljust(54, "0"),
+            "body of packet 44 (first packet) needs 138 bits, and 137 are left",
+            "short at 73 end 210",
+        ),
+    ],
+)
 def test_refusals_in_sentences(run: Run, table: Write, telegram: str, said: str, program: str) -> None:
     status, out, _ = run("check", table("group,telegram", f"A,{telegram}"))
     assert status == 2 and out[1].startswith(f"row 2  A  balise 0: {said}") and out[2] == f"    program: {program}"
@@ -178,13 +238,23 @@ def test_a_cell_of_100000_characters(run: Run, table: Write) -> None:
     path = table(f"group,telegram,{'x' * 100_000}", f"A,{'a' * 100_000},x")
     status, out, _ = run("check", path)
     assert status == 2 and out[1] == f"columns passed over: {'x' * 1000}"
-    assert out[2:4] == ["row 2  A  balise 0: it has 100000 digits, 99792 more than 208: a short telegram has 54, "
-                        "a long one 208", "    program: wrong size"]
+    assert out[2:4] == [
+        "row 2  A  balise 0: it has 100000 digits, 99792 more than 208: a short telegram has 54, " "a long one 208",
+        "    program: wrong size",
+    ]
 
 
-@pytest.mark.parametrize("name, shown", [
-    ("<script>alert(1)</script>", "<script>alert(1)</script>"), ("a & 'b'", "a & 'b'"), ("=1+1", "=1+1"),
-    ("a\x1b[2Jb", "a\\x1b[2Jb"), ("a\u202eb", "a\\u202eb"), ("\ufeffx", "\\ufeffx")])
+@pytest.mark.parametrize(
+    "name, shown",
+    [
+        ("<script>alert(1)</script>", "<script>alert(1)</script>"),
+        ("a & 'b'", "a & 'b'"),
+        ("=1+1", "=1+1"),
+        ("a\x1b[2Jb", "a\\x1b[2Jb"),
+        ("a\u202eb", "a\\u202eb"),
+        ("\ufeffx", "\\ufeffx"),
+    ],
+)
 def test_names_are_safe_to_show(run: Run, table: Write, name: str, shown: str) -> None:
     path = table("group,name,aspect,track,km,telegram", f"{name},{name},{name},{name},1,{SPARE}")
     words = f'row 2  {shown}  km 1.000  track {shown}  aspect "{shown}"  balise 0 "{shown}": M_DUP is 3, which is spare'
@@ -201,27 +271,38 @@ def test_json_has_all_of_the_answer(run: Run, table: Write, tmp_path: Path) -> N
     assert [(one["row"], one["form"]["nid_bg"]) for one in answer["telegrams"]] == [(2, 1), (3, 1), (4, 3), (6, 3)]
     assert answer["read_messages"][0]["form"]["t_train"] == 100
     assert [(one["row"], one["line"], one["first_row_of_run"]) for one in answer["refused"]] == [
-        (5, "refused: line 4: spare at 15 end 17", 2)]
+        (5, "refused: line 4: spare at 15 end 17", 2)
+    ]
     assert answer["left_out"] == [{"group": "Signal C", "rows": [5], "why": "refused: row 5"}]
     assert [one["line"] for one in answer["findings"]] == [
-        "F14 group 2: identity used before", "F10 message 0 nominal: no gradient",
-        "F12 message 0 nominal: no speed profile"]
+        "F14 group 2: identity used before",
+        "F10 message 0 nominal: no gradient",
+        "F12 message 0 nominal: no speed profile",
+    ]
     assert answer["findings"][0]["earlier_group"] == "Signal B" and answer["rest"] == "no: findings 3"
     assert len(answer["table"]["sha256"]) == len(answer["program"]["sha256"]) == 64
 
 
 def test_document(run: Run, table: Write, tmp_path: Path, program: Program) -> None:
-    run("check", table("group,aspect,telegram", f"A,x,{ALONE}", f"A,y,{ALONE}", f"B,,{OTHER}"),
-        "--document", tmp_path / "line.json")
+    run(
+        "check",
+        table("group,aspect,telegram", f"A,x,{ALONE}", f"A,y,{ALONE}", f"B,,{OTHER}"),
+        "--document",
+        tmp_path / "line.json",
+    )
     document = json.loads((tmp_path / "line.json").read_text())
-    assert document == {"groups": [{"aspects": [{"balises": [ALONE]}, {"balises": [ALONE]}]}, {"balises": [OTHER]}],
-                        "messages": []}
+    assert document == {
+        "groups": [{"aspects": [{"balises": [ALONE]}, {"balises": [ALONE]}]}, {"balises": [OTHER]}],
+        "messages": [],
+    }
 
 
 def test_explain_is_what_the_document_says(run: Run, table: Write) -> None:
     text = (TOP / "docs" / "FINDINGS.md").read_text("utf-8")
-    assert {int(rule): parts for rule, parts in json.loads(
-        Path(explain.__file__).with_name("findings.json").read_text("utf-8")).items()} == explain.of_document(text)
+    assert {
+        int(rule): parts
+        for rule, parts in json.loads(Path(explain.__file__).with_name("findings.json").read_text("utf-8")).items()
+    } == explain.of_document(text)
     assert all(all(vars(one).values()) for one in explain.explanations().values())
     _, out, _ = run("check", table(*SOUND, f"C,,,,{OTHER}"), "--explain")
     assert "F14: identity used before" in out and any("How to correct it. Give one" in line for line in out)
@@ -236,15 +317,18 @@ def test_after_too_many_refused(run: Run, table: Write, monkeypatch: pytest.Monk
     assert run("check", table("group,telegram", *rows), "--all")[1][-1].startswith("INCOMPLETE: 5 of 5 telegrams")
 
 
-def test_after_too_many_refused_messages(run: Run, table: Write, monkeypatch: pytest.MonkeyPatch, tmp_path: Path
-                                         ) -> None:
+def test_after_too_many_refused_messages(
+    run: Run, table: Write, monkeypatch: pytest.MonkeyPatch, tmp_path: Path
+) -> None:
     monkeypatch.setattr(checking, "GREATEST_REFUSED", 3)
     path = table(*SOUND)
     radio = table(MESSAGE, *["0304"] * 3, MESSAGE, "0304", name="messages.txt")
     status, out, _ = run("check", path, "--messages", radio, "--json", tmp_path / "out.json")
     assert status == 2 and "and 2 messages not looked at: --all goes on" in out
-    assert out[-1] == ("INCOMPLETE: 0 of 3 telegrams refused, 3 of 6 messages refused, 0 of 2 groups left out, "
-                       "2 messages not looked at; findings in the rest: 2")
+    assert out[-1] == (
+        "INCOMPLETE: 0 of 3 telegrams refused, 3 of 6 messages refused, 0 of 2 groups left out, "
+        "2 messages not looked at; findings in the rest: 2"
+    )
     assert json.loads((tmp_path / "out.json").read_text())["counts"]["messages_not_looked_at"] == 2
     assert "4 of 6 messages refused" in run("check", path, "--messages", radio, "--all")[1][-1]
     status, out, _ = run("show", "--messages", radio)
@@ -277,10 +361,15 @@ def test_nothing_half_written(run: Run, table: Write, tmp_path: Path) -> None:
     assert sorted(path.name for path in tmp_path.iterdir()) == ["table.csv"]
 
 
-@pytest.mark.parametrize("path, said", [
-    ("/bin/false", "/bin/false is not the program that this version knows"),
-    ("/none", "there is no program /none"), ("/tmp", "there is no program /tmp"),
-    ("/etc/passwd", "there is no program /etc/passwd")])
+@pytest.mark.parametrize(
+    "path, said",
+    [
+        ("/bin/false", "/bin/false is not the program that this version knows"),
+        ("/none", "there is no program /none"),
+        ("/tmp", "there is no program /tmp"),
+        ("/etc/passwd", "there is no program /etc/passwd"),
+    ],
+)
 def test_no_program(run: Run, table: Write, path: str, said: str) -> None:
     assert run("check", table(*SOUND), "--program", path) == (3, [], [f"balisekit: {said}"])
 
@@ -288,8 +377,10 @@ def test_no_program(run: Run, table: Write, path: str, said: str) -> None:
 def test_a_killed_program(run: Run, table: Write, tmp_path: Path) -> None:
     stand = tmp_path / "stand"
     usage = "refused: usage is balisecheck check, decode [--radio] or encode [--radio]"
-    stand.write_text("#!/bin/sh\ncase $1 in\ncheck) echo 'yes: groups 0, messages 0' ;;\n"
-                     f"--version) echo '{usage}'; exit 2 ;;\n*) kill -9 $$ ;;\nesac\n")
+    stand.write_text(
+        "#!/bin/sh\ncase $1 in\ncheck) echo 'yes: groups 0, messages 0' ;;\n"
+        f"--version) echo '{usage}'; exit 2 ;;\n*) kill -9 $$ ;;\nesac\n"
+    )
     stand.chmod(0o755)
     status, out, err = run("check", table(*SOUND), "--program", stand, "--json", tmp_path / "out.json")
     assert (status, out) == (3, []) and err == [f"balisekit: no answer of {stand}: decode: killed by signal 9"]
@@ -304,9 +395,11 @@ def test_columns_that_are_passed_over_are_listed(run: Run, table: Write) -> None
 def test_a_heading_that_may_be_mistyped(run: Run, table: Write, tmp_path: Path) -> None:
     """It is passed over, and asked for. One that the table has besides was not meant."""
     path = table("group,telegram,Aspct,nominl,ballise,KMs,trak,names,Remark,Telegrams", f"A,{ALONE},a,b,c,d,e,f,g,h")
-    said = ('columns passed over: Aspct (did you mean "aspect"?), nominl (did you mean "nominal"?), ballise (did you '
-            'mean "balise"?), KMs (did you mean "km"?), trak (did you mean "track"?), names (did you mean "name"?), '
-            "Remark, Telegrams")
+    said = (
+        'columns passed over: Aspct (did you mean "aspect"?), nominl (did you mean "nominal"?), ballise (did you '
+        'mean "balise"?), KMs (did you mean "km"?), trak (did you mean "track"?), names (did you mean "name"?), '
+        "Remark, Telegrams"
+    )
     assert run("check", path, "--json", tmp_path / "out.json")[1][1] == said
     assert json.loads((tmp_path / "out.json").read_text())["table"]["passed_over"][:2] == ["Aspct", "nominl"]
     pytest.importorskip("jinja2")
@@ -316,16 +409,20 @@ def test_a_heading_that_may_be_mistyped(run: Run, table: Write, tmp_path: Path) 
 
 def test_a_traceback_is_for_debug_alone(run: Run, table: Write, monkeypatch: pytest.MonkeyPatch) -> None:
     path = table("group,telegram", ",00")
-    status, out, err = run("check", path, "--debug")    # (the status stays: 1 would be that of findings)
+    status, out, err = run("check", path, "--debug")  # (the status stays: 1 would be that of findings)
     assert (status, out, err[0]) == (2, [], "Traceback (most recent call last):")
     assert err[-1] == f"balisekit: {path}: row 2, column group: no group; fill merged cells"
 
     def wrong(*_: object) -> None:
         raise RuntimeError("wrong")
+
     monkeypatch.setattr(checking, "check", wrong)
     status, out, err = run("check", table(*SOUND))
-    assert (status, out, err) == (3, [], ["balisekit: an error of balisekit itself, RuntimeError: wrong; --debug shows "
-                                          "where it comes from"])
+    assert (status, out, err) == (
+        3,
+        [],
+        ["balisekit: an error of balisekit itself, RuntimeError: wrong; --debug shows " "where it comes from"],
+    )
 
 
 def test_wrong_words(run: Run) -> None:
@@ -353,16 +450,30 @@ FULL = "balisekit: standard output or a temporary file: No space left on device\
 CLOSED = "balisekit: standard output was closed\n"
 
 
-@pytest.mark.parametrize("words, streams, unbuffered, status, said", [
-    ("check table.csv", ">/dev/full", "", 3, FULL), ("show table.csv", ">/dev/full", "1", 3, FULL),
-    ("check table.csv", ">&-", "", 3, CLOSED), ("check table.csv --json -", "2>/dev/full", "1", 3, ""),
-    ("check none", "2>/dev/full", "", 2, ""), ("check none", "2>&-", "", 2, "")])
-def test_streams_that_take_nothing(words: str, streams: str, unbuffered: str, status: int, said: str, table: Write,
-                                   tmp_path: Path) -> None:
+@pytest.mark.parametrize(
+    "words, streams, unbuffered, status, said",
+    [
+        ("check table.csv", ">/dev/full", "", 3, FULL),
+        ("show table.csv", ">/dev/full", "1", 3, FULL),
+        ("check table.csv", ">&-", "", 3, CLOSED),
+        ("check table.csv --json -", "2>/dev/full", "1", 3, ""),
+        ("check none", "2>/dev/full", "", 2, ""),
+        ("check none", "2>&-", "", 2, ""),
+    ],
+)
+def test_streams_that_take_nothing(
+    words: str, streams: str, unbuffered: str, status: int, said: str, table: Write, tmp_path: Path
+) -> None:
     """One line where it can be said, and in no other stream. No yes and no finding is answered by the status."""
     table(*SOUND)
-    done = subprocess.run(["sh", "-c", f'exec "$@" {streams}', "sh", *STARTED, *words.split()], cwd=tmp_path, text=True,
-                          env={**os.environ, "PYTHONUNBUFFERED": unbuffered}, capture_output=True, check=False)
+    done = subprocess.run(
+        ["sh", "-c", f'exec "$@" {streams}', "sh", *STARTED, *words.split()],
+        cwd=tmp_path,
+        text=True,
+        env={**os.environ, "PYTHONUNBUFFERED": unbuffered},
+        capture_output=True,
+        check=False,
+    )
     assert (done.returncode, done.stderr) == (status, said) and "balisekit: " not in done.stdout
 
 
@@ -372,27 +483,40 @@ def test_a_reader_that_has_gone(table: Write) -> None:
         reads, writes = os.pipe()
         os.close(reads)
         with open(writes, "wb") as out:
-            done = subprocess.run([*STARTED, *words], stdout=out, stderr=subprocess.PIPE, text=True, check=False,
-                                  env={**os.environ, "PYTHONUNBUFFERED": ""})
+            done = subprocess.run(
+                [*STARTED, *words],
+                stdout=out,
+                stderr=subprocess.PIPE,
+                text=True,
+                check=False,
+                env={**os.environ, "PYTHONUNBUFFERED": ""},
+            )
         assert (done.returncode, done.stderr) == (3, CLOSED)
 
 
 def test_findings_of_one_cause_have_a_heading(run: Run, table: Write, tmp_path: Path) -> None:
     """The two balises of a group with three aspects are exchanged. No line of the program is left out or moved."""
-    rows = [f"Signal B,{name},15,{aspect},{text}" for aspect in ("red", "yellow", "green")
-            for name, text in (("B2", SECOND), ("B1", FIRST))]
+    rows = [
+        f"Signal B,{name},15,{aspect},{text}"
+        for aspect in ("red", "yellow", "green")
+        for name, text in (("B2", SECOND), ("B1", FIRST))
+    ]
     path = table(HEADING, f"Signal A,A1,14,,{SECOND}", f"Signal A,A2,14,,{FIRST}", *rows)
     run("check", path, "--json", tmp_path / "out.json")
     findings = json.loads((tmp_path / "out.json").read_text("utf-8"))["findings"]
     out = run("check", path)[1]
     assert [line for line in out if line.startswith("F")] == [
-        "F1, 6 times, group Signal B:", "F4, 6 times, group Signal B:"]
+        "F1, 6 times, group Signal B:",
+        "F4, 6 times, group Signal B:",
+    ]
     place = out.index("F1, 6 times, group Signal B:")
     assert out[place + 1].startswith("row 4  Signal B")
-    assert [line for line in out[place + 1:place + 13] if line.startswith("    program: ")] == [
+    assert [line for line in out[place + 1 : place + 13] if line.startswith("    program: ")] == [
         f"    program: F1 group 1 aspect {aspect} balise {balise}: position wrong"
-        for aspect in range(3) for balise in range(2)]
-    said = [line[len("    program: "):] for line in out if line.startswith("    program: ")]
+        for aspect in range(3)
+        for balise in range(2)
+    ]
+    said = [line[len("    program: ") :] for line in out if line.startswith("    program: ")]
     assert said == [one["line"] for one in findings] and len(said) > 8
 
 
@@ -404,14 +528,18 @@ def _said(out: List[str], rule: str) -> List[str]:
 def test_what_differs_is_told(run: Run, table: Write, tmp_path: Path) -> None:
     """F1, F2 and F3 with the numbers of the program's JSON, in words and for other tools."""
     for name, rule, wanted in (
-            ("position-wrong", "F1", "balise 1: position wrong: N_PIG is 0, and the table has it as balise 1"),
-            ("total-wrong", "F2", "balise 0: total wrong: N_TOTAL + 1 says 1 balise, and the table has 2"),
-            ("identity-differs", "F3", "balise 1: version, identity or link flag differs: NID_BG is 2, and 1 in balise "
-                                       "0, row 2")):
+        ("position-wrong", "F1", "balise 1: position wrong: N_PIG is 0, and the table has it as balise 1"),
+        ("total-wrong", "F2", "balise 0: total wrong: N_TOTAL + 1 says 1 balise, and the table has 2"),
+        (
+            "identity-differs",
+            "F3",
+            "balise 1: version, identity or link flag differs: NID_BG is 2, and 1 in balise " "0, row 2",
+        ),
+    ):
         document = json.loads((TOP / "examples" / "check" / f"{name}.json").read_text())
         path = table("group,telegram", *[f"A,{text}" for text in document["groups"][0]["balises"]])
         _, out, _ = run("check", path, "--json", tmp_path / "out.json")
-        one, = json.loads((tmp_path / "out.json").read_text("utf-8"))["findings"]
+        (one,) = json.loads((tmp_path / "out.json").read_text("utf-8"))["findings"]
         assert _said(out, rule) == [one["words"]] and one["words"].endswith(f"  A  {wanted}")
         assert wanted.endswith(f": {one['differs']}") and one["line"].endswith(one["name"])
     run("check", table("group,telegram", f"A,{ALONE}", f"B,{ALONE}"), "--json", tmp_path / "out.json")
@@ -425,31 +553,41 @@ def test_each_value_that_differs_is_told(run: Run, table: Write, program: Progra
     texts = [one.line for one in program.encode([form, other])]
     out = run("check", table("group,aspect,telegram", f"A,red,{texts[0]}", f"A,green,{texts[1]}"))[1]
     flags = ("linked", "unlinked") if other["q_link"] else ("unlinked", "linked")
-    said, = _said(out, "F3")
+    (said,) = _said(out, "F3")
     assert said.endswith(
         f'M_VERSION is 32 (2.0), and 33 (2.1); NID_C is 7, and {form["nid_c"]}; Q_LINK is {other["q_link"]} '
-        f'({flags[0]}), and {form["q_link"]} ({flags[1]}) in balise 0 of aspect "red", row 2')
+        f'({flags[0]}), and {form["q_link"]} ({flags[1]}) in balise 0 of aspect "red", row 2'
+    )
 
 
 def test_the_rows_of_an_aspect_and_no_others(run: Run, table: Write, program: Program) -> None:
     """Those of other aspects may stand between the fixed balise and the switched one."""
-    forms = [line_table.telegram(1, 0, 1, 255), line_table.telegram(1, 1, 1, 1),
-             line_table.telegram(1, 1, 1, 2, line_table.authority(100, 100))]
+    forms = [
+        line_table.telegram(1, 0, 1, 255),
+        line_table.telegram(1, 1, 1, 1),
+        line_table.telegram(1, 1, 1, 2, line_table.authority(100, 100)),
+    ]
     fixed, red, green = [one.line for one in program.encode(forms)]
     rows = [f"A,{aspect},{text}" for aspect, text in (("*", fixed), ("red", red), ("green", green))]
     assert _said(run("check", table("group,aspect,telegram", *rows))[1], "F10") == [
-        'rows 2, 4  A  aspect "green"  nominal: no gradient']
+        'rows 2, 4  A  aspect "green"  nominal: no gradient'
+    ]
     assert _said(run("check", table("group,aspect,telegram", *[rows[place] for place in (0, 2, 1)]))[1], "F10") == [
-        'rows 2 to 3  A  aspect "green"  nominal: no gradient']
+        'rows 2 to 3  A  aspect "green"  nominal: no gradient'
+    ]
 
 
 def test_a_missing_balise_renumbers_the_others(run: Run, table: Write) -> None:
     """The table's own number stands beside the program's, and which position no telegram has."""
     out = run("check", table("group,name,balise,telegram", f"A,A2,2,{SECOND}"))[1]
-    assert _said(out, "F1") == ['row 2  A  balise 0 "A2" (number 2 in the table): position wrong: N_PIG is 1, and the '
-                                "table has it as balise 0"]
-    assert _said(out, "F2") == ['row 2  A  balise 0 "A2" (number 2 in the table): total wrong: N_TOTAL + 1 says 2 '
-                                "balises, and the table has 1: none has N_PIG 0"]
+    assert _said(out, "F1") == [
+        'row 2  A  balise 0 "A2" (number 2 in the table): position wrong: N_PIG is 1, and the '
+        "table has it as balise 0"
+    ]
+    assert _said(out, "F2") == [
+        'row 2  A  balise 0 "A2" (number 2 in the table): total wrong: N_TOTAL + 1 says 2 '
+        "balises, and the table has 1: none has N_PIG 0"
+    ]
     out = run("check", table("group,balise,telegram", f"A,0,{FIRST}", f"A,1,{SECOND}", f"A,2,{SECOND}"))[1]
     assert "in the table)" not in "".join(out)
 
@@ -470,6 +608,8 @@ def test_headings_stand_where_the_rule_or_the_group_changes() -> None:
 
     some = [*[place(1, "A\u202e")] * 3, *[place(2, "A\u202e")] * 2, *[place(2, "B")] * 4, *[place(10, message=7)] * 3]
     assert [(number, one) for number, one in enumerate(headings(some)) if one] == [
-        (0, "F1, 3 times, group A\\u202e:"), (5, "F2, 4 times, group B:"),
-        (9, "F10, 3 times, message of line 7  \\x1b7:")]
+        (0, "F1, 3 times, group A\\u202e:"),
+        (5, "F2, 4 times, group B:"),
+        (9, "F10, 3 times, message of line 7  \\x1b7:"),
+    ]
     assert len(list(headings(some))) == len(some) and list(headings([])) == []

@@ -12,13 +12,14 @@ from pathlib import Path
 from typing import Any, Callable, Dict, List
 
 import pytest
-
-from balisekit import __version__, csv_writing
-from balisekit.accepted import COLUMNS
-from balisekit.program import Program
 from cases_of_program import TOP
 from conftest import Run
 from telegrams import ALONE, MESSAGE, OTHER, SPARE
+
+from balisekit import __version__
+from balisekit.engine.program import Program
+from balisekit.io import csv_writing
+from balisekit.rules.accepted import COLUMNS
 
 Write = Callable[..., Path]
 HEADING = ",".join(COLUMNS)
@@ -29,8 +30,15 @@ NAME = f"balisecheck-{__version__}-x86_64-linux"
 
 def entry(**fields: str) -> str:
     """A row of accepted.csv about F14 of the group with identity 1."""
-    values = {"rule": "F14", "nid_c": "1", "nid_bg": "1", "reason": "by design", "who": "J. Doe", "date": "2026-01-02",
-              **fields}
+    values = {
+        "rule": "F14",
+        "nid_c": "1",
+        "nid_bg": "1",
+        "reason": "by design",
+        "who": "J. Doe",
+        "date": "2026-01-02",
+        **fields,
+    }
     return csv_writing.text([values.get(name, "") for name in COLUMNS], []).rstrip("\n")
 
 
@@ -54,8 +62,15 @@ def test_a_case_for_each_group_and_message(run: Run, table: Write, tmp_path: Pat
     status = run("check", path, "--messages", radio, "--accepted", file, "--junit", tmp_path / "out.xml")[0]
     suite = read(tmp_path / "out.xml")
     assert status == 2 and results(suite) == {
-        "group A": [], "group B": [], "group C": ["Failure"], "group D": ["Error"], "group E": ["Skipped"],
-        "message line 1  one": ["Failure"], "message line 2  two": ["Error"], "accepted row 3": ["Failure"]}
+        "group A": [],
+        "group B": [],
+        "group C": ["Failure"],
+        "group D": ["Error"],
+        "group E": ["Skipped"],
+        "message line 1  one": ["Failure"],
+        "message line 2  two": ["Error"],
+        "accepted row 3": ["Failure"],
+    }
     assert (suite.tests, suite.failures, suite.errors, suite.skipped) == (8, 3, 2, 1)
     whole = {case.name: case.result[0] for case in suite if case.result}
     assert whole["E"].message == "accepted: by design (J. Doe, 2026-01-02)"
@@ -73,13 +88,14 @@ def test_a_yes(run: Run, table: Write, tmp_path: Path) -> None:
 
 
 def test_the_output_tells_a_lost_aspect(run: Run, table: Write, tmp_path: Path) -> None:
-    path = table("group,aspect,telegram", *[f"A,{one},{ALONE}" for one in "xyz"],
-                 *[f"B,{one},{OTHER}" for one in "xy"])
+    path = table("group,aspect,telegram", *[f"A,{one},{ALONE}" for one in "xyz"], *[f"B,{one},{OTHER}" for one in "xy"])
     assert run("check", path, "--junit", tmp_path / "out.xml")[0] == 0
     said = ElementTree.parse(tmp_path / "out.xml").findtext(".//system-out") or ""
     assert said.splitlines()[:3] == [
-        'look: B has 2 aspects, 1 other has 3: "z" too', "aspects found: 3 in 1 group (A), 2 in 1 (B)",
-        "program: yes: groups 2, messages 0"]
+        'look: B has 2 aspects, 1 other has 3: "z" too',
+        "aspects found: 3 in 1 group (A), 2 in 1 (B)",
+        "program: yes: groups 2, messages 0",
+    ]
 
 
 def test_names_are_text(run: Run, table: Write, tmp_path: Path) -> None:
@@ -127,12 +143,12 @@ def steps(job: Path) -> List[str]:
     lines = job.read_text("utf-8").splitlines()
     if job.stem == "github":
         at = lines.index("    steps:")
-        some = [re.fullmatch(r" +- (run: (?P<run>.+)|uses: \S+|{uses: .+})", line) for line in lines[at + 1:]]
+        some = [re.fullmatch(r" +- (run: (?P<run>.+)|uses: \S+|{uses: .+})", line) for line in lines[at + 1 :]]
         assert all(some), "a step of another kind"
         return [one["run"] for one in some if one and one["run"]]
     at = lines.index("  script:")
     end = next(place for place, line in enumerate(lines) if place > at and not line.startswith("    - "))
-    return ["\n".join(line[len("    - "):] for line in lines[at + 1:end])]
+    return ["\n".join(line[len("    - ") :] for line in lines[at + 1 : end])]
 
 
 def version(job: Path) -> str:
@@ -149,21 +165,35 @@ def run_job(job: Path, room: Path, release: Path, *tables: List[str]) -> int:
         (room / name).write_text("".join(f"{line}\n" for line in lines), "utf-8")
     environment = {"PATH": "/usr/bin:/bin", "HOME": str(room), "VERSION": version(job)}
     for step in steps(job):
-        done = subprocess.run(["bash", "-e", "-o", "pipefail", "-c", step], cwd=room, env=environment,
-                              stdout=subprocess.DEVNULL, stderr=subprocess.DEVNULL, check=False)
+        done = subprocess.run(
+            ["bash", "-e", "-o", "pipefail", "-c", step],
+            cwd=room,
+            env=environment,
+            stdout=subprocess.DEVNULL,
+            stderr=subprocess.DEVNULL,
+            check=False,
+        )
         if done.returncode:
             return done.returncode
     return 0
 
 
 @pytest.mark.parametrize("job", JOBS, ids=[path.stem for path in JOBS])
-@pytest.mark.parametrize("third, entries, status, cases", [
-    ("", [], 0, {}), (ALONE, [], 1, {"group C": ["Failure"]}), (ALONE, [entry()], 0, {"group C": ["Skipped"]}),
-    (ALONE, [entry(until="2020-01-03")], 1, {"group C": ["Failure"], "accepted row 2": ["Failure"]}),
-    ("", [entry()], 1, {"accepted row 2": ["Failure"]}), (SPARE, [], 2, {"group C": ["Error"]})],
-    ids=["sound", "new", "accepted", "expired", "unused", "refused"])
-def test_jobs(job: Path, tmp_path: Path, release: Path, third: str, entries: List[str], status: int,
-              cases: Dict[str, List[str]]) -> None:
+@pytest.mark.parametrize(
+    "third, entries, status, cases",
+    [
+        ("", [], 0, {}),
+        (ALONE, [], 1, {"group C": ["Failure"]}),
+        (ALONE, [entry()], 0, {"group C": ["Skipped"]}),
+        (ALONE, [entry(until="2020-01-03")], 1, {"group C": ["Failure"], "accepted row 2": ["Failure"]}),
+        ("", [entry()], 1, {"accepted row 2": ["Failure"]}),
+        (SPARE, [], 2, {"group C": ["Error"]}),
+    ],
+    ids=["sound", "new", "accepted", "expired", "unused", "refused"],
+)
+def test_jobs(
+    job: Path, tmp_path: Path, release: Path, third: str, entries: List[str], status: int, cases: Dict[str, List[str]]
+) -> None:
     """A new finding is red, an accepted one is not, and one whose date is past is red again."""
     lines = [*SOUND, *([f"C,{third}"] if third else [])]
     assert run_job(job, tmp_path, release, lines, [HEADING, *entries]) == status

@@ -11,22 +11,24 @@ import subprocess
 from pathlib import Path
 from typing import Any, Callable, Dict, List
 
-import pytest
-
 import link_tables
-from balisekit import csv_writing
-from balisekit.form_difference import ADDED, REMOVED, align, differences
-from balisekit.program import Program, Text
+import pytest
 from cases_of_program import CASES, TOP
 from conftest import Run
 from telegrams import ALONE, FAULTY, FIRST, MESSAGE, OTHER, SECOND
+
+from balisekit.compare.forms import ADDED, REMOVED, align, differences
+from balisekit.engine.program import Program, Text
+from balisekit.io import csv_writing
 
 Write = Callable[..., Path]
 Form = Dict[str, Any]
 LINE = TOP / "examples" / "table" / "line.csv"
 LINKS = TOP / "examples" / "links"
-NONE = ("groups added 0, removed 0; telegrams and messages added 0, removed 0, changed 0, in fill or case alone 0; "
-        "findings new 0, gone 0")
+NONE = (
+    "groups added 0, removed 0; telegrams and messages added 0, removed 0, changed 0, in fill or case alone 0; "
+    "findings new 0, gone 0"
+)
 
 
 def header(identity: int, position: int, total: int, *packets: Form) -> Form:
@@ -42,8 +44,11 @@ def texts(program: Program, forms: List[Form]) -> List[str]:
 @pytest.fixture(scope="module")
 def rows(program: Program) -> List[List[str]]:
     """The rows of 412 groups of two balises."""
-    forms = [header(number, place, 1, link_tables.linking(1, link_tables.link(1000, number + 1, 1)))
-             for number in range(412) for place in (0, 1)]
+    forms = [
+        header(number, place, 1, link_tables.linking(1, link_tables.link(1000, number + 1, 1)))
+        for number in range(412)
+        for place in (0, 1)
+    ]
     return [[f"G{place // 2}", text] for place, text in enumerate(texts(program, forms))]
 
 
@@ -59,15 +64,18 @@ def test_two_of_824(run: Run, table: Write, rows: List[List[str]], program: Prog
         number = place // 2
         form = header(number, place % 2, 1, link_tables.linking(1, link_tables.link(distance, number + 1, 1)))
         changed[place][1] = texts(program, [form])[0]
-    groups = [changed[place:place + 2] for place in range(0, len(changed), 2)]
+    groups = [changed[place : place + 2] for place in range(0, len(changed), 2)]
     random.Random(1).shuffle(groups)
-    status, out, _ = run("diff", written(table, rows, "old.csv"),
-                         written(table, [row for group in groups for row in group], "new.csv"))
+    status, out, _ = run(
+        "diff", written(table, rows, "old.csv"), written(table, [row for group in groups for row in group], "new.csv")
+    )
     entries = [line for line in out if line.startswith("changed: ")]
     assert status == 1 and len(entries) == 2
     fields = {line.strip() for line in out if line.startswith("    ")}
-    assert fields == {"packet 0 (linking, nominal)  link 0  D_LINK 1000 m [1000] -> 1010 m [1010]",
-                      "packet 0 (linking, nominal)  link 0  D_LINK 1000 m [1000] -> 990 m [990]"}
+    assert fields == {
+        "packet 0 (linking, nominal)  link 0  D_LINK 1000 m [1000] -> 1010 m [1010]",
+        "packet 0 (linking, nominal)  link 0  D_LINK 1000 m [1000] -> 990 m [990]",
+    }
     first = "changed: G5  (group 5 of country or region 352)  position 0  rows 12 and "
     assert any(one.startswith(first) for one in entries)
     same = sorted(row[1] for place, row in enumerate(rows) if place not in (10, 501))
@@ -83,8 +91,7 @@ def test_nothing_differs(run: Run) -> None:
 
 def test_the_checksum_of_what_is_unchanged(run: Run, table: Write) -> None:
     """A known value, whatever the order of rows, the names and the case; and what has changed has no part in it."""
-    known = ("unchanged: 3, SHA-256 00a934565634729121c447381cbb6299"
-             "40aaf3a9d9d9fb3b73e15622b8ff3d7a")
+    known = "unchanged: 3, SHA-256 00a934565634729121c447381cbb6299" "40aaf3a9d9d9fb3b73e15622b8ff3d7a"
     lines = ["group,telegram", f"A,{ALONE}", f"B,{OTHER.upper()}"]
     old, radio = table(*lines, name="old.csv"), table(f"{MESSAGE.upper()};one", name="m.txt")
     beside = ("--old-messages", radio, "--new-messages", radio)
@@ -106,12 +113,13 @@ def test_a_document_is_as_its_table(run: Run, tmp_path: Path) -> None:
     run("check", LINE, "--document", tmp_path / "line.json")
     status, out, _ = run("diff", LINE, tmp_path / "line.json")
     assert status == 2 and out[-1] == "INCOMPLETE: what was refused is not compared; " + NONE.replace(
-        "removed 0;", "removed 1;", 1)
+        "removed 0;", "removed 1;", 1
+    )
     run("check", LINKS / "line.csv", "--document", tmp_path / "links.json")
     for old, new in (("line.csv", "links.json"), ("links.json", "line.csv"), ("links.json", "links.json")):
         paths = [tmp_path / name if name == "links.json" else LINKS / name for name in (old, new)]
         status, out, _ = run("diff", *paths)
-        assert status == 0 and not any(line.startswith("note: ") for line in out)    # (it has no names)
+        assert status == 0 and not any(line.startswith("note: ") for line in out)  # (it has no names)
 
 
 def test_fill_and_case(run: Run, table: Write) -> None:
@@ -120,7 +128,8 @@ def test_fill_and_case(run: Run, table: Write) -> None:
     status, out, _ = run("diff", old, table("group,telegram", f"A,{fill}", f"B,{OTHER.upper()}", name="new.csv"))
     assert [line for line in out if line.startswith("changed")] == [
         "changed in fill or case alone: A  (group 1 of country or region 1)  position 0  rows 2 and 2",
-        "changed in fill or case alone: B  (group 3 of country or region 1)  position 0  rows 3 and 3"]
+        "changed in fill or case alone: B  (group 3 of country or region 1)  position 0  rows 3 and 3",
+    ]
     assert status == 1 and "changed 0, in fill or case alone 2" in out[-1]
 
 
@@ -138,9 +147,11 @@ def test_groups_telegrams_and_aspects(run: Run, table: Write, program: Program) 
     status, out, _ = run("diff", old, new)
     assert status == 1 and out[3:-1] == [
         "note: A1  (group 1 of country or region 352): name A -> A1",
-        "group removed: B  (group 2 of country or region 352)", "group added: C  (group 3 of country or region 352)",
+        "group removed: B  (group 2 of country or region 352)",
+        "group added: C  (group 3 of country or region 352)",
         'added: A1  (group 1 of country or region 352)  aspect "green"  position 1  row 4',
-        *[line for line in out if line.startswith(("finding", "    program", "unchanged: 2, "))]]
+        *[line for line in out if line.startswith(("finding", "    program", "unchanged: 2, "))],
+    ]
     assert "groups added 1, removed 1; telegrams and messages added 1, removed 0, changed 0" in out[-1]
     assert "removed 1, changed 0" in run("diff", new, old)[1][-1]
 
@@ -166,8 +177,9 @@ def test_findings_keep_their_packet(run: Run, table: Write, program: Program) ->
     cover = {"nid_packet": 0, "nid_vbcmk": 3}
     level = link_tables.items()[5][4]["packets"][0]
     old, new = texts(program, [header(1, 0, 0, cover), header(1, 0, 0, level, cover)])
-    status, out, _ = run("diff", table("group,telegram", f"A,{old}", name="old.csv"),
-                         table("group,telegram", f"A,{new}", name="new.csv"))
+    status, out, _ = run(
+        "diff", table("group,telegram", f"A,{old}", name="old.csv"), table("group,telegram", f"A,{new}", name="new.csv")
+    )
     assert status == 1 and out[-1].endswith("findings new 0, gone 0")
     assert any("packet 0 (level transition order)  added: NID_PACKET level transition order [41]" in one for one in out)
 
@@ -179,8 +191,10 @@ def test_messages(run: Run, table: Write) -> None:
     new = table(f"{MESSAGE};three", f"{other};one", name="new.txt")
     status, out, _ = run("diff", line, line, "--old-messages", old, "--new-messages", new)
     assert status == 1 and [one for one in out if one.startswith(("added", "removed", "changed"))] == [
-        "removed: message of line 2  two", "added: message of line 1  three",
-        "changed: message of line 2  one  rows 1 and 2"]
+        "removed: message of line 2  two",
+        "added: message of line 1  three",
+        "changed: message of line 2  one  rows 1 and 2",
+    ]
     assert any(one.startswith("    T_TRAIN 1.00 s [100] -> ") for one in out)
 
 
@@ -213,7 +227,8 @@ def test_units_and_scales() -> None:
     old = link_tables.linking(1, link_tables.link(100, 3, 1))
     assert changes([old], [{**old, "q_scale": 2}]) == [
         "packet 0 (linking, nominal)  Q_SCALE 1 m [1] -> 10 m [2]",
-        "packet 0 (linking, nominal)  link 0  D_LINK 100 m [100] -> 1000 m [100]"]
+        "packet 0 (linking, nominal)  link 0  D_LINK 100 m [100] -> 1000 m [100]",
+    ]
 
 
 def test_parts_that_come_and_go() -> None:
@@ -221,11 +236,13 @@ def test_parts_that_come_and_go() -> None:
     more = {**packet, "overlap": {"d_startol": 300, "t_ol": 60, "d_ol": 200, "v_releaseol": 126}}
     assert changes([packet], [more]) == [
         "packet 0 (movement authority of level 1, nominal)  overlap  added: D_STARTOL 300 m [300]  T_OL 60 s [60]  "
-        "D_OL 200 m [200]  V_RELEASEOL calculated on board [126]"]
+        "D_OL 200 m [200]  V_RELEASEOL calculated on board [126]"
+    ]
     assert "overlap  removed: " in changes([more], [packet])[0]
     link = link_tables.linking(1, {**link_tables.link(1, 2, 1), "nid_c": 7})
     assert changes([link], [link_tables.linking(1, link_tables.link(1, 2, 1))]) == [
-        "packet 0 (linking, nominal)  link 0  NID_C 7 -> none"]
+        "packet 0 (linking, nominal)  link 0  NID_C 7 -> none"
+    ]
 
 
 def test_packets_are_paired_by_number_direction_and_order() -> None:
@@ -235,7 +252,8 @@ def test_packets_are_paired_by_number_direction_and_order() -> None:
     cover = {"nid_packet": 0, "nid_vbcmk": 1}
     assert changes([one, cover], [cover, one]) == ["the packets stand in another order"]
     assert changes([one], [{**one, "q_dir": 2}]) == [
-        "packet 0 (track condition, both directions)  Q_DIR nominal [1] -> both directions [2]"]
+        "packet 0 (track condition, both directions)  Q_DIR nominal [1] -> both directions [2]"
+    ]
 
 
 def test_cases_of_the_program_differ_from_others_alone() -> None:
@@ -249,8 +267,9 @@ def test_cases_of_the_program_differ_from_others_alone() -> None:
 def test_alignment_keeps_both_lists() -> None:
     hypothesis = pytest.importorskip("hypothesis")
     st = hypothesis.strategies
-    items = st.lists(st.fixed_dictionaries({"a": st.integers(0, 3), "b": st.integers(0, 3), "c": st.integers(0, 9)}),
-                     max_size=7)
+    items = st.lists(
+        st.fixed_dictionaries({"a": st.integers(0, 3), "b": st.integers(0, 3), "c": st.integers(0, 9)}), max_size=7
+    )
 
     def tried(old: List[Form], new: List[Form], at: int) -> None:
         pairs = align(old, new)
@@ -264,17 +283,29 @@ def test_alignment_keeps_both_lists() -> None:
     assert {ADDED, REMOVED} == {"added", "removed"}
 
 
-@pytest.mark.parametrize("content, why", [
-    (b"{", "it is no document that can be read: "), (b"{}", "/groups is no list: it is no document of a line"),
-    (b'{"groups": [], "messages": [], "x": 1}', "it has the keys groups, messages, x"),
-    (b'{"groups": [{"balises": []}], "messages": []}', "/groups/0: each aspect has equally many balises"),
-    (b'{"groups": [{"balises": ["a", 1]}], "messages": []}', "/groups/0/balises/1 is no text of hexadecimal digits"),
-    (b'{"groups": [7], "messages": []}', "/groups/0/balises is no list"),
-    (b'{"groups": [{"aspects": [{"balises": ["a"]}, {"balises": ["a", "b"]}]}], "messages": []}',
-     "/groups/0: each aspect has equally many balises"),
-    (b'{"groups": [], "messages": {}}', "/messages is no list"), (b"[" * 100_000, "row 1: "),
-    (b'{"a":' * 100_000, "it is no document that can be read: "), (b"\xff\xfe\0\0", "it is UTF-32"),
-    (b"", "row 1: it is empty")])
+@pytest.mark.parametrize(
+    "content, why",
+    [
+        (b"{", "it is no document that can be read: "),
+        (b"{}", "/groups is no list: it is no document of a line"),
+        (b'{"groups": [], "messages": [], "x": 1}', "it has the keys groups, messages, x"),
+        (b'{"groups": [{"balises": []}], "messages": []}', "/groups/0: each aspect has equally many balises"),
+        (
+            b'{"groups": [{"balises": ["a", 1]}], "messages": []}',
+            "/groups/0/balises/1 is no text of hexadecimal digits",
+        ),
+        (b'{"groups": [7], "messages": []}', "/groups/0/balises is no list"),
+        (
+            b'{"groups": [{"aspects": [{"balises": ["a"]}, {"balises": ["a", "b"]}]}], "messages": []}',
+            "/groups/0: each aspect has equally many balises",
+        ),
+        (b'{"groups": [], "messages": {}}', "/messages is no list"),
+        (b"[" * 100_000, "row 1: "),
+        (b'{"a":' * 100_000, "it is no document that can be read: "),
+        (b"\xff\xfe\0\0", "it is UTF-32"),
+        (b"", "row 1: it is empty"),
+    ],
+)
 def test_bad_input(run: Run, table: Write, content: bytes, why: str) -> None:
     bad = table(content=content or b"\n", name="bad")
     for words in ((bad, LINKS / "line.csv"), (LINKS / "line.csv", bad)):
@@ -308,8 +339,22 @@ def test_the_page(run: Run, table: Write, tmp_path: Path) -> None:
     assert not re.search(r"https?://|<img|<link", said)
     if shutil.which("chromium") is None:
         pytest.skip("there is no chromium")
-    done = subprocess.run(["chromium", "--headless", "--no-sandbox", "--disable-gpu", "--disable-dev-shm-usage",
-                           f"--user-data-dir={tmp_path / 'profile'}", "--host-resolver-rules=MAP * ~NOTFOUND",
-                           "--enable-logging=stderr", "--dump-dom", page.as_uri()],
-                          capture_output=True, text=True, timeout=300, check=True)
+    done = subprocess.run(
+        [
+            "chromium",
+            "--headless",
+            "--no-sandbox",
+            "--disable-gpu",
+            "--disable-dev-shm-usage",
+            f"--user-data-dir={tmp_path / 'profile'}",
+            "--host-resolver-rules=MAP * ~NOTFOUND",
+            "--enable-logging=stderr",
+            "--dump-dom",
+            page.as_uri(),
+        ],
+        capture_output=True,
+        text=True,
+        timeout=300,
+        check=True,
+    )
     assert "CONSOLE" not in done.stderr and "Differences between two releases" in done.stdout

@@ -6,11 +6,22 @@ from decimal import Decimal
 from typing import Any, Dict, List, Optional, Tuple
 
 import pytest
-
-from balisekit.geometry import (DIRECTIONS, NOMINAL, REVERSE, Kilometres, Site, authority, infill, kilometre,
-                                kilometres, profile, way)
-from balisekit.model import Aspect, Group, Row
 from cases_of_program import TOP
+
+from balisekit.etcs.geometry import (
+    DIRECTIONS,
+    NOMINAL,
+    REVERSE,
+    Kilometres,
+    Site,
+    authority,
+    infill,
+    kilometre,
+    kilometres,
+    profile,
+    way,
+)
+from balisekit.tables.model import Aspect, Group, Row
 
 HERE = Site(0, 0)
 
@@ -25,14 +36,23 @@ def test_authority_of_level_1() -> None:
     found = authority(HERE, _packet("movement-authority-level-1", 12))
     assert (found.cuts, found.end, found.danger_point, found.overlap) == ((12000, 16500), 22500, 23500, 24000)
     assert (found.supervised, found.timer_stops, found.end_timer, found.overlap_timer) == (
-        24000, (3000, 17000), 18500, 19000)
+        24000,
+        (3000, 17000),
+        18500,
+        19000,
+    )
 
 
 def test_authority_by_radio() -> None:
     """In units of 10 m."""
     found = authority(HERE, _packet("movement-authority-radio", 15))
     assert (found.cuts, found.end, found.danger_point, found.overlap, found.overlap_timer) == (
-        (25000,), 43000, 44000, 45000, 39000)
+        (25000,),
+        43000,
+        44000,
+        45000,
+        39000,
+    )
 
 
 def test_supervised_location_without_overlap() -> None:
@@ -46,8 +66,11 @@ def test_supervised_location_without_overlap() -> None:
 
 
 PROFILES: List[Tuple[str, int, Tuple[int, ...], int]] = [
-    ("gradients", 21, (0, 8000, 20500, 25000), 32000), ("speeds", 27, (0, 15000), 37500),
-    ("authority-with-profiles", 21, (0,), 10000), ("authority-with-profiles", 27, (0,), 10000)]
+    ("gradients", 21, (0, 8000, 20500, 25000), 32000),
+    ("speeds", 27, (0, 15000), 37500),
+    ("authority-with-profiles", 21, (0,), 10000),
+    ("authority-with-profiles", 27, (0,), 10000),
+]
 
 
 @pytest.mark.parametrize("name, number, begins, reach", PROFILES)
@@ -58,8 +81,12 @@ def test_profiles(name: str, number: int, begins: Tuple[int, ...], reach: int) -
 
 
 def _gradients(scale: int, *elements: Tuple[int, int]) -> Dict[str, Any]:
-    return {"nid_packet": 21, "q_dir": 1, "q_scale": scale,
-            "elements": [{"d_gradient": distance, "g_a": value, "q_gdir": 1} for distance, value in elements]}
+    return {
+        "nid_packet": 21,
+        "q_dir": 1,
+        "q_scale": scale,
+        "elements": [{"d_gradient": distance, "g_a": value, "q_gdir": 1} for distance, value in elements],
+    }
 
 
 def test_the_first_end_mark_counts() -> None:
@@ -72,8 +99,10 @@ def test_the_first_end_mark_counts() -> None:
 
 def test_scales_give_the_same_places() -> None:
     """100 units of 10 cm, 10 of 1 m and 1 of 10 m."""
-    reached = [profile(HERE, _gradients(scale, (0, 5), (distance, 255))).reach
-               for scale, distance in ((0, 500), (1, 50), (2, 5))]
+    reached = [
+        profile(HERE, _gradients(scale, (0, 5), (distance, 255))).reach
+        for scale, distance in ((0, 500), (1, 50), (2, 5))
+    ]
     assert reached == [500, 500, 500]
 
 
@@ -91,7 +120,8 @@ def test_silent_balises_and_directions() -> None:
     for balise, direction in enumerate(DIRECTIONS):
         assert [profile.site.balise for profile in way(both, direction).gradients] == [balise]
     assert [one.value for one in way(both, NOMINAL).gradients[0].elements] == [
-        one.value for one in way(both, REVERSE).gradients[0].elements]
+        one.value for one in way(both, REVERSE).gradients[0].elements
+    ]
 
 
 def test_infill_counts_from_another_group() -> None:
@@ -104,14 +134,23 @@ def test_infill_counts_from_another_group() -> None:
 
 
 def _group(kms: List[Optional[str]], nominal: str = "") -> Group:
-    rows = [Row(2 + place, "G", "", km=None if km is None else Decimal(km), nominal=nominal)
-            for place, km in enumerate(kms)]
+    rows = [
+        Row(2 + place, "G", "", km=None if km is None else Decimal(km), nominal=nominal) for place, km in enumerate(kms)
+    ]
     return Group("G", (Aspect("", tuple(rows)),))
 
 
-@pytest.mark.parametrize("kms, nominal, wanted", [
-    (["1.000", "1.003"], "", 1), (["1.003", "1.000"], "", -1), (["1.000"], "", None), (["1.000"], "falling", -1),
-    (["1.000", "1.000"], "rising", 1), (["1.000", None, "1.006"], "falling", 1)])
+@pytest.mark.parametrize(
+    "kms, nominal, wanted",
+    [
+        (["1.000", "1.003"], "", 1),
+        (["1.003", "1.000"], "", -1),
+        (["1.000"], "", None),
+        (["1.000"], "falling", -1),
+        (["1.000", "1.000"], "rising", 1),
+        (["1.000", None, "1.006"], "falling", 1),
+    ],
+)
 def test_kilometres(kms: List[Optional[str]], nominal: str, wanted: Optional[int]) -> None:
     """A group's own kilometres count first, then the column `nominal`."""
     assert kilometres(_group(kms, nominal)) == Kilometres(Decimal(kms[0] or "0"), wanted)
@@ -119,8 +158,12 @@ def test_kilometres(kms: List[Optional[str]], nominal: str, wanted: Optional[int
 
 def test_kilometres_of_places() -> None:
     """Both directions, along rising and falling kilometres."""
-    for rising, direction, wanted in ((1, NOMINAL, "2.0005"), (1, REVERSE, "1.9995"), (-1, NOMINAL, "1.9995"),
-                                      (-1, REVERSE, "2.0005")):
+    for rising, direction, wanted in (
+        (1, NOMINAL, "2.0005"),
+        (1, REVERSE, "1.9995"),
+        (-1, NOMINAL, "1.9995"),
+        (-1, REVERSE, "2.0005"),
+    ):
         assert Kilometres(Decimal("2"), rising).at(5, direction) == Decimal(wanted)
     assert Kilometres(Decimal("2")).at(5, NOMINAL) is None
     assert [kilometre(Decimal(one)) for one in ("2", "2.0005", "13.85")] == ["2.000", "2.0005", "13.850"]

@@ -9,7 +9,7 @@ from typing import Iterator, List, Tuple
 
 import pytest
 
-from balisekit import grammar
+from balisekit.engine import grammar
 
 TOP = Path(__file__).resolve().parents[2]
 LINES = re.compile(r"^(?:yes: |no: |F[0-9]+ |refused: ).*$", re.MULTILINE)
@@ -23,8 +23,12 @@ def blocks(path: str) -> str:
 
 def known(line: str) -> List[str]:
     """The names of the expressions that the line is of."""
-    return [name for name, some in grammar.EXPRESSIONS.items() if any(one.fullmatch(line) for one in some)
-            if name in ("verdict", "finding", "words", "check") or name.startswith(("decode", "encode"))]
+    return [
+        name
+        for name, some in grammar.EXPRESSIONS.items()
+        if any(one.fullmatch(line) for one in some)
+        if name in ("verdict", "finding", "words", "check") or name.startswith(("decode", "encode"))
+    ]
 
 
 def repository() -> Iterator[Tuple[str, str]]:
@@ -34,8 +38,11 @@ def repository() -> Iterator[Tuple[str, str]]:
             yield from ((path.name, line) for line in LINES.findall(path.read_text("utf-8")))
     yield from (("documents.txt", one) for one in LINES.findall((TOP / "tests/cases/documents.txt").read_text("utf-8")))
     cases = subprocess.run([sys.executable, "-B", str(TOP / "tests/cases.py")], stdout=subprocess.PIPE, check=True)
-    yield from (("cases.py", line.split("\t")[2]) for line in cases.stdout.decode().splitlines()
-                if line.split("\t")[2].startswith("refused: "))
+    yield from (
+        ("cases.py", line.split("\t")[2])
+        for line in cases.stdout.decode().splitlines()
+        if line.split("\t")[2].startswith("refused: ")
+    )
     for line in re.findall(r"`(refused: [^`]+)`", (TOP / "docs/REFUSALS.md").read_text("utf-8")):
         yield "REFUSALS.md", line
     for name in ("README.md", "examples/README.md", "docs/FORMATS.md", "docs/REFUSALS.md", "docs/FINDINGS.md"):
@@ -90,11 +97,25 @@ def test_refusals_name_what_they_are_about() -> None:
     assert placed is not None and (placed.group, placed.aspect, placed.balise) == (0, 1, 0)
 
 
-@pytest.mark.parametrize("line", [
-    "F1 group 0: position wrong", "F1 group 0 balise 8: position wrong", "F1 group 0 balise 0: total wrong",
-    "F17 group 0: identity used before", "F14 group 00: identity used before", "F14 group 0: identity used before ",
-    "F8 group 0 balise 0: packets of duplicates differ", "F10 group 0 balise 0 nominal: no gradient",
-    "no: findings 0", "yes: groups 1", "yes: groups 01, messages 0", "refused: line 0: wrong size",
-    "refused: line 1: spare at 1", "refused: line 1: spare at 15 end 17\n", "refused: not json"])
+@pytest.mark.parametrize(
+    "line",
+    [
+        "F1 group 0: position wrong",
+        "F1 group 0 balise 8: position wrong",
+        "F1 group 0 balise 0: total wrong",
+        "F17 group 0: identity used before",
+        "F14 group 00: identity used before",
+        "F14 group 0: identity used before ",
+        "F8 group 0 balise 0: packets of duplicates differ",
+        "F10 group 0 balise 0 nominal: no gradient",
+        "no: findings 0",
+        "yes: groups 1",
+        "yes: groups 01, messages 0",
+        "refused: line 0: wrong size",
+        "refused: line 1: spare at 1",
+        "refused: line 1: spare at 15 end 17\n",
+        "refused: not json",
+    ],
+)
 def test_other_lines_are_not_known(line: str) -> None:
     assert known(line) == []

@@ -6,10 +6,10 @@ import re
 from typing import List, Set
 
 import pytest
-
-from balisekit import cli
-from balisekit.cells import COLUMNS
 from cases_of_program import TOP
+
+from balisekit.cli import main as cli
+from balisekit.tables.cells import COLUMNS
 
 PAGE = (TOP / "docs" / "BALISEKIT.md").read_text("utf-8")
 COMMANDS = [command.name for command in cli.COMMANDS]
@@ -19,7 +19,7 @@ OF_PIP_AND_HELP = {"--help", "--version"}
 def _options(command: str) -> Set[str]:
     """The words of a command that begin with hyphens."""
     parser = argparse.ArgumentParser(add_help=False)
-    next(one for one in cli.COMMANDS if one.name == command).add_words(parser)
+    next(one for one in cli.COMMANDS if one.name == command).add_options(parser)
     return set(re.findall("--[a-z][a-z-]*", parser.format_help()))
 
 

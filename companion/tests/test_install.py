@@ -11,8 +11,8 @@ from pathlib import Path
 
 import pytest
 
-from balisekit import program_file
-from balisekit.program import Program
+from balisekit.engine import location as program_file
+from balisekit.engine.program import Program
 
 TOP = Path(__file__).resolve().parents[2]
 
@@ -24,18 +24,38 @@ def test_install(tmp_path: Path, program: Program) -> None:
     shutil.copytree(TOP / "companion", tmp_path / "companion", ignore=shutil.ignore_patterns("tests", "__pycache__"))
     venv.create(tmp_path / "room", system_site_packages=True, with_pip=False)
     python = tmp_path / "room" / "bin" / "python"
-    subprocess.run([str(python), "-m", "pip", "install", "-q", "--no-build-isolation", "--no-deps", "--no-index",
-                    str(tmp_path / "companion")], check=True, stdout=subprocess.DEVNULL, stderr=subprocess.STDOUT)
+    subprocess.run(
+        [
+            str(python),
+            "-m",
+            "pip",
+            "install",
+            "-q",
+            "--no-build-isolation",
+            "--no-deps",
+            "--no-index",
+            str(tmp_path / "companion"),
+        ],
+        check=True,
+        stdout=subprocess.DEVNULL,
+        stderr=subprocess.STDOUT,
+    )
     table = tmp_path / "line.csv"
     shutil.copyfile(TOP / "examples" / "table" / "line.csv", table)
     command = str(tmp_path / "room" / "bin" / "balisekit")
     known = {**os.environ, "BALISECHECK": program.path}
-    done = subprocess.run([command, "check", str(table), "--explain"], env=known, cwd=tmp_path, check=False,
-                          stdout=subprocess.PIPE)
+    done = subprocess.run(
+        [command, "check", str(table), "--explain"], env=known, cwd=tmp_path, check=False, stdout=subprocess.PIPE
+    )
     assert (done.returncode, done.stdout.decode().splitlines()[-1][:10]) == (2, "INCOMPLETE")
     bare = {key: value for key, value in os.environ.items() if key != "BALISECHECK"}
-    done = subprocess.run([command, "check", str(table)], env={**bare, "PATH": str(Path(sys.executable).parent)},
-                          cwd=tmp_path, check=False, stderr=subprocess.PIPE)
+    done = subprocess.run(
+        [command, "check", str(table)],
+        env={**bare, "PATH": str(Path(sys.executable).parent)},
+        cwd=tmp_path,
+        check=False,
+        stderr=subprocess.PIPE,
+    )
     assert done.returncode == 3 and b"there is no balisecheck on the path" in done.stderr
 
 

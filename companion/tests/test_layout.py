@@ -4,9 +4,10 @@ from __future__ import annotations
 import json
 
 import pytest
-
-from balisekit import grammar, layout
 from cases_of_program import CASES, EXAMPLES, value_at
+
+from balisekit.engine import grammar
+from balisekit.etcs import layout
 
 REFUSED = [case for case in CASES if case.answer.startswith("refused: ") and " at " in case.answer]
 ACCEPTED = [case for case in CASES if not case.answer.startswith("refused: ")]
@@ -43,8 +44,11 @@ def test_numbers_are_those_of_the_json(radio: bool) -> None:
     assert cases
     for case in cases:
         form = json.loads(case.answer)
-        walk = layout.message_fields(layout.bits_of(case.text)) if radio else layout.telegram_fields(
-            layout.user_bits(case.text))
+        walk = (
+            layout.message_fields(layout.bits_of(case.text))
+            if radio
+            else layout.telegram_fields(layout.user_bits(case.text))
+        )
         found = {}
         for field in walk:
             rest = field.digits

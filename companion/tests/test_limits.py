@@ -17,28 +17,28 @@ import time
 from pathlib import Path
 from typing import Any, Callable, Dict, List, Tuple
 
-import pytest
-
 import line_table
-from balisekit import checking
-from balisekit.program import Program
+import pytest
 from cases_of_program import TOP
 from telegrams import ALONE, SPARE
 from test_browser import CHROMIUM, browse
+
+from balisekit.engine.program import Program
+from balisekit.rules import checking
 
 Write = Callable[..., Path]
 GROUPS = 1000
 OF = 10_000
 """The limits are seconds for so many groups, where the piece of work takes a quarter of a second."""
 QUARTER = 0.25
-STAND = '''#!/bin/sh
+STAND = """#!/bin/sh
 case "$*" in
 check) echo 'yes: groups 0, messages 0'; exit 0 ;;
 --version) echo 'refused: usage is balisecheck check, decode [--radio] or encode [--radio]'; exit 2 ;;
 esac
 touch "$0.started"
 exec sleep 60
-'''
+"""
 
 
 def _words(program: Program, *words: object) -> List[str]:
@@ -80,8 +80,9 @@ def _table(path: Path, program: Program, groups: int, other: bool = False) -> Pa
     items = []
     for number in range(groups):
         for item in kinds[number % len(kinds)]:
-            packets = [{**one, "v_main": one["v_main"] + 1} if other and "v_main" in one else one
-                       for one in item[5]["packets"]]
+            packets = [
+                {**one, "v_main": one["v_main"] + 1} if other and "v_main" in one else one for one in item[5]["packets"]
+            ]
             items.append((f"{item[0]}.{number}", *item[1:5], {**item[5], "nid_bg": number + 1, "packets": packets}))
     with open(path, "w", encoding="utf-8", newline="") as file:
         rows = csv.writer(file)
@@ -103,19 +104,34 @@ def releases(tmp_path_factory: pytest.TempPathFactory, program: Program) -> Call
 
     def of(groups: int) -> List[Path]:
         if groups not in made:
-            made[groups] = [_table(room / f"{groups}{word}.csv", program, groups, word == "new")
-                            for word in ("old", "new")]
+            made[groups] = [
+                _table(room / f"{groups}{word}.csv", program, groups, word == "new") for word in ("old", "new")
+            ]
         return made[groups]
+
     return of
 
 
-@pytest.mark.parametrize("few, many, limit, words, wanted", [
-    (2000, 10_000, 15, ["links", "OLD"], "links: "), (500, 2000, 15, ["draw", "OLD", "--track", "--svg", "OUT"], ""),
-    (500, 2000, 22, ["report", "OLD", "--html", "OUT"], "program: no: findings "),
-    (500, 2000, 22, ["diff", "OLD", "NEW", "--html", "OUT"], "groups added 0, removed 0; ")],
-    ids=["links", "draw", "report", "diff"])
-def test_10000_groups(few: int, many: int, limit: int, words: List[str], wanted: str,
-                      releases: Callable[[int], List[Path]], program: Program, tmp_path: Path) -> None:
+@pytest.mark.parametrize(
+    "few, many, limit, words, wanted",
+    [
+        (2000, 10_000, 15, ["links", "OLD"], "links: "),
+        (500, 2000, 15, ["draw", "OLD", "--track", "--svg", "OUT"], ""),
+        (500, 2000, 22, ["report", "OLD", "--html", "OUT"], "program: no: findings "),
+        (500, 2000, 22, ["diff", "OLD", "NEW", "--html", "OUT"], "groups added 0, removed 0; "),
+    ],
+    ids=["links", "draw", "report", "diff"],
+)
+def test_10000_groups(
+    few: int,
+    many: int,
+    limit: int,
+    words: List[str],
+    wanted: str,
+    releases: Callable[[int], List[Path]],
+    program: Program,
+    tmp_path: Path,
+) -> None:
     """In well less than 30 seconds. With fewer groups in a part of that, and the time grows with their number alone."""
     if "--html" in words:
         pytest.importorskip("jinja2")
@@ -165,8 +181,9 @@ def test_100000_rows_with_1000_bad_ones(table: Write, program: Program) -> None:
     rows = [f"G{place},{ALONE if place % 100 else SPARE}" for place in range(100_000)]
     status, out, seconds = _timed(_words(program, "check", table("group,telegram", *rows)))
     assert status == 2 and out.count("    program: spare at 15 end 17") == 1000
-    assert out[-1] == ("INCOMPLETE: 1000 of 100000 telegrams refused, 1000 of 100000 groups left out; findings in the "
-                       "rest: 98999")
+    assert out[-1] == (
+        "INCOMPLETE: 1000 of 100000 telegrams refused, 1000 of 100000 groups left out; findings in the " "rest: 98999"
+    )
     assert seconds < 60
 
 
@@ -187,26 +204,48 @@ def _interrupted(command: List[str], there: Callable[[], bool]) -> Tuple[int, by
 
     A shell has its jobs in the background ignore interrupts, and these tests with them, so the command is told not to.
     """
-    with subprocess.Popen(command, stdout=subprocess.PIPE, stderr=subprocess.PIPE, start_new_session=True,
-                          preexec_fn=lambda: signal.signal(signal.SIGINT, signal.SIG_DFL)) as run:
+    with subprocess.Popen(
+        command,
+        stdout=subprocess.PIPE,
+        stderr=subprocess.PIPE,
+        start_new_session=True,
+        preexec_fn=lambda: signal.signal(signal.SIGINT, signal.SIG_DFL),
+    ) as run:
         _wait_for(there)
         os.killpg(run.pid, signal.SIGINT)
         _, said = run.communicate(timeout=120)
     return run.returncode, said
 
 
-@pytest.mark.parametrize("words", [["check", "--json", "out"], ["show"], ["report", "--html", "out"],
-                                   ["draw", "--group", "A", "--svg", "out"], ["draw", "--track", "--svg", "out"],
-                                   ["links", "--json", "out"], ["diff", "table.csv", "--html", "out"],
-                                   ["check", "--propose", "out"], ["check", "--junit", "out"]])
+@pytest.mark.parametrize(
+    "words",
+    [
+        ["check", "--json", "out"],
+        ["show"],
+        ["report", "--html", "out"],
+        ["draw", "--group", "A", "--svg", "out"],
+        ["draw", "--track", "--svg", "out"],
+        ["links", "--json", "out"],
+        ["diff", "table.csv", "--html", "out"],
+        ["check", "--propose", "out"],
+        ["check", "--junit", "out"],
+    ],
+)
 def test_an_interrupt_while_the_program_runs(words: List[str], table: Write, tmp_path: Path) -> None:
     """One line, status 3, and no file."""
     stand = tmp_path / "stand"
     stand.write_text(STAND)
     stand.chmod(0o755)
     path = table("group,km,telegram", f"A,1,{ALONE}")
-    command = [sys.executable, str(TOP / "balisekit"), words[0], str(path), "--program", str(stand),
-               *[str(tmp_path / word) if word in ("out", "table.csv") else word for word in words[1:]]]
+    command = [
+        sys.executable,
+        str(TOP / "balisekit"),
+        words[0],
+        str(path),
+        "--program",
+        str(stand),
+        *[str(tmp_path / word) if word in ("out", "table.csv") else word for word in words[1:]],
+    ]
     assert _interrupted(command, (tmp_path / "stand.started").exists) == (3, b"balisekit: interrupted\n")
     assert sorted(os.listdir(tmp_path)) == ["stand", "stand.started", "table.csv"]
 

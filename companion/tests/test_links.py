@@ -8,18 +8,18 @@ from decimal import Decimal
 from pathlib import Path
 from typing import Any, Callable, Dict, List, Sequence, Tuple
 
-import pytest
-
 import line_table
 import link_tables
-from balisekit import explain
-from balisekit.links import RULES, look
-from balisekit.model import Aspect, Group, Message, Row
-from balisekit.program import Program
-from balisekit.stations import Line, line
+import pytest
 from cases_of_program import TOP
 from conftest import Run
 from telegrams import SPARE
+
+from balisekit.engine.program import Program
+from balisekit.present import explanations as explain
+from balisekit.rules.links.rules import RULES, look
+from balisekit.rules.links.stations import Line, line
+from balisekit.tables.model import Aspect, Group, Message, Row
 
 Write = Callable[..., Path]
 Form = Dict[str, Any]
@@ -30,8 +30,10 @@ PAGE = (TOP / "docs" / "LINKS.md").read_text("utf-8")
 def group(name: str, *kms: str, nominal: str = "", track: str = "") -> Group:
     """A group with these kilometres of its balises. Rows are numbered by the name's letters."""
     first = sum(ord(letter) for letter in name) * 10
-    rows = [Row(first + place, name, "", km=Decimal(km) if km else None, nominal=nominal, track=track)
-            for place, km in enumerate(kms)]
+    rows = [
+        Row(first + place, name, "", km=Decimal(km) if km else None, nominal=nominal, track=track)
+        for place, km in enumerate(kms)
+    ]
     return Group(name, (Aspect("", tuple(rows)),))
 
 
@@ -73,8 +75,14 @@ def test_columns_passed_over_are_named(run: Run, table: Write, tmp_path: Path) -
     assert status == 0 and out[1] == 'columns passed over: nominl (did you mean "nominal"?)'
     assert json.loads((tmp_path / "out.json").read_text("utf-8"))["table"]["passed_over"] == ["nominl"]
     path = table(heading.replace("km", "kmm"), *lines)
-    assert run("links", path) == (2, [], [f"balisekit: {path}: no row has a kilometre: links needs the column km; "
-                                          'columns passed over: kmm (did you mean "km"?)'])
+    assert run("links", path) == (
+        2,
+        [],
+        [
+            f"balisekit: {path}: no row has a kilometre: links needs the column km; "
+            'columns passed over: kmm (did you mean "km"?)'
+        ],
+    )
 
 
 def test_the_last_line_counts_by_rules(run: Run, table: Write) -> None:
@@ -86,8 +94,7 @@ def test_the_last_line_counts_by_rules(run: Run, table: Write) -> None:
     status, out, _ = run("links", table(*twice))
     assert (status, out[-1]) == (1, "links: 3 found (L2 1, L6 2) in 5 groups")
     status, out, _ = run("links", table(*twice, f"F,F1,12.700,rising,{SPARE}"))
-    assert (status, out[-1]) == (
-        2, "INCOMPLETE: 1 of 8 telegrams refused; links: 3 found (L2 1, L6 2) in the rest")
+    assert (status, out[-1]) == (2, "INCOMPLETE: 1 of 8 telegrams refused; links: 3 found (L2 1, L6 2) in the rest")
     assert run("links", table(lines[0], passed_over[1], *lines[2:]))[1][-1] == "links: 1 found (L9 1) in 4 groups"
 
 
@@ -95,7 +102,8 @@ def test_the_line_without_fault_is_silent(run: Run) -> None:
     status, out, _ = run("links", FOLDER / "line.csv")
     assert status == 0 and out[1:] == [
         "L1 to L9 are rules of balisekit, which is not proved: they compare what the program has decoded",
-        "links: none found of L1 to L9 in 4 groups"]
+        "links: none found of L1 to L9 in 4 groups",
+    ]
     assert run("check", FOLDER / "line.csv")[1][-1] == "program: yes: groups 4, messages 0"
 
 
@@ -120,12 +128,28 @@ def test_the_example_of_readme_has_none(run: Run) -> None:
     assert any(one.startswith("note: rows 14 to 15  Infill of D  km 16.500: its direction") for one in out)
 
 
-@pytest.mark.parametrize("left, notes", [
-    ("EFGH", ["note: 3 links lead beyond Signal D (km 16.900), the group with the greatest kilometre, to NID_BG 105, "
-              "106: if the table is a part of a line, that is why L1 names them"]),
-    ("FGH", ["note: 3 links lead beyond Signal E (km 18.250), the group with the greatest kilometre, to NID_BG 106, "
-             "107: if the table is a part of a line, that is why L1 names them"]),
-    ("CF", []), ("", [])], ids=["D", "E", "inside", "whole"])
+@pytest.mark.parametrize(
+    "left, notes",
+    [
+        (
+            "EFGH",
+            [
+                "note: 3 links lead beyond Signal D (km 16.900), the group with the greatest kilometre, to NID_BG 105, "
+                "106: if the table is a part of a line, that is why L1 names them"
+            ],
+        ),
+        (
+            "FGH",
+            [
+                "note: 3 links lead beyond Signal E (km 18.250), the group with the greatest kilometre, to NID_BG 106, "
+                "107: if the table is a part of a line, that is why L1 names them"
+            ],
+        ),
+        ("CF", []),
+        ("", []),
+    ],
+    ids=["D", "E", "inside", "whole"],
+)
 def test_links_that_lead_out_of_a_part_of_a_line(left: str, notes: List[str], run: Run, table: Write) -> None:
     """Several over one end have one note, and each is found still. A group that lacks between others has none."""
     lines = (TOP / "examples" / "table" / "line.csv").read_text("utf-8").splitlines()
@@ -137,16 +161,20 @@ def test_links_that_lead_out_of_a_part_of_a_line(left: str, notes: List[str], ru
 
 def test_links_that_lead_out_down_the_kilometres() -> None:
     """Each end of each track by itself; a link alone has no note, and one to a group that is not known is none."""
+
     def line_of_links(*distances: int, nid_bg: int = 7) -> List[str]:
         links = [link_tables.link(distance, nid_bg, 1) for distance in distances]
-        made = line_with((group("A", "5", nominal="falling", track="2"), [header(1, link_tables.linking(1, *links))]),
-                         (group("B", "6", nominal="falling", track="2"), [header(2)]))
+        made = line_with(
+            (group("A", "5", nominal="falling", track="2"), [header(1, link_tables.linking(1, *links))]),
+            (group("B", "6", nominal="falling", track="2"), [header(2)]),
+        )
         return [note for note in look(made).notes if "lead beyond" in note]
 
     assert line_of_links(500) == line_of_links(500, 500, nid_bg=16_383) == []
     assert line_of_links(500, 500) == [
         '2 links lead beyond A (km 5.000), the group with the least kilometre of track "2", to NID_BG 7: if the table '
-        "is a part of a line, that is why L1 names them"]
+        "is a part of a line, that is why L1 names them"
+    ]
 
 
 def test_the_page_has_what_is_written(run: Run, monkeypatch: pytest.MonkeyPatch) -> None:
@@ -164,8 +192,9 @@ def test_the_page_has_what_is_written(run: Run, monkeypatch: pytest.MonkeyPatch)
 
 def test_explain_is_what_the_page_says(run: Run) -> None:
     known = explain.explanations("LINKS")
-    assert {str(rule): {key: value for key, value in vars(one).items() if key != "rule"} for rule, one in known.items()
-            } == {str(rule): parts for rule, parts in explain.of_document(PAGE, "LINKS").items()}
+    assert {
+        str(rule): {key: value for key, value in vars(one).items() if key != "rule"} for rule, one in known.items()
+    } == {str(rule): parts for rule, parts in explain.of_document(PAGE, "LINKS").items()}
     assert sorted(known) == list(range(1, 10)) and all(all(vars(one).values()) for one in known.values())
     out = run("links", FOLDER / "group-passed-over.csv", "--explain")[1]
     assert "L9: linked group passed over" in out and any("How to correct it. Add the group" in one for one in out)
@@ -185,19 +214,30 @@ def test_json(run: Run, tmp_path: Path) -> None:
 def test_a_link_that_is_not_known_yet_is_no_finding() -> None:
     chain = link_tables.linking(1, link_tables.link(1000, 16_383, 1), link_tables.link(1000, 3, 1))
     between = (group("B", "1.000", nominal="rising"), [header(2)])
-    one = line_with((group("A", "0", "0.003"), [header(1, chain), header(1)]), between,
-                    (group("C", "2.000", nominal="rising"), [header(3)]))
+    one = line_with(
+        (group("A", "0", "0.003"), [header(1, chain), header(1)]),
+        between,
+        (group("C", "2.000", nominal="rising"), [header(3)]),
+    )
     assert found(one) == []
-    assert found(line_with((group("A", "0", "0.003"), [header(1, chain), header(1)]), between,
-                           (group("C", "2.1", nominal="rising"), [header(3)]))) == [(2, "C")]
+    assert found(
+        line_with(
+            (group("A", "0", "0.003"), [header(1, chain), header(1)]),
+            between,
+            (group("C", "2.1", nominal="rising"), [header(3)]),
+        )
+    ) == [(2, "C")]
 
 
-@pytest.mark.parametrize("accuracy, tolerance, wanted", [
-    (9, "0", [(2, "B")]), (10, "0", []), (5, "4.9", [(2, "B")]), (5, "5", []), (0, "10", [])])
+@pytest.mark.parametrize(
+    "accuracy, tolerance, wanted",
+    [(9, "0", [(2, "B")]), (10, "0", []), (5, "4.9", [(2, "B")]), (5, "5", []), (0, "10", [])],
+)
 def test_a_distance_has_an_accuracy_and_a_tolerance(accuracy: int, tolerance: str, wanted: List[Any]) -> None:
     chain = link_tables.linking(1, {**link_tables.link(1010, 2, 1), "q_locacc": accuracy})
-    one = line_with((group("A", "0", nominal="rising"), [header(1, chain)]),
-                    (group("B", "1", nominal="rising"), [header(2)]))
+    one = line_with(
+        (group("A", "0", nominal="rising"), [header(1, chain)]), (group("B", "1", nominal="rising"), [header(2)])
+    )
     assert found(one, tolerance) == wanted
 
 
@@ -205,9 +245,11 @@ def test_a_distance_has_an_accuracy_and_a_tolerance(accuracy: int, tolerance: st
 def test_units(scale: int, unit: int) -> None:
     links = [link_tables.link(10_000 // unit, 2, 1), link_tables.link(20_000 // unit, 3, 1)]
     chain = {**link_tables.linking(1, *links), "q_scale": scale}
-    one = line_with((group("A", "5", nominal="falling"), [header(1, chain)]),
-                    (group("B", "4", nominal="falling"), [header(2)]),
-                    (group("C", "2", nominal="falling"), [header(3)]))
+    one = line_with(
+        (group("A", "5", nominal="falling"), [header(1, chain)]),
+        (group("B", "4", nominal="falling"), [header(2)]),
+        (group("C", "2", nominal="falling"), [header(3)]),
+    )
     assert found(one) == []
 
 
@@ -216,8 +258,10 @@ def test_a_group_behind_the_train_and_one_wrong_distance() -> None:
     some = [(group("B", "1", nominal="rising"), [header(2)]), (group("C", "2", nominal="rising"), [header(3)])]
     falling = line_with((group("A", "0", nominal="falling"), [header(1, link_tables.linking(1, *links))]), *some)
     said = [one.said for one in look(falling).found if one.rule == 2][0]
-    assert said.startswith("B (km 1.000) is 1000 m from A (km 0.000) by D_LINK, and 1000 m behind it by the "
-                           "kilometres: they differ by 2000 m")
+    assert said.startswith(
+        "B (km 1.000) is 1000 m from A (km 0.000) by D_LINK, and 1000 m behind it by the "
+        "kilometres: they differ by 2000 m"
+    )
     links[0]["d_link"] = 1006
     rising = line_with((group("A", "0", nominal="rising"), [header(1, link_tables.linking(1, *links))]), *some)
     assert found(rising) == [(2, "B")]
@@ -225,15 +269,19 @@ def test_a_group_behind_the_train_and_one_wrong_distance() -> None:
 
 def test_small_errors_add_up() -> None:
     links = [link_tables.link(1004, 2, 1), link_tables.link(1004, 3, 1)]
-    one = line_with((group("A", "0", nominal="rising"), [header(1, link_tables.linking(1, *links))]),
-                    (group("B", "1", nominal="rising"), [header(2)]), (group("C", "2", nominal="rising"), [header(3)]))
+    one = line_with(
+        (group("A", "0", nominal="rising"), [header(1, link_tables.linking(1, *links))]),
+        (group("B", "1", nominal="rising"), [header(2)]),
+        (group("C", "2", nominal="rising"), [header(3)]),
+    )
     assert found(one) == [(2, "C")]
 
 
 def test_a_single_balise_has_no_order() -> None:
     chain = link_tables.linking(1, link_tables.link(1000, 2, 0))
-    one = line_with((group("A", "0", nominal="rising"), [header(1, chain)]),
-                    (group("B", "1", nominal="rising"), [header(2)]))
+    one = line_with(
+        (group("A", "0", nominal="rising"), [header(1, chain)]), (group("B", "1", nominal="rising"), [header(2)])
+    )
     assert found(one) == []
 
 
@@ -243,7 +291,8 @@ def test_tracks_are_chains_of_their_own() -> None:
         (group("A", "0", "0.003", track="1"), [header(1, chain), header(1)]),
         (group("B", "7", "7.003", track="2"), [header(2), header(2)]),
         (group("C", "1", nominal="rising", track="1"), [header(3)]),
-        (group("X", "0.7", nominal="rising", track="2"), [header(9)]))
+        (group("X", "0.7", nominal="rising", track="2"), [header(9)]),
+    )
     assert found(one) == []
     notes = look(one).notes
     assert len(notes) == 1 and notes[0].endswith("link 0: B (km 7.000) is on another track, and is not compared")
@@ -254,15 +303,19 @@ def test_aspects_and_duplicates_are_told_once() -> None:
     fixed, switched = Row(2, "A", "", aspect="*", km=Decimal(0)), Row(3, "A", "", aspect="x", km=Decimal(1))
     other = Row(4, "A", "", aspect="y", km=Decimal(1))
     one = Group("A", (Aspect("x", (fixed, switched)), Aspect("y", (fixed, other))))
-    forms = {2: {**header(1, chain), "m_dup": 1}, 3: {**header(1, chain), "m_dup": 2},
-             4: {**header(1, chain), "m_dup": 2}}
+    forms = {
+        2: {**header(1, chain), "m_dup": 1},
+        3: {**header(1, chain), "m_dup": 2},
+        4: {**header(1, chain), "m_dup": 2},
+    }
     assert [each.rule for each in look(line([one], forms)).found] == [1]
 
 
 def test_what_infill_says_is_noted_and_not_compared() -> None:
     reference = {"nid_packet": 136, "q_dir": 1, "l_packet": 38, "body": "0004"}
-    one = line_with((group("A", "0", nominal="rising"), [header(1, reference, link_tables.linking(
-        1, link_tables.link(7, 99, 1)))]))
+    one = line_with(
+        (group("A", "0", nominal="rising"), [header(1, reference, link_tables.linking(1, link_tables.link(7, 99, 1)))])
+    )
     assert found(one) == [] and "count from the group of packet 136" in look(one).notes[0]
 
 
@@ -284,19 +337,34 @@ def test_profiles_without_an_authority_are_free() -> None:
 
 def test_a_profile_that_another_one_completes() -> None:
     packets = link_tables.authority()
-    late = {**packets[1], "elements": [{"d_gradient": 400, "q_gdir": 1, "g_a": 3}, {"d_gradient": 600, "q_gdir": 0,
-                                                                                    "g_a": 255}]}
+    late = {
+        **packets[1],
+        "elements": [{"d_gradient": 400, "q_gdir": 1, "g_a": 3}, {"d_gradient": 600, "q_gdir": 0, "g_a": 255}],
+    }
     assert found(line_with((group("A", "0", "0.003"), [header(1, *packets, late), header(1)]))) == []
     alone = line_with((group("A", "0", "0.003"), [header(1, packets[0], packets[2], late), header(1)]))
     assert found(alone) == [(8, "")]
 
 
 def test_messages_count_from_their_group() -> None:
-    form = {"nid_message": 3, "nid_c": 1, "nid_bg": 1, "packets": [
-        {"nid_packet": 15, "q_dir": 1, "q_scale": 1, "end_speed": 0, "end_timeout": 1023, "sections": [],
-         "l_endsection": 900},
-        link_tables.linking(1, link_tables.link(1100, 2, 1)), {**link_tables.authority()[1], "elements": [
-            {"d_gradient": 0, "q_gdir": 1, "g_a": 5}]}]}
+    form = {
+        "nid_message": 3,
+        "nid_c": 1,
+        "nid_bg": 1,
+        "packets": [
+            {
+                "nid_packet": 15,
+                "q_dir": 1,
+                "q_scale": 1,
+                "end_speed": 0,
+                "end_timeout": 1023,
+                "sections": [],
+                "l_endsection": 900,
+            },
+            link_tables.linking(1, link_tables.link(1100, 2, 1)),
+            {**link_tables.authority()[1], "elements": [{"d_gradient": 0, "q_gdir": 1, "g_a": 5}]},
+        ],
+    }
     some = [(group("A", "0", nominal="rising"), [header(1)]), (group("B", "1", nominal="rising"), [header(2)])]
     one = line_with(*some, messages=[(Message(3, ""), form)])
     assert found(one) == [(2, "B"), (7, "")]
@@ -307,20 +375,26 @@ def test_messages_count_from_their_group() -> None:
 
 def test_notes_on_groups() -> None:
     chain = link_tables.linking(1, link_tables.link(1000, 2, 1))
-    one = line_with((group("A", "0"), [header(1, chain)]), (group("B", ""), [header(2)]), (group("C", "5"), []),
-                    (group("D", "6", nominal="rising"), [header(2)]))
+    one = line_with(
+        (group("A", "0"), [header(1, chain)]),
+        (group("B", ""), [header(2)]),
+        (group("C", "5"), []),
+        (group("D", "6", nominal="rising"), [header(2)]),
+    )
     notes = look(one).notes
     assert found(one) == [] and [note.split(": ", 1)[1][:36] for note in notes] == [
-        "its direction along the kilometres i", "it has no kilometre: L2 and L9 are n",
-        "no telegram of it could be read, so ", "B has its identity too, and links ar"]
+        "its direction along the kilometres i",
+        "it has no kilometre: L2 and L9 are n",
+        "no telegram of it could be read, so ",
+        "B has its identity too, and links ar",
+    ]
 
 
 def test_linked_by_many() -> None:
     chain = link_tables.linking(1, link_tables.link(1000, 9, 1))
     some = [(group(name, ""), [header(ord(name), chain)]) for name in "ABCDE"]
     one = look(line_with(*some, (group("Z", ""), [header(9, linked=0)]))).found
-    assert [(each.rule, each.said) for each in one] == [
-        (4, "its Q_LINK is 0, and it is linked by A, B, C and 2 more")]
+    assert [(each.rule, each.said) for each in one] == [(4, "its Q_LINK is 0, and it is linked by A, B, C and 2 more")]
 
 
 def test_bad_input(run: Run, table: Write, tmp_path: Path) -> None:
@@ -342,8 +416,13 @@ def test_never_a_yes(run: Run) -> None:
 
 
 def test_names_move_no_cursor(run: Run, table: Write) -> None:
-    lines = (FOLDER / "distance-differs.csv").read_text("utf-8").replace("A,A1", "A\x1b[2J\u202e,A1").replace(
-        "A,A2", "A\x1b[2J\u202e,A2").splitlines()
+    lines = (
+        (FOLDER / "distance-differs.csv")
+        .read_text("utf-8")
+        .replace("A,A1", "A\x1b[2J\u202e,A1")
+        .replace("A,A2", "A\x1b[2J\u202e,A2")
+        .splitlines()
+    )
     out = "\n".join(run("links", table(*lines))[1])
     assert ": links L2: " in out and not set(out) & {"\x1b", "\u202e"}
 
@@ -355,14 +434,19 @@ def test_any_correct_line_is_silent() -> None:
     def tried(places: List[int], up: bool, faces: List[bool], wrong: int, by: int) -> None:
         metres = sorted(set(places))
         hypothesis.assume(len(metres) > 2)
-        made = _line(metres if up else metres[::-1], up, (faces * 20)[:len(metres)])
+        made = _line(metres if up else metres[::-1], up, (faces * 20)[: len(metres)])
         assert found(made) == []
         at = wrong % (len(metres) - 1)
-        spoilt = _line(metres if up else metres[::-1], up, (faces * 20)[:len(metres)], at, by)
+        spoilt = _line(metres if up else metres[::-1], up, (faces * 20)[: len(metres)], at, by)
         assert found(spoilt) == [(2, f"G{at + 1}")]
 
-    hypothesis.given(st.lists(st.integers(0, 30_000), min_size=3, max_size=12), st.booleans(),
-                     st.lists(st.booleans(), min_size=1), st.integers(0, 50), st.integers(6, 500))(tried)()
+    hypothesis.given(
+        st.lists(st.integers(0, 30_000), min_size=3, max_size=12),
+        st.booleans(),
+        st.lists(st.booleans(), min_size=1),
+        st.integers(0, 50),
+        st.integers(6, 500),
+    )(tried)()
 
 
 def _line(metres: List[int], up: bool, faces: List[bool], wrong: int = -1, by: int = 0) -> Line:
@@ -375,8 +459,9 @@ def _line(metres: List[int], up: bool, faces: List[bool], wrong: int = -1, by: i
         packets = []
         if place + 1 < len(metres):
             distance = abs(metres[place + 1] - at) + (by if place == wrong else 0)
-            packets = [link_tables.linking(int(faces[place]), link_tables.link(distance, place + 1,
-                                                                               int(faces[place + 1])))]
+            packets = [
+                link_tables.linking(int(faces[place]), link_tables.link(distance, place + 1, int(faces[place + 1])))
+            ]
         some.append((group(f"G{place}", str(km), str(beside)), [header(place, *packets), header(place)]))
     return _numbered(some)
 
@@ -397,22 +482,37 @@ def _numbered(some: List[Tuple[Group, List[Form]]]) -> Line:
 def test_several_that_are_passed_over_are_one_line() -> None:
     chain = link_tables.linking(1, link_tables.link(1000, 2, 1))
     some = [(group(f"X{number}", f"0.{number}", nominal="rising"), [header(10 + number)]) for number in range(1, 6)]
-    one = line_with((group("A", "0", nominal="rising"), [header(1, chain)]),
-                    (group("B", "1", nominal="rising"), [header(2)]), *some)
-    said, = (each.said for each in look(one).found)
-    assert said == ("X1 (km 0.100), X2 (km 0.200), X3 (km 0.300) and 2 more have Q_LINK 1 and stand between A "
-                    "(km 0.000) and B (km 1.000), and are not linked: a train that uses linking passes them over")
+    one = line_with(
+        (group("A", "0", nominal="rising"), [header(1, chain)]), (group("B", "1", nominal="rising"), [header(2)]), *some
+    )
+    (said,) = (each.said for each in look(one).found)
+    assert said == (
+        "X1 (km 0.100), X2 (km 0.200), X3 (km 0.300) and 2 more have Q_LINK 1 and stand between A "
+        "(km 0.000) and B (km 1.000), and are not linked: a train that uses linking passes them over"
+    )
 
 
 def test_groups_between_two_are_counted_as_they_are_named() -> None:
     """Those that the packet names, those without Q_LINK, and those at the place of one of the two are none of them."""
-    some = [("A", "0", 1, 1), ("B", "9", 2, 1), ("E", "0", 10, 1), ("F", "9", 11, 1), ("G", "2", 12, 0),
-            ("H", "3", 3, 1), ("I", "3", 3, 1), ("J", "4", 16_383, 1), ("K", "5", 13, 1), ("L", "6", 14, 1)]
+    some = [
+        ("A", "0", 1, 1),
+        ("B", "9", 2, 1),
+        ("E", "0", 10, 1),
+        ("F", "9", 11, 1),
+        ("G", "2", 12, 0),
+        ("H", "3", 3, 1),
+        ("I", "3", 3, 1),
+        ("J", "4", 16_383, 1),
+        ("K", "5", 13, 1),
+        ("L", "6", 14, 1),
+    ]
     chain = link_tables.linking(1, link_tables.link(9000, 2, 1), link_tables.link(0, 3, 1))
     forms = [[header(identity, *([chain] if name == "A" else []), linked=linked)] for name, _, identity, linked in some]
     one = line_with(*[(group(name, km, nominal="rising"), form) for (name, km, _, _), form in zip(some, forms)])
     over = [each.said for each in look(one, Decimal(9000)).found if each.rule == 9]
-    assert over == ["K (km 5.000), L (km 6.000) have Q_LINK 1 and stand between A (km 0.000) and B (km 9.000), and "
-                    "are not linked: a train that uses linking passes them over",
-                    "K (km 5.000), L (km 6.000) have Q_LINK 1 and stand between B (km 9.000) and H (km 3.000), and "
-                    "are not linked: a train that uses linking passes them over"]
+    assert over == [
+        "K (km 5.000), L (km 6.000) have Q_LINK 1 and stand between A (km 0.000) and B (km 9.000), and "
+        "are not linked: a train that uses linking passes them over",
+        "K (km 5.000), L (km 6.000) have Q_LINK 1 and stand between B (km 9.000) and H (km 3.000), and "
+        "are not linked: a train that uses linking passes them over",
+    ]

@@ -8,11 +8,11 @@ from pathlib import Path
 from typing import Callable, List
 
 import pytest
-
-from balisekit.errors import NoAnswer
-from balisekit.grammar import Refusal
-from balisekit.program import Program, Record, Report, Text
 from telegrams import ALONE, FAULTY, MESSAGE, OTHER, SPARE
+
+from balisekit.engine.grammar import Refusal
+from balisekit.engine.program import Program, Record, Report, Text
+from balisekit.errors import NoAnswer
 
 Stand = Callable[..., Program]
 
@@ -32,8 +32,13 @@ def test_refused_lines_at_any_place(program: Program, places: List[int]) -> None
 def test_many_lines_in_any_order(program: Program) -> None:
     dice = random.Random(7)
     lines = [dice.choice((ALONE, OTHER, ALONE, SPARE, FAULTY, "zz")) for _ in range(3000)]
-    words = {ALONE: "read", OTHER: "read", SPARE: "spare at 15 end 17", FAULTY: "spare at 127 end 129",
-             "zz": "not hexadecimal"}
+    words = {
+        ALONE: "read",
+        OTHER: "read",
+        SPARE: "spare at 15 end 17",
+        FAULTY: "spare at 127 end 129",
+        "zz": "not hexadecimal",
+    }
     assert spoken(program, *lines) == [words[line] for line in lines]
 
 
@@ -53,14 +58,22 @@ def test_records_are_written_again(program: Program) -> None:
     forms = [records[0].form, {**records[0].form, "n_pig": 8}, records[1].form]
     written = list(program.encode(forms))
     assert [one.line if isinstance(one, Text) else one.text for one in written] == [
-        ALONE, "form range at /n_pig", OTHER]
+        ALONE,
+        "form range at /n_pig",
+        OTHER,
+    ]
 
 
 def test_messages_are_no_stream(program: Program) -> None:
     cut, wrong = MESSAGE[:-2], "0300c000" + MESSAGE[8:]
     answers = list(program.messages([MESSAGE, cut, wrong, "030", bytes.fromhex(MESSAGE)]))
     assert [one.text if isinstance(one, Refusal) else one.form["t_train"] for one in answers] == [
-        100, "length at 8 end 18", "length at 8 end 18", "not hexadecimal", 100]
+        100,
+        "length at 8 end 18",
+        "length at 8 end 18",
+        "not hexadecimal",
+        100,
+    ]
 
 
 def test_more_messages_than_a_part(program: Program) -> None:
@@ -82,43 +95,59 @@ def test_documents(program: Program) -> None:
 @pytest.fixture
 def stand(tmp_path: Path) -> Stand:
     """A program that shakes hands as the right one does, and then does this."""
+
     def make(does: str, first: str = "") -> Program:
         path = tmp_path / "stand"
-        path.write_text("#!/bin/sh\n" + first + '''
+        path.write_text(
+            "#!/bin/sh\n"
+            + first
+            + """
 case "$*" in
 check) read line; case "$line" in '{"groups":[],"messages":[]}'*) echo 'yes: groups 0, messages 0'; exit 0 ;; esac ;;
 --version) echo 'refused: usage is balisecheck check, decode [--radio] or encode [--radio]'; exit 2 ;;
 esac
-''' + does + "\n")
+"""
+            + does
+            + "\n"
+        )
         path.chmod(0o755)
         return Program.find(str(path))
+
     return make
 
 
-@pytest.mark.parametrize("does, said", [
-    ("exit 1", "status 1, 0 lines in place of 2"),
-    ("exit 0", "status 0, 0 lines in place of 2"),
-    ("echo '{}'; exit 0", "status 0, 1 lines in place of 2"),
-    ("echo '{}'; echo '{}'; echo '{}'; exit 0", "more lines than it was given"),
-    ("echo 'balisecheck: memory' >&2; exit 3", "status 3, balisecheck: memory"),
-    ("kill -9 $$", "killed by signal 9"),
-    ("echo 'refused: usage is balisecheck check'; exit 2", "refused: usage is"),
-    ("echo 'refused: line 2: wrong size'; exit 2", "refused: line 2: wrong size"),
-    ("echo 'refused: line 1: wrong size'; echo '{}'; exit 2", "a line stands behind a refusal"),
-    ("echo 'refused: line 1: wrong size'; exit 0", "status 0"),
-    ("echo '{}'; echo '{}'; echo 'refused: line 3: wrong size'; exit 2", "more lines than it was given")])
+@pytest.mark.parametrize(
+    "does, said",
+    [
+        ("exit 1", "status 1, 0 lines in place of 2"),
+        ("exit 0", "status 0, 0 lines in place of 2"),
+        ("echo '{}'; exit 0", "status 0, 1 lines in place of 2"),
+        ("echo '{}'; echo '{}'; echo '{}'; exit 0", "more lines than it was given"),
+        ("echo 'balisecheck: memory' >&2; exit 3", "status 3, balisecheck: memory"),
+        ("kill -9 $$", "killed by signal 9"),
+        ("echo 'refused: usage is balisecheck check'; exit 2", "refused: usage is"),
+        ("echo 'refused: line 2: wrong size'; exit 2", "refused: line 2: wrong size"),
+        ("echo 'refused: line 1: wrong size'; echo '{}'; exit 2", "a line stands behind a refusal"),
+        ("echo 'refused: line 1: wrong size'; exit 0", "status 0"),
+        ("echo '{}'; echo '{}'; echo 'refused: line 3: wrong size'; exit 2", "more lines than it was given"),
+    ],
+)
 def test_no_answer_of_decode(stand: Stand, does: str, said: str) -> None:
     with pytest.raises(NoAnswer) as raised:
         list(stand(does).decode([ALONE, ALONE]))
     assert said in str(raised.value)
 
 
-@pytest.mark.parametrize("does", [
-    "echo 'yes: groups 1, messages 0'; exit 1",
-    "echo 'no: findings 2'; echo 'F14 group 0: identity used before'; exit 1",
-    "echo 'no: findings 1'; echo 'F14 group 0: total wrong'; exit 1",
-    "exit 0",
-    "echo 'refused: line 1: wrong size'; exit 2"])
+@pytest.mark.parametrize(
+    "does",
+    [
+        "echo 'yes: groups 1, messages 0'; exit 1",
+        "echo 'no: findings 2'; echo 'F14 group 0: identity used before'; exit 1",
+        "echo 'no: findings 1'; echo 'F14 group 0: total wrong'; exit 1",
+        "exit 0",
+        "echo 'refused: line 1: wrong size'; exit 2",
+    ],
+)
 def test_no_answer_of_check(stand: Stand, does: str) -> None:
     with pytest.raises(NoAnswer):
         stand(does).check({"groups": [{"balises": [ALONE]}], "messages": []})

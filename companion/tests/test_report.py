@@ -14,23 +14,47 @@ from pathlib import Path
 from typing import Any, Dict, List, Optional, Tuple
 
 import pytest
-
-from balisekit import cli, csv_writing
-from balisekit.accepted import COLUMNS
-from balisekit.geometry import Kilometres
-from balisekit.drawing import Content, draw
-from balisekit.pages import pieces, style
-from balisekit.premises import of_document, premises
-from balisekit.program import Program
-from balisekit.values import metres
 from cases_of_program import TOP
 from telegrams import FIRST, MESSAGE, OTHER, SECOND
 
+from balisekit.cli import main as cli
+from balisekit.drawing.group import Content, draw
+from balisekit.engine.program import Program
+from balisekit.etcs.geometry import Kilometres
+from balisekit.etcs.variables import metres
+from balisekit.io import csv_writing
+from balisekit.present.pages import pieces, style
+from balisekit.present.premises import of_document, premises
+from balisekit.rules.accepted import COLUMNS
+
 LINE = TOP / "examples" / "table" / "line.csv"
 HEADER = "a1007f802000" + "f" * 40 + "c0"
-HOSTILE = '<script>alert(1)</script>&"\'\x07\x1b[2J\u202e=1+1'
-ATTRIBUTES = {"id", "class", "href", "lang", "charset", "http-equiv", "content", "name", "aria-hidden", "role", "x",
-              "y", "width", "height", "viewbox", "d", "fill", "stroke", "stroke-width", "patternunits", "cx", "cy", "r"}
+HOSTILE = "<script>alert(1)</script>&\"'\x07\x1b[2J\u202e=1+1"
+ATTRIBUTES = {
+    "id",
+    "class",
+    "href",
+    "lang",
+    "charset",
+    "http-equiv",
+    "content",
+    "name",
+    "aria-hidden",
+    "role",
+    "x",
+    "y",
+    "width",
+    "height",
+    "viewbox",
+    "d",
+    "fill",
+    "stroke",
+    "stroke-width",
+    "patternunits",
+    "cx",
+    "cy",
+    "r",
+}
 
 
 class _Page(HTMLParser):
@@ -94,8 +118,15 @@ def test_the_cover_says_how_balises_are_ordered(tmp_path: Path) -> None:
 
 
 def test_the_rows_of_a_block(tmp_path: Path) -> None:
-    _, page = _report(_table(tmp_path / "t.csv", {"group": "A", "telegram": FIRST}, {"group": "A", "telegram": SECOND},
-                             {"group": "B", "telegram": OTHER}), tmp_path / "report.html")
+    _, page = _report(
+        _table(
+            tmp_path / "t.csv",
+            {"group": "A", "telegram": FIRST},
+            {"group": "A", "telegram": SECOND},
+            {"group": "B", "telegram": OTHER},
+        ),
+        tmp_path / "report.html",
+    )
     assert re.findall("<p>(.*) of the table</p>", page) == ["rows 2 to 3", "row 4"]
 
 
@@ -107,7 +138,7 @@ def _accepted(path: Path, *rows: Dict[str, str]) -> Path:
 
 
 def _between(page: str, begin: str, end: str) -> str:
-    return page[page.index(f"<h2>{begin}</h2>"):page.index(f"<h2>{end}</h2>")]
+    return page[page.index(f"<h2>{begin}</h2>") : page.index(f"<h2>{end}</h2>")]
 
 
 def test_accepted_findings_stand_apart(tmp_path: Path, capsys: pytest.CaptureFixture[str]) -> None:
@@ -116,19 +147,24 @@ def test_accepted_findings_stand_apart(tmp_path: Path, capsys: pytest.CaptureFix
     with open(LINE, encoding="utf-8") as file:
         table.write_text("".join(line for line in file if not line.startswith("Signal F")), "utf-8")
     stop, infill = {"nid_bg": "103", "aspect": "red", "direction": "nominal"}, {"nid_bg": "201", "rule": "F9"}
-    rows = [{**stop, "rule": "F10"}, {**stop, "rule": "F12"},
-            {**infill, "aspect": "*", "balise": "0", "packet": "0", "until": "2999-01-01"}]
+    rows = [
+        {**stop, "rule": "F10"},
+        {**stop, "rule": "F12"},
+        {**infill, "aspect": "*", "balise": "0", "packet": "0", "until": "2999-01-01"},
+    ]
     last = {"nid_bg": "105", "rule": "F11", "aspect": "*", "balise": "1", "packet": "1", "direction": "nominal"}
-    for some, counts, status in ((rows, "accepted 4, open 1", 1), ([*rows, last], "accepted 5, open 0", 0),
-                                 ([*rows, {**last, "until": "2020-01-01"}], "accepted 4, open 1; entries at fault 1",
-                                  1)):
+    for some, counts, status in (
+        (rows, "accepted 4, open 1", 1),
+        ([*rows, last], "accepted 5, open 0", 0),
+        ([*rows, {**last, "until": "2020-01-01"}], "accepted 4, open 1; entries at fault 1", 1),
+    ):
         words = ["--accepted", str(_accepted(tmp_path / "accepted.csv", *some))]
         assert cli.main(["check", str(table), *words]) == status
         said = capsys.readouterr().out.splitlines()
         assert _report(table, tmp_path / "report.html", *words)[0] == status
         page = (tmp_path / "report.html").read_text("utf-8")
         told = capsys.readouterr().out.splitlines()[1:]
-        assert told == said[-len(told):] and "program: no: findings 5" in told
+        assert told == said[-len(told) :] and "program: no: findings 5" in told
         closing = "\n".join(["program: no: findings 5", f"findings 5: {counts}", *(["no open findings"][status:])])
         assert f'<p class="verdict">{closing}</p>' in page
         assert ("until 2020-01-01 is past" in page) == ("fault" in counts)
@@ -147,23 +183,33 @@ def test_a_report_with_entries_that_is_not_whole(tmp_path: Path, capsys: pytest.
     assert status == 2 and "findings 5: accepted 0, open 5\nINCOMPLETE: " in page and "no open findings" not in page
     assert "<p>None.</p>" in _between(page, "Accepted findings", "What findings mean")
     (tmp_path / "bad.csv").write_text("rule\n")
-    assert cli.main(["report", str(LINE), "--html", str(tmp_path / "x.html"), "--accepted",
-                     str(tmp_path / "bad.csv")]) == 2
+    assert (
+        cli.main(["report", str(LINE), "--html", str(tmp_path / "x.html"), "--accepted", str(tmp_path / "bad.csv")])
+        == 2
+    )
     assert "row 1: no column nid_c" in capsys.readouterr().err and not (tmp_path / "x.html").exists()
 
 
 def test_findings_of_one_cause_have_a_heading(tmp_path: Path) -> None:
     """In the list of findings: over the open ones and over the accepted ones, each with its line. Blocks have none."""
-    rows = [{"group": "A<b>", "aspect": aspect, "telegram": text} for aspect in ("red", "yellow", "green")
-            for text in (SECOND, FIRST)]
+    rows = [
+        {"group": "A<b>", "aspect": aspect, "telegram": text}
+        for aspect in ("red", "yellow", "green")
+        for text in (SECOND, FIRST)
+    ]
     table = _table(tmp_path / "t.csv", *rows)
     _, page = _report(table, tmp_path / "r.html")
     listed = _between(page, "Findings", "Groups and messages")
     assert re.findall('<p class="several"><bdi>(.*)</bdi></p>', page) == [
-        "F1, 6 times, group A&lt;b&gt;:", "F4, 6 times, group A&lt;b&gt;:"]
+        "F1, 6 times, group A&lt;b&gt;:",
+        "F4, 6 times, group A&lt;b&gt;:",
+    ]
     assert listed.count("position wrong</span>") == 6 and page.count("position wrong</span>") == 12
-    some = [{"nid_c": "1", "nid_bg": "1", "rule": "F1", "aspect": aspect, "balise": balise}
-            for aspect in ("red", "yellow") for balise in ("0", "1")]
+    some = [
+        {"nid_c": "1", "nid_bg": "1", "rule": "F1", "aspect": aspect, "balise": balise}
+        for aspect in ("red", "yellow")
+        for balise in ("0", "1")
+    ]
     _, page = _report(table, tmp_path / "r.html", "--accepted", str(_accepted(tmp_path / "a.csv", *some)))
     assert "F1, " not in _between(page, "Open findings", "Accepted findings")
     assert "F1, 4 times, group" in _between(page, "Accepted findings", "What findings mean")
@@ -184,9 +230,38 @@ def test_names_do_no_harm(tmp_path: Path) -> None:
     _, page = _report(table, tmp_path / "r.html")
     seen = _Page(page)
     assert {tag for tag, _ in seen.tags} <= {
-        "html", "head", "meta", "title", "style", "body", "svg", "defs", "pattern", "rect", "path", "circle", "text",
-        "div", "h1", "h2", "h3", "p", "table", "tr", "th", "td", "br", "bdi", "a", "b", "span", "section", "pre", "ul",
-        "li"}
+        "html",
+        "head",
+        "meta",
+        "title",
+        "style",
+        "body",
+        "svg",
+        "defs",
+        "pattern",
+        "rect",
+        "path",
+        "circle",
+        "text",
+        "div",
+        "h1",
+        "h2",
+        "h3",
+        "p",
+        "table",
+        "tr",
+        "th",
+        "td",
+        "br",
+        "bdi",
+        "a",
+        "b",
+        "span",
+        "section",
+        "pre",
+        "ul",
+        "li",
+    }
     assert {name for _, attributes in seen.tags for name in attributes} <= ATTRIBUTES
     assert "<script" not in page and "\u202e" not in page and "<script>alert(1)</script>" in "".join(seen.texts)
     assert cli.main(["draw", str(table), "--group", name, "--svg", str(tmp_path / "a.svg")]) == 0
@@ -203,8 +278,9 @@ def test_nothing_half_written(tmp_path: Path) -> None:
 
 
 @pytest.mark.parametrize("package", ["jinja2", "markupsafe"])
-def test_without_jinja2(package: str, tmp_path: Path, monkeypatch: pytest.MonkeyPatch,
-                        capsys: pytest.CaptureFixture[str]) -> None:
+def test_without_jinja2(
+    package: str, tmp_path: Path, monkeypatch: pytest.MonkeyPatch, capsys: pytest.CaptureFixture[str]
+) -> None:
     """`draw` and `report` say which package is missing, and leave no file."""
     modules: Dict[str, Any] = sys.modules
     monkeypatch.setitem(modules, package, None)
@@ -220,8 +296,10 @@ def _titles(path: Path) -> List[str]:
 
 def test_a_gap_has_its_length(tmp_path: Path) -> None:
     """F11 and F13 of the documents of examples, as red gaps."""
-    for name, rule, wanted in (("gradient-short", 11, "F11: 10 m are missing"),
-                               ("speed-profile-short", 13, "F13: 50 m are missing")):
+    for name, rule, wanted in (
+        ("gradient-short", 11, "F11: 10 m are missing"),
+        ("speed-profile-short", 13, "F13: 50 m are missing"),
+    ):
         document = json.loads((TOP / "examples" / "check" / f"{name}.json").read_text())
         rows = [{"group": "A", "km": "1.000", "telegram": text} for text in document["groups"][0]["balises"]]
         table = _table(tmp_path / "t.csv", *rows)
@@ -230,8 +308,10 @@ def test_a_gap_has_its_length(tmp_path: Path) -> None:
         assert any(title.startswith(wanted) for title in titles), titles
         mended = json.loads((TOP / "examples" / "check" / f"{name}-mended.json").read_text())
         rows = [{"group": "A", "telegram": text} for text in mended["groups"][0]["balises"]]
-        assert cli.main(["draw", str(_table(tmp_path / "t.csv", *rows)), "--group", "A", "--svg",
-                         str(tmp_path / "a.svg")]) == 0
+        assert (
+            cli.main(["draw", str(_table(tmp_path / "t.csv", *rows)), "--group", "A", "--svg", str(tmp_path / "a.svg")])
+            == 0
+        )
         assert not any("missing" in title for title in _titles(tmp_path / "a.svg"))
 
 
@@ -250,13 +330,20 @@ def test_one_aspect_of_a_group(tmp_path: Path, capsys: pytest.CaptureFixture[str
     assert capsys.readouterr().err.splitlines() == [
         'balisekit: group "Signal E" has no aspect "gren": its aspects are "red", "yellow", "green"',
         'balisekit: group "A" has no aspect "red": what it sends is for every aspect',
-        "balisekit: --aspect is for --group and --track: a message has no aspects"]
+        "balisekit: --aspect is for --group and --track: a message has no aspects",
+    ]
     assert (tmp_path / "e.svg").read_bytes() == before
 
 
 def _profile(direction: int, *elements: Tuple[int, int]) -> Any:
-    return {"nid_packet": 27, "q_dir": direction, "q_scale": 1, "elements": [
-        {"d_static": distance, "v_static": value, "q_front": 0, "differences": []} for distance, value in elements]}
+    return {
+        "nid_packet": 27,
+        "q_dir": direction,
+        "q_scale": 1,
+        "elements": [
+            {"d_static": distance, "v_static": value, "q_front": 0, "differences": []} for distance, value in elements
+        ],
+    }
 
 
 def test_reverse_is_the_mirror_image() -> None:
@@ -285,10 +372,23 @@ def _messages(path: Path, *forms: Dict[str, Any]) -> Path:
 
 def _movement(group: int, *packets: Dict[str, Any]) -> Dict[str, Any]:
     """A message 3 with an authority of 2,000 m, and these packets."""
-    authority = {"nid_packet": 15, "q_dir": 1, "q_scale": 1, "end_speed": 0, "end_timeout": 1023, "sections": [],
-                 "l_endsection": 2000}
-    return {"nid_message": 3, "t_train": 100, "m_ack": 0, "nid_c": 352, "nid_bg": group,
-            "packets": [*packets, authority]}
+    authority = {
+        "nid_packet": 15,
+        "q_dir": 1,
+        "q_scale": 1,
+        "end_speed": 0,
+        "end_timeout": 1023,
+        "sections": [],
+        "l_endsection": 2000,
+    }
+    return {
+        "nid_message": 3,
+        "t_train": 100,
+        "m_ack": 0,
+        "nid_c": 352,
+        "nid_bg": group,
+        "packets": [*packets, authority],
+    }
 
 
 def test_messages_are_drawn_and_shown(tmp_path: Path, capsys: pytest.CaptureFixture[str]) -> None:
@@ -315,18 +415,34 @@ def test_messages_are_drawn_and_shown(tmp_path: Path, capsys: pytest.CaptureFixt
 
 def test_an_authority_has_all_its_places() -> None:
     """Sections, end, danger point, overlap and supervised location, in both directions, with their numbers."""
-    packet = {"nid_packet": 12, "q_dir": 2, "q_scale": 1, "v_main": 24, "end_speed": 4, "end_timeout": 60,
-              "sections": [{"l_section": 800}], "l_endsection": 900, "danger_point": {"d_dp": 60, "v_releasedp": 5},
-              "overlap": {"d_startol": 100, "t_ol": 30, "d_ol": 120, "v_releaseol": 126}}
+    packet = {
+        "nid_packet": 12,
+        "q_dir": 2,
+        "q_scale": 1,
+        "v_main": 24,
+        "end_speed": 4,
+        "end_timeout": 60,
+        "sections": [{"l_section": 800}],
+        "l_endsection": 900,
+        "danger_point": {"d_dp": 60, "v_releasedp": 5},
+        "overlap": {"d_startol": 100, "t_ol": 30, "d_ol": 120, "v_releaseol": 126},
+    }
     form = {"m_dup": 0, "packets": [packet]}
     picture = draw("A", [Content("", [form])], Kilometres(Decimal(10), 1))
     titles = {one.title for one in picture.shapes if one.title}
     for direction, along in (("nominal", 1), ("reverse", -1)):
+
         def km(metres_along: int) -> str:
             return f"{metres_along} m, km {10 + along * Decimal(metres_along) / 1000:.3f}, {direction}"
-        assert titles >= {f"section 0: 800 m, to {km(800)}", f"end section: 900 m, to {km(1700)}",
-                          f"end of the authority: {km(1700)}", f"danger point: {km(1760)}",
-                          f"overlap: 120 m, to {km(1820)}", f"supervised location: {km(1820)}"}
+
+        assert titles >= {
+            f"section 0: 800 m, to {km(800)}",
+            f"end section: 900 m, to {km(1700)}",
+            f"end of the authority: {km(1700)}",
+            f"danger point: {km(1760)}",
+            f"overlap: 120 m, to {km(1820)}",
+            f"supervised location: {km(1820)}",
+        }
     texts = [one.text for one in picture.shapes if "V_MAIN" in one.text]
     said = "V_MAIN 120 km/h; V_LOA 20 km/h; end 1700 m; DP 1760 m; overlap to 1820 m; SvL 1820 m"
     assert texts == [f"nominal: {said}", f"reverse: {said}"]
@@ -336,10 +452,19 @@ def test_an_authority_has_all_its_places() -> None:
 @pytest.mark.parametrize("direction", [0, 1, 2])
 def test_texts_are_within_the_picture(length: int, direction: int, tmp_path: Path) -> None:
     """Whatever is found missing, and whatever is short: no text is cut off at an edge."""
-    long: Dict[str, Any] = {"nid_packet": 15, "q_dir": direction, "q_scale": 1, "end_speed": 0, "end_timeout": 1023,
-                            "sections": [], "l_endsection": 9000}
-    forms = [{**_movement(9), "packets": [{**long, "l_endsection": length}]},
-             {**_movement(9), "packets": [long, _profile(direction, (0, 20), (9000 - length, 127))]}]
+    long: Dict[str, Any] = {
+        "nid_packet": 15,
+        "q_dir": direction,
+        "q_scale": 1,
+        "end_speed": 0,
+        "end_timeout": 1023,
+        "sections": [],
+        "l_endsection": 9000,
+    }
+    forms = [
+        {**_movement(9), "packets": [{**long, "l_endsection": length}]},
+        {**_movement(9), "packets": [long, _profile(direction, (0, 20), (9000 - length, 127))]},
+    ]
     messages = _messages(tmp_path / "m.txt", *forms)
     for line in ("1", "2"):
         words = ["--messages", str(messages), "--message", line, "--svg", str(tmp_path / "m.svg")]
@@ -356,20 +481,30 @@ def test_two_groups_with_one_identity_give_a_message_no_kilometres(tmp_path: Pat
     """Nobody knows which of them it is."""
     form = json.loads((TOP / "examples" / "header-only.json").read_text())
     texts = [one.line for one in Program.find().encode([{**form, "nid_c": 352, "nid_bg": 7}])]
-    table = _table(tmp_path / "t.csv", {"group": "A", "km": "1.000", "telegram": texts[0]},
-                   {"group": "B", "km": "2.000", "telegram": texts[0]})
+    table = _table(
+        tmp_path / "t.csv",
+        {"group": "A", "km": "1.000", "telegram": texts[0]},
+        {"group": "B", "km": "2.000", "telegram": texts[0]},
+    )
     _, page = _report(table, tmp_path / "r.html", "--messages", str(_messages(tmp_path / "m.txt", _movement(7))))
     assert "km " not in page.split('<section class="group" id="m')[1]
 
 
-@pytest.mark.parametrize("words, said", [
-    (["--message", "1"], "--message needs --messages FILE"),
-    (["--message", "9", "--messages", "M"], "line 9 of M has no message"),
-    (["--message", "1", "--messages", "M"], "message of line 1: L_MESSAGE is 18, but the message has 17 bytes: "
-                                            "program: length at 8 end 18"),
-    (["--message", "2", "--messages", "M"], "message of line 2: it has no authority, gradient or speed profile")])
-def test_messages_that_cannot_be_drawn(words: List[str], said: str, tmp_path: Path,
-                                       capsys: pytest.CaptureFixture[str]) -> None:
+@pytest.mark.parametrize(
+    "words, said",
+    [
+        (["--message", "1"], "--message needs --messages FILE"),
+        (["--message", "9", "--messages", "M"], "line 9 of M has no message"),
+        (
+            ["--message", "1", "--messages", "M"],
+            "message of line 1: L_MESSAGE is 18, but the message has 17 bytes: " "program: length at 8 end 18",
+        ),
+        (["--message", "2", "--messages", "M"], "message of line 2: it has no authority, gradient or speed profile"),
+    ],
+)
+def test_messages_that_cannot_be_drawn(
+    words: List[str], said: str, tmp_path: Path, capsys: pytest.CaptureFixture[str]
+) -> None:
     """One line, status 2, and no file."""
     position = (TOP / "examples" / "radio-position-report.txt").read_text().strip()
     messages = tmp_path / "m.txt"
@@ -404,8 +539,9 @@ def test_a_list_is_a_list(tmp_path: Path) -> None:
     assert said.count("<ul>") == 1 and not re.search(r">\s*- ", said)
 
 
-@pytest.mark.parametrize("name, words", [
-    ("line-show.txt", ["show", "LINE"]), ("signal-e.svg", ["draw", "LINE", "--group", "Signal E"])])
+@pytest.mark.parametrize(
+    "name, words", [("line-show.txt", ["show", "LINE"]), ("signal-e.svg", ["draw", "LINE", "--group", "Signal E"])]
+)
 def test_outputs_beside_the_example(name: str, words: List[str], capfdbinary: pytest.CaptureFixture[bytes]) -> None:
     """What `show` and `draw` write for the example is what stands beside it."""
     cli.main([str(LINE) if word == "LINE" else word for word in words])

@@ -10,16 +10,17 @@ from pathlib import Path
 from typing import Any, List
 
 import pytest
-
-from balisekit import checking, cli
-from balisekit.bit_places import bit_lines
-from balisekit.errors import NoAnswer
-from balisekit.geometry import Kilometres
-from balisekit.places import Here
-from balisekit.showing import WIDTH, form_lines, text
 from cases_of_program import CASES, EXAMPLES, TOP, value_at
 from conftest import Run
 from telegrams import ALONE, OTHER, SPARE
+
+from balisekit.cli import main as cli
+from balisekit.errors import NoAnswer
+from balisekit.etcs.geometry import Kilometres
+from balisekit.etcs.places import Here
+from balisekit.present.bit_table import bit_lines
+from balisekit.present.telegram_text import WIDTH, form_lines, text
+from balisekit.rules import checking
 
 READ = [case for case in (*CASES, *EXAMPLES[False], *EXAMPLES[True]) if not case.answer.startswith("refused: ")]
 NAME = r"(?:user bits|body|[A-Z]+_[A-Z]+(?: of NID_PRVLRBG)?)"
@@ -54,8 +55,21 @@ def test_every_path_is_shown() -> None:
 
 def test_a_key_that_is_not_known_is_shown() -> None:
     """A later program may write further keys."""
-    form: Any = {"nid_c": 1, "packets": [{"nid_packet": 12, "q_dir": 1, "q_scale": 1, "sections": [], "l_endsection": 5,
-                                         "later": {"t_later": 77}, "many": [7, 8]}], "x_new": 99}
+    form: Any = {
+        "nid_c": 1,
+        "packets": [
+            {
+                "nid_packet": 12,
+                "q_dir": 1,
+                "q_scale": 1,
+                "sections": [],
+                "l_endsection": 5,
+                "later": {"t_later": 77},
+                "many": [7, 8],
+            }
+        ],
+        "x_new": 99,
+    }
     shown = [value.raw for line in form_lines(form) for value in line.values]
     assert set(shown) >= {77, 7, 8, 99}
 
@@ -104,8 +118,9 @@ def _input(monkeypatch: pytest.MonkeyPatch, content: bytes) -> None:
 
 
 @pytest.mark.parametrize("content", [b"\xff\xfe\n", b"a1\x0000\n", b"a1\ra1\r\n", b"\xe2\x80\xae\n", b"\x1b[2J\n"])
-def test_standard_input_that_is_no_text(content: bytes, monkeypatch: pytest.MonkeyPatch,
-                                        capsys: pytest.CaptureFixture[str]) -> None:
+def test_standard_input_that_is_no_text(
+    content: bytes, monkeypatch: pytest.MonkeyPatch, capsys: pytest.CaptureFixture[str]
+) -> None:
     """It is refused as any other line, and nothing of it moves the cursor."""
     _input(monkeypatch, content)
     assert cli.main(["show"]) == 2
@@ -113,8 +128,9 @@ def test_standard_input_that_is_no_text(content: bytes, monkeypatch: pytest.Monk
 
 
 @pytest.mark.parametrize("encoding", ["utf-8", "utf-8-sig", "utf-16"])
-def test_standard_input_as_windows_writes_it(encoding: str, monkeypatch: pytest.MonkeyPatch,
-                                             capsys: pytest.CaptureFixture[str]) -> None:
+def test_standard_input_as_windows_writes_it(
+    encoding: str, monkeypatch: pytest.MonkeyPatch, capsys: pytest.CaptureFixture[str]
+) -> None:
     """With a mark before the first telegram, which is none of its digits."""
     _input(monkeypatch, f"{ALONE}\r\n{OTHER}\r\n".encode(encoding))
     assert cli.main(["show"]) == 0
@@ -165,11 +181,12 @@ def test_messages_are_shown_without_a_table(tmp_path: Path, capsys: pytest.Captu
 
 
 @pytest.mark.parametrize("line", ["{}", " 0x{}", '"{}"', "{}h", "'{}", "\u00a0{}H\t"])
-def test_standard_input_is_cleaned_as_cells_are(line: str, capsys: pytest.CaptureFixture[str],
-                                                monkeypatch: pytest.MonkeyPatch) -> None:
+def test_standard_input_is_cleaned_as_cells_are(
+    line: str, capsys: pytest.CaptureFixture[str], monkeypatch: pytest.MonkeyPatch
+) -> None:
     """Blanks, quotes, 0x, h, and what stands between pairs of digits."""
     digits = (TOP / "examples" / "linking.txt").read_text().strip()
-    pairs = [digits[at:at + 2] for at in range(0, len(digits), 2)]
+    pairs = [digits[at : at + 2] for at in range(0, len(digits), 2)]
     texts = [line.format(one) for one in (digits, " ".join(pairs), ":".join(pairs), "-".join(pairs))]
     _input(monkeypatch, "\n".join([digits, *texts]).encode())
     assert cli.main(["show"]) == 0
@@ -186,8 +203,9 @@ def test_an_empty_body_has_no_bits() -> None:
 
 
 @pytest.mark.parametrize("words", [[], ["--all"]])
-def test_show_stops_after_too_many_refused(words: List[str], tmp_path: Path, monkeypatch: pytest.MonkeyPatch,
-                                           capsys: pytest.CaptureFixture[str]) -> None:
+def test_show_stops_after_too_many_refused(
+    words: List[str], tmp_path: Path, monkeypatch: pytest.MonkeyPatch, capsys: pytest.CaptureFixture[str]
+) -> None:
     """As `check` does, and it says how many were not looked at."""
     monkeypatch.setattr(checking, "GREATEST_REFUSED", 3)
     table = tmp_path / "t.csv"

@@ -6,7 +6,6 @@ import sys
 from pathlib import Path
 
 import pytest
-
 from cases_of_program import TOP
 
 SOURCES = [TOP / "balisekit", *sorted((TOP / "companion").rglob("*.py"))]

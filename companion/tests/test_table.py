@@ -12,13 +12,13 @@ from pathlib import Path
 from typing import Any, Callable, Dict, List, Sequence
 
 import pytest
-
-from balisekit import messages_file, table as tables, xlsx_file
-from balisekit.errors import KitError, TableError, TableErrors
-from balisekit.model import Table
 from cases_of_program import TOP
 from conftest import Run
 from telegrams import ALONE, FIRST, MESSAGE, OTHER, SECOND
+
+from balisekit.errors import KitError, TableError, TableErrors
+from balisekit.tables import messages as messages_file, reader as tables, xlsx as xlsx_file
+from balisekit.tables.model import Table
 
 Write = Callable[..., Path]
 PAIR = ["group,telegram", f"A,{FIRST}", f"A,{SECOND}", f"B,{OTHER}"]
@@ -26,8 +26,9 @@ PAIR = ["group,telegram", f"A,{FIRST}", f"A,{SECOND}", f"B,{OTHER}"]
 
 def shape(table: Table) -> List[Any]:
     """The names of groups and aspects with the numbers of their rows."""
-    return [(group.name, [(one.name, [row.number for row in one.rows]) for one in group.aspects])
-            for group in table.groups]
+    return [
+        (group.name, [(one.name, [row.number for row in one.rows]) for one in group.aspects]) for group in table.groups
+    ]
 
 
 @pytest.mark.parametrize("separator", [",", ";", "\t"])
@@ -38,7 +39,9 @@ def test_spellings_of_csv(table: Write, separator: str, encoding: str, end: str)
     text = "".join(line.replace("|", separator) + end for line in lines)
     read = tables.read(str(table(content=text.encode(encoding))))
     assert [(row.group, row.telegram, row.km, row.name) for row in read.rows] == [
-        ("Signal 1 West", ALONE, Decimal("13.850"), "Süd"), ("2", OTHER, Decimal("13.950"), "é")]
+        ("Signal 1 West", ALONE, Decimal("13.850"), "Süd"),
+        ("2", OTHER, Decimal("13.950"), "é"),
+    ]
     assert read.passed_over == ("more",) and read.separator == separator
 
 
@@ -47,8 +50,17 @@ def test_groups_in_the_order_of_their_first_row(table: Write) -> None:
 
 
 def test_aspects_and_balises(table: Write) -> None:
-    read = tables.read(str(table("group,aspect,balise,telegram", f"A,red,2,{SECOND}", f"A,red,1,{FIRST}",
-                                 f"A,green,1,{FIRST}", f"A,green,2,{SECOND}")))
+    read = tables.read(
+        str(
+            table(
+                "group,aspect,balise,telegram",
+                f"A,red,2,{SECOND}",
+                f"A,red,1,{FIRST}",
+                f"A,green,1,{FIRST}",
+                f"A,green,2,{SECOND}",
+            )
+        )
+    )
     assert shape(read) == [("A", [("red", [3, 2]), ("green", [4, 5])])]
 
 
@@ -72,17 +84,38 @@ def test_empty_rows_count(table: Write) -> None:
     assert [row.number for row in read.rows] == [3, 5]
 
 
-@pytest.mark.parametrize("cell", [
-    f" {ALONE}\u00a0", f"0x{ALONE}", f'"""{ALONE}"""', f"'{ALONE}", f"{ALONE}h", f"{ALONE}H", f"“{ALONE}”",
-    " ".join(ALONE[at:at + 2] for at in range(0, 54, 2)), ":".join(ALONE[at:at + 2] for at in range(0, 54, 2)),
-    "-".join(ALONE[at:at + 2] for at in range(0, 54, 2))])
+@pytest.mark.parametrize(
+    "cell",
+    [
+        f" {ALONE}\u00a0",
+        f"0x{ALONE}",
+        f'"""{ALONE}"""',
+        f"'{ALONE}",
+        f"{ALONE}h",
+        f"{ALONE}H",
+        f"“{ALONE}”",
+        " ".join(ALONE[at : at + 2] for at in range(0, 54, 2)),
+        ":".join(ALONE[at : at + 2] for at in range(0, 54, 2)),
+        "-".join(ALONE[at : at + 2] for at in range(0, 54, 2)),
+    ],
+)
 def test_what_stands_around_digits(table: Write, cell: str) -> None:
     assert tables.read(str(table("group,telegram", f"A,{cell}"))).rows[0].telegram == ALONE
 
 
-@pytest.mark.parametrize("cell, km", [
-    ("13.85", "13.85"), ("13+850", "13.850"), ("13+850.5", "13.8505"), ("-0.5", "-0.5"), ("\u22121.25", "-1.25"),
-    ("7", "7.0"), ('"13,850"', "13.850"), ("", None)])
+@pytest.mark.parametrize(
+    "cell, km",
+    [
+        ("13.85", "13.85"),
+        ("13+850", "13.850"),
+        ("13+850.5", "13.8505"),
+        ("-0.5", "-0.5"),
+        ("\u22121.25", "-1.25"),
+        ("7", "7.0"),
+        ('"13,850"', "13.850"),
+        ("", None),
+    ],
+)
 def test_kilometres(table: Write, cell: str, km: str) -> None:
     read = tables.read(str(table("group,km,telegram", f"A,{cell},{ALONE}")))
     assert read.rows[0].km == (None if km is None else Decimal(km))
@@ -102,8 +135,11 @@ H = "group,telegram"
 BAD: Sequence[Any] = [
     ([], "row 1: it is empty"),
     (["", H], "row 1: it is empty"),
-    ([f"A,{ALONE}"], "row 1: there is no heading, as the first row has a telegram: put a row with the names of the "
-                     "columns above it, of which group and telegram are needed"),
+    (
+        [f"A,{ALONE}"],
+        "row 1: there is no heading, as the first row has a telegram: put a row with the names of the "
+        "columns above it, of which group and telegram are needed",
+    ),
     ([f"A;A1;{ALONE.upper()}", f"A;A2;{ALONE}"], "row 1: there is no heading, as the first row has a telegram"),
     (["Signal,Text", f"A,{ALONE}"], "row 1: no column group and no column telegram: the headings are signal, text"),
     (["group,name", "A,B"], "row 1: no column telegram: the headings are group, name"),
@@ -112,69 +148,137 @@ BAD: Sequence[Any] = [
     ([H, f",{ALONE}"], "row 2, column group: no group; fill merged cells"),
     ([H, "A,"], "row 2, column telegram: empty, or a formula"),
     ([H, "A,9.00720E+52"], "row 2, column telegram: a number, not digits: the spreadsheet has changed it"),
-    ([H, f"A,{ALONE}", *[f"B,{OTHER}"] * 2, f"A,{OTHER}"],
-     'row 5, column group: group "A" is in row 2 already: put its rows together'),
-    ([H, f"A,{ALONE}", f"b,{OTHER}", f"A,{OTHER}"],
-     'row 3, column group: "b" stands between rows 2, 4 of group "A": is it mistyped? The rows of a group stand '
-     "together"),
-    (["group,aspect,balise,telegram", f"A,*,0,{FIRST}", f"B,x,1,{SECOND}", "", f"A,y,1,{SECOND}", f"A,z,1,{SECOND}",
-      f"B,*,0,{FIRST}", f"B,x,1,{SECOND}"],
-     'row 3, column group: "B" stands between rows 2, 5 of group "A": is it mistyped?'),
+    (
+        [H, f"A,{ALONE}", *[f"B,{OTHER}"] * 2, f"A,{OTHER}"],
+        'row 5, column group: group "A" is in row 2 already: put its rows together',
+    ),
+    (
+        [H, f"A,{ALONE}", f"b,{OTHER}", f"A,{OTHER}"],
+        'row 3, column group: "b" stands between rows 2, 4 of group "A": is it mistyped? The rows of a group stand '
+        "together",
+    ),
+    (
+        [
+            "group,aspect,balise,telegram",
+            f"A,*,0,{FIRST}",
+            f"B,x,1,{SECOND}",
+            "",
+            f"A,y,1,{SECOND}",
+            f"A,z,1,{SECOND}",
+            f"B,*,0,{FIRST}",
+            f"B,x,1,{SECOND}",
+        ],
+        'row 3, column group: "B" stands between rows 2, 5 of group "A": is it mistyped?',
+    ),
     ([H, *[f"A,{ALONE}"] * 9], 'row 10: group "A" has 9 balises, and at most 8 are possible'),
-    (["group,aspect,telegram", f"A,x,{ALONE}", f"A,y,{ALONE}", f"A,y,{ALONE}"],
-     'row 2: aspect "x" of group "A" has 1 balise (row 2), and aspect "y" has 2 (rows 3, 4): a row is missing, or one '
-     "too many; the column balise or name tells which"),
-    (["group,aspect,balise,telegram", f"A,x,1,{ALONE}", f"A,x,2,{ALONE}", f"A,y,1,{ALONE}"],
-     'row 3: balise 2 of group "A" has no telegram for aspect "y" (row 4): add the row, or write * as the aspect'),
-    (["group,aspect,name,telegram", f"A,x,A1,{ALONE}", f"A,x,A2,{ALONE}", f"A,y,A1,{ALONE}", f"A,z,A1,{ALONE}"],
-     'row 3: balise "A2" of group "A" has no telegram for aspects "y" (row 4), "z" (row 5): add the row'),
-    (["group,aspect,km,telegram", f"A,x,1.000,{ALONE}", f"A,y,1.000,{ALONE}", f"A,y,1.003,{ALONE}"],
-     'row 4: the balise at km 1.003 of group "A" has no telegram for aspect "x" (row 2): add the row'),
-    (["group,aspect,telegram", f"A,x,{ALONE}", f"A,,{ALONE}"],
-     "row 3, column aspect: empty beside named aspects: write *"),
-    (["group,aspect,telegram", f"A,*,{ALONE}", f"A,,{ALONE}"],
-     "row 3, column aspect: empty beside named aspects: write *"),
-    (["group,aspect,telegram", f"A,x,{ALONE}", f"A,*,{ALONE}", f"A,y,{ALONE}"],
-     "row 3: its place differs between aspects: number the balises"),
+    (
+        ["group,aspect,telegram", f"A,x,{ALONE}", f"A,y,{ALONE}", f"A,y,{ALONE}"],
+        'row 2: aspect "x" of group "A" has 1 balise (row 2), and aspect "y" has 2 (rows 3, 4): a row is missing, or one '
+        "too many; the column balise or name tells which",
+    ),
+    (
+        ["group,aspect,balise,telegram", f"A,x,1,{ALONE}", f"A,x,2,{ALONE}", f"A,y,1,{ALONE}"],
+        'row 3: balise 2 of group "A" has no telegram for aspect "y" (row 4): add the row, or write * as the aspect',
+    ),
+    (
+        ["group,aspect,name,telegram", f"A,x,A1,{ALONE}", f"A,x,A2,{ALONE}", f"A,y,A1,{ALONE}", f"A,z,A1,{ALONE}"],
+        'row 3: balise "A2" of group "A" has no telegram for aspects "y" (row 4), "z" (row 5): add the row',
+    ),
+    (
+        ["group,aspect,km,telegram", f"A,x,1.000,{ALONE}", f"A,y,1.000,{ALONE}", f"A,y,1.003,{ALONE}"],
+        'row 4: the balise at km 1.003 of group "A" has no telegram for aspect "x" (row 2): add the row',
+    ),
+    (
+        ["group,aspect,telegram", f"A,x,{ALONE}", f"A,,{ALONE}"],
+        "row 3, column aspect: empty beside named aspects: write *",
+    ),
+    (
+        ["group,aspect,telegram", f"A,*,{ALONE}", f"A,,{ALONE}"],
+        "row 3, column aspect: empty beside named aspects: write *",
+    ),
+    (
+        ["group,aspect,telegram", f"A,x,{ALONE}", f"A,*,{ALONE}", f"A,y,{ALONE}"],
+        "row 3: its place differs between aspects: number the balises",
+    ),
     (["group,balise,telegram", f"A,1,{ALONE}", f"A,1,{ALONE}"], "row 3, column balise: row 2 has balise 1 too"),
     (["group,name,telegram", f"A,A1,{ALONE}", f"A,A1,{ALONE}"], 'row 3, column name: row 2 has balise "A1" too'),
-    (["group,aspect,balise,telegram", f"A,*,0,{FIRST}", *[f"A,{one},1,{SECOND}" for one in "xyxz"]],
-     'row 5, column aspect: row 3 has balise 1 of aspect "x" too'),
-    (["group,aspect,name,telegram", f"A,*,A1,{FIRST}", *[f"A,{one},A2,{SECOND}" for one in "xxyz"]],
-     'row 4, column aspect: row 3 has balise "A2" of aspect "x" too'),
-    (["group,aspect,name,telegram", f"A,*,A1,{FIRST}", f"A,*,A1,{SECOND}", f"A,x,A2,{SECOND}", f"A,y,A2,{SECOND}"],
-     'row 3, column aspect: row 2 has balise "A1" of every aspect too'),
-    (["group,balise,name,telegram", f"A,0,A1,{FIRST}", f"A,1,A1,{SECOND}"],
-     'row 3, column name: row 2 has balise "A1" too, as balise 0'),
-    (["group,aspect,balise,name,telegram", f"A,x,0,A1,{FIRST}", f"A,x,1,A1,{SECOND}"],
-     'row 3, column name: row 2 has balise "A1" of aspect "x" too, as balise 0'),
-    (["group,aspect,balise,name,telegram", f"A,*,1,A1,{FIRST}", f"A,x,1,A2,{SECOND}"],
-     'row 3, column balise: row 2 has balise 1 of every aspect too, as balise "A1"'),
-    (["group,aspect,balise,name,telegram", f"A,x,1,A1,{FIRST}", f"A,x,1,A1,{SECOND}"],
-     'row 3, column aspect: row 2 has balise 1 of aspect "x" too'),
-    (["group,aspect,km,telegram", f"A,*,1,{FIRST}", *[f"A,{one},1.003,{SECOND}" for one in "xyyz"]],
-     'row 5, column aspect: row 4 has the balise at km 1.003 of aspect "y" too'),
-    (["group,aspect,km,telegram", f"A,*,1,{FIRST}", *[f"A,{one},1,{SECOND}" for one in "xyyz"]],
-     'row 4: aspect "y" of group "A" has 3 balises (rows 2, 4, 5), and aspect "x" has 2 (rows 2, 3): a row'),
+    (
+        ["group,aspect,balise,telegram", f"A,*,0,{FIRST}", *[f"A,{one},1,{SECOND}" for one in "xyxz"]],
+        'row 5, column aspect: row 3 has balise 1 of aspect "x" too',
+    ),
+    (
+        ["group,aspect,name,telegram", f"A,*,A1,{FIRST}", *[f"A,{one},A2,{SECOND}" for one in "xxyz"]],
+        'row 4, column aspect: row 3 has balise "A2" of aspect "x" too',
+    ),
+    (
+        ["group,aspect,name,telegram", f"A,*,A1,{FIRST}", f"A,*,A1,{SECOND}", f"A,x,A2,{SECOND}", f"A,y,A2,{SECOND}"],
+        'row 3, column aspect: row 2 has balise "A1" of every aspect too',
+    ),
+    (
+        ["group,balise,name,telegram", f"A,0,A1,{FIRST}", f"A,1,A1,{SECOND}"],
+        'row 3, column name: row 2 has balise "A1" too, as balise 0',
+    ),
+    (
+        ["group,aspect,balise,name,telegram", f"A,x,0,A1,{FIRST}", f"A,x,1,A1,{SECOND}"],
+        'row 3, column name: row 2 has balise "A1" of aspect "x" too, as balise 0',
+    ),
+    (
+        ["group,aspect,balise,name,telegram", f"A,*,1,A1,{FIRST}", f"A,x,1,A2,{SECOND}"],
+        'row 3, column balise: row 2 has balise 1 of every aspect too, as balise "A1"',
+    ),
+    (
+        ["group,aspect,balise,name,telegram", f"A,x,1,A1,{FIRST}", f"A,x,1,A1,{SECOND}"],
+        'row 3, column aspect: row 2 has balise 1 of aspect "x" too',
+    ),
+    (
+        ["group,aspect,km,telegram", f"A,*,1,{FIRST}", *[f"A,{one},1.003,{SECOND}" for one in "xyyz"]],
+        'row 5, column aspect: row 4 has the balise at km 1.003 of aspect "y" too',
+    ),
+    (
+        ["group,aspect,km,telegram", f"A,*,1,{FIRST}", *[f"A,{one},1,{SECOND}" for one in "xyyz"]],
+        'row 4: aspect "y" of group "A" has 3 balises (rows 2, 4, 5), and aspect "x" has 2 (rows 2, 3): a row',
+    ),
     (["group,balise,telegram", f"A,1,{ALONE}", f"A,,{ALONE}"], "row 3, column balise: empty beside numbered balises"),
     (["group,balise,telegram", f"A,1.5,{ALONE}"], "row 2, column balise: 1.5 is no whole number"),
-    (["group,km,telegram", f"A,13.850,{ALONE}", f"A,13.8x,{ALONE}"],
-     "row 3, column km: 13.8x is no kilometre: one is written like 13.850"),
-    (["group,telegram,km", f"A,{ALONE},13,850"],
-     "row 2: it has 4 cells, and the heading 3: is a decimal comma not quoted?"),
-    (["group,km,telegram", f"A,1,{FIRST}", f"A,3,{SECOND}", f"A,2,{SECOND}"],
-     "row 4, column km: the kilometres of the group rise and fall"),
-    (["group,aspect,km,telegram", f"A,x,1,{FIRST}", f"A,y,2,{FIRST}"],
-     "row 3, column km: 2.0, and row 2, the same balise by the order of the rows, has 1.0"),
-    (["group,aspect,name,telegram", f"A,*,A1,{FIRST}", f"A,x,A2,{SECOND}", f"A,y,,{SECOND}", f"A,z,B2,{SECOND}"],
-     "row 5, column name: B2, and row 3, the same balise by the order of the rows, has A2"),
-    (["group,aspect,balise,name,telegram", f"A,x,0,A1,{FIRST}", f"A,x,1,A2,{SECOND}", f"A,y,0,A2,{FIRST}",
-      f"A,y,1,A1,{SECOND}"], "row 4, column name: A2, and row 2, the same balise by the column balise, has A1"),
+    (
+        ["group,km,telegram", f"A,13.850,{ALONE}", f"A,13.8x,{ALONE}"],
+        "row 3, column km: 13.8x is no kilometre: one is written like 13.850",
+    ),
+    (
+        ["group,telegram,km", f"A,{ALONE},13,850"],
+        "row 2: it has 4 cells, and the heading 3: is a decimal comma not quoted?",
+    ),
+    (
+        ["group,km,telegram", f"A,1,{FIRST}", f"A,3,{SECOND}", f"A,2,{SECOND}"],
+        "row 4, column km: the kilometres of the group rise and fall",
+    ),
+    (
+        ["group,aspect,km,telegram", f"A,x,1,{FIRST}", f"A,y,2,{FIRST}"],
+        "row 3, column km: 2.0, and row 2, the same balise by the order of the rows, has 1.0",
+    ),
+    (
+        ["group,aspect,name,telegram", f"A,*,A1,{FIRST}", f"A,x,A2,{SECOND}", f"A,y,,{SECOND}", f"A,z,B2,{SECOND}"],
+        "row 5, column name: B2, and row 3, the same balise by the order of the rows, has A2",
+    ),
+    (
+        [
+            "group,aspect,balise,name,telegram",
+            f"A,x,0,A1,{FIRST}",
+            f"A,x,1,A2,{SECOND}",
+            f"A,y,0,A2,{FIRST}",
+            f"A,y,1,A1,{SECOND}",
+        ],
+        "row 4, column name: A2, and row 2, the same balise by the column balise, has A1",
+    ),
     (["group,nominal,telegram", f"A,up,{FIRST}"], "row 2, column nominal: up is neither rising nor falling"),
-    (["group,nominal,telegram", f"A,rising,{FIRST}", f"A,falling,{FIRST}"],
-     "row 3, column nominal: falling, and row 2 of the group says rising"),
-    (["group,track,telegram", f"A,,{FIRST}", f"A,1,{SECOND}", f"B,1,{ALONE}", f"B,2,{ALONE}"],
-     "row 5, column track: 2, and row 4 of the group says 1"),
+    (
+        ["group,nominal,telegram", f"A,rising,{FIRST}", f"A,falling,{FIRST}"],
+        "row 3, column nominal: falling, and row 2 of the group says rising",
+    ),
+    (
+        ["group,track,telegram", f"A,,{FIRST}", f"A,1,{SECOND}", f"B,1,{ALONE}", f"B,2,{ALONE}"],
+        "row 5, column track: 2, and row 4 of the group says 1",
+    ),
     (["group,aspect,telegram", f"#BEZUG!,,{ALONE}"], "row 2, column group: #BEZUG! is an error of the spreadsheet"),
     (["group,aspect,telegram", f"A,#N/A,{ALONE}"], "row 2, column aspect: #N/A is an error of the spreadsheet"),
     ([H, f'"A\nB",{ALONE}'], "row 2, column group: a line end stands in the cell"),
@@ -201,12 +305,16 @@ def test_several_faults_have_a_line_each(table: Write) -> None:
     assert "row 3, column km: x is no kilometre" in said[1]
 
 
-@pytest.mark.parametrize("content, said", [
-    ("group,telegram".encode("utf-32"), "it is UTF-32: save it as UTF-8"),
-    (b"group,telegram\nA\x81,00\n", "it is neither UTF-8 nor Windows-1252: byte 81 at 16: save it as UTF-8"),
-    (b"\xff\xfea", "it begins as UTF-16, and is none"),
-    (b"\xd0\xcf\x11\xe0more", "it is an .xls, or protected by a password: save it as .xlsx or CSV"),
-    (b"PK\x03\x04more", "it is an .xls, or protected by a password")])
+@pytest.mark.parametrize(
+    "content, said",
+    [
+        ("group,telegram".encode("utf-32"), "it is UTF-32: save it as UTF-8"),
+        (b"group,telegram\nA\x81,00\n", "it is neither UTF-8 nor Windows-1252: byte 81 at 16: save it as UTF-8"),
+        (b"\xff\xfea", "it begins as UTF-16, and is none"),
+        (b"\xd0\xcf\x11\xe0more", "it is an .xls, or protected by a password: save it as .xlsx or CSV"),
+        (b"PK\x03\x04more", "it is an .xls, or protected by a password"),
+    ],
+)
 def test_contents_that_cannot_be_read(table: Write, content: bytes, said: str) -> None:
     assert fault(table(content=content)).startswith(said)
 
@@ -229,6 +337,7 @@ def test_a_file_that_is_being_written(table: Write, monkeypatch: pytest.MonkeyPa
             if len(seen) == 2:
                 path.write_text("longer" * 100)
         return real(name, **words)
+
     monkeypatch.setattr(os, "stat", stat)
     assert fault(path) == "the file is being written"
 
@@ -236,13 +345,29 @@ def test_a_file_that_is_being_written(table: Write, monkeypatch: pytest.MonkeyPa
 def test_aspects_that_lack_balises_have_a_line_each(table: Write) -> None:
     """Each balise that lacks an aspect is named, and the other groups' faults as well."""
     with pytest.raises(TableErrors) as raised:
-        tables.read(str(table("group,aspect,name,telegram", f"A,*,A1,{ALONE}", f"A,x,A2,{ALONE}", f"A,y,A3,{ALONE}",
-                              f"A,y,A2,{ALONE}", f"A,z,A3,{ALONE}", f"B,x,,{ALONE}", f"B,,,{ALONE}")))
-    lines = [line.split(": ", 1)[1].split(":")[0] + ":" + line.split(": ", 1)[1].split(":")[1]
-             for line in raised.value.lines()]
-    assert lines == ['row 3: balise "A2" of group "A" has no telegram for aspect "z" (rows 2, 6)',
-                     'row 4: balise "A3" of group "A" has no telegram for aspect "x" (rows 2, 3)',
-                     "row 8, column aspect: empty beside named aspects"]
+        tables.read(
+            str(
+                table(
+                    "group,aspect,name,telegram",
+                    f"A,*,A1,{ALONE}",
+                    f"A,x,A2,{ALONE}",
+                    f"A,y,A3,{ALONE}",
+                    f"A,y,A2,{ALONE}",
+                    f"A,z,A3,{ALONE}",
+                    f"B,x,,{ALONE}",
+                    f"B,,,{ALONE}",
+                )
+            )
+        )
+    lines = [
+        line.split(": ", 1)[1].split(":")[0] + ":" + line.split(": ", 1)[1].split(":")[1]
+        for line in raised.value.lines()
+    ]
+    assert lines == [
+        'row 3: balise "A2" of group "A" has no telegram for aspect "z" (rows 2, 6)',
+        'row 4: balise "A3" of group "A" has no telegram for aspect "x" (rows 2, 3)',
+        "row 8, column aspect: empty beside named aspects",
+    ]
 
 
 def test_rows_of_several_groups_that_stand_apart(table: Write) -> None:
@@ -251,7 +376,8 @@ def test_rows_of_several_groups_that_stand_apart(table: Write) -> None:
         tables.read(str(table(H, *[f"{name},{ALONE}" for name in "ABABCC"])))
     assert [line.split(": ", 1)[1] for line in raised.value.lines()] == [
         'row 4, column group: group "A" is in row 2 already: put its rows together',
-        'row 5, column group: group "B" is in row 3 already: put its rows together']
+        'row 5, column group: group "B" is in row 3 already: put its rows together',
+    ]
 
 
 def test_one_wrong_cell_of_a_line_is_one_fault(table: Write) -> None:
@@ -263,8 +389,8 @@ def test_one_wrong_cell_of_a_line_is_one_fault(table: Write) -> None:
         before, after = rows[number - 2], rows[number]
         for column, cell in ((0, f"{row[0]}x"), (3, before[3])):
             if before[0] == row[0] and (after[0] == row[0] if column == 0 else before[3] != "*"):
-                changed = [*row[:column], cell, *row[column + 1:]]
-                lines = [",".join(one) for one in [*rows[:number - 1], changed, *rows[number:]]]
+                changed = [*row[:column], cell, *row[column + 1 :]]
+                lines = [",".join(one) for one in [*rows[: number - 1], changed, *rows[number:]]]
                 assert fault(table(*lines)).startswith(f"row {number}, column {rows[0][column]}: ")
                 tried += 1
     assert tried == 32
@@ -275,17 +401,30 @@ def test_a_mistyped_heading_before_the_faults_that_it_makes(table: Write) -> Non
         tables.read(str(table("group,aspct,name,telegram", f"A,x,A1,{ALONE}", f"A,y,A1,{ALONE}")))
     assert [line.split(": ", 1)[1] for line in raised.value.lines()] == [
         'row 1: the column aspct is passed over: did you mean "aspect"?',
-        'row 3, column name: row 2 has balise "A1" too: are they of two aspects?']
+        'row 3, column name: row 2 has balise "A1" too: are they of two aspects?',
+    ]
 
 
 def test_each_repeated_row_is_named(table: Write) -> None:
     with pytest.raises(TableErrors) as raised:
-        tables.read(str(table("group,aspect,name,telegram", f"A,x,A1,{ALONE}", f"A,x,A1,{ALONE}", f"A,x,A1,{ALONE}",
-                              f"B,x,B1,{ALONE}", f"B,y,B1,{ALONE}", f"B,y,B1,{ALONE}")))
+        tables.read(
+            str(
+                table(
+                    "group,aspect,name,telegram",
+                    f"A,x,A1,{ALONE}",
+                    f"A,x,A1,{ALONE}",
+                    f"A,x,A1,{ALONE}",
+                    f"B,x,B1,{ALONE}",
+                    f"B,y,B1,{ALONE}",
+                    f"B,y,B1,{ALONE}",
+                )
+            )
+        )
     assert [line.split(": ", 1)[1] for line in raised.value.lines()] == [
         'row 3, column aspect: row 2 has balise "A1" of aspect "x" too',
         'row 4, column aspect: row 2 has balise "A1" of aspect "x" too',
-        'row 7, column aspect: row 6 has balise "B1" of aspect "y" too']
+        'row 7, column aspect: row 6 has balise "B1" of aspect "y" too',
+    ]
 
 
 def test_a_name_that_all_balises_of_groups_share_has_one_hint(table: Write) -> None:
@@ -295,17 +434,22 @@ def test_a_name_that_all_balises_of_groups_share_has_one_hint(table: Write) -> N
         with pytest.raises(TableErrors) as raised:
             tables.read(str(table("group,aspect,name,telegram", *lines)))
         said = [line.split(": ", 1)[1] for line in raised.value.lines()]
-        hint = ('row 1, column name: in 2 groups all balises have one name, as "S A" in group "A": it tells no balise. '
-                "If it is that of a signal, give the column another heading, under which it is passed over")
+        hint = (
+            'row 1, column name: in 2 groups all balises have one name, as "S A" in group "A": it tells no balise. '
+            "If it is that of a signal, give the column another heading, under which it is passed over"
+        )
         assert said[:1] == [hint] if hints else not any(line.startswith("row 1") for line in said)
         assert any(line.startswith("row 3, column ") for line in said)
 
 
 def test_notes(table: Write) -> None:
-    read = tables.read(str(table("group,balise,telegram", f"Signal A,1,{ALONE}", f"signal  a,1,{OTHER}",
-                                 f"signal  a,3,{OTHER}")))
-    assert read.notes == ('groups "Signal A" and "signal  a" differ in case or blanks alone',
-                          'group "signal  a": the balises are numbered 1, 3')
+    read = tables.read(
+        str(table("group,balise,telegram", f"Signal A,1,{ALONE}", f"signal  a,1,{OTHER}", f"signal  a,3,{OTHER}"))
+    )
+    assert read.notes == (
+        'groups "Signal A" and "signal  a" differ in case or blanks alone',
+        'group "signal  a": the balises are numbered 1, 3',
+    )
     read = tables.read(str(table("group,aspect,balise,telegram", f"A,x,1,{ALONE}", f"A,y,2,{ALONE}")))
     assert read.notes == ('group "A": aspects "x" and "y" number their balises differently',)
 
@@ -339,13 +483,20 @@ class TestWorkbooks:
         rows: List[List[Any]] = [["Group", "km", "balise", "telegram"], [7, 13.85, 1, ALONE], [8, 14, None, OTHER]]
         read = tables.read(str(self.book(tmp_path, rows)))
         assert [(row.group, row.km, row.balise, row.telegram) for row in read.rows] == [
-            ("7", Decimal("13.85"), 1, ALONE), ("8", Decimal("14"), None, OTHER)]
+            ("7", Decimal("13.85"), 1, ALONE),
+            ("8", Decimal("14"), None, OTHER),
+        ]
         assert read.encoding == "xlsx"
 
     def test_kilometres_to_the_millimetre(self, tmp_path: Path) -> None:
         """A number has the places that a text may have, and no more: a sum may be wrong behind them."""
-        rows: List[List[Any]] = [["group", "km", "telegram"], ["A", 13.8505, FIRST], ["A", 13.85 + 0.003, SECOND],
-                                 ["B", 14.1234564, OTHER], ["C", 20.0000000001, OTHER]]
+        rows: List[List[Any]] = [
+            ["group", "km", "telegram"],
+            ["A", 13.8505, FIRST],
+            ["A", 13.85 + 0.003, SECOND],
+            ["B", 14.1234564, OTHER],
+            ["C", 20.0000000001, OTHER],
+        ]
         read = tables.read(str(self.book(tmp_path, rows)))
         assert [str(row.km) for row in read.rows] == ["13.8505", "13.853", "14.123456", "20.0"]
 
@@ -356,7 +507,8 @@ class TestWorkbooks:
         with zipfile.ZipFile(path) as parts:
             held = {name: parts.read(name) for name in parts.namelist()}
         held["xl/worksheets/sheet1.xml"] = held["xl/worksheets/sheet1.xml"].replace(
-            b"</worksheet>", b'<extLst><ext uri="{CCE6A557-97BC-4b89-ADB6-D9C93CAAB3DF}"/></extLst></worksheet>')
+            b"</worksheet>", b'<extLst><ext uri="{CCE6A557-97BC-4b89-ADB6-D9C93CAAB3DF}"/></extLst></worksheet>'
+        )
         with zipfile.ZipFile(path, "w") as parts:
             for name, content in held.items():
                 parts.writestr(name, content)
@@ -379,12 +531,16 @@ class TestWorkbooks:
         assert len(tables.read(str(path), "Sheet1").rows) == 1
         assert fault(path, sheet="no").startswith("there is no sheet no: the sheets are Sheet, Sheet1")
 
-    @pytest.mark.parametrize("row, said", [
-        (["A", 1e52], "row 2, column telegram: a number, not digits"),
-        (["A", datetime.date(2026, 1, 2)], "row 2, column telegram: a date, not digits"),
-        ([datetime.date(2026, 1, 2), ALONE], "row 2, column group: a date, not a name"),
-        (["A", "=A1"], "row 2, column telegram: empty, or a formula whose value is not stored"),
-        ([None, ALONE], "row 2, column group: no group; fill merged cells")])
+    @pytest.mark.parametrize(
+        "row, said",
+        [
+            (["A", 1e52], "row 2, column telegram: a number, not digits"),
+            (["A", datetime.date(2026, 1, 2)], "row 2, column telegram: a date, not digits"),
+            ([datetime.date(2026, 1, 2), ALONE], "row 2, column group: a date, not a name"),
+            (["A", "=A1"], "row 2, column telegram: empty, or a formula whose value is not stored"),
+            ([None, ALONE], "row 2, column group: no group; fill merged cells"),
+        ],
+    )
     def test_cells_that_cannot_be_read(self, tmp_path: Path, row: Sequence[Any], said: str) -> None:
         """What spreadsheets do to cells."""
         assert fault(self.book(tmp_path, [["group", "telegram"], row])).startswith(said)
@@ -405,19 +561,30 @@ class TestWorkbooks:
         path = self.book(tmp_path, [["group", "telegram"], ["A", ALONE]])
         modules: Dict[str, Any] = sys.modules
         monkeypatch.setitem(modules, "openpyxl", None)
-        assert run("check", path) == (2, [], [
-            f"balisekit: {path}: reading .xlsx needs openpyxl (Debian: python3-openpyxl); or save it as CSV"])
+        assert run("check", path) == (
+            2,
+            [],
+            [f"balisekit: {path}: reading .xlsx needs openpyxl (Debian: python3-openpyxl); or save it as CSV"],
+        )
 
 
 def test_tables_that_are_made() -> None:
     hypothesis: Any = pytest.importorskip("hypothesis")
     strategies = hypothesis.strategies
-    name = strategies.text(strategies.characters(blacklist_categories=("Cs", "Cc", "Zl", "Zp")), min_size=1,
-                           max_size=12).map(str.strip).filter(bool)
+    name = (
+        strategies.text(strategies.characters(blacklist_categories=("Cs", "Cc", "Zl", "Zp")), min_size=1, max_size=12)
+        .map(str.strip)
+        .filter(bool)
+    )
     names = strategies.lists(name, min_size=1, max_size=6, unique=True)
 
-    @hypothesis.given(names, name, strategies.sampled_from(",;\t"), strategies.sampled_from(["\n", "\r\n"]),
-                      strategies.sampled_from(["utf-8", "utf-8-sig", "utf-16"]))  # type: ignore[misc]
+    @hypothesis.given(
+        names,
+        name,
+        strategies.sampled_from(",;\t"),
+        strategies.sampled_from(["\n", "\r\n"]),
+        strategies.sampled_from(["utf-8", "utf-8-sig", "utf-16"]),
+    )  # type: ignore[misc]
     def made(groups: List[str], other: str, separator: str, end: str, encoding: str) -> None:
         out = io.StringIO(newline="")
         writer = csv.writer(out, delimiter=separator, lineterminator=end)
@@ -428,6 +595,7 @@ def test_tables_that_are_made() -> None:
             read = tables.read(str(path))
         assert [row.group for row in read.rows] == groups and {row.name for row in read.rows} == {other}
         assert read.separator == separator
+
     made()
 
 
@@ -436,6 +604,7 @@ class Room:
 
     def __enter__(self) -> Path:
         import tempfile
+
         self.folder = tempfile.TemporaryDirectory()
         return Path(self.folder.name) / "table.csv"
 

@@ -8,19 +8,19 @@ from decimal import Decimal
 from pathlib import Path
 from typing import Any, Callable, Dict, List, Tuple
 
-import pytest
-
 import link_tables
-from balisekit import csv_writing
-from balisekit.canvas import LEFT, RIGHT, WIDTH, Picture, Shape
-from balisekit.geometry import kilometre
-from balisekit.links import look
-from balisekit.track_drawing import LANES, track_pictures, tracks_of
-from balisekit.track_view import at_km, pages
+import pytest
 from cases_of_program import TOP
 from conftest import Run
 from telegrams import ALONE, MESSAGE
 from test_links import group, header, line_with
+
+from balisekit.drawing.canvas import LEFT, RIGHT, WIDTH, Picture, Shape
+from balisekit.drawing.track import LANES, track_pictures, tracks_of
+from balisekit.drawing.track_view import at_km, pages
+from balisekit.etcs.geometry import kilometre
+from balisekit.io import csv_writing
+from balisekit.rules.links.rules import look
 
 Write = Callable[..., Path]
 Form = Dict[str, Any]
@@ -51,13 +51,15 @@ def authority(direction: int = 1) -> List[Form]:
     return [{**packet, "q_dir": direction} for packet in link_tables.authority()]
 
 
-@pytest.mark.parametrize("nominal, direction, wanted", [
-    ("rising", 1, (2, 3)), ("rising", 0, (1, 2)), ("falling", 1, (1, 2)), ("falling", 0, (2, 3))])
+@pytest.mark.parametrize(
+    "nominal, direction, wanted",
+    [("rising", 1, (2, 3)), ("rising", 0, (1, 2)), ("falling", 1, (1, 2)), ("falling", 0, (2, 3))],
+)
 def test_directions(nominal: str, direction: int, wanted: Tuple[int, int]) -> None:
     """What a group says lies up or down the kilometres, as the train runs."""
-    picture, = drawn((group("A", "2", nominal=nominal), [header(1, *authority(direction))]))
+    (picture,) = drawn((group("A", "2", nominal=nominal), [header(1, *authority(direction))]))
     for name in ("speed", "up", "section0"):
-        one, = looks(picture, name)
+        (one,) = looks(picture, name)
         assert abs(place(one.x) - wanted[0]) < 0.01
         assert abs(place(one.x) + float(one.width) / ROOM * 5 - wanted[1]) < 0.01
     assert looks(picture, "end") and looks(picture, "supervised")
@@ -66,20 +68,27 @@ def test_directions(nominal: str, direction: int, wanted: Tuple[int, int]) -> No
 
 def test_pages_of_five_kilometres() -> None:
     """Only pages on which there is something, each shape within its page; what goes on is on both."""
-    some = [(group("A", "4.5", nominal="rising"), [header(1, *authority(), link_tables.linking(
-        1, link_tables.link(1000, 2, 1)))]), (group("B", "5.5", nominal="rising"), [header(2)]),
-        (group("C", "93", nominal="rising"), [header(3)])]
+    some = [
+        (
+            group("A", "4.5", nominal="rising"),
+            [header(1, *authority(), link_tables.linking(1, link_tables.link(1000, 2, 1)))],
+        ),
+        (group("B", "5.5", nominal="rising"), [header(2)]),
+        (group("C", "93", nominal="rising"), [header(3)]),
+    ]
     pictures = drawn(*some)
     assert [one.title for one in pictures] == ["km 0 to 5", "km 5 to 10", "km 90 to 95"]
     for picture in pictures[:2]:
-        one, = looks(picture, "section0")
+        (one,) = looks(picture, "section0")
         assert abs(float(one.width) - ROOM / 10) < 0.2
         assert len(looks(picture, "arc")) == 1
         for shape in picture.shapes:
             if shape.kind == "rect":
                 assert LEFT - 0.1 <= float(shape.x) and float(shape.x) + float(shape.width) <= LEFT + ROOM + 0.2
-    ends = [[float(number) for number in re.findall(r"-?[0-9.]+", looks(picture, "arc")[0].path)]
-            for picture in pictures[:2]]
+    ends = [
+        [float(number) for number in re.findall(r"-?[0-9.]+", looks(picture, "arc")[0].path)]
+        for picture in pictures[:2]
+    ]
     assert ends[0][4] == LEFT + ROOM and ends[1][0] == LEFT and abs(ends[0][5] - ends[1][1]) < 1
     line = line_with(*some)
     assert [len(page.stations) for page in pages(line, look(line), "", None)] == [1, 1, 1]
@@ -88,24 +97,31 @@ def test_pages_of_five_kilometres() -> None:
 def test_wrong_distances_are_red() -> None:
     links = [link_tables.link(1010, 2, 1), link_tables.link(1000, 3, 1)]
     back = link_tables.linking(0, link_tables.link(1000, 2, 0))
-    picture, = drawn((group("A", "0", nominal="rising"), [header(1, link_tables.linking(1, *links))]),
-                     (group("B", "1", nominal="rising"), [header(2)]),
-                     (group("C", "2", nominal="rising"), [header(3, back)]))
+    (picture,) = drawn(
+        (group("A", "0", nominal="rising"), [header(1, link_tables.linking(1, *links))]),
+        (group("B", "1", nominal="rising"), [header(2)]),
+        (group("C", "2", nominal="rising"), [header(3, back)]),
+    )
     assert [one.title.split(";")[0] for one in looks(picture, "arc wrong")] == ["A links B: 1010 m by D_LINK, nominal"]
     assert len(looks(picture, "arc")) == 1 and len(looks(picture, "arc back")) == 1
     assert [one.text for one in looks(picture, "red middle")] == ["L2: 1010 m, by km 1000 m"]
 
 
 def test_a_group_without_direction_is_a_mark_alone() -> None:
-    picture, = drawn((group("A", "1"), [header(1, *authority())]))
+    (picture,) = drawn((group("A", "1"), [header(1, *authority())]))
     assert len(looks(picture, "station")) == 1 and not looks(picture, "speed")
     assert [one.text for one in looks(picture, "name middle")] == ["\u2022 A"]
 
 
 def test_names_and_bands_do_not_overlap() -> None:
     """Groups that stand close have names and lanes below each other; too many lanes go on in another picture."""
-    some = [(group(f"Group {chr(65 + number)}{chr(65 + number // 2)}", f"1.{number:03}", nominal="rising"),
-             [header(number, *authority())]) for number in range(20)]
+    some = [
+        (
+            group(f"Group {chr(65 + number)}{chr(65 + number // 2)}", f"1.{number:03}", nominal="rising"),
+            [header(number, *authority())],
+        )
+        for number in range(20)
+    ]
     pictures = drawn(*some)
     assert [one.title for one in pictures] == ["km 0 to 5, part 1 of 2", "km 0 to 5, part 2 of 2"]
     assert [len(looks(one, "section0")) for one in pictures] == [LANES, 20 - LANES]
@@ -117,7 +133,7 @@ def test_names_and_bands_do_not_overlap() -> None:
                 left = float(one.x) - (width / 2 if "middle" in name else 0)
                 boxes.append((left, float(one.y), left + width))
             for number, box in enumerate(boxes):
-                for other in boxes[number + 1:]:
+                for other in boxes[number + 1 :]:
                     assert abs(box[1] - other[1]) >= 10 or box[2] <= other[0] + 0.1 or other[2] <= box[0] + 0.1
         assert picture.height < 1400
 
@@ -125,17 +141,22 @@ def test_names_and_bands_do_not_overlap() -> None:
 def test_an_open_profile_is_dashed_and_ends_somewhere() -> None:
     packets = authority()
     packets[2]["elements"].pop()
-    picture, = drawn((group("A", "1", nominal="rising"), [header(1, *packets)]))
-    one, = looks(picture, "step open")
+    (picture,) = drawn((group("A", "1", nominal="rising"), [header(1, *packets)]))
+    (one,) = looks(picture, "step open")
     assert "to an open end" in one.title
 
 
 def test_tracks_are_apart() -> None:
-    some = [(group("A", "1", nominal="rising", track="1"), [header(1, link_tables.linking(1, link_tables.link(
-        1000, 2, 1)))]), (group("B", "2", nominal="rising", track="2"), [header(2)])]
+    some = [
+        (
+            group("A", "1", nominal="rising", track="1"),
+            [header(1, link_tables.linking(1, link_tables.link(1000, 2, 1)))],
+        ),
+        (group("B", "2", nominal="rising", track="2"), [header(2)]),
+    ]
     assert tracks_of(line_with(*some)) == ["1", "2"]
     for track, name in (("1", "A"), ("2", "B")):
-        picture, = drawn(*some, track=track)
+        (picture,) = drawn(*some, track=track)
         assert [one.text[2:] for one in looks(picture, "name middle")] == [name] and not looks(picture, "arc")
 
 
@@ -157,29 +178,40 @@ def test_what_was_written(run: Run, table: Write, tmp_path: Path) -> None:
     status, out, err = run(*words, "--svg", tmp_path / "t.svg")
     assert status == 2 and out == [
         f"written: {tmp_path / 't.svg'}: 9 groups of the track, aspect \"yellow\"",
-        'a mark alone, no aspect "yellow": Infill of D', "a mark alone, refused: Signal F",
-        "left out: 1 message, which --message draws"]
+        'a mark alone, no aspect "yellow": Infill of D',
+        "a mark alone, refused: Signal F",
+        "left out: 1 message, which --message draws",
+    ]
     assert [line.split(": ")[1] for line in err] == [
-        'row 26  Signal F  km 19.803  aspect "yellow"  balise 1 "F2"', "message of line 2  cut",
-        "message of line 3  short"]
+        'row 26  Signal F  km 19.803  aspect "yellow"  balise 1 "F2"',
+        "message of line 2  cut",
+        "message of line 3  short",
+    ]
     tree = ElementTree.parse(tmp_path / "t.svg")
     texts = [one.text or "" for one in tree.iter(f"{SVG}text")]
     assert texts[0] == "refused telegrams by row: 26; refused messages by line: 2, 3"
     assert "\u25b8 Signal F: refused" in texts and sum("refused" in text for text in texts) == 2
-    refused, = [one for one in tree.iter(f"{SVG}path") if one.get("class") == "station refused"]
+    (refused,) = [one for one in tree.iter(f"{SVG}path") if one.get("class") == "station refused"]
     assert str(refused.findtext(f"{SVG}title")).endswith("; refused: row 26")
     assert run(*words)[2][-4:] == [out[0].replace(str(tmp_path / "t.svg"), "standard output"), *out[1:]]
 
 
 def test_groups_that_are_left_out(run: Run, table: Write) -> None:
     """By the reason, five names of each. A sound track has no line of what is refused."""
-    rows = [f"G{number},{'' if number > 2 else number},{number // 2 % 2},{'rising' if number else ''},{ALONE}"
-            for number in range(10)]
+    rows = [
+        f"G{number},{'' if number > 2 else number},{number // 2 % 2},{'rising' if number else ''},{ALONE}"
+        for number in range(10)
+    ]
     status, _, err = run("draw", table("group,km,track,nominal,telegram", *rows), "--track", "0")
-    assert (status, err) == (0, [
-        'written: standard output: 2 groups of track "0", the first aspect of each',
-        "a mark alone, the direction of its kilometres is not known: G0", "left out, on another track: G2",
-        "left out, no kilometre: G3, G4, G5, G6, G7 and 2 more"])
+    assert (status, err) == (
+        0,
+        [
+            'written: standard output: 2 groups of track "0", the first aspect of each',
+            "a mark alone, the direction of its kilometres is not known: G0",
+            "left out, on another track: G2",
+            "left out, no kilometre: G3, G4, G5, G6, G7 and 2 more",
+        ],
+    )
 
 
 def test_columns_passed_over_are_named(run: Run, table: Write) -> None:
@@ -220,11 +252,12 @@ def test_bad_input(run: Run, table: Write, tmp_path: Path) -> None:
 def test_names_do_no_harm(run: Run, table: Write, tmp_path: Path) -> None:
     name = "<script>&\"'\u202e"
     rows = [line.split(",") for line in (LINKS / "distance-differs.csv").read_text("utf-8").splitlines()]
-    named = csv_writing.text([*rows[0], "track"], [[name if row[0] == "A" else row[0], *row[1:], name]
-                                                   for row in rows[1:]])
+    named = csv_writing.text(
+        [*rows[0], "track"], [[name if row[0] == "A" else row[0], *row[1:], name] for row in rows[1:]]
+    )
     path = table(content=named.encode())
     status, out, _ = run("draw", path, "--track", "--svg", tmp_path / "t.svg")
-    assert status == 0 and out[0].endswith("4 groups of track \"<script>&\"'\\u202e\", the first aspect of each")
+    assert status == 0 and out[0].endswith('4 groups of track "<script>&"\'\\u202e", the first aspect of each')
     tags = {one.tag.split("}")[1] for one in ElementTree.parse(tmp_path / "t.svg").iter()}
     assert tags <= {"svg", "title", "style", "defs", "pattern", "rect", "path", "circle", "text"}
     run("report", path, "--html", tmp_path / "r.html")
@@ -262,12 +295,17 @@ def _titles(path: Path, look_wanted: str) -> List[str]:
 def test_gaps_and_end_marks(run: Run, tmp_path: Path) -> None:
     """F10 to F13 of the aspect that is shown, where a profile is missing, and beside the group's name; end marks."""
     for aspect, gaps, said in (
-            ("green", ["F11: 100 m are missing, from km 21.500 to km 21.600, nominal, Signal E"],
-             ["F11: 100 m missing"]),
-            ("yellow", [], []),
-            ("red", ["F10: no gradient, from km 15.300 to km 15.500, nominal, Signal C",
-                     "F12: no speed profile, from km 15.300 to km 15.500, nominal, Signal C"],
-             ["F10: no gradient; F12: no speed profile"])):
+        ("green", ["F11: 100 m are missing, from km 21.500 to km 21.600, nominal, Signal E"], ["F11: 100 m missing"]),
+        ("yellow", [], []),
+        (
+            "red",
+            [
+                "F10: no gradient, from km 15.300 to km 15.500, nominal, Signal C",
+                "F12: no speed profile, from km 15.300 to km 15.500, nominal, Signal C",
+            ],
+            ["F10: no gradient; F12: no speed profile"],
+        ),
+    ):
         run("draw", LINE, "--track", "--aspect", aspect, "--svg", tmp_path / "t.svg")
         assert sorted(_titles(tmp_path / "t.svg", "gap")) == gaps
         texts = [one.text or "" for one in ElementTree.parse(tmp_path / "t.svg").iter(f"{SVG}text")]
@@ -277,9 +315,13 @@ def test_gaps_and_end_marks(run: Run, tmp_path: Path) -> None:
         assert len(marks) == {"green": 16, "yellow": 14, "red": 14}[aspect]
 
 
-@pytest.mark.parametrize("name, wanted", [
-    ("gradient-short", "F11: 10 m are missing, from km 1.010 to km 1.000, nominal, A"),
-    ("speed-profile-short", "F13: 50 m are missing, from km 1.000 to km 0.950, nominal, A")])
+@pytest.mark.parametrize(
+    "name, wanted",
+    [
+        ("gradient-short", "F11: 10 m are missing, from km 1.010 to km 1.000, nominal, A"),
+        ("speed-profile-short", "F13: 50 m are missing, from km 1.000 to km 0.950, nominal, A"),
+    ],
+)
 def test_a_gap_down_the_kilometres(name: str, wanted: str, run: Run, table: Write, tmp_path: Path) -> None:
     document = json.loads((TOP / "examples" / "check" / f"{name}.json").read_text())
     rows = [f"A,2.000,falling,{text}" for text in document["groups"][0]["balises"]]
@@ -293,12 +335,14 @@ def test_what_a_profile_does_not_give() -> None:
     packets = authority()
     packets[2]["elements"].pop()
     packets[2]["elements"][0]["d_static"] = 100
-    picture, = drawn((group("A", "1", nominal="rising"), [header(1, *packets)]))
+    (picture,) = drawn((group("A", "1", nominal="rising"), [header(1, *packets)]))
     assert [one.title for one in looks(picture, "arrow")] == [
-        "the speed profile has no end mark: it is open, nominal, A"]
+        "the speed profile has no end mark: it is open, nominal, A"
+    ]
     assert [one.title for one in looks(picture, "none")] == ["not given here: up to km 1.100, nominal, A"]
     assert [one.title for one in looks(picture, "endmark")] == [
-        "end mark: the gradient profile reaches km 2.000, nominal, A"]
+        "end mark: the gradient profile reaches km 2.000, nominal, A"
+    ]
 
 
 def test_a_minus_is_as_wide_as_a_plus(run: Run, tmp_path: Path) -> None:

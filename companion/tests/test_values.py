@@ -5,10 +5,10 @@ import json
 from typing import Any, Dict, Iterator, Tuple
 
 import pytest
-
-from balisekit.packets import READ_FROM_TRACK, packet_name
-from balisekit.values import ORDER, VARIABLES, Around, metres, said, value_words, variable_name
 from cases_of_program import TOP
+
+from balisekit.etcs.packets import READ_FROM_TRACK, packet_name
+from balisekit.etcs.variables import ORDER, VARIABLES, Around, metres, said, value_words, variable_name
 
 SCHEMAS = [json.loads((TOP / "schemas" / f"{name}.json").read_text()) for name in ("telegram", "message")]
 #: Numbers that name something by themselves, and have no words.
@@ -68,14 +68,29 @@ def test_each_number_has_words(whole: Any) -> None:
 
 
 WORDS: Dict[Tuple[str, int], str] = {
-    ("v_main", 0): "0 km/h, train trip", ("v_main", 32): "160 km/h", ("end_speed", 0): "0 km/h, stop",
-    ("v_static", 127): "end of the profile", ("v_releasedp", 126): "calculated on board",
-    ("v_releaseol", 127): "the national value", ("v_train", 121): "spare", ("end_timeout", 1023): "no time-out",
-    ("t_ol", 60): "60 s", ("t_train", 100): "1.00 s", ("t_train", 4_294_967_295): "not known",
-    ("d_leveltr", 32_767): "now", ("d_lrbg", 32_767): "not known", ("d_link", 850): "8500 m", ("q_link", 1): "linked",
-    ("nid_bg", 16_383): "not known", ("l_trainint", 400): "400 m", ("m_level", 3): "level 2",
-    ("q_locacc", 5): "5 m to either side", ("n_pig", 1): "second of the group", ("n_total", 0): "1 balise",
-    ("m_version", 33): "2.1", ("m_mode", 2): "staff responsible (SR)",
+    ("v_main", 0): "0 km/h, train trip",
+    ("v_main", 32): "160 km/h",
+    ("end_speed", 0): "0 km/h, stop",
+    ("v_static", 127): "end of the profile",
+    ("v_releasedp", 126): "calculated on board",
+    ("v_releaseol", 127): "the national value",
+    ("v_train", 121): "spare",
+    ("end_timeout", 1023): "no time-out",
+    ("t_ol", 60): "60 s",
+    ("t_train", 100): "1.00 s",
+    ("t_train", 4_294_967_295): "not known",
+    ("d_leveltr", 32_767): "now",
+    ("d_lrbg", 32_767): "not known",
+    ("d_link", 850): "8500 m",
+    ("q_link", 1): "linked",
+    ("nid_bg", 16_383): "not known",
+    ("l_trainint", 400): "400 m",
+    ("m_level", 3): "level 2",
+    ("q_locacc", 5): "5 m to either side",
+    ("n_pig", 1): "second of the group",
+    ("n_total", 0): "1 balise",
+    ("m_version", 33): "2.1",
+    ("m_mode", 2): "staff responsible (SR)",
     ("m_dup", 1): "duplicate of the next balise",
     ("nid_packet", 65): "temporary speed restriction",
 }

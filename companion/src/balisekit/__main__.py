@@ -1,6 +1,6 @@
 """`python3 -m balisekit`."""
 import sys
 
-from balisekit.cli import main
+from balisekit.cli.main import main
 
 sys.exit(main())

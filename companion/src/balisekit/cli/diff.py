@@ -1,0 +1,106 @@
+"""`balisekit diff`: what differs between two releases of a line, field by field."""
+from __future__ import annotations
+
+import argparse
+import json
+import sys
+from typing import List, Optional, TextIO, Tuple
+
+from balisekit.cli.options import Command
+from balisekit.compare.lines import Difference, by_place, compare
+from balisekit.engine.program import Program
+from balisekit.errors import TableError
+from balisekit.io import files
+from balisekit.present.check_text import finding_words
+from balisekit.present.diff_text import NOT_PROVED, as_json, last_line, lines, refused_lines, verdict, where
+from balisekit.present.pages import hash_of, pieces, style
+from balisekit.present.report import date
+from balisekit.rules import checking
+from balisekit.tables import document as document_file, messages as messages_file, reader as tables
+from balisekit.tables.model import Messages, Table
+from balisekit.tables.names import clean
+
+
+def add_options(parser: argparse.ArgumentParser) -> None:
+    """The options of this command."""
+    text = "a table, or a document of a line as --document writes it"
+    parser.add_argument("old", metavar="OLD", help=text)
+    parser.add_argument("new", metavar="NEW", help=text)
+    for side in ("old", "new"):
+        parser.add_argument(f"--{side}-messages", metavar="FILE", help=f"radio messages beside the {side} table")
+    parser.add_argument("--sheet", metavar="NAME", help="which sheet of an .xlsx, in both")
+    parser.add_argument("--program", metavar="PATH", help="the program balisecheck, in place of the one found")
+    parser.add_argument("--html", metavar="FILE", help="write the answer as one page of HTML; - is standard output")
+    parser.add_argument("--json", metavar="FILE", help="write all of the answer as JSON; - is standard output")
+
+
+def run(options: argparse.Namespace) -> int:
+    """Does it. The answer is the exit status."""
+    targets = (options.html, options.json)
+    files.look_at_targets(targets)
+    sides = [_read(options.old, options.old_messages, options.sheet), _read(options.new, options.new_messages, options.sheet)]
+    named = not any(is_document for _, _, is_document in sides)
+    if not named:
+        sides = [(by_place(table), messages, is_document) for table, messages, is_document in sides]
+    program = Program.find(options.program)
+    old, new = (checking.check(program, table, messages) for table, messages, _ in sides)
+    found = compare(old, new, named)
+    if options.html:
+        _page(options.html, found)
+    if options.json:
+        with files.writing(options.json) as file:
+            text = json.dumps(as_json(found), indent=1, ensure_ascii=False)
+            file.write(text.encode("utf-8", "backslashreplace") + b"\n")
+    out: TextIO = sys.stderr if "-" in targets else sys.stdout
+    for line in lines(found):
+        print(line, file=out)
+    return found.status
+
+
+def _read(path: str, messages: Optional[str], sheet: Optional[str]) -> Tuple[Table, Optional[Messages], bool]:
+    """A table with its messages, or a document, and whether it is one."""
+    file = files.read(path)
+    if not document_file.is_document(file.content):
+        return tables.read(path, sheet), messages_file.read(messages) if messages else None, False
+    if messages:
+        raise TableError(f"{path}: a document has its messages itself: {messages} can't be beside it")
+    return (*document_file.read(file), True)
+
+
+def _page(path: str, found: Difference) -> None:
+    """The answer in the style of the report."""
+    sheet = style("page.css")
+    sides = [
+        (word, clean(side.checked.table.path), side.checked.table.sha256, verdict(side.checked))
+        for word, side in (("old", found.old), ("new", found.new))
+    ]
+    findings = [
+        (word, [(finding_words(place), place.finding.line) for place in places])
+        for word, places in (("gone", found.findings_gone), ("new", found.findings_new))
+    ]
+    refused: List[List[str]] = []
+    for line in (*refused_lines("old", found.old.checked), *refused_lines("new", found.new.checked)):
+        if line.startswith("    program: "):
+            refused[-1][1] = line[len("    program: ") :]
+        else:
+            refused.append([line, ""])
+    page = pieces(
+        "diff.html",
+        style=sheet,
+        style_hash=hash_of(str(sheet)),
+        date=date(),
+        found=found,
+        sides=sides,
+        findings=findings,
+        refused=refused,
+        last_line=last_line(found),
+        where=where,
+        not_proved=NOT_PROVED,
+        program=found.new.checked.program,
+    )
+    with files.writing(path) as file:
+        for piece in page:
+            file.write(piece.encode("utf-8"))
+
+
+COMMAND = Command("diff", "compare two releases of a line, field by field", add_options, run)

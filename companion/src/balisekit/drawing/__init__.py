@@ -1,0 +1,1 @@
+"""Pictures of groups, messages and tracks, as shapes with coordinates."""

@@ -1,0 +1,33 @@
+"""Shapes as SVG. Pages have hundreds of thousands of them, and a template would take most of the time for that."""
+from __future__ import annotations
+
+from functools import lru_cache
+from typing import Iterable
+
+from markupsafe import Markup, escape
+
+from balisekit.drawing.canvas import Shape
+
+
+@lru_cache(maxsize=1 << 16)
+def _escaped(text: str) -> str:
+    """A title or text as a page may have it. Most of them come again and again."""
+    return str(escape(text))
+
+
+def _svg(one: Shape) -> str:
+    """A shape, a line each. Titles and texts are escaped; the rest is made of numbers and of words of balisekit."""
+    kind, look, title, x, y, width, height, path, text = one
+    if kind == "rect":
+        return (
+            f'<rect class="{look}" x="{x}" y="{y}" width="{width}" height="{height}">'
+            f"<title>{_escaped(title)}</title></rect>\n"
+        )
+    if kind == "path":
+        return f'<path class="{look}" d="{path}">{f"<title>{_escaped(title)}</title>" if title else ""}</path>\n'
+    return f'<text class="{look}" x="{x}" y="{y}">{_escaped(text)}</text>\n'
+
+
+def svg(shapes: Iterable[Shape]) -> Markup:
+    """The shapes of a picture, a line for each one."""
+    return Markup("".join(map(_svg, shapes)))

@@ -1,0 +1,177 @@
+"""What the program says, as regular expressions, and what a line of it holds.
+
+docs/FORMATS.md has the same block. A line has a name and an expression, in which {NAME} stands for the expression of
+that name. An expression is matched against a whole line, without its line end.
+"""
+from __future__ import annotations
+
+import re
+from dataclasses import dataclass
+from typing import Dict, Iterator, List, Match, Optional, Pattern, Tuple
+
+GRAMMAR = r"""
+number          0|[1-9][0-9]*
+count           [1-9][0-9]*
+place           at (?P<at>{number}) end (?P<end>{number})
+path            /|(?:/(?:[a-z_]+|{number}))+
+telegram        not hexadecimal|wrong size|pad bits set|{telegram fault}
+telegram fault  (?P<why>short|spare|length|no end|version|loop|down-link) {place}
+message fault   (?P<why>short|spare|length|message kind|no authority|no report) {place}
+form            form (?P<why>missing key|unknown key|kind|range) at (?P<path>{path})
+document form   form (?P<why>missing key|unknown key|kind) at (?P<path>{path})
+line            line (?P<line>{count})
+group           group (?P<group>{number})
+aspect          {group}(?: aspect (?P<aspect>{number}))?
+balise          {aspect} balise (?P<balise>[0-7])
+message         message (?P<message>{number})
+packet          (?:{balise}|{message}) packet (?P<packet>{number})
+direction       (?P<direction>nominal|reverse)
+
+verdict         yes: groups (?P<groups>{number}), messages (?P<messages>{number})
+verdict         no: findings (?P<findings>{count})
+
+finding         F1 {balise}: position wrong
+finding         F2 {balise}: total wrong
+finding         F3 {balise}: version, identity or link flag differs
+finding         F4 {balise}: mark points outside
+finding         F5 {balise}: mark not answered
+finding         F6 {balise}: counter 254
+finding         F7 {balise}: counters differ
+finding         F8 {balise} {direction}: packets of duplicates differ
+finding         F9 {packet}: packet not modelled
+finding         F10 (?:{aspect}|{message}) {direction}: no gradient
+finding         F11 {packet} {direction}: gradient short
+finding         F12 (?:{aspect}|{message}) {direction}: no speed profile
+finding         F13 {packet} {direction}: speed profile short
+finding         F14 {group}: identity used before
+finding         F15 {balise}: marks differ between aspects
+finding         F16 {balise}: aspects not told apart
+
+words           refused: (?P<text>usage is balisecheck check, decode \[--radio\] or encode \[--radio\])
+decode          refused: {line}: (?P<text>{telegram})
+decode --radio  refused: {line}: (?P<text>not hexadecimal)
+decode --radio  refused: {message}: (?P<text>length below 3|cut off|{message fault})
+encode          refused: {line}: (?P<text>not JSON|too big|{form})
+encode --radio  refused: {line}: (?P<text>not JSON|too big|{form})
+check           refused: (?P<text>not JSON|{document form})
+check           refused: {group}: (?P<text>count|aspects)
+check           refused: {balise}: (?P<text>{telegram})
+check           refused: {message}: (?P<text>not hexadecimal|{message fault})
+"""
+
+
+def _whole(text: str) -> Iterator[Tuple[str, str]]:
+    """Each name with its expression, in which the others are put in."""
+    lines = [re.split(" {2,}", line, maxsplit=1) for line in text.split("\n") if line]
+    parts = dict((name, expression) for name, expression in lines)
+
+    def put_in(expression: str) -> str:
+        return re.sub(r"\{([a-z ]+)\}", lambda found: f"(?:{put_in(parts[found[1]])})", expression)
+
+    for name, expression in lines:
+        yield name, put_in(expression)
+
+
+EXPRESSIONS: Dict[str, List[Pattern[str]]] = {}
+"""The expressions by their names: `verdict`, `finding`, and the command whose refusal it is."""
+for _name, _expression in _whole(GRAMMAR):
+    EXPRESSIONS.setdefault(_name, []).append(re.compile(_expression))
+
+NAMES: Dict[int, str] = {}
+"""The names of findings by their rules."""
+for _line in re.findall(r"^finding +F(.+)$", GRAMMAR, re.MULTILINE):
+    NAMES[int(_line.split(" ")[0])] = _line.rsplit(": ", 1)[1]
+
+
+@dataclass(frozen=True)
+class Verdict:
+    """The first line of a report."""
+
+    line: str
+    groups: Optional[int]
+    """Of a yes: the groups that were checked, and None else."""
+    messages: Optional[int]
+    findings: int
+
+    @property
+    def yes(self) -> bool:
+        """Whether the program has said yes."""
+        return self.groups is not None
+
+
+@dataclass(frozen=True)
+class Finding:
+    """One line of a report. Numbers that it does not name are None."""
+
+    line: str
+    rule: int
+    name: str
+    group: Optional[int] = None
+    message: Optional[int] = None
+    aspect: Optional[int] = None
+    balise: Optional[int] = None
+    packet: Optional[int] = None
+    direction: Optional[str] = None
+
+
+@dataclass(frozen=True)
+class Refusal:
+    """A line that begins with `refused: `. What it does not name is None."""
+
+    text: str
+    """The words behind the place: `spare at 15 end 17`."""
+    line: str = ""
+    """The program's whole line."""
+    why: Optional[str] = None
+    at: Optional[int] = None
+    end: Optional[int] = None
+    path: Optional[str] = None
+    number: Optional[int] = None
+    """The number of the input's line, counted from 1 in the run that refused it."""
+    group: Optional[int] = None
+    aspect: Optional[int] = None
+    balise: Optional[int] = None
+    message: Optional[int] = None
+
+
+def _match(name: str, line: str) -> Optional[Match[str]]:
+    """What the first expression of this name that the line matches has found."""
+    for expression in EXPRESSIONS[name]:
+        found = expression.fullmatch(line)
+        if found:
+            return found
+    return None
+
+
+def _number(found: Match[str], name: str) -> Optional[int]:
+    digits = found.groupdict().get(name)
+    return None if digits is None else int(digits)
+
+
+def verdict(line: str) -> Optional[Verdict]:
+    """The first line of a report, or None if the line is none."""
+    found = _match("verdict", line)
+    if not found:
+        return None
+    return Verdict(line, _number(found, "groups"), _number(found, "messages"), _number(found, "findings") or 0)
+
+
+def finding(line: str) -> Optional[Finding]:
+    """The finding of a line, or None if it is none."""
+    found = _match("finding", line)
+    if not found:
+        return None
+    rule = int(line[1 : line.index(" ")])
+    numbers = {name: _number(found, name) for name in ("group", "message", "aspect", "balise", "packet")}
+    return Finding(line, rule, NAMES[rule], direction=found.groupdict().get("direction"), **numbers)
+
+
+def refusal(command: str, line: str) -> Optional[Refusal]:
+    """The refusal that a command has written in a line, or None if it is none of this command."""
+    found = _match(command, line)
+    if not found:
+        return None
+    parts = found.groupdict()
+    numbers = {name: _number(found, name) for name in ("at", "end", "group", "aspect", "balise", "message")}
+    number = _number(found, "line")
+    return Refusal(parts["text"], line, parts.get("why"), path=parts.get("path"), number=number, **numbers)

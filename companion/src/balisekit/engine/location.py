@@ -1,0 +1,71 @@
+"""Where the program's file is, and the papers of a stored one."""
+from __future__ import annotations
+
+import hashlib
+import os
+import shutil
+import subprocess
+from pathlib import Path
+from typing import Dict, Optional
+
+from balisekit.errors import NoAnswer
+
+TOP = Path(__file__).resolve().parents[4]
+"""The top of the repository, if this is a clone."""
+
+
+def find(named: Optional[str]) -> str:
+    """Where the program is. The start script of the clone stands for the program that it would run."""
+    named = named or os.environ.get("BALISECHECK")
+    script = TOP / "balisecheck"
+    is_clone = (TOP / "companion" / "pyproject.toml").is_file() and script.is_file()
+    if named:
+        path = shutil.which(named)
+        if path is None:
+            raise NoAnswer(f"there is no program {named}")
+    elif is_clone:
+        path = str(script)
+    else:
+        path = shutil.which("balisecheck")
+        if path is None:
+            raise NoAnswer("there is no balisecheck on the path: name one by --program or BALISECHECK")
+    # (in a clone it is the start script; in a release it is the program itself)
+    if is_clone and os.path.samefile(path, script) and script.read_bytes()[:4] != b"\x7fELF":
+        path = _stored(str(script))
+    return os.path.abspath(path)
+
+
+def _stored(script: str) -> str:
+    """The program that the start script would run."""
+    try:
+        run = subprocess.run(
+            [script], stdin=subprocess.DEVNULL, capture_output=True, env={**os.environ, "BALISECHECK_PATH": "1"}
+        )
+    except OSError as error:
+        raise NoAnswer(f"{script}: {error.strerror}") from error
+    path = os.fsdecode(run.stdout.rstrip(b"\n"))
+    if run.returncode != 0 or not os.path.isfile(path):
+        said = run.stderr.decode("utf-8", "backslashreplace").strip().split("\n")[-1]
+        raise NoAnswer(f"{script} names no program: {said or 'it says nothing'}")
+    return path
+
+
+def checksum(path: str) -> str:
+    """The SHA-256 of the file."""
+    try:
+        return hashlib.sha256(Path(path).read_bytes()).hexdigest()
+    except OSError as error:
+        raise NoAnswer(f"{path}: {error.strerror}") from error
+
+
+def papers(sha256: str) -> Dict[str, str]:
+    """The lines of ABOUT that name the program with this checksum."""
+    for about in sorted(TOP.glob("dist/*/ABOUT")):
+        try:
+            lines = about.read_text("utf-8").split("\n")
+        except (OSError, UnicodeDecodeError):
+            continue
+        papers = dict(line.split(" ", 1) for line in lines if " " in line)
+        if sha256 in papers.get("program", ""):
+            return papers
+    return {}

@@ -1,0 +1,273 @@
+"""Where authorities and profiles of a group lie: whole decimetres from the group, in the direction of passage.
+
+The places are balisekit's own sums of the program's numbers. A place in kilometres needs the kilometre of the group's
+first balise, and whether the kilometres rise in nominal direction.
+"""
+from __future__ import annotations
+
+from dataclasses import dataclass
+from decimal import Decimal
+from functools import cached_property, lru_cache
+from itertools import accumulate
+from typing import Dict, FrozenSet, List, Mapping, NamedTuple, Optional, Sequence, Tuple
+
+from balisekit.etcs.variables import Form, unit_dm
+from balisekit.tables.model import Group
+
+NOMINAL, REVERSE = "nominal", "reverse"
+INFILL = 136
+"""The packet behind which distances count from another group."""
+DIRECTIONS = (NOMINAL, REVERSE)
+ELEMENT_KEYS: Mapping[int, Tuple[str, str, int]] = {21: ("d_gradient", "g_a", 255), 27: ("d_static", "v_static", 127)}
+"""Of each profile: the keys of distance and value, and the value that is its end mark."""
+
+
+class Site(NamedTuple):
+    """Where a packet stands: its balise in the group, and its place in the telegram, both counted from 0."""
+
+    balise: int
+    packet: int
+
+
+NONE: FrozenSet[Site] = frozenset()
+GREATEST = 10**15
+"""In decimetres. The kilometres of a table are far less."""
+
+
+@dataclass(frozen=True)
+class Authority:
+    """A movement authority, packet 12 or 15."""
+
+    site: Site
+    form: Form
+    cuts: Tuple[int, ...]
+    """Where each section but the end section ends."""
+    end: int
+    danger_point: Optional[int]
+    overlap: Optional[int]
+    """Where the overlap ends."""
+    timer_stops: Tuple[int, ...]
+    """Where the timers of sections stop, that of the end section last."""
+    end_timer: Optional[int]
+    overlap_timer: Optional[int]
+
+    @property
+    def supervised(self) -> int:
+        """The supervised location: the overlap's end, else the danger point, else the end of the authority."""
+        if self.overlap is not None:
+            return self.overlap
+        return self.end if self.danger_point is None else self.danger_point
+
+
+class Element(NamedTuple):
+    """What holds from one place of a profile on. Without `end` it holds on and on."""
+
+    begin: int
+    end: Optional[int]
+    form: Form
+    value: int
+    """The value as it is sent."""
+
+
+@dataclass(frozen=True)
+class Profile:
+    """A gradient profile or a static speed profile, packet 21 or 27."""
+
+    site: Site
+    number: int
+    elements: Tuple[Element, ...]
+    """The elements before the first end mark."""
+    beyond: Tuple[Element, ...]
+    """The elements behind it, which say nothing."""
+    first: int
+    """Where the first element lies. The profile says nothing of the track before it."""
+    reach: Optional[int]
+    """Where the first end mark lies. A profile without one is open."""
+
+
+@dataclass(frozen=True)
+class Way:
+    """What a group or message says in one direction."""
+
+    direction: str
+    authorities: Tuple[Authority, ...]
+    gradients: Tuple[Profile, ...]
+    speeds: Tuple[Profile, ...]
+
+    @property
+    def supervised(self) -> Optional[int]:
+        """The greatest supervised location of all its authorities."""
+        return max((one.supervised for one in self.authorities), default=None)
+
+    def __bool__(self) -> bool:
+        return bool(self.authorities or self.gradients or self.speeds)
+
+
+@dataclass(frozen=True)
+class Kilometres:
+    """The kilometre of a group, and how the kilometres go: 1 if they rise in nominal direction, -1 if they fall."""
+
+    group: Optional[Decimal] = None
+    rising: Optional[int] = None
+
+    def at(self, place_dm: int, direction: str) -> Optional[Decimal]:
+        """The kilometre of a place, or None if it is not known."""
+        if self.group is None or (self.rising is None and place_dm != 0):
+            return None
+        return self.group + Decimal(self._along(direction) * place_dm).scaleb(-4)
+
+    @cached_property
+    def _whole(self) -> Optional[int]:
+        """The kilometre of the group in decimetres, where that is a whole number and no great one."""
+        place = Decimal() if self.group is None else self.group.scaleb(4)
+        return int(place) if abs(place) < GREATEST and place == int(place) else None
+
+    def words(self, place_dm: int, direction: str) -> str:
+        """The kilometre of a place as it is written, or nothing if it is not known."""
+        if self.group is None or (self.rising is None and place_dm != 0):
+            return ""
+        whole, along = self._whole, place_dm if (self.rising != -1) == (direction == NOMINAL) else -place_dm
+        return kilometre(self.group + Decimal(along).scaleb(-4)) if whole is None else kilometre_of(whole + along)
+
+    def _along(self, direction: str) -> int:
+        return (self.rising or 1) * (1 if direction == NOMINAL else -1)
+
+
+def kilometre(km: Decimal) -> str:
+    """A kilometre with three places behind the point, and more where it has more."""
+    places = -int(km.normalize().as_tuple().exponent)
+    return f"{km:.{max(3, places)}f}"
+
+
+@lru_cache(maxsize=1 << 14)
+def kilometre_of(place: int) -> str:
+    """A place of whole decimetres as `kilometre` writes it, without the way by decimal numbers, which takes long."""
+    whole, part = divmod(abs(place), 10_000)
+    digits = f"{part:04}"
+    return f"{'-' if place < 0 else ''}{whole}.{digits[:3]}{digits[3:].rstrip('0')}"
+
+
+def kilometres(group: Group) -> Kilometres:
+    """What the table says of the group's place: the kilometres of its balises, else the column `nominal`."""
+    known: Dict[int, Decimal] = {}
+    for aspect in group.aspects:
+        for place, row in enumerate(aspect.rows):
+            if row.km is not None:
+                known.setdefault(place, row.km)
+    along = [known[place] for place in sorted(known)]
+    rises = all(one <= other for one, other in zip(along, along[1:]))
+    falls = all(one >= other for one, other in zip(along, along[1:]))
+    if rises != falls:
+        return Kilometres(known.get(0), 1 if rises else -1)
+    words = {row.nominal for row in group.rows()} - {""}
+    rising = {"rising": 1, "falling": -1}.get(words.pop()) if rises and len(words) == 1 else None
+    return Kilometres(known.get(0), rising)
+
+
+def authority(site: Site, packet: Form) -> Authority:
+    """The places of a packet 12 or 15."""
+    unit, at = unit_dm(packet), 0
+    cuts: List[int] = []
+    stops: List[int] = []
+    for section in packet["sections"]:
+        if "section_timer" in section:
+            stops.append((at + section["section_timer"]["d_sectiontimerstoploc"]) * unit)
+        at += section["l_section"]
+        cuts.append(at * unit)
+    if "section_timer" in packet:
+        stops.append((at + packet["section_timer"]["d_sectiontimerstoploc"]) * unit)
+    end = at + packet["l_endsection"]
+
+    def beyond(part: str, key: str, sign: int = 1) -> Optional[int]:
+        return (end + sign * packet[part][key]) * unit if part in packet else None
+
+    return Authority(
+        site,
+        packet,
+        tuple(cuts),
+        end * unit,
+        beyond("danger_point", "d_dp"),
+        beyond("overlap", "d_ol"),
+        tuple(stops),
+        beyond("end_timer", "d_endtimerstartloc", -1),
+        beyond("overlap", "d_startol", -1),
+    )
+
+
+def profile(site: Site, packet: Form) -> Profile:
+    """The places of a packet 21 or 27."""
+    distance, value, mark = ELEMENT_KEYS[packet["nid_packet"]]
+    unit, sent = unit_dm(packet), packet["elements"]
+    places = [at * unit for at in accumulate(element[distance] for element in sent)]
+    values = [element[value] for element in sent]
+    elements = tuple(map(Element, places, [*places[1:], None], sent, values))
+    if mark not in values:
+        return Profile(site, packet["nid_packet"], elements, (), places[0], None)
+    before = values.index(mark)
+    beyond = tuple(element for element in elements[before + 1 :] if element.value != mark)
+    return Profile(site, packet["nid_packet"], elements[:before], beyond, places[0], places[before])
+
+
+def is_silent(forms: Sequence[Form], balise: int, direction: str) -> bool:
+    """Whether a balise is passed behind the one that its duplicate flag names, whose packets are the same."""
+    flag = forms[balise].get("m_dup", 0)
+    if direction == NOMINAL:
+        return bool(flag == 2 and balise > 0)
+    return bool(flag == 1 and balise + 1 < len(forms))
+
+
+def holds(packet: Form, direction: str) -> bool:
+    """Whether a packet from track to train is for this direction. Packet 0, which has no Q_DIR, is for both."""
+    return packet.get("q_dir", 2) in _holding(direction)
+
+
+def _holding(direction: str) -> Tuple[int, int]:
+    """The Q_DIR of the packets that hold in this direction."""
+    return 2, 1 if direction == NOMINAL else 0
+
+
+def passed(forms: Sequence[Form], direction: str) -> List[Tuple[Site, Form]]:
+    """The packets of a group for one direction in passing order, without those of silent balises."""
+    order = range(len(forms)) if direction == NOMINAL else range(len(forms) - 1, -1, -1)
+    holding = _holding(direction)
+    return [
+        (Site(balise, place), packet)
+        for balise in order
+        if not is_silent(forms, balise, direction)
+        for place, packet in enumerate(forms[balise]["packets"])
+        if packet.get("q_dir", 2) in holding
+    ]
+
+
+def infill(forms: Sequence[Form], direction: str) -> FrozenSet[Site]:
+    """The packets that are passed behind a packet 136: their distances count from another group."""
+    return _behind_infill(passed(forms, direction)) if has_infill(forms) else NONE
+
+
+def has_infill(forms: Sequence[Form]) -> bool:
+    """Whether there is a packet 136 at all, as most groups have none."""
+    return any(packet["nid_packet"] == INFILL for form in forms for packet in form["packets"])
+
+
+def _behind_infill(packets: Sequence[Tuple[Site, Form]]) -> FrozenSet[Site]:
+    """Those of the passed packets that come behind a packet 136."""
+    behind, sites = False, set()
+    for site, packet in packets:
+        if behind:
+            sites.add(site)
+        behind = behind or packet["nid_packet"] == INFILL
+    return frozenset(sites) if sites else NONE
+
+
+def way(forms: Sequence[Form], direction: str, of_infill: bool = False) -> Way:
+    """What the telegrams of a group say in one direction: of the group's own places, or of the infill's."""
+    known = passed(forms, direction)
+    elsewhere = _behind_infill(known)
+    packets = [one for one in known if (one[0] in elsewhere) == of_infill] if elsewhere or of_infill else known
+    profiles = [profile(site, packet) for site, packet in packets if packet["nid_packet"] in ELEMENT_KEYS]
+    return Way(
+        direction,
+        tuple(authority(site, packet) for site, packet in packets if packet["nid_packet"] in (12, 15)),
+        tuple(one for one in profiles if one.number == 21),
+        tuple(one for one in profiles if one.number == 27),
+    )

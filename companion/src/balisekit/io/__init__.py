@@ -1,0 +1,1 @@
+"""Files: read once with their checksum, and written as a whole."""

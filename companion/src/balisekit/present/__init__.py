@@ -1,0 +1,1 @@
+"""Results in words, JSON, JUnit and HTML."""

@@ -1,0 +1,63 @@
+"""A telegram or message bit by bit: each field with its first and last bit, the ones that the JSON leaves out too."""
+from __future__ import annotations
+
+from typing import Dict, Iterator, List, Mapping, Union
+
+from balisekit.errors import NoAnswer
+from balisekit.etcs.layout import Field, bits_of, message_fields, telegram_fields, user_bits
+from balisekit.etcs.packets import packet_name
+from balisekit.etcs.variables import Form
+from balisekit.present.telegram_text import Shown, form_lines
+
+
+def bit_lines(digits: str, form: Form) -> Iterator[str]:
+    """A line for each field. NoAnswer is raised if the fields found here have other numbers than the program's JSON."""
+    is_message = "nid_message" in form
+    fields = message_fields(bits_of(digits)) if is_message else telegram_fields(user_bits(digits))
+    known = {shown.path: shown for line in form_lines(form) for shown in line.values}
+    _compare(fields, {path: shown.raw for path, shown in known.items() if path != "/user_bits"})
+    packet = None
+    for field in fields:
+        if field.packet is not None and field.packet != packet:
+            packet = field.packet
+            name = packet_name(field.number or 0, form.get("nid_message") != 136)
+            yield f"  packet {packet}: {name}"
+        yield f"    {_place(field):<17} {_words(field, known)}"
+
+
+def _place(field: Field) -> str:
+    """The first and the last bit of a field. The body of a packet may be empty."""
+    if field.width < 2:
+        return f"bit {field.at}" if field.width else "no bits"
+    return f"bits {field.at} to {field.at + field.width - 1}"
+
+
+def _words(field: Field, known: Mapping[str, Shown]) -> str:
+    if field.name == "fill":
+        return "fill, without meaning"
+    if not field.parts:
+        return f"{field.name} {field.value}"
+    return "  ".join(known[path].text for path, _ in field.parts)
+
+
+def _compare(fields: List[Field], wanted: Dict[str, Union[int, str]]) -> None:
+    """Each value of the JSON is that of its field, and no field has a value that the JSON lacks."""
+    found: Dict[str, Union[int, str]] = {}
+    for field in fields:
+        rest = field.digits
+        for path, width in field.parts:
+            found[path], rest = _value(path, rest[:width]), rest[width:]
+    for path in {**found, **wanted}:
+        if found.get(path) != wanted.get(path):
+            raise NoAnswer(
+                f"balisekit's tables and the program disagree about {path}: "
+                f"{found.get(path)} and {wanted.get(path)}"
+            )
+
+
+def _value(path: str, digits: str) -> Union[int, str]:
+    """A number, or a body as the JSON has it: hexadecimal digits with zeros up to a whole byte."""
+    if not path.endswith("/body"):
+        return int(digits, 2)
+    whole = digits + "0" * (-len(digits) % 8)
+    return f"{int(whole, 2):0{len(whole) // 4}x}" if whole else ""

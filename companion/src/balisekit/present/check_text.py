@@ -1,0 +1,97 @@
+"""The answer of `check` in words: every refused telegram, then the program's findings, by row, name and kilometre."""
+from __future__ import annotations
+
+from typing import Dict, Iterator, Optional
+
+from balisekit.present import accepted as accepted_output, explanations as explain
+from balisekit.present.headings import headings
+from balisekit.present.refusals import message_refused, telegram_refused
+from balisekit.rules.accepted import Judged
+from balisekit.rules.aspect_counts import aspects_found
+from balisekit.rules.checking import Checked, Place, Refused
+from balisekit.rules.remarks import remarks
+from balisekit.tables.model import Group, Table
+from balisekit.tables.names import describe_balise, clean, describe_group, describe_message, passed_over
+
+
+def lines(checked: Checked, explained: bool = False, judged: Optional[Judged] = None) -> Iterator[str]:
+    """The answer in words. The last line is the program's, or says that the answer is not whole."""
+    table = checked.table
+    yield f"{clean(table.path)}: {len(table.rows)} telegrams of {len(table.groups)} groups"
+    yield from passed_over(table)
+    yield from (f"note: {clean(note)}" for note in table.notes)
+    groups = {row.number: group for group in table.groups for row in group.rows()}
+    for refused in checked.refused:
+        yield from _refused(refused, groups)
+    for message in checked.refused_messages:
+        yield f"{describe_message(message.message)}: {message_refused(message.message.text, message.refusal)}"
+        yield f"    program: {message.refusal.text}"
+    yield from (f"left out: {describe_group(one.group)}: {one.why}" for one in checked.left_out)
+    if checked.not_looked_at:
+        yield f"and {checked.not_looked_at} rows not looked at: --all goes on"
+    if checked.messages_not_looked_at:
+        yield f"and {checked.messages_not_looked_at} messages not looked at: --all goes on"
+    entries = judged.by_finding if judged else (None,) * len(checked.findings)
+    for heading, place, entry in zip(headings(checked.findings), checked.findings, entries):
+        yield from [heading] if heading else []
+        yield f"{finding_words(place)}"
+        yield f"    program: {place.finding.line}"
+        if entry:
+            yield f"    {accepted_output.accepted_words(entry)}"
+    if explained:
+        yield from _explained(checked)
+    yield from before_last(table)
+    yield from accepted_output.closing_lines(judged, last_line(checked)) if judged else (last_line(checked),)
+
+
+def before_last(table: Table) -> Iterator[str]:
+    """What is said of the table before the last line, and changes neither that nor the status."""
+    yield from remarks(table)
+    yield aspects_found(table)
+
+
+def _refused(refused: Refused, groups: Dict[int, Group]) -> Iterator[str]:
+    words = describe_balise(groups.get(refused.row.number), refused.row)
+    yield f"{words}: {telegram_refused(refused.row.telegram, refused.refusal)}"
+    yield f"    program: {refused.refusal.text}"
+
+
+def finding_words(place: Place) -> str:
+    """A finding by the names of what it is about."""
+    finding = place.finding
+    if place.message:
+        words = f"message of {describe_message(place.message)}"
+    elif place.group is None:
+        words = ""
+    elif place.row is None:
+        words = describe_group(place.group, place.aspect)
+    else:
+        words = describe_balise(place.group, place.row)
+    parts = [f"packet {finding.packet}"] if finding.packet is not None else []
+    parts += [finding.direction] if finding.direction else []
+    name = finding.name + (f" by {describe_group(place.earlier)}" if place.earlier else "")
+    name += f": {place.differs}" if place.differs else ""
+    return "  ".join([words, *parts]) + f": {name}"
+
+
+def _explained(checked: Checked) -> Iterator[str]:
+    """The lines of docs/FINDINGS.md on each rule that has a finding."""
+    known = explain.explanations()
+    for rule in sorted({place.finding.rule for place in checked.findings}):
+        yield from explain.lines(f"F{rule}", known[rule])
+
+
+def last_line(checked: Checked) -> str:
+    """The program's verdict, or that something was left out."""
+    if checked.whole and checked.verdict:
+        return f"program: {checked.verdict.line}"
+    rows, groups = checked.table.rows, checked.table.groups
+    parts = [f"{len(checked.refused)} of {len(rows)} telegrams refused"]
+    if checked.messages and checked.refused_messages:
+        parts.append(f"{len(checked.refused_messages)} of {len(checked.messages.messages)} messages refused")
+    parts.append(f"{len(checked.left_out)} of {len(groups)} groups left out")
+    parts += [f"{checked.not_looked_at} rows not looked at"] if checked.not_looked_at else []
+    some = checked.messages_not_looked_at
+    parts += [f"{some} messages not looked at"] if some else []
+    found = f"; findings in the rest: {len(checked.findings)}" if checked.findings else ""
+    return f"INCOMPLETE: {', '.join(parts)}{found}"

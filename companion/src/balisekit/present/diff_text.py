@@ -1,0 +1,110 @@
+"""The answer of `diff` in words and as JSON."""
+from __future__ import annotations
+
+from typing import Any, Dict, Iterator, List
+
+from balisekit.compare.lines import Changed, Difference
+from balisekit.present.check_text import finding_words
+from balisekit.present.refusals import message_refused, telegram_refused
+from balisekit.rules.checking import Checked
+from balisekit.tables.names import describe_balise, clean, describe_message
+
+NOT_PROVED = "pairs and differences are found by balisekit, which is not proved; the program's own lines are quoted"
+
+
+def lines(found: Difference) -> Iterator[str]:
+    """The answer in words."""
+    for word, side in (("old", found.old), ("new", found.new)):
+        table = side.checked.table
+        yield f"{word}: {clean(table.path)}: {len(table.rows)} telegrams of {len(table.groups)} groups"
+    yield NOT_PROVED
+    yield from (f"note: {note}" for note in found.notes)
+    yield from refused_lines("old", found.old.checked)
+    yield from refused_lines("new", found.new.checked)
+    for word, some in (("removed", found.groups_removed), ("added", found.groups_added)):
+        yield from (f"group {word}: {words}" for words in some)
+    for word, some in (("removed", found.removed), ("added", found.added)):
+        yield from (f"{word}: {words}" for words in some)
+    for changed in found.changed:
+        yield f"changed: {where(changed)}"
+        yield from (f"    {change}" for change in changed.changes)
+    yield from (f"changed in fill or case alone: {where(changed)}" for changed in found.respelled)
+    for word, places in (("gone", found.findings_gone), ("new", found.findings_new)):
+        for place in places:
+            yield f"finding {word}: {finding_words(place)}"
+            yield f"    program: {place.finding.line}"
+    yield f"unchanged: {found.unchanged}, SHA-256 {found.sha256}"
+    yield last_line(found)
+
+
+def where(changed: Changed) -> str:
+    """A telegram or message, and its rows."""
+    return f"{changed.words}  rows {changed.old} and {changed.new}"
+
+
+def refused_lines(word: str, checked: Checked) -> Iterator[str]:
+    """What could not be compared of one release."""
+    groups = {row.number: group for group in checked.table.groups for row in group.rows()}
+    for one in checked.refused:
+        words = describe_balise(groups.get(one.row.number), one.row)
+        yield f"refused in {word}: {words}: {telegram_refused(one.row.telegram, one.refusal)}"
+        yield f"    program: {one.refusal.text}"
+    for bad in checked.refused_messages:
+        said = message_refused(bad.message.text, bad.refusal)
+        yield f"refused in {word}: message of {describe_message(bad.message)}: {said}"
+        yield f"    program: {bad.refusal.text}"
+    if checked.not_looked_at:
+        yield f"not looked at in {word}: {checked.not_looked_at} rows"
+    if checked.messages_not_looked_at:
+        yield f"not looked at in {word}: {checked.messages_not_looked_at} messages"
+
+
+def last_line(found: Difference) -> str:
+    """How much differs, and whether all could be compared."""
+    parts = [
+        f"groups added {len(found.groups_added)}, removed {len(found.groups_removed)}",
+        f"telegrams and messages added {len(found.added)}, removed {len(found.removed)}, "
+        f"changed {len(found.changed)}, in fill or case alone {len(found.respelled)}",
+        f"findings new {len(found.findings_new)}, gone {len(found.findings_gone)}",
+    ]
+    return ("" if found.whole else "INCOMPLETE: what was refused is not compared; ") + "; ".join(parts)
+
+
+def as_json(found: Difference) -> Dict[str, Any]:
+    """All of the answer for other tools."""
+    return {
+        "status": found.status,
+        "last_line": last_line(found),
+        "not_proved": NOT_PROVED,
+        **{
+            word: {
+                "path": side.checked.table.path,
+                "sha256": side.checked.table.sha256,
+                "verdict": side.checked.verdict.line if side.checked.verdict and side.checked.whole else None,
+            }
+            for word, side in (("old", found.old), ("new", found.new))
+        },
+        "notes": list(found.notes),
+        "refused": [*refused_lines("old", found.old.checked), *refused_lines("new", found.new.checked)],
+        "groups_added": list(found.groups_added),
+        "groups_removed": list(found.groups_removed),
+        "added": list(found.added),
+        "removed": list(found.removed),
+        "changed": [_changed_json(one) for one in found.changed],
+        "in_fill_or_case_alone": [_changed_json(one) for one in found.respelled],
+        "unchanged": {"count": found.unchanged, "sha256": found.sha256},
+        "findings_new": [{"words": finding_words(one), "line": one.finding.line} for one in found.findings_new],
+        "findings_gone": [{"words": finding_words(one), "line": one.finding.line} for one in found.findings_gone],
+    }
+
+
+def _changed_json(one: Changed) -> Dict[str, Any]:
+    changes: List[Dict[str, str]] = [dict(vars(change)) for change in one.changes]
+    return {"words": one.words, "row_old": one.old, "row_new": one.new, "changes": changes}
+
+
+def verdict(checked: Checked) -> str:
+    """What the program says of one release."""
+    if not checked.whole:
+        return "INCOMPLETE: telegrams or messages were refused"
+    return f"program: {checked.verdict.line}" if checked.verdict else "not checked"

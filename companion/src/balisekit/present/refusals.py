@@ -1,0 +1,105 @@
+"""Refusals in sentences: the field that the program's words and place are about."""
+from __future__ import annotations
+
+from typing import Callable, Dict, Sequence
+
+from balisekit.engine.grammar import Refusal
+from balisekit.etcs.layout import Field, bits_of, message_fields, telegram_fields, user_bits
+from balisekit.tables.names import quoted
+
+ORDINALS = ("first", "second", "third", "fourth", "fifth", "sixth", "seventh", "eighth", "ninth", "tenth")
+CODED = {86: 341, 256: 1023}
+"""The digits of a telegram with its channel coding, and its bits."""
+LENGTHS = (54, 208)
+"""The digits of a short telegram and of a long one."""
+
+
+def telegram_refused(digits: str, refusal: Refusal) -> str:
+    """A refused telegram in a sentence."""
+    if refusal.text == "wrong size":
+        if len(digits) in CODED:
+            return f"it is coded ({CODED[len(digits)]} bits in {len(digits)} digits): export user bits"
+        return _wrong_length(len(digits))
+    if refusal.text == "pad bits set":
+        return f"the last {6 if len(digits) == 54 else 2} bits are not all 0: the text has to end with zeros"
+    if refusal.text == "not hexadecimal":
+        return _no_digit(digits) or _wrong_length(len(digits))
+    return _at_field(telegram_fields(user_bits(digits)), refusal, 10)
+
+
+def message_refused(digits: str, refusal: Refusal) -> str:
+    """A refused radio message in a sentence."""
+    if refusal.text == "not hexadecimal":
+        odd = f"it has {len(digits)} digits, an odd number: a digit is missing, or one too many"
+        return _no_digit(digits) or odd + ("; a message 3 begins with 03" if digits[:2] == "30" else "")
+    fields = message_fields(bits_of(digits))
+    if refusal.why == "length" and refusal.at == 8:
+        return f"L_MESSAGE is {_field(fields, 8).value}, but the message has {len(digits) // 2} bytes"
+    from_train = bool(fields) and fields[0].value == 136
+    return _at_field(fields, refusal, 8 if from_train else 10)
+
+
+def _wrong_length(length: int) -> str:
+    """The length of a telegram's text, beside the nearer one of the two that it may have."""
+    nearest = min(LENGTHS, key=lambda one: abs(length - one))
+    far = f"{nearest - length} short of" if length < nearest else f"{length - nearest} more than"
+    return f"it has {length} digits, {far} {nearest}: a short telegram has {LENGTHS[0]}, a long one {LENGTHS[1]}"
+
+
+def _no_digit(digits: str) -> str:
+    """The first character that is no digit, or nothing."""
+    for place, character in enumerate(digits, 1):
+        if character not in "0123456789abcdefABCDEF":
+            code = "" if character.isascii() else f" (U+{ord(character):04X})"
+            return f"character {place} is {quoted(character)}{code}, no hexadecimal digit"
+    return ""
+
+
+def _field(fields: Sequence[Field], at: int) -> Field:
+    """The field that begins at this bit."""
+    return next(field for field in fields if field.at == at and field.width)
+
+
+def _packet(field: Field) -> str:
+    if field.packet is None:
+        return ""
+    place = ORDINALS[field.packet] if field.packet < len(ORDINALS) else f"{field.packet + 1}th"
+    return f" of packet {field.number} ({place} packet)"
+
+
+def _at_field(fields: Sequence[Field], refusal: Refusal, before_length: int) -> str:
+    """A refusal with a place, by the field that begins there."""
+    at, end = refusal.at or 0, refusal.end or 0
+    if refusal.why == "no end":
+        packets = [field for field in fields if field.packet is not None and field.at < at]
+        last = f" behind packet {packets[-1].number}" if packets else ""
+        return f"no packet 255{last}: the packets end at bit {at}"
+    try:
+        field = _field(fields, at)
+    except StopIteration:
+        return refusal.text
+    name, value = field.name + _packet(field), field.value
+    size = at + field.width
+    left = end - at
+    fields_end = end - at + before_length
+    sentences: Dict[str, Callable[[], str]] = {
+        "spare": lambda: f"{name} is {value}, which is spare",
+        "short": lambda: f"{name} needs {field.width} bits, and {left} are left: a count or length before it is too "
+        "great, or the text is too small",
+        "length": lambda: (
+            f"{name} is {value}, less than the {fields_end} bits of its head"
+            if end == size
+            else f"{name} is {value}, but its fields have {fields_end} bits"
+        ),
+        "version": lambda: f"{name} is {value}{_version(value)}; 32 (2.0) and 33 (2.1) are read",
+        "loop": lambda: f"{name} is {value}: it is for a loop, not for a balise",
+        "down-link": lambda: f"{name} is {value}: it goes from train to track",
+        "message kind": lambda: f"{name} is {value}; 3 and 136 are read",
+        "no authority": lambda: f"message 3 has no packet 15: its packets end at bit {at}",
+        "no report": lambda: f"message 136 has no packet 0 or 1: its packets end at bit {at}",
+    }
+    return sentences.get(refusal.why or "", lambda: refusal.text)()
+
+
+def _version(value: int) -> str:
+    return f" ({value // 16}.{value % 16})" if value >= 16 else ""

@@ -1,0 +1,164 @@
+"""A telegram or radio message in words: each number of the program's JSON with its name, unit and raw value.
+
+Lines are made by going through the JSON itself, so nothing of it is left out. What follows ` = ` is balisekit's own.
+"""
+from __future__ import annotations
+
+import textwrap
+from functools import lru_cache
+from typing import List, Mapping, NamedTuple, Sequence, Tuple, Union
+
+from balisekit.etcs.places import Here, place_notes
+from balisekit.etcs.variables import ORDER, VARIABLES, Around, Form, said
+
+WIDTH = 118
+LABEL_WIDTH = 22
+LABELS: Mapping[str, str] = {
+    "packets": "packet",
+    "links": "link",
+    "sections": "section",
+    "elements": "element",
+    "differences": "difference",
+    "transitions": "choice",
+    "section_timer": "section timer",
+    "end_timer": "end timer",
+    "danger_point": "danger point",
+}
+END_SECTION = "l_endsection"
+"""What follows it in an authority belongs to its end section."""
+LEGEND = (
+    "Raw values are in square brackets. Packets and their items are counted from 0, as in the program's lines. "
+    "What follows a = is worked out by balisekit: places are sums of distances, counted from the group."
+)
+
+
+class Shown(NamedTuple):
+    """One value of the JSON."""
+
+    path: str
+    """Where the JSON has it: `/packets/1/q_dir`."""
+    raw: Union[int, str]
+    text: str
+    """The standard's name of the variable, the value with its unit or name, and the number, if that isn't all."""
+
+
+class Line(NamedTuple):
+    """Some values under one label, and what balisekit works out of them."""
+
+    depth: int
+    label: str
+    path: str
+    """Where the JSON has the object of the values."""
+    keys: Sequence[str]
+    form: Form
+    """The object."""
+    texts: Sequence[str]
+    note: str = ""
+
+    @property
+    def values(self) -> List[Shown]:
+        """The values one by one."""
+        return [Shown(f"{self.path}/{key}", self.form[key], words) for key, words in zip(self.keys, self.texts)]
+
+
+def form_lines(form: Form, here: Here = Here()) -> List[Line]:
+    """The lines of a telegram, or of a radio message."""
+    is_message = "nid_message" in form
+    around = Around(from_track=form.get("nid_message") != 136)
+    notes = place_notes(form, here) if around.from_track else {}
+    lines: List[Line] = []
+    _lines(lines, "message" if is_message else "header", 0, form, "", around, notes)
+    return lines
+
+
+@lru_cache(maxsize=1024)
+def _steps(keys: Tuple[str, ...]) -> List[Tuple[Tuple[str, ...], str]]:
+    """The keys of an object in the order of the standard: those whose values share a line, or the key of a part.
+
+    Objects have few sets of keys. One that is not known may have anything, so it is taken for a part.
+    """
+    steps: List[Tuple[Tuple[str, ...], str]] = []
+    for key in sorted(keys, key=lambda one: (ORDER.get(one, len(ORDER)), one)):
+        if key not in VARIABLES:
+            steps.append(((), key))
+        elif key == END_SECTION or not steps or steps[-1][1]:
+            steps.append(((key,), ""))
+        else:
+            steps[-1] = ((*steps[-1][0], key), "")
+    return steps
+
+
+def _lines(
+    into: List[Line], label: str, depth: int, form: Form, path: str, around: Around, notes: Mapping[str, str]
+) -> None:
+    """Adds the lines of an object: its values up to its first part, that part, and so on."""
+    inner = Around(form if "nid_packet" in form else around.packet, form, around.from_track)
+    anchor = path
+    for keys, part in _steps(tuple(form)):
+        if part:
+            _part(into, depth + 1, part, form, f"{path}/{part}", inner, notes)
+            continue
+        if keys[0] == END_SECTION:
+            label, anchor, depth = "end section", f"{path}/{END_SECTION}", depth + 1
+        into.append(Line(depth, label, path, keys, form, said(keys, form, inner), notes.get(anchor, "")))
+        label, anchor = "", ""
+
+
+def _part(
+    into: List[Line], depth: int, key: str, whole: Form, path: str, around: Around, notes: Mapping[str, str]
+) -> None:
+    """Adds the lines of a part: an object, a list with its items, or a value whose key is not known."""
+    name, part = LABELS.get(key, key), whole[key]
+    if isinstance(part, list):
+        for place, item in enumerate(part):
+            form = item if isinstance(item, dict) else {name: item}
+            _lines(into, f"{name} {place}", depth, form, f"{path}/{place}", around, notes)
+    elif isinstance(part, dict):
+        _lines(into, name, depth, part, path, around, notes)
+    else:
+        into.append(Line(depth, "", path[: -len(key) - 1], (key,), whole, said((key,), whole, around)))
+
+
+def text_of(line: Line) -> str:
+    """The line as text, broken where it is too long. A break never parts a name from its raw value."""
+    first, values = _label(line.depth, line.label), "  ".join(line.texts)
+    lines = [first + values] if len(first) + len(values) <= WIDTH else _broken(first, line.texts)
+    if not line.note:
+        return "\n".join(lines)
+    if len(lines[-1]) + 4 + len(line.note) <= WIDTH:
+        lines[-1] += f"  = {line.note}"
+    else:
+        lines += _wrapped(f"= {line.note}")
+    return "\n".join(lines)
+
+
+@lru_cache(maxsize=1024)
+def _label(depth: int, label: str) -> str:
+    """What stands before the values of a line."""
+    said = f"{'  ' * depth}{label}"
+    return f"{said:<{LABEL_WIDTH}}" if len(said) < LABEL_WIDTH else f"{said} "
+
+
+def _broken(last: str, values: Sequence[str]) -> List[str]:
+    """The values behind the beginning of a line, on as many lines as they need."""
+    lines: List[str] = []
+    fresh = True
+    for value in values:
+        if not fresh and len(last) + 2 + len(value) > WIDTH:
+            lines.append(last)
+            last, fresh = " " * LABEL_WIDTH, True
+        last += value if fresh else f"  {value}"
+        fresh = False
+    return [*lines, last]
+
+
+def _wrapped(note: str) -> List[str]:
+    """A note on lines of its own. Most of them need one alone."""
+    if LABEL_WIDTH + len(note) <= WIDTH:
+        return [" " * LABEL_WIDTH + note]
+    return textwrap.wrap(note, WIDTH, initial_indent=" " * LABEL_WIDTH, subsequent_indent=" " * (LABEL_WIDTH + 2))
+
+
+def text(form: Form, here: Here = Here()) -> str:
+    """A telegram, or a radio message, as text of several lines."""
+    return "\n".join(map(text_of, form_lines(form, here)))

@@ -1,0 +1,67 @@
+"""Cells of a CSV file, in the spellings that spreadsheets write."""
+from __future__ import annotations
+
+import csv
+import io
+from typing import Iterator, List, Sequence
+
+from balisekit.errors import TableError
+from balisekit.tables.cells import COLUMNS, NEEDED, Sheet, headings
+from balisekit.tables.encoding import text_of
+
+SEPARATORS = (";", "\t", ",")
+GREATEST_CELL = 100_000
+"""In characters."""
+
+
+def read(content: bytes, known: Sequence[str] = COLUMNS, needed: Sequence[str] = NEEDED) -> Sheet:
+    """The cells of a file whose heading may have the known columns, and has the needed ones."""
+    text, encoding = text_of(content)
+    notes = ("it is not UTF-8: it was read as Windows-1252",) if encoding == "windows-1252" else ()
+    separator = ""
+    if text[:4].lower() == "sep=" and text[5:6] in ("\r", "\n"):
+        separator, text = text[4], text[5:].removeprefix("\r").removeprefix("\n")
+    separator = separator or _separator(text, known, needed)
+    return Sheet(encoding, separator, _rows(text, separator), notes=notes)
+
+
+def _separator(text: str, columns: Sequence[str], needed: Sequence[str]) -> str:
+    """The one by which the heading has the needed columns, and the most that are known."""
+    best, most = ",", 0
+    for separator in SEPARATORS:
+        try:
+            found = set(headings(next(_reader(text, separator), [])))
+        except csv.Error:
+            continue
+        known = len(found.intersection(columns)) + (len(columns) if found.issuperset(needed) else 0)
+        if known > most:
+            best, most = separator, known
+    return best
+
+
+def _rows(text: str, separator: str) -> List[List[str]]:
+    rows: List[List[str]] = []
+    before = csv.field_size_limit(GREATEST_CELL)
+    try:
+        for row in _reader(text, separator):
+            rows.append(row)
+    except csv.Error as error:
+        raise TableError(_why(str(error)), row=len(rows) + 1) from error
+    finally:
+        csv.field_size_limit(before)
+    return rows
+
+
+def _reader(text: str, separator: str) -> Iterator[List[str]]:
+    return csv.reader(io.StringIO(text, newline=""), delimiter=separator, strict=True)
+
+
+def _why(error: str) -> str:
+    """The words of the csv module, for a user."""
+    if "unexpected end of data" in error:
+        return "a quote is not closed"
+    if "field limit" in error:
+        return f"a cell has more than {GREATEST_CELL:,} characters"
+    if "expected after" in error:
+        return "a quote stands inside a cell: double it, and put the cell in quotes"
+    return error

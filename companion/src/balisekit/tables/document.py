@@ -1,0 +1,80 @@
+"""A document of a line, as `check` of the program reads it, in place of a table."""
+from __future__ import annotations
+
+import json
+from typing import Any, Dict, List, Tuple
+
+from balisekit.errors import TableError
+from balisekit.io.files import Input
+from balisekit.tables.cells import digits
+from balisekit.tables.encoding import text_of
+from balisekit.tables.grouping import GREATEST_COUNT
+from balisekit.tables.model import Aspect, Group, Message, Messages, Row, Table
+
+
+def is_document(content: bytes) -> bool:
+    """Whether the file begins as an object of JSON does."""
+    return content.removeprefix(b"\xef\xbb\xbf").lstrip()[:1] == b"{"
+
+
+def read(file: Input) -> Tuple[Table, Messages]:
+    """The groups and messages of a document. Its groups are named by their places, and so are their aspects."""
+    try:
+        text, encoding = text_of(file.content)
+        form = json.loads(text)
+        groups, rows = _groups(form)
+        messages = [
+            Message(place + 1, digits(_text(one, f"/messages/{place}")), name=f"message {place}")
+            for place, one in enumerate(_list(form, "messages", ""))
+        ]
+        if sorted(form) != ["groups", "messages"]:
+            raise TableError(f"it has the keys {', '.join(form)[:100]}, and a document has groups and messages")
+    except (ValueError, RecursionError) as error:
+        fault = TableError(f"it is no document that can be read: {str(error)[:100]}")
+        fault.path = file.path
+        raise fault from error
+    except TableError as fault:
+        fault.path = file.path
+        raise
+    table = Table(file.path, file.sha256, encoding, "", (), tuple(rows), tuple(groups))
+    return table, Messages(file.path, file.sha256, encoding, tuple(messages))
+
+
+def _groups(form: Any) -> Tuple[List[Group], List[Row]]:
+    groups: List[Group] = []
+    rows: List[Row] = []
+    for place, group in enumerate(_list(form, "groups", "")):
+        path = f"/groups/{place}"
+        several = isinstance(group, dict) and "aspects" in group
+        aspects = []
+        for number, one in enumerate(_list(group, "aspects", path) if several else [group]):
+            where = f"{path}/aspects/{number}" if several else path
+            texts = [
+                _text(text, f"{where}/balises/{balise}") for balise, text in enumerate(_list(one, "balises", where))
+            ]
+            name = str(number) if several else ""
+            own = tuple(
+                Row(len(rows) + index + 1, f"group {place}", digits(text), text, name)
+                for index, text in enumerate(texts)
+            )
+            rows += own
+            aspects.append(Aspect(name, own))
+        counts = {len(aspect.rows) for aspect in aspects}
+        if len(counts) != 1 or not 0 < min(counts) <= GREATEST_COUNT:
+            raise TableError(f"{path}: each aspect has equally many balises, one to {GREATEST_COUNT}")
+        groups.append(Group(f"group {place}", tuple(aspects)))
+    return groups, rows
+
+
+def _list(form: Any, key: str, path: str) -> List[Any]:
+    found: Dict[str, Any] = form if isinstance(form, dict) else {}
+    if not isinstance(found.get(key), list):
+        raise TableError(f"{path}/{key} is no list: it is no document of a line")
+    values: List[Any] = found[key]
+    return values
+
+
+def _text(value: Any, path: str) -> str:
+    if not isinstance(value, str) or not digits(value) or "\n" in value or "\r" in value:
+        raise TableError(f"{path} is no text of hexadecimal digits")
+    return value

@@ -1,0 +1,39 @@
+"""A file of radio messages: one a line, and a name behind a semicolon."""
+from __future__ import annotations
+
+import re
+from typing import List
+
+from balisekit.errors import TableError, TableErrors
+from balisekit.io import files
+from balisekit.tables.cells import digits
+from balisekit.tables.encoding import text_of
+from balisekit.tables.model import Message, Messages
+
+
+def read(path: str) -> Messages:
+    """The messages of this file. TableError or TableErrors is raised if it cannot be read."""
+    file = files.read(path)
+    try:
+        text, encoding = text_of(file.content)
+        messages = _messages(text)
+    except (TableError, TableErrors) as error:
+        for fault in error.faults if isinstance(error, TableErrors) else [error]:
+            fault.path = path
+        raise
+    return Messages(path, file.sha256, encoding, tuple(messages))
+
+
+def _messages(text: str) -> List[Message]:
+    messages, faults = [], []
+    for number, line in enumerate(re.split("\r\n|\r|\n", text), 1):
+        if not line.strip():
+            continue
+        cell, _, name = line.partition(";")
+        if digits(cell):
+            messages.append(Message(number, digits(cell), cell.strip(), name.strip()))
+        else:
+            faults.append(TableError("no message before the semicolon", line=number))
+    if faults:
+        raise TableErrors(faults)
+    return messages

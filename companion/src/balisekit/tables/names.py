@@ -1,0 +1,78 @@
+"""Rows, groups and messages by the words of the table, and names that are safe to show."""
+from __future__ import annotations
+
+import re
+from typing import List, Optional
+
+from balisekit.tables.model import Group, Message, Row, Table
+
+UNSAFE = re.compile(
+    "[\x00-\x1f\x7f-\x9f\u200e\u200f\u2028\u2029\u202a-\u202e\u2066-\u2069\ufeff\ufffe\uffff\ud800-\udfff]"
+)
+
+
+def clean(text: str) -> str:
+    """The text without characters that move a cursor, turn the direction of writing, or are no text."""
+    if text.isascii() and text.isprintable():
+        return text
+    return UNSAFE.sub(lambda found: ascii(found[0])[1:-1], text)
+
+
+def quoted(text: str) -> str:
+    """A name in quotes."""
+    return f'"{clean(text)}"'
+
+
+def passed_over(table: Table) -> List[str]:
+    """A line on the columns that say nothing here, if there are any."""
+    names = [
+        clean(name) + (f" (did you mean {quoted(meant)}?)" if meant else "")
+        for name, meant in zip(table.passed_over, table.meant)
+    ]
+    return [f"columns passed over: {', '.join(names)}"] if names else []
+
+
+def describe_balise(group: Optional[Group], row: Row) -> str:
+    """Where a row's balise is: row, group, kilometre, aspect, index and name."""
+    place = next(
+        (
+            place
+            for aspect in (group.aspects if group else ())
+            for place, one in enumerate(aspect.rows)
+            if one.number == row.number
+        ),
+        None,
+    )
+    parts = [f"row {row.number}", clean(row.group), *_where(row)]
+    parts += ["every aspect"] if row.aspect == "*" else [f"aspect {quoted(row.aspect)}"] if row.aspect else []
+    if place is not None:
+        number = f" (number {row.balise} in the table)" if row.balise not in (None, place) else ""
+        parts.append(f"balise {place}{f' {quoted(row.name)}' if row.name else ''}{number}")
+    return "  ".join(parts)
+
+
+def describe_group(group: Group, aspect: Optional[str] = None) -> str:
+    """Where a group is: rows, name and kilometre, and which aspect is meant."""
+    parts = [describe_rows(group, aspect), clean(group.name), *_where(group.aspects[0].rows[0])]
+    return "  ".join([*parts, *([f"aspect {quoted(aspect)}"] if aspect else [])])
+
+
+def describe_rows(group: Group, aspect: Optional[str] = None) -> str:
+    """The rows of a group, which stand together, or those of an aspect, between which others may stand."""
+    rows = [row for one in group.aspects if aspect in (None, one.name) for row in one.rows]
+    numbers = sorted({row.number for row in rows})
+    if len(numbers) == 1:
+        return f"row {numbers[0]}"
+    if aspect is None or numbers[-1] - numbers[0] + 1 == len(numbers):
+        return f"rows {numbers[0]} to {numbers[-1]}"
+    return f"rows {', '.join(map(str, numbers))}"
+
+
+def describe_message(message: Message) -> str:
+    """Which message it is: its line, and its name."""
+    return "  ".join([f"line {message.number}", *([clean(message.name)] if message.name else [])])
+
+
+def _where(row: Row) -> List[str]:
+    parts = [] if row.km is None else [f"km {row.km:.3f}"]
+    return parts + ([f"track {clean(row.track)}"] if row.track else [])

@@ -1,0 +1,63 @@
+"""Which room of the package may import which: presentation never imports commands, and tables never import rules."""
+
+from __future__ import annotations
+
+import ast
+from pathlib import Path
+from typing import Iterator, Tuple
+
+import pytest
+
+PACKAGE = Path(__file__).resolve().parents[1] / "src" / "balisekit"
+BELOW = {
+    "io": (),
+    "tables": ("io",),
+    "etcs": ("tables",),
+    "engine": (),
+    "rules": ("engine", "etcs", "io", "tables"),
+    "compare": ("engine", "etcs", "rules", "tables"),
+    "drawing": ("engine", "etcs", "rules", "tables"),
+    "present": ("compare", "drawing", "engine", "etcs", "io", "rules", "tables"),
+    "cli": ("compare", "drawing", "engine", "etcs", "io", "present", "rules", "tables"),
+}
+"""The rooms that each room may import. All may import `balisekit.errors`, and themselves."""
+COMMON = ("errors", "__version__")
+
+
+def imports(path: Path) -> Iterator[str]:
+    """The modules of balisekit that a module imports."""
+    for node in ast.walk(ast.parse(path.read_text("utf-8"))):
+        names = [alias.name for alias in node.names] if isinstance(node, ast.Import) else []
+        if isinstance(node, ast.ImportFrom):
+            assert node.level == 0, f"{path}: imports are written in full"
+            whole = node.module == "balisekit"
+            names = [f"balisekit.{alias.name}" for alias in node.names] if whole else [node.module or ""]
+        yield from (name for name in names if name.split(".")[0] == "balisekit")
+
+
+def edges() -> Iterator[Tuple[str, str, Path]]:
+    """Each import from a room to another one, or to a module beside the rooms."""
+    for path in sorted(PACKAGE.rglob("*.py")):
+        room = path.relative_to(PACKAGE).parts[0]
+        if path.parent != PACKAGE:
+            for name in imports(path):
+                target = name.split(".")[1]
+                if target != room:
+                    yield room, target, path
+
+
+def test_every_room_is_known() -> None:
+    """A new folder needs a row in the table above."""
+    assert {path.parent.relative_to(PACKAGE).parts[0] for path in PACKAGE.glob("*/**/*.py")} == set(BELOW)
+
+
+@pytest.mark.parametrize("room", BELOW)
+def test_a_room_imports_only_rooms_below_it(room: str) -> None:
+    """No import goes against the table, and the table has no circle."""
+    assert all(room not in BELOW[below] for below in BELOW[room])
+    wrong = [
+        (str(path), target)
+        for source, target, path in edges()
+        if source == room and target not in (*BELOW[room], *COMMON)
+    ]
+    assert not wrong
