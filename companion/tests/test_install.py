@@ -18,7 +18,7 @@ TOP = Path(__file__).resolve().parents[2]
 
 
 def test_install(tmp_path: Path, program: Program) -> None:
-    lacks = [module for module in ("pip", "setuptools", "wheel") if importlib.util.find_spec(module) is None]
+    lacks = [module for module in ("pip", "hatchling") if importlib.util.find_spec(module) is None]
     if lacks:
         pytest.skip(f"no {', '.join(lacks)}")
     shutil.copytree(TOP / "companion", tmp_path / "companion", ignore=shutil.ignore_patterns("tests", "__pycache__"))

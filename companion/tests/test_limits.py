@@ -112,6 +112,7 @@ def releases(tmp_path_factory: pytest.TempPathFactory, program: Program) -> Call
     return of
 
 
+@pytest.mark.slow
 @pytest.mark.parametrize(
     "few, many, limit, words, wanted",
     [
@@ -156,6 +157,7 @@ def reported(great: Path, program: Program) -> Tuple[Path, int, List[str], float
     return (page, *_timed(_words(program, "report", great, "--html", page)))
 
 
+@pytest.mark.slow
 def test_a_report_of_1000_groups(reported: Tuple[Path, int, List[str], float]) -> None:
     """In less than 20 seconds, with a picture for each group."""
     page, status, out, seconds = reported
@@ -164,6 +166,7 @@ def test_a_report_of_1000_groups(reported: Tuple[Path, int, List[str], float]) -
     assert seconds < 20
 
 
+@pytest.mark.slow
 @pytest.mark.skipif(CHROMIUM is None, reason="there is no chromium (Debian: chromium)")
 def test_a_browser_opens_a_report_of_1000_groups(reported: Tuple[Path, int, List[str], float], tmp_path: Path) -> None:
     """Without a pause: in less than 10 seconds. It lays out what is seen; all of the page takes three times as long.
@@ -176,6 +179,7 @@ def test_a_browser_opens_a_report_of_1000_groups(reported: Tuple[Path, int, List
     assert _spent() - before < 10
 
 
+@pytest.mark.slow
 def test_100000_rows_with_1000_bad_ones(table: Write, program: Program) -> None:
     """In less than a minute, and each of them is named."""
     rows = [f"G{place},{ALONE if place % 100 else SPARE}" for place in range(100_000)]
