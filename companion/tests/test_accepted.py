@@ -213,7 +213,7 @@ def test_files_that_cannot_be_read_or_written(run: Run, table: Write, tmp_path: 
     assert run("check", path, "--accepted", tmp_path)[0] == 2
     kept = table("signed", name="kept.csv")
     status, _, err = run("check", path, "--propose", kept)
-    assert status == 3 and "it is there already" in err[0] and kept.read_text("utf-8") == "signed\n"
+    assert status == 2 and "it exists already" in err[0] and kept.read_text("utf-8") == "signed\n"
     assert run("check", path, "--propose", tmp_path / "none" / "x.csv")[0] == 3
     assert run("check", path, "--propose", "-", "--json", "-")[0] == 2
 

@@ -538,11 +538,11 @@ def test_what_differs_is_told(run: Run, table: Write, tmp_path: Path) -> None:
     ):
         document = json.loads((TOP / "examples" / "check" / f"{name}.json").read_text())
         path = table("group,telegram", *[f"A,{text}" for text in document["groups"][0]["balises"]])
-        _, out, _ = run("check", path, "--json", tmp_path / "out.json")
+        _, out, _ = run("check", path, "--force", "--json", tmp_path / "out.json")
         (one,) = json.loads((tmp_path / "out.json").read_text("utf-8"))["findings"]
         assert _said(out, rule) == [one["words"]] and one["words"].endswith(f"  A  {wanted}")
         assert wanted.endswith(f": {one['differs']}") and one["line"].endswith(one["name"])
-    run("check", table("group,telegram", f"A,{ALONE}", f"B,{ALONE}"), "--json", tmp_path / "out.json")
+    run("check", table("group,telegram", f"A,{ALONE}", f"B,{ALONE}"), "--force", "--json", tmp_path / "out.json")
     assert json.loads((tmp_path / "out.json").read_text("utf-8"))["findings"][0]["differs"] is None
 
 

@@ -3,6 +3,7 @@ from __future__ import annotations
 
 import argparse
 import re
+from importlib import import_module
 from typing import List, Set
 
 import pytest
@@ -12,14 +13,14 @@ from balisekit.cli import main as cli
 from balisekit.tables.cells import COLUMNS
 
 PAGE = (TOP / "docs" / "BALISEKIT.md").read_text("utf-8")
-COMMANDS = [command.name for command in cli.COMMANDS]
+COMMANDS = list(cli.COMMANDS)
 OF_PIP_AND_HELP = {"--help", "--version"}
 
 
 def _options(command: str) -> Set[str]:
     """The words of a command that begin with hyphens."""
     parser = argparse.ArgumentParser(add_help=False)
-    next(one for one in cli.COMMANDS if one.name == command).add_options(parser)
+    import_module(f"balisekit.cli.{command}").add_options(parser)
     return set(re.findall("--[a-z][a-z-]*", parser.format_help()))
 
 

@@ -77,7 +77,7 @@ class _Page(HTMLParser):
 
 
 def _report(table: Path, target: Path, *words: str) -> Tuple[int, str]:
-    status = cli.main(["report", str(table), "--html", str(target), *words])
+    status = cli.main(["report", str(table), "--html", str(target), "--force", *words])
     return status, target.read_text("utf-8")
 
 
@@ -296,28 +296,26 @@ def _titles(path: Path) -> List[str]:
 
 def test_a_gap_has_its_length(tmp_path: Path) -> None:
     """F11 and F13 of the documents of examples, as red gaps."""
+    picture = tmp_path / "a.svg"
     for name, rule, wanted in (
         ("gradient-short", 11, "F11: 10 m are missing"),
         ("speed-profile-short", 13, "F13: 50 m are missing"),
     ):
         document = json.loads((TOP / "examples" / "check" / f"{name}.json").read_text())
         rows = [{"group": "A", "km": "1.000", "telegram": text} for text in document["groups"][0]["balises"]]
-        table = _table(tmp_path / "t.csv", *rows)
-        assert cli.main(["draw", str(table), "--group", "A", "--svg", str(tmp_path / "a.svg")]) == 0
-        titles = _titles(tmp_path / "a.svg")
+        words = ["draw", str(_table(tmp_path / "t.csv", *rows)), "--group", "A", "--force", "--svg", str(picture)]
+        assert cli.main(words) == 0
+        titles = _titles(picture)
         assert any(title.startswith(wanted) for title in titles), titles
         mended = json.loads((TOP / "examples" / "check" / f"{name}-mended.json").read_text())
-        rows = [{"group": "A", "telegram": text} for text in mended["groups"][0]["balises"]]
-        assert (
-            cli.main(["draw", str(_table(tmp_path / "t.csv", *rows)), "--group", "A", "--svg", str(tmp_path / "a.svg")])
-            == 0
-        )
-        assert not any("missing" in title for title in _titles(tmp_path / "a.svg"))
+        _table(tmp_path / "t.csv", *({"group": "A", "telegram": text} for text in mended["groups"][0]["balises"]))
+        assert cli.main(words) == 0
+        assert not any("missing" in title for title in _titles(picture))
 
 
 def test_one_aspect_of_a_group(tmp_path: Path, capsys: pytest.CaptureFixture[str]) -> None:
     """The row of this aspect alone, with what the program has found of it; another name is no aspect."""
-    words = ["draw", str(LINE), "--group", "Signal E", "--svg", str(tmp_path / "e.svg"), "--aspect"]
+    words = ["draw", str(LINE), "--group", "Signal E", "--force", "--svg", str(tmp_path / "e.svg"), "--aspect"]
     for aspect, missing in (("red", 0), ("yellow", 0), ("green", 1)):
         assert cli.main([*words, aspect]) == 0
         texts = [one.text for one in ElementTree.parse(tmp_path / "e.svg").iter("{http://www.w3.org/2000/svg}text")]
@@ -467,9 +465,9 @@ def test_texts_are_within_the_picture(length: int, direction: int, tmp_path: Pat
     ]
     messages = _messages(tmp_path / "m.txt", *forms)
     for line in ("1", "2"):
-        words = ["--messages", str(messages), "--message", line, "--svg", str(tmp_path / "m.svg")]
+        words = ["--messages", str(messages), "--message", line, "--svg", str(tmp_path / f"{line}.svg")]
         assert cli.main(["draw", str(LINE), *words]) == 0
-        picture = ElementTree.parse(tmp_path / "m.svg").getroot()
+        picture = ElementTree.parse(tmp_path / f"{line}.svg").getroot()
         for one in picture.iter("{http://www.w3.org/2000/svg}text"):
             look, said, x = str(one.get("class")), str(one.text), float(str(one.get("x")))
             long_one = len(said) * (7 if "red" in look else 6)

@@ -227,7 +227,7 @@ def test_columns_passed_over_are_named(run: Run, table: Write) -> None:
 
 def test_aspects(run: Run, tmp_path: Path) -> None:
     for aspect, wanted in (("green", "160 km/h"), ("yellow", "120 km/h"), ("red", "train trip")):
-        run("draw", LINE, "--track", "--aspect", aspect, "--svg", tmp_path / "t.svg")
+        run("draw", LINE, "--track", "--aspect", aspect, "--force", "--svg", tmp_path / "t.svg")
         texts = [one.text or "" for one in ElementTree.parse(tmp_path / "t.svg").iter(f"{SVG}text")]
         labels = [text for text in texts if text.startswith("Signal A, ")]
         assert labels and all(f"{aspect}, V_MAIN" in text and wanted in text for text in labels)
@@ -306,7 +306,7 @@ def test_gaps_and_end_marks(run: Run, tmp_path: Path) -> None:
             ["F10: no gradient; F12: no speed profile"],
         ),
     ):
-        run("draw", LINE, "--track", "--aspect", aspect, "--svg", tmp_path / "t.svg")
+        run("draw", LINE, "--track", "--aspect", aspect, "--force", "--svg", tmp_path / "t.svg")
         assert sorted(_titles(tmp_path / "t.svg", "gap")) == gaps
         texts = [one.text or "" for one in ElementTree.parse(tmp_path / "t.svg").iter(f"{SVG}text")]
         assert sorted({text for text in texts if re.match("F[0-9]", text)}) == said

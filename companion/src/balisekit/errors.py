@@ -1,6 +1,7 @@
 """What ends a command before its answer. Each has one line for the user, and its exit status."""
 from __future__ import annotations
 
+import signal
 from typing import List, Optional, Sequence
 
 SHOWN = 20
@@ -52,3 +53,11 @@ class NoAnswer(KitError):
     """The program gave no answer, or is none that balisekit knows; or something that is needed is not there."""
 
     status = 3
+
+
+class Terminated(KeyboardInterrupt):
+    """SIGTERM or SIGHUP has ended the command."""
+
+    def __init__(self, number: signal.Signals) -> None:
+        self.signal = number
+        super().__init__(number.name)

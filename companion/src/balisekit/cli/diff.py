@@ -2,15 +2,14 @@
 from __future__ import annotations
 
 import argparse
-import json
-import sys
-from typing import List, Optional, TextIO, Tuple
+from typing import List, Optional, Tuple
 
-from balisekit.cli.options import Command
+from balisekit.cli import options as shared
 from balisekit.compare.lines import Difference, by_place, compare
 from balisekit.engine.program import Program
 from balisekit.errors import TableError
-from balisekit.io import files
+from balisekit.io import inputs
+from balisekit.io.outputs import Output, write_json
 from balisekit.present.check_text import finding_words
 from balisekit.present.diff_text import NOT_PROVED, as_json, last_line, lines, refused_lines, verdict, where
 from balisekit.present.pages import hash_of, pieces, style
@@ -24,21 +23,22 @@ from balisekit.tables.names import clean
 def add_options(parser: argparse.ArgumentParser) -> None:
     """The options of this command."""
     text = "a table, or a document of a line as --document writes it"
-    parser.add_argument("old", metavar="OLD", help=text)
-    parser.add_argument("new", metavar="NEW", help=text)
+    parser.add_argument("old", metavar="OLD", type=shared.input_path, help=text)
+    parser.add_argument("new", metavar="NEW", type=shared.input_path, help=text)
     for side in ("old", "new"):
-        parser.add_argument(f"--{side}-messages", metavar="FILE", help=f"radio messages beside the {side} table")
-    parser.add_argument("--sheet", metavar="NAME", help="which sheet of an .xlsx, in both")
-    parser.add_argument("--program", metavar="PATH", help="the program balisecheck, in place of the one found")
-    parser.add_argument("--html", metavar="FILE", help="write the answer as one page of HTML; - is standard output")
-    parser.add_argument("--json", metavar="FILE", help="write all of the answer as JSON; - is standard output")
+        shared.add_messages(parser, f"--{side}-messages", f"radio messages beside the {side} table")
+    shared.add_program_options(parser, "which sheet of an .xlsx, in both")
+    shared.add_output(parser, "--html", "write the answer as one page of HTML")
+    shared.add_output(parser, "--json", "write all of the answer as JSON")
+    shared.add_force(parser)
 
 
 def run(options: argparse.Namespace) -> int:
     """Does it. The answer is the exit status."""
-    targets = (options.html, options.json)
-    files.look_at_targets(targets)
-    sides = [_read(options.old, options.old_messages, options.sheet), _read(options.new, options.new_messages, options.sheet)]
+    sides = [
+        _read(options.old, options.old_messages, options.sheet),
+        _read(options.new, options.new_messages, options.sheet),
+    ]
     named = not any(is_document for _, _, is_document in sides)
     if not named:
         sides = [(by_place(table), messages, is_document) for table, messages, is_document in sides]
@@ -48,10 +48,8 @@ def run(options: argparse.Namespace) -> int:
     if options.html:
         _page(options.html, found)
     if options.json:
-        with files.writing(options.json) as file:
-            text = json.dumps(as_json(found), indent=1, ensure_ascii=False)
-            file.write(text.encode("utf-8", "backslashreplace") + b"\n")
-    out: TextIO = sys.stderr if "-" in targets else sys.stdout
+        write_json(options.json, as_json(found))
+    out = shared.text_stream(options.html, options.json)
     for line in lines(found):
         print(line, file=out)
     return found.status
@@ -59,7 +57,7 @@ def run(options: argparse.Namespace) -> int:
 
 def _read(path: str, messages: Optional[str], sheet: Optional[str]) -> Tuple[Table, Optional[Messages], bool]:
     """A table with its messages, or a document, and whether it is one."""
-    file = files.read(path)
+    file = inputs.read(path)
     if not document_file.is_document(file.content):
         return tables.read(path, sheet), messages_file.read(messages) if messages else None, False
     if messages:
@@ -67,7 +65,7 @@ def _read(path: str, messages: Optional[str], sheet: Optional[str]) -> Tuple[Tab
     return (*document_file.read(file), True)
 
 
-def _page(path: str, found: Difference) -> None:
+def _page(output: Output, found: Difference) -> None:
     """The answer in the style of the report."""
     sheet = style("page.css")
     sides = [
@@ -98,9 +96,4 @@ def _page(path: str, found: Difference) -> None:
         not_proved=NOT_PROVED,
         program=found.new.checked.program,
     )
-    with files.writing(path) as file:
-        for piece in page:
-            file.write(piece.encode("utf-8"))
-
-
-COMMAND = Command("diff", "compare two releases of a line, field by field", add_options, run)
+    output.write(page)

@@ -5,14 +5,13 @@ import argparse
 from dataclasses import replace
 from typing import Optional
 
-from balisekit.cli.options import Command, add_input_options, add_track_options, inputs
+from balisekit.cli import options as shared
 from balisekit.cli.track import draw_track
 from balisekit.drawing.canvas import Picture
 from balisekit.drawing.pictures import picture_of, picture_of_message
 from balisekit.engine.program import Program
 from balisekit.errors import TableError
 from balisekit.etcs.places import Identities
-from balisekit.io import files
 from balisekit.present.pages import pieces, style
 from balisekit.present.refusals import message_refused, telegram_refused
 from balisekit.rules import checking
@@ -22,7 +21,7 @@ from balisekit.tables.names import describe_balise, describe_message, quoted
 
 def add_options(parser: argparse.ArgumentParser) -> None:
     """The options of this command."""
-    add_input_options(parser)
+    shared.add_input_options(parser)
     what = parser.add_mutually_exclusive_group(required=True)
     what.add_argument("--group", metavar="NAME", help="the group's name in the table")
     what.add_argument("--message", metavar="LINE", type=int, help="the message in this line of --messages")
@@ -33,25 +32,23 @@ def add_options(parser: argparse.ArgumentParser) -> None:
         const="",
         help="a whole track, in strips of 5 km; without NAME the only one, or the one without a name",
     )
-    add_track_options(parser, "; with --group which aspect is drawn alone")
-    parser.add_argument("--svg", metavar="FILE", default="-", help="where to write; standard output else")
+    shared.add_track_options(parser, "; with --group which aspect is drawn alone")
+    shared.add_output(parser, "--svg", "where to write", default="-")
+    shared.add_force(parser)
 
 
 def run(options: argparse.Namespace) -> int:
     """Does it. The answer is the exit status."""
-    files.look_at_target(options.svg)
     if options.message is not None and options.aspect is not None:
         raise TableError("--aspect is for --group and --track: a message has no aspects")
-    program, table, messages = inputs(options)
+    program, table, messages = shared.inputs(options)
     if options.track is not None:
         return draw_track(options, program, table, messages)
     if options.group is not None:
         picture = _group(program, _only(table, options.group, options.aspect), options)
     else:
         picture = _message(program, table, _only_message(messages, options.message))
-    with files.writing(options.svg) as file:
-        for piece in pieces("group.svg", picture=picture, style=style("picture.css")):
-            file.write(piece.encode("utf-8"))
+    options.svg.write(pieces("group.svg", picture=picture, style=style("picture.css")))
     return 0
 
 
@@ -106,6 +103,3 @@ def _only(table: Table, name: str, aspect: Optional[str]) -> Table:
         raise TableError(f"group {quoted(name)} has no aspect {quoted(aspect)}: {has}")
     wanted = {row.number for row in groups[0].rows()}
     return replace(table, groups=groups, rows=tuple(row for row in table.rows if row.number in wanted))
-
-
-COMMAND = Command("draw", "draw a group, a message or a track as SVG", add_options, run)

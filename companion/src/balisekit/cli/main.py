@@ -4,59 +4,93 @@ from __future__ import annotations
 import argparse
 import gc
 import os
+import shutil
+import signal
 import sys
-import traceback
-from typing import List, Optional, TextIO
+import threading
+from contextlib import contextmanager
+from importlib import import_module
+from typing import TYPE_CHECKING, Any, Iterator, List, Optional, Sequence, TextIO
 
 from balisekit import __version__
-from balisekit.cli import (
-    check as check_command,
-    diff as diff_command,
-    draw as draw_command,
-    links as links_command,
-    report as report_command,
-    show as show_command,
-)
-from balisekit.errors import KitError, NoAnswer
-from balisekit.tables.names import clean
+from balisekit.errors import KitError, NoAnswer, Terminated
 
-COMMANDS = (
-    check_command.COMMAND,
-    show_command.COMMAND,
-    draw_command.COMMAND,
-    report_command.COMMAND,
-    links_command.COMMAND,
-    diff_command.COMMAND,
-)
+if TYPE_CHECKING:
+    from balisekit.io.outputs import Output
+
+COMMANDS = {
+    "check": "check the telegrams and groups of a table",
+    "show": "show each telegram in words",
+    "draw": "draw a group, a message or a track as SVG",
+    "report": "write a report as one page of HTML",
+    "links": "compare linking, link flags and profiles with the kilometres of a table",
+    "diff": "compare two releases of a line, field by field",
+}
+"""The commands, each a module of this folder, and what their help says."""
 CLOSED = "standard output was closed"
 STATUSES = """\
 exit status:
   0  the program says yes to all that was handed in, nothing is open or found, or the command has done what it is
      asked for
   1  findings of `check`, entries of accepted findings at fault, or what `links` or `diff` has found
-  2  refused: a telegram or message, so that the answer is INCOMPLETE, or a table or words that cannot be read
-  3  no answer: no program, a file that cannot be written, an interrupt
+  2  refused: a telegram or message, so that the answer is INCOMPLETE, or a table or words that cannot be read, or an
+     output that would replace an input or, without --force, another file
+  3  no answer: no program, a file that cannot be written, an interrupt; ended by SIGTERM the status is 143, by SIGHUP
+     129
 
 balisekit is not proved. It presents what balisecheck says, and quotes its lines in full.
 """
+TERMINATING = (signal.SIGTERM, signal.SIGHUP)
 
 
-def parser() -> argparse.ArgumentParser:
-    """The words that are understood."""
-    whole = argparse.ArgumentParser(
+class _Once(argparse.Action):
+    """Stores the value of an option, which is given once."""
+
+    def __call__(
+        self,
+        parser: argparse.ArgumentParser,
+        namespace: argparse.Namespace,
+        values: Any,
+        option_string: Optional[str] = None,
+    ) -> None:
+        if option_string and getattr(namespace, self.dest, self.default) is not self.default:
+            parser.error(f"argument {option_string}: it is given twice")
+        setattr(namespace, self.dest, values)
+
+
+class _Parser(argparse.ArgumentParser):
+    """A parser whose options cannot be cut short or given twice."""
+
+    def __init__(self, **settings: Any) -> None:
+        super().__init__(allow_abbrev=False, **settings)
+        self.register("action", None, _Once)
+
+
+def parser(words: Sequence[str]) -> argparse.ArgumentParser:
+    """The options of the command that these words name. Only its module is imported."""
+    whole = _Parser(
         prog="balisekit",
         description="What balisecheck says of a table of telegrams.",
         epilog=STATUSES,
         formatter_class=argparse.RawDescriptionHelpFormatter,
     )
     whole.add_argument("--version", action="version", version=f"balisekit {__version__}")
+    _add_debug(whole)
     commands = whole.add_subparsers(dest="command", required=True, metavar="COMMAND")
-    for command in COMMANDS:
-        one = commands.add_parser(command.name, help=command.help, description=command.help)
-        command.add_options(one)
-        one.add_argument("--debug", action="store_true", help="show where in balisekit an error comes from")
-        one.set_defaults(run=command.run)
+    named = next((word for word in words if not word.startswith("-")), None)
+    for name, text in COMMANDS.items():
+        command = commands.add_parser(name, help=text, description=text)
+        if name == named:
+            module = import_module(f"balisekit.cli.{name}")
+            module.add_options(command)
+            _add_debug(command)
+            command.set_defaults(run=module.run)
     return whole
+
+
+def _add_debug(command: argparse.ArgumentParser) -> None:
+    text = "show where in balisekit an error comes from"
+    command.add_argument("--debug", action="store_true", default=argparse.SUPPRESS, help=text)
 
 
 def main(arguments: Optional[List[str]] = None) -> int:
@@ -64,39 +98,97 @@ def main(arguments: Optional[List[str]] = None) -> int:
     if _is_closed():
         return _ended(NoAnswer(CLOSED), False, CLOSED)
     options = argparse.Namespace(debug=False)
-    collects = gc.isenabled()
-    gc.disable()  # (what is made here holds nothing that holds it, so that all is freed without a search for circles)
     try:
-        _parse(arguments, options)
-        status: int = options.run(options)
-        sys.stdout.flush()
-        return status
+        with _without_collection(), _terminating():
+            _parse(sys.argv[1:] if arguments is None else arguments, options)
+            return _run(options)
     except KitError as error:
         return _ended(error, options.debug, *error.lines(), status=error.status)
-    except KeyboardInterrupt as error:
-        return _ended(error, options.debug, "interrupted")
-    except BrokenPipeError as error:
-        return _ended(error, options.debug, CLOSED)
-    except MemoryError as error:
-        return _ended(error, options.debug, "memory")
-    except OSError as error:
-        place = "standard output or a temporary file" if error.filename is None else str(error.filename)
-        return _ended(error, options.debug, f"{place}: {error.strerror or error}")
-    except Exception as error:
-        said = f"an error of balisekit itself, {type(error).__name__}: {error}; --debug shows where it comes from"
-        return _ended(error, options.debug, said)
+    except Terminated as error:
+        return _ended(error, options.debug, f"ended by {error.signal.name}", status=128 + error.signal)
+    except (KeyboardInterrupt, Exception) as error:
+        return _ended(error, options.debug, _reason(error))
+
+
+def _parse(words: List[str], options: argparse.Namespace) -> None:
+    """Puts the options into the namespace. SystemExit is raised for wrong ones, and once help has been written."""
+    try:
+        parser(words).parse_args(words, options)
+    except SystemExit:
+        sys.stdout.flush()
+        raise
+
+
+def _run(options: argparse.Namespace) -> int:
+    """Runs the command. Its outputs are moved into place once standard output has taken the text."""
+    from balisekit.io.outputs import Output, check_outputs, placing
+
+    outputs = [value for value in vars(options).values() if isinstance(value, Output)]
+    force = getattr(options, "force", False)
+    check_outputs(outputs, _inputs(options, outputs), force)
+    with placing(outputs, force):
+        status: int = options.run(options)
+        sys.stdout.flush()
+    return status
+
+
+def _inputs(options: argparse.Namespace, outputs: Sequence[Output]) -> List[str]:
+    """The files that the command reads, and the program if an output could replace it."""
+    from balisekit.engine import location
+    from balisekit.io.inputs import InputPath
+
+    inputs: List[str] = [value for value in vars(options).values() if isinstance(value, InputPath)]
+    if any(os.path.lexists(output.path) for output in outputs):
+        named = options.program or os.environ.get("BALISECHECK") or "balisecheck"
+        inputs += filter(None, (shutil.which(named), location.find(options.program)))
+    return inputs
+
+
+@contextmanager
+def _without_collection() -> Iterator[None]:
+    """Nothing here refers to what refers to it, so that all is freed without a search for cycles."""
+    collects = gc.isenabled()
+    gc.disable()
+    try:
+        yield
     finally:
         if collects:
             gc.enable()
 
 
-def _parse(arguments: Optional[List[str]], options: argparse.Namespace) -> None:
-    """Puts the words into the namespace. SystemExit is raised for wrong ones, and once help has been written."""
+@contextmanager
+def _terminating() -> Iterator[None]:
+    """Raises Terminated for the first SIGTERM or SIGHUP, unless the caller of balisekit has it ignored."""
+
+    def terminate(number: int, frame: object) -> None:
+        for other in handlers:
+            signal.signal(other, signal.SIG_IGN)
+        raise Terminated(signal.Signals(number))
+
+    handlers = {}
+    if threading.current_thread() is threading.main_thread():
+        for number in TERMINATING:
+            if signal.getsignal(number) is not signal.SIG_IGN:
+                handlers[number] = signal.signal(number, terminate)
     try:
-        parser().parse_args(arguments, options)
-    except SystemExit:
-        sys.stdout.flush()
-        raise
+        yield
+    finally:
+        for number, handler in handlers.items():
+            signal.signal(number, handler)
+
+
+def _reason(error: BaseException) -> str:
+    """Why there is no answer."""
+    if isinstance(error, KeyboardInterrupt):
+        return "interrupted"
+    if isinstance(error, BrokenPipeError):
+        return CLOSED
+    if isinstance(error, MemoryError):
+        return "memory"
+    if isinstance(error, OSError):
+        place = "standard output or a temporary file" if error.filename is None else str(error.filename)
+        return f"{place}: {error.strerror or error}"
+    return f"an error of balisekit itself, {type(error).__name__}: {error}; --debug shows where it comes from"
 
 
 def _is_closed() -> bool:
@@ -113,8 +205,12 @@ def _is_closed() -> bool:
 
 def _ended(error: BaseException, debug: bool, *lines: str, status: int = 3) -> int:
     """Tells why there is no answer. Where nobody can be told the status still says it."""
+    from balisekit.tables.names import clean
+
     try:
         if debug:
+            import traceback
+
             traceback.print_exception(type(error), error, error.__traceback__)
         for line in lines:
             print(f"balisekit: {clean(line)}", file=sys.stderr)

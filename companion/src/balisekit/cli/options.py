@@ -1,45 +1,91 @@
-"""What commands are made of, and the words that they share."""
+"""The options that commands share."""
 from __future__ import annotations
 
 import argparse
 import re
-from dataclasses import dataclass
+import sys
 from decimal import Decimal
-from typing import Callable, Optional, Tuple
+from typing import Any, Optional, TextIO, Tuple
 
 from balisekit.engine.program import Program
+from balisekit.io.inputs import InputPath
+from balisekit.io.outputs import Output
 from balisekit.tables import messages as messages_file, reader as table
 from balisekit.tables.model import Messages, Table
 
 
-@dataclass(frozen=True)
-class Command:
-    """A command: its name, what its help says, its words, and what it does. The answer is the exit status."""
+def name(text: str) -> str:
+    """A name that is not empty, as an unset variable of a shell is."""
+    if not text:
+        raise argparse.ArgumentTypeError("the name is empty")
+    return text
 
-    name: str
-    help: str
-    add_options: Callable[[argparse.ArgumentParser], None]
-    run: Callable[[argparse.Namespace], int]
+
+def input_path(text: str) -> InputPath:
+    """The name of a file that is read."""
+    return InputPath(name(text))
+
+
+def new_output(text: str) -> Output:
+    """A file that is written and replaces none, not even by --force."""
+    return Output(name(text), always_new=True)
+
+
+def output(text: str) -> Output:
+    """A file that is written."""
+    return Output(name(text))
+
+
+def text_stream(*outputs: Optional[Output]) -> TextIO:
+    """Where the answer in words goes: standard error if one of these outputs is standard output."""
+    return sys.stderr if any(output and output.is_standard_output for output in outputs) else sys.stdout
 
 
 def add_input_options(parser: argparse.ArgumentParser, table_needed: bool = True) -> None:
-    """The words that say what is read and by which program."""
+    """The options that name what is read, and the program."""
     text = "a CSV file or an .xlsx with the columns group and telegram"
     if table_needed:
-        parser.add_argument("table", metavar="TABLE", help=text)
+        parser.add_argument("table", metavar="TABLE", type=input_path, help=text)
     else:
-        parser.add_argument(
-            "table",
-            metavar="TABLE",
-            nargs="?",
-            help=f"{text}; without it and --messages, telegrams of standard input, one a line",
-        )
-    parser.add_argument("--messages", metavar="FILE", help="radio messages, one a line, a name behind ;")
-    parser.add_argument("--sheet", metavar="NAME", help="which sheet of an .xlsx")
+        text += "; without it and --messages, telegrams of standard input, one a line"
+        parser.add_argument("table", metavar="TABLE", nargs="?", type=input_path, help=text)
+    add_messages(parser, "--messages", "radio messages, one a line, a name behind ;")
     parser.add_argument(
         "--by-position", action="store_true", help="order the balises of a group by N_PIG, which hides a wrong N_PIG"
     )
-    parser.add_argument("--program", metavar="PATH", help="the program balisecheck, in place of the one found")
+    add_program_options(parser, "which sheet of an .xlsx")
+
+
+def add_messages(parser: argparse.ArgumentParser, option: str, text: str) -> None:
+    """An option that names a file of radio messages."""
+    parser.add_argument(option, metavar="FILE", type=input_path, help=text)
+
+
+def add_program_options(parser: argparse.ArgumentParser, sheet: str) -> None:
+    """The options that each command has."""
+    parser.add_argument("--sheet", metavar="NAME", type=name, help=sheet)
+    parser.add_argument(
+        "--program", metavar="PATH", type=name, help="the program balisecheck, in place of the one found"
+    )
+
+
+def add_accepted(parser: argparse.ArgumentParser) -> None:
+    """The file of accepted findings."""
+    text = "a CSV file of findings that were accepted, and by whom"
+    parser.add_argument("--accepted", metavar="FILE", type=input_path, help=text)
+
+
+def add_output(parser: argparse.ArgumentParser, option: str, text: str, **settings: Any) -> None:
+    """An option that names a file to be written."""
+    settings = {"type": output, **settings}
+    parser.add_argument(option, metavar="FILE", help=f"{text}; - is standard output", **settings)
+
+
+def add_force(parser: argparse.ArgumentParser) -> None:
+    """The option by which outputs replace existing files."""
+    parser.add_argument(
+        "--force", action="store_true", help="replace existing files by the outputs, but never an input"
+    )
 
 
 def inputs(options: argparse.Namespace) -> Tuple[Program, Table, Optional[Messages]]:

@@ -8,7 +8,7 @@ import sys
 import textwrap
 from typing import Dict, Generator, Iterator, List, Mapping, Optional, Sequence, Union
 
-from balisekit.cli.options import Command, add_input_options, inputs
+from balisekit.cli.options import add_input_options, inputs
 from balisekit.engine.grammar import Refusal
 from balisekit.engine.program import Program, Record
 from balisekit.errors import TableError
@@ -126,6 +126,3 @@ def telegram(heading: str, digits: str, answer: Answer, here: Here, bits: bool) 
 
 def _body(digits: str, form: Form, here: Here, bits: bool) -> List[str]:
     return list(bit_lines(digits, form)) if bits else text(form, here).split("\n")
-
-
-COMMAND = Command("show", "show each telegram in words", add_options, run)

@@ -11,7 +11,6 @@ from balisekit.drawing.track import note, track_pictures, tracks_of
 from balisekit.drawing.track_view import undrawn
 from balisekit.engine.program import Program
 from balisekit.errors import TableError
-from balisekit.io import files
 from balisekit.present.pages import pieces, style
 from balisekit.present.refusals import message_refused, telegram_refused
 from balisekit.rules import checking
@@ -19,7 +18,7 @@ from balisekit.rules.checking import Checked
 from balisekit.rules.links.rules import wrong_distances
 from balisekit.rules.links.stations import Line, line_of
 from balisekit.tables.model import Messages, Table
-from balisekit.tables.names import describe_balise, clean, describe_message, passed_over, quoted
+from balisekit.tables.names import clean, describe_balise, describe_message, passed_over, quoted
 
 NAMED = 5
 """So many groups, rows or lines are named."""
@@ -55,13 +54,11 @@ def draw_track(options: argparse.Namespace, program: Program, table: Table, mess
         pictures=list(zip(tops, pictures)),
         style=style("picture.css") + style("track.css"),
     )
-    with files.writing(options.svg) as file:
-        for piece in page:
-            file.write(piece.encode("utf-8"))
+    options.svg.write(page)
     for said in _refusals(checked):
         print(f"balisekit: {said}", file=sys.stderr)
     for said in [*passed_over(table), *_written(line, track, options, len(checked.accepted_messages))]:
-        print(said, file=sys.stderr if options.svg == "-" else sys.stdout)
+        print(said, file=sys.stderr if options.svg.is_standard_output else sys.stdout)
     return 0 if checked.whole else 2
 
 
@@ -105,7 +102,7 @@ def _written(line: Line, track: str, options: argparse.Namespace, messages: int)
             why = f"a mark alone, {lacks}" if lacks else ""
         reasons.setdefault(why, []).append(clean(station.group.name))
     shown = "the first aspect of each" if options.aspect is None else f"aspect {quoted(options.aspect)}"
-    where = "standard output" if options.svg == "-" else clean(options.svg)
+    where = "standard output" if options.svg.is_standard_output else clean(options.svg.path)
     yield (
         f"written: {where}: {len(drawn)} group{'s' if len(drawn) > 1 else ''} of "
         f"{f'track {quoted(track)}' if track else 'the track'}, {shown}"

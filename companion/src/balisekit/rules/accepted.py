@@ -13,7 +13,7 @@ from dataclasses import dataclass
 from typing import Dict, Iterable, Iterator, List, Mapping, Optional, Sequence, Set, Tuple
 
 from balisekit.errors import TableError, TableErrors
-from balisekit.io import files
+from balisekit.io import inputs
 from balisekit.io.csv_writing import plain
 from balisekit.rules.checking import Checked, Place
 from balisekit.tables import csv as csv_file
@@ -90,7 +90,7 @@ def today() -> datetime.date:
 
 def read(path: str) -> Entries:
     """The entries of this file. TableError or TableErrors is raised if it cannot be read."""
-    file = files.read(path)
+    file = inputs.read(path)
     try:
         sheet = csv_file.read(file.content, COLUMNS, NEEDED)
         entries = _entries(sheet.rows)

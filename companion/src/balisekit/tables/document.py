@@ -5,7 +5,7 @@ import json
 from typing import Any, Dict, List, Tuple
 
 from balisekit.errors import TableError
-from balisekit.io.files import Input
+from balisekit.io.inputs import Input
 from balisekit.tables.cells import digits
 from balisekit.tables.encoding import text_of
 from balisekit.tables.grouping import GREATEST_COUNT

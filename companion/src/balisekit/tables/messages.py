@@ -5,7 +5,7 @@ import re
 from typing import List
 
 from balisekit.errors import TableError, TableErrors
-from balisekit.io import files
+from balisekit.io import inputs
 from balisekit.tables.cells import digits
 from balisekit.tables.encoding import text_of
 from balisekit.tables.model import Message, Messages
@@ -13,7 +13,7 @@ from balisekit.tables.model import Message, Messages
 
 def read(path: str) -> Messages:
     """The messages of this file. TableError or TableErrors is raised if it cannot be read."""
-    file = files.read(path)
+    file = inputs.read(path)
     try:
         text, encoding = text_of(file.content)
         messages = _messages(text)

@@ -7,7 +7,7 @@ from difflib import get_close_matches
 from typing import Callable, Dict, List, Mapping, Optional, Sequence, Tuple, TypeVar
 
 from balisekit.errors import TableError, TableErrors
-from balisekit.io import files
+from balisekit.io import inputs
 from balisekit.tables import csv as csv_file, xlsx as xlsx_file
 from balisekit.tables.cells import COLUMNS, ERROR, NEEDED, Sheet, digits, headings
 from balisekit.tables.grouping import groups_of
@@ -27,7 +27,7 @@ Read = TypeVar("Read")
 
 def read(path: str, sheet: Optional[str] = None, by_position: bool = False) -> Table:
     """The table of this file. TableError or TableErrors is raised if it cannot be read."""
-    file = files.read(path)
+    file = inputs.read(path)
     hints: List[TableError] = []
     try:
         if file.content.startswith(xlsx_file.BEGINS):

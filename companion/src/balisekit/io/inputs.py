@@ -1,0 +1,51 @@
+"""Files that are read once, with their checksum."""
+from __future__ import annotations
+
+import hashlib
+import os
+import stat
+from dataclasses import dataclass
+
+from balisekit.errors import TableError
+
+
+class InputPath(str):
+    """The name of a file that is read, which no output may replace."""
+
+
+@dataclass(frozen=True)
+class Input:
+    """A file that was read."""
+
+    path: str
+    content: bytes
+
+    @property
+    def sha256(self) -> str:
+        """The checksum of what was read."""
+        return hashlib.sha256(self.content).hexdigest()
+
+
+def read(path: str) -> Input:
+    """The file of this path. A folder, a device, a pipe and a file that is being written are refused."""
+    try:
+        before = os.stat(path)
+        if not stat.S_ISREG(before.st_mode):
+            raise _fault(path, "it is a folder" if stat.S_ISDIR(before.st_mode) else "it is a device or pipe, no file")
+        with open(path, "rb") as file:
+            content = file.read()
+        after = os.stat(path)
+    except OSError as error:
+        why = "standard input is not read: name a file" if path == "-" else error.strerror or str(error)
+        raise _fault(path, why) from error
+    except ValueError as error:  # a NUL in the path
+        raise _fault(path, str(error)) from error
+    if (before.st_size, before.st_mtime_ns) != (after.st_size, after.st_mtime_ns) or len(content) != after.st_size:
+        raise _fault(path, "the file is being written")
+    return Input(path, content)
+
+
+def _fault(path: str, why: str) -> TableError:
+    fault = TableError(why)
+    fault.path = path
+    return fault

@@ -1,0 +1,179 @@
+"""Files that a command writes: never over an input, over another file only by --force, and all of them or none."""
+from __future__ import annotations
+
+import errno
+import json
+import os
+import signal
+import sys
+from contextlib import contextmanager
+from typing import Iterable, Iterator, List, Mapping, Optional, Sequence, Union
+
+from balisekit.errors import NoAnswer, TableError
+
+FOLDER = "no file can be written there: it is a folder, a device or a pipe"
+
+
+class Output:
+    """A file that an option names. `-` is standard output.
+
+    `write` writes a temporary file beside it, `place` moves that to its path, and `discard` removes it.
+    """
+
+    def __init__(self, path: str, always_new: bool = False) -> None:
+        self.path, self.always_new = path, always_new
+        self.target = os.path.realpath(path)
+        self._temporary = self._created = ""
+
+    @property
+    def is_standard_output(self) -> bool:
+        """Whether the option has `-`."""
+        return self.path == "-"
+
+    def check(self, inputs: Sequence[str], force: bool) -> None:
+        """Raises TableError if the file is an input or exists, and NoAnswer if it cannot be written."""
+        if self.is_standard_output:
+            return
+        try:
+            existing = os.stat(self.path) if os.path.exists(self.path) else None
+        except ValueError as error:  # a NUL in the path
+            raise NoAnswer(f"{self.path}: {error}") from error
+        if existing is None:
+            self._check_folder()
+        elif any(os.path.samestat(existing, os.stat(path)) for path in inputs if os.path.exists(path)):
+            raise TableError(f"{self.path}: it is an input: an output never replaces one")
+        elif not os.path.isfile(self.path):
+            raise NoAnswer(f"{self.path}: {FOLDER}")
+        elif self.always_new:
+            raise TableError(f"{self.path}: it exists already: name a new file, so that no entry is lost")
+        elif not force:
+            raise TableError(f"{self.path}: it exists already: name a new file, or give --force to replace it")
+        else:
+            self._check_folder()
+            self._check_replacing(existing)
+
+    def _check_folder(self) -> None:
+        folder = os.path.dirname(self.target)
+        if not os.path.isdir(folder):
+            raise NoAnswer(f"{self.path}: there is no folder {folder}")
+        if not os.access(folder, os.W_OK):
+            raise NoAnswer(f"{self.path}: nothing can be written into {folder}")
+
+    def _check_replacing(self, existing: os.stat_result) -> None:
+        """Raises NoAnswer if the new file could not have the mode and the owner of the existing one."""
+        groups = [os.getegid(), *os.getgroups()]
+        if not existing.st_mode & 0o222:
+            raise NoAnswer(f"{self.path}: it is write-protected")
+        if os.geteuid() and (existing.st_uid != os.geteuid() or existing.st_gid not in groups):
+            raise NoAnswer(f"{self.path}: it belongs to another user or group")
+
+    def write(self, pieces: Iterable[Union[str, bytes]]) -> None:
+        """Writes the content. It is at its path once `place` is called."""
+        encoded = (piece if isinstance(piece, bytes) else piece.encode("utf-8", "backslashreplace") for piece in pieces)
+        if self.is_standard_output:
+            sys.stdout.flush()
+            sys.stdout.buffer.writelines(encoded)
+            sys.stdout.buffer.flush()
+            return
+        name = os.path.join(os.path.dirname(self.target), f".balisekit-{os.urandom(6).hex()}")
+        try:
+            self._temporary = name
+            with open(name, "xb") as file:
+                file.writelines(encoded)
+        except OSError as error:
+            raise NoAnswer(f"{self.path}: {error.strerror or error}") from error
+
+    def place(self, force: bool) -> None:
+        """Moves what was written to its path. Without `force` it replaces nothing, not even a file of this moment."""
+        if not self._temporary:
+            return
+        try:
+            if force and not self.always_new and os.path.exists(self.target):
+                existing = os.stat(self.target)
+                os.chown(self._temporary, existing.st_uid, existing.st_gid)
+                os.chmod(self._temporary, existing.st_mode & 0o7777)
+            else:
+                os.close(os.open(self.target, os.O_CREAT | os.O_EXCL, 0o666))
+                self._created = self.target
+            os.replace(self._temporary, self.target)
+            self._temporary = ""
+        except FileExistsError as error:
+            raise TableError(f"{self.path}: another command has just written it") from error
+        except OSError as error:
+            mounted = "it is mounted by itself and cannot be replaced: name a new file"
+            why = mounted if error.errno == errno.EBUSY else error.strerror or str(error)
+            raise NoAnswer(f"{self.path}: {why}") from error
+
+    def discard(self) -> None:
+        """Removes the temporary file, and the new one if it was placed."""
+        for name in filter(None, (self._temporary, self._created)):
+            try:
+                os.unlink(name)
+            except FileNotFoundError:
+                pass
+        self._temporary = self._created = ""
+
+
+def check_outputs(outputs: Sequence[Output], inputs: Sequence[str], force: bool) -> None:
+    """Raises TableError or NoAnswer before anything is read if one of these files must not or cannot be written."""
+    targets: List[str] = []
+    for output in outputs:
+        output.check(inputs, force)
+        target = output.path if output.is_standard_output else output.target
+        if target in targets:
+            named = "standard output is" if output.is_standard_output else f"{output.path}: it is"
+            raise TableError(f"{named} named twice")
+        targets.append(target)
+
+
+@contextmanager
+def placing(outputs: Sequence[Output], force: bool) -> Iterator[None]:
+    """Moves all files to their paths at the end, or none if the block or a move fails."""
+    try:
+        yield
+        signals = signal.pthread_sigmask(signal.SIG_BLOCK, (signal.SIGINT, signal.SIGTERM, signal.SIGHUP))
+        try:
+            for output in outputs:
+                output.place(force)
+        finally:
+            signal.pthread_sigmask(signal.SIG_SETMASK, signals)
+    except BaseException:
+        for output in outputs:
+            output.discard()
+        raise
+
+
+class Json(str):
+    """A text that is JSON already. `write_json` copies it."""
+
+
+def write_json(output: Output, members: Mapping[str, object]) -> None:
+    """Writes an object of JSON: a member a line, and each element of a list, tuple or iterator on a line of its own."""
+    output.write(_json_pieces(members))
+
+
+def _json_pieces(members: Mapping[str, object]) -> Iterator[str]:
+    # Python's encoder in C serves only without `indent`.
+    encoder = json.JSONEncoder(ensure_ascii=False, separators=(",", ":"))
+
+    def encoded(value: object) -> str:
+        return value if isinstance(value, Json) else encoder.encode(value)
+
+    opening = "{"
+    for name, value in members.items():
+        yield f"{opening}\n{encoder.encode(name)}: "
+        opening = ","
+        if not isinstance(value, (list, tuple, Iterator)):
+            yield encoded(value)
+            continue
+        start = "["
+        for element in value:
+            yield f"{start}\n{encoded(element)}"
+            start = ","
+        yield "[]" if start == "[" else "\n]"
+    yield "\n}\n"
+
+
+def optional(*outputs: Optional[Output]) -> List[Output]:
+    """The outputs that are asked for."""
+    return [output for output in outputs if output is not None]
