@@ -11,6 +11,7 @@ from typing import Iterable, Iterator, List, Mapping, Optional, Sequence, Union
 
 from balisekit.errors import NoAnswer, TableError
 
+INPUT = "it is an input: an output never replaces one"
 FOLDER = "no file can be written there: it is a folder, a device or a pipe"
 
 
@@ -40,8 +41,8 @@ class Output:
             raise NoAnswer(f"{self.path}: {error}") from error
         if existing is None:
             self._check_folder()
-        elif any(os.path.samestat(existing, os.stat(path)) for path in inputs if os.path.exists(path)):
-            raise TableError(f"{self.path}: it is an input: an output never replaces one")
+        elif _is_one_of(existing, inputs):
+            raise TableError(f"{self.path}: {INPUT}")
         elif not os.path.isfile(self.path):
             raise NoAnswer(f"{self.path}: {FOLDER}")
         elif self.always_new:
@@ -114,8 +115,18 @@ class Output:
         self._temporary = self._created = ""
 
 
+def _is_one_of(existing: os.stat_result, inputs: Sequence[str]) -> bool:
+    return any(os.path.samestat(existing, os.stat(path)) for path in inputs if os.path.exists(path))
+
+
 def check_outputs(outputs: Sequence[Output], inputs: Sequence[str], force: bool) -> None:
     """Raises TableError or NoAnswer before anything is read if one of these files must not or cannot be written."""
+    try:
+        standard_output: Optional[os.stat_result] = os.fstat(sys.stdout.fileno())
+    except (OSError, ValueError):  # a caller in Python may have another stream
+        standard_output = None
+    if standard_output and _is_one_of(standard_output, inputs):
+        raise TableError(f"standard output: {INPUT}")
     targets: List[str] = []
     for output in outputs:
         output.check(inputs, force)
@@ -172,8 +183,3 @@ def _json_pieces(members: Mapping[str, object]) -> Iterator[str]:
             start = ","
         yield "[]" if start == "[" else "\n]"
     yield "\n}\n"
-
-
-def optional(*outputs: Optional[Output]) -> List[Output]:
-    """The outputs that are asked for."""
-    return [output for output in outputs if output is not None]

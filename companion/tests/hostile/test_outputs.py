@@ -1,0 +1,287 @@
+"""Outputs never replace an input, replace another file only by --force, and appear all together or not at all."""
+from __future__ import annotations
+
+import json
+import os
+import shutil
+import signal
+import subprocess
+import sys
+import time
+from pathlib import Path
+from typing import Callable, Dict, List
+
+import pytest
+from cases_of_program import TOP
+from conftest import Run
+from telegrams import ALONE, MESSAGE, OTHER
+
+from balisekit.engine.program import Program
+from balisekit.errors import TableError
+from balisekit.io.outputs import Json, Output, check_outputs, placing, write_json
+
+TABLE = f"group,km,nominal,telegram\nA,1.000,rising,{ALONE}\nB,2.000,rising,{OTHER}\n"
+ENTRIES = "rule,nid_c,nid_bg,message,aspect,balise,packet,direction,reason,who,date,until\n"
+OUTPUTS = [
+    "check t.csv --json",
+    "check t.csv --document",
+    "check t.csv --junit",
+    "report t.csv --html",
+    "draw t.csv --group A --svg",
+    "draw t.csv --track --svg",
+    "links t.csv --json",
+    "diff t.csv u.csv --html",
+    "diff t.csv u.csv --json",
+]
+"""Each option that names an output, but --propose."""
+REPLACED = [
+    ("check t.csv --json t.csv", "t.csv"),
+    ("check t.csv --document t.csv", "t.csv"),
+    ("check t.csv --junit t.csv", "t.csv"),
+    ("check t.csv --propose t.csv", "t.csv"),
+    ("check t.csv --accepted a.csv --json a.csv", "a.csv"),
+    ("check t.csv --accepted a.csv --json new.json --junit a.csv", "a.csv"),
+    ("check t.csv --messages m.txt --junit m.txt", "m.txt"),
+    ("check t.csv --json hard.csv", "hard.csv"),
+    ("check t.csv --program ./prog --json prog", "prog"),
+    ("report t.csv --accepted a.csv --html a.csv", "a.csv"),
+    ("report t.csv --html t.csv", "t.csv"),
+    ("report t.csv --html ./t.csv", "./t.csv"),
+    ("report t.csv --html soft.csv", "soft.csv"),
+    ("report soft.csv --html t.csv", "t.csv"),
+    ("draw t.csv --group A --svg t.csv", "t.csv"),
+    ("draw t.csv --track --svg t.csv", "t.csv"),
+    ("links t.csv --json t.csv", "t.csv"),
+    ("links t.csv --messages m.txt --json m.txt", "m.txt"),
+    ("diff t.csv u.csv --html t.csv", "t.csv"),
+    ("diff t.csv u.csv --json u.csv", "u.csv"),
+    ("diff t.csv u.csv --old-messages m.txt --json m.txt", "m.txt"),
+    ("diff t.csv u.csv --new-messages m.txt --html m.txt", "m.txt"),
+]
+"""A command line, and its output that is an input."""
+
+
+@pytest.fixture
+def room(tmp_path: Path, monkeypatch: pytest.MonkeyPatch, program: Program) -> Path:
+    """A folder with inputs, in which the commands run."""
+    for name, text in (("t.csv", TABLE), ("u.csv", TABLE), ("m.txt", f"{MESSAGE};x\n"), ("a.csv", ENTRIES)):
+        (tmp_path / name).write_text(text, "utf-8")
+    (tmp_path / "soft.csv").symlink_to("t.csv")
+    (tmp_path / "hard.csv").hardlink_to(tmp_path / "t.csv")
+    shutil.copy(program.path, tmp_path / "prog")
+    monkeypatch.chdir(tmp_path)
+    return tmp_path
+
+
+def _contents(room: Path) -> Dict[str, bytes]:
+    return {path.name: path.read_bytes() for path in room.iterdir()}
+
+
+@pytest.mark.parametrize("force", ["", " --force"])
+@pytest.mark.parametrize("words, output", REPLACED, ids=[words for words, _ in REPLACED])
+def test_an_output_never_replaces_an_input(words: str, output: str, force: str, room: Path, run: Run) -> None:
+    before = _contents(room)
+    status, out, err = run(*words.split(), *force.split())
+    assert _contents(room) == before
+    assert (status, out, err) == (2, [], [f"balisekit: {output}: it is an input: an output never replaces one"])
+
+
+def test_nor_does_it_replace_the_program_of_the_environment(
+    room: Path, run: Run, monkeypatch: pytest.MonkeyPatch
+) -> None:
+    before = _contents(room)
+    monkeypatch.setenv("BALISECHECK", str(room / "prog"))
+    status, _, err = run("check", "t.csv", "--json", "prog", "--force")
+    assert status == 2 and err == ["balisekit: prog: it is an input: an output never replaces one"]
+    assert _contents(room) == before
+
+
+def test_nothing_is_appended_to_an_input(room: Path, program: Program) -> None:
+    """Standard output is an output as well."""
+    before = _contents(room)
+    for words in ("check t.csv", "links t.csv --json -", "show --messages m.txt"):
+        target = "m.txt" if "m.txt" in words else "t.csv"
+        with open(target, "ab") as file:
+            done = _balisekit(*words.split(), stdout=file)
+        assert done.returncode == 2 and _contents(room) == before
+        assert done.stderr.decode() == "balisekit: standard output: it is an input: an output never replaces one\n"
+
+
+def _balisekit(*words: str, **settings: object) -> subprocess.CompletedProcess[bytes]:
+    command = [sys.executable, "-m", "balisekit", *words]
+    known = {**os.environ, "PYTHONPATH": str(TOP / "companion" / "src")}
+    return subprocess.run(command, env=known, stderr=subprocess.PIPE, check=False, **settings)  # type: ignore[call-overload,no-any-return]
+
+
+@pytest.mark.parametrize("words", OUTPUTS)
+def test_an_existing_file_is_replaced_by_force_only(words: str, room: Path, run: Run) -> None:
+    pytest.importorskip("jinja2")
+    kept = room / "kept"
+    kept.write_text("kept", "utf-8")
+    kept.chmod(0o640)
+    (room / "link").symlink_to("kept")
+    for name in ("kept", "link"):
+        status, out, err = run(*words.split(), name)
+        why = f"balisekit: {name}: it exists already: name a new file, or give --force to replace it"
+        assert (status, out, err) == (2, [], [why])
+    assert kept.read_text("utf-8") == "kept"
+    assert run(*words.split(), "link", "--force")[0] in (0, 1)
+    assert kept.read_text("utf-8") != "kept" and (kept.stat().st_mode & 0o777) == 0o640
+    assert (room / "link").is_symlink() and not list(room.glob(".balisekit-*"))
+
+
+def test_proposed_entries_replace_nothing_even_by_force(room: Path, run: Run) -> None:
+    (room / "kept").write_text("signed", "utf-8")
+    for force in ([], ["--force"]):
+        status, _, err = run("check", "t.csv", "--propose", "kept", *force)
+        why = "balisekit: kept: it exists already: name a new file, so that no entry is lost"
+        assert (status, err) == (2, [why]) and (room / "kept").read_text("utf-8") == "signed"
+
+
+def test_a_write_protected_file_is_kept(room: Path, run: Run) -> None:
+    (room / "kept").write_text("kept", "utf-8")
+    (room / "kept").chmod(0o444)
+    status, _, err = run("check", "t.csv", "--json", "kept", "--force")
+    assert (status, err) == (3, ["balisekit: kept: it is write-protected"])
+    assert (room / "kept").read_text("utf-8") == "kept"
+
+
+@pytest.mark.skipif(os.geteuid() != 0, reason="only root can give a file to another user")
+def test_the_owner_is_kept(room: Path, run: Run) -> None:
+    (room / "kept").write_text("kept", "utf-8")
+    os.chown(room / "kept", 12345, 12346)
+    assert run("check", "t.csv", "--json", "kept", "--force")[0] == 0
+    now = (room / "kept").stat()
+    assert (now.st_uid, now.st_gid) == (12345, 12346) and (room / "kept").read_text("utf-8") != "kept"
+
+
+def test_another_owner_is_refused(room: Path, monkeypatch: pytest.MonkeyPatch) -> None:
+    (room / "kept").write_text("kept", "utf-8")
+    monkeypatch.setattr(os, "geteuid", lambda: 54321)
+    with pytest.raises(Exception, match="kept: it belongs to another user or group"):
+        Output("kept").check([], force=True)
+
+
+def test_of_two_commands_at_once_one_writes(room: Path) -> None:
+    """Both have found no file, and the second one does not replace that of the first."""
+    first, second = Output("new"), Output("new")
+    check_outputs([first], [], False)
+    check_outputs([second], [], False)
+    with pytest.raises(TableError, match="new: another command has just written it"):
+        with placing([second], False):
+            second.write(["second"])
+            with placing([first], False):
+                first.write(["first"])
+    assert (room / "new").read_text("utf-8") == "first" and not list(room.glob(".balisekit-*"))
+
+
+@pytest.mark.parametrize(
+    "words, limit, stdout, status",
+    [
+        ("check t.csv --document ok.json --json big.json", 1, subprocess.DEVNULL, 3),
+        ("check t.csv --junit ok.xml --json ok.json", 1000, "/dev/full", 3),
+        ("check t.csv --junit ok.xml --json none/x.json", 1000, subprocess.DEVNULL, 3),
+        ("check t.csv --junit ok.xml --json ok.json --program /bin/false", 1000, subprocess.DEVNULL, 3),
+    ],
+)
+def test_all_outputs_or_none(words: str, limit: int, stdout: object, status: int, room: Path) -> None:
+    """A file that cannot be written, a closed stream and a program without an answer leave no other file."""
+    before = _contents(room)
+    known = {**os.environ, "PYTHONPATH": str(TOP / "companion" / "src")}
+    command = f"ulimit -f {limit}; {sys.executable} -m balisekit {words}"
+    target = open(stdout, "wb") if isinstance(stdout, str) else subprocess.DEVNULL
+    done = subprocess.run(["bash", "-c", command], env=known, stdout=target, stderr=subprocess.PIPE, check=False)
+    assert done.returncode == status and done.stderr.startswith(b"balisekit: ")
+    assert _contents(room) == before
+
+
+def test_two_outputs_in_one_place_are_refused(room: Path, run: Run) -> None:
+    (room / "folder").symlink_to(".")
+    status, _, err = run("check", "t.csv", "--json", "new", "--junit", "folder/new")
+    assert (status, err) == (2, ["balisekit: new: it is named twice"])
+
+
+@pytest.mark.parametrize("number, status", [(signal.SIGTERM, 143), (signal.SIGHUP, 129), (signal.SIGINT, 3)])
+def test_signals_leave_nothing(
+    number: signal.Signals, status: int, room: Path, tmp_path_factory: pytest.TempPathFactory
+) -> None:
+    """No output, no temporary file, no program that runs on, and a line that says why."""
+    before = _contents(room)
+    program = tmp_path_factory.mktemp("program") / "stand"
+    program.write_text(STAND, "utf-8")
+    program.chmod(0o755)
+    words = [sys.executable, "-m", "balisekit", "check", "t.csv", "--json", "out.json", "--program", str(program)]
+    known = {**os.environ, "PYTHONPATH": str(TOP / "companion" / "src")}
+    with subprocess.Popen(words, env=known, stdout=subprocess.PIPE, stderr=subprocess.PIPE) as process:
+        started = _waited_for(program.with_name("stand.started"))
+        process.send_signal(number)
+        _, said = process.communicate(timeout=20)
+    why = "interrupted" if number == signal.SIGINT else f"ended by {number.name}"
+    assert (process.returncode, said.decode()) == (status, f"balisekit: {why}\n")
+    assert _contents(room) == before
+    with pytest.raises(ProcessLookupError):
+        for _ in range(100):
+            os.kill(int(started), 0)
+            time.sleep(0.05)
+
+
+STAND = """#!/bin/sh
+case "$*" in
+check) cat >/dev/null; echo 'yes: groups 0, messages 0'; exit 0 ;;
+--version) echo 'refused: usage is balisecheck check, decode [--radio] or encode [--radio]'; exit 2 ;;
+esac
+echo $$ >"$0.part"
+mv "$0.part" "$0.started"
+exec sleep 60
+"""
+
+
+def _waited_for(path: Path) -> str:
+    for _ in range(400):
+        if path.exists():
+            return path.read_text("utf-8")
+        time.sleep(0.05)
+    raise AssertionError("the program was not started")
+
+
+def test_a_signal_while_a_page_is_written_leaves_no_temporary_file(room: Path) -> None:
+    """The output is a temporary file by then."""
+    code = (
+        "import os, signal, sys\n"
+        "from balisekit.cli import main, check\n"
+        "def run(options):\n"
+        "    def pieces():\n"
+        "        yield 'begun'\n"
+        "        assert [name for name in os.listdir() if name.startswith('.balisekit-')]\n"
+        "        os.kill(os.getpid(), signal.SIGTERM)\n"
+        "        yield 'more'\n"
+        "    options.json.write(pieces())\n"
+        "check.run = run\n"
+        "sys.exit(main.main(['check', 't.csv', '--json', 'new']))\n"
+    )
+    before = _contents(room)
+    known = {**os.environ, "PYTHONPATH": str(TOP / "companion" / "src")}
+    done = subprocess.run([sys.executable, "-c", code], env=known, stderr=subprocess.PIPE, check=False)
+    assert (done.returncode, done.stderr) == (143, b"balisekit: ended by SIGTERM\n") and _contents(room) == before
+
+
+def test_a_signal_that_is_ignored_stays_ignored(room: Path) -> None:
+    """As below nohup."""
+    code = "import os, signal; from balisekit.cli import main; main.main(['check', 't.csv', '--json', 'new'])"
+    before = set(_contents(room))
+    words = ["nohup", sys.executable, "-c", code.replace("main.main", "os.kill(os.getpid(), signal.SIGHUP); main.main")]
+    known = {**os.environ, "PYTHONPATH": str(TOP / "companion" / "src")}
+    done = subprocess.run(words, env=known, stdout=subprocess.DEVNULL, stderr=subprocess.DEVNULL, check=False)
+    assert done.returncode == 0 and set(_contents(room)) - before == {"new"}
+
+
+def test_json_has_a_result_a_line(room: Path) -> None:
+    output = Output("new.json")
+    members = {"status": 0, "list": [{"a": 1}, Json('{"b":2}')], "none": [], "some": iter(["x"]), "text": "\udc80ä"}
+    with placing([output], False):
+        write_json(output, members)
+    text = (room / "new.json").read_text("utf-8")
+    assert text == (
+        '{\n"status": 0,\n"list": [\n{"a":1},\n{"b":2}\n],\n"none": [],\n"some": [\n"x"\n],\n"text": "\\udc80ä"\n}\n'
+    )
+    assert json.loads(text)["list"] == [{"a": 1}, {"b": 2}]
