@@ -1,6 +1,7 @@
 """Outputs never replace an input, replace another file only by --force, and appear all together or not at all."""
 from __future__ import annotations
 
+import errno
 import json
 import os
 import shutil
@@ -9,7 +10,7 @@ import subprocess
 import sys
 import time
 from pathlib import Path
-from typing import Callable, Dict, List
+from typing import IO, Dict, Sequence, Tuple, Union
 
 import pytest
 from cases_of_program import TOP
@@ -17,10 +18,11 @@ from conftest import Run
 from telegrams import ALONE, MESSAGE, OTHER
 
 from balisekit.engine.program import Program
-from balisekit.errors import TableError
+from balisekit.errors import NoAnswer, TableError
 from balisekit.io.outputs import Json, Output, check_outputs, placing, write_json
 
 TABLE = f"group,km,nominal,telegram\nA,1.000,rising,{ALONE}\nB,2.000,rising,{OTHER}\n"
+COMMAND = [sys.executable, "-m", "balisekit"]
 ENTRIES = "rule,nid_c,nid_bg,message,aspect,balise,packet,direction,reason,who,date,until\n"
 OUTPUTS = [
     "check t.csv --json",
@@ -102,15 +104,16 @@ def test_nothing_is_appended_to_an_input(room: Path, program: Program) -> None:
     for words in ("check t.csv", "links t.csv --json -", "show --messages m.txt"):
         target = "m.txt" if "m.txt" in words else "t.csv"
         with open(target, "ab") as file:
-            done = _balisekit(*words.split(), stdout=file)
-        assert done.returncode == 2 and _contents(room) == before
-        assert done.stderr.decode() == "balisekit: standard output: it is an input: an output never replaces one\n"
+            answer = _run([*COMMAND, *words.split()], file)
+        assert answer == (2, "balisekit: standard output: it is an input: an output never replaces one\n")
+        assert _contents(room) == before
 
 
-def _balisekit(*words: str, **settings: object) -> subprocess.CompletedProcess[bytes]:
-    command = [sys.executable, "-m", "balisekit", *words]
+def _run(command: Sequence[str], stdout: Union[int, IO[bytes]] = subprocess.DEVNULL) -> Tuple[int, str]:
+    """The status of a process with balisekit, and what it has written to standard error."""
     known = {**os.environ, "PYTHONPATH": str(TOP / "companion" / "src")}
-    return subprocess.run(command, env=known, stderr=subprocess.PIPE, check=False, **settings)  # type: ignore[call-overload,no-any-return]
+    done = subprocess.run(command, env=known, stdout=stdout, stderr=subprocess.PIPE, check=False)
+    return done.returncode, done.stderr.decode()
 
 
 @pytest.mark.parametrize("words", OUTPUTS)
@@ -158,8 +161,21 @@ def test_the_owner_is_kept(room: Path, run: Run) -> None:
 def test_another_owner_is_refused(room: Path, monkeypatch: pytest.MonkeyPatch) -> None:
     (room / "kept").write_text("kept", "utf-8")
     monkeypatch.setattr(os, "geteuid", lambda: 54321)
-    with pytest.raises(Exception, match="kept: it belongs to another user or group"):
+    with pytest.raises(NoAnswer, match="kept: it belongs to another user or group"):
         Output("kept").check([], force=True)
+
+
+def test_a_file_that_is_mounted_by_itself_is_refused(room: Path, monkeypatch: pytest.MonkeyPatch) -> None:
+    def busy(*_: object) -> None:
+        raise OSError(errno.EBUSY, "Device or resource busy")
+
+    (room / "kept").write_text("kept", "utf-8")
+    output = Output("kept")
+    monkeypatch.setattr(os, "replace", busy)
+    with pytest.raises(NoAnswer, match="kept: it is mounted by itself and cannot be replaced"):
+        with placing([output], True):
+            output.write(["new"])
+    assert not list(room.glob(".balisekit-*")) and (room / "kept").read_text("utf-8") == "kept"
 
 
 def test_of_two_commands_at_once_one_writes(room: Path) -> None:
@@ -176,23 +192,20 @@ def test_of_two_commands_at_once_one_writes(room: Path) -> None:
 
 
 @pytest.mark.parametrize(
-    "words, limit, stdout, status",
+    "words, limit, stdout",
     [
-        ("check t.csv --document ok.json --json big.json", 1, subprocess.DEVNULL, 3),
-        ("check t.csv --junit ok.xml --json ok.json", 1000, "/dev/full", 3),
-        ("check t.csv --junit ok.xml --json none/x.json", 1000, subprocess.DEVNULL, 3),
-        ("check t.csv --junit ok.xml --json ok.json --program /bin/false", 1000, subprocess.DEVNULL, 3),
+        ("check t.csv --document ok.json --json big.json", 1, "/dev/null"),
+        ("check t.csv --junit ok.xml --json ok.json", 1000, "/dev/full"),
+        ("check t.csv --junit ok.xml --json none/x.json", 1000, "/dev/null"),
+        ("check t.csv --junit ok.xml --json ok.json --program /bin/false", 1000, "/dev/null"),
     ],
 )
-def test_all_outputs_or_none(words: str, limit: int, stdout: object, status: int, room: Path) -> None:
+def test_all_outputs_or_none(words: str, limit: int, stdout: str, room: Path) -> None:
     """A file that cannot be written, a closed stream and a program without an answer leave no other file."""
     before = _contents(room)
-    known = {**os.environ, "PYTHONPATH": str(TOP / "companion" / "src")}
-    command = f"ulimit -f {limit}; {sys.executable} -m balisekit {words}"
-    target = open(stdout, "wb") if isinstance(stdout, str) else subprocess.DEVNULL
-    done = subprocess.run(["bash", "-c", command], env=known, stdout=target, stderr=subprocess.PIPE, check=False)
-    assert done.returncode == status and done.stderr.startswith(b"balisekit: ")
-    assert _contents(room) == before
+    with open(stdout, "wb") as file:
+        status, said = _run(["bash", "-c", f"ulimit -f {limit}; {' '.join(COMMAND)} {words}"], file)
+    assert status == 3 and said.startswith("balisekit: ") and _contents(room) == before
 
 
 def test_two_outputs_in_one_place_are_refused(room: Path, run: Run) -> None:
@@ -210,7 +223,7 @@ def test_signals_leave_nothing(
     program = tmp_path_factory.mktemp("program") / "stand"
     program.write_text(STAND, "utf-8")
     program.chmod(0o755)
-    words = [sys.executable, "-m", "balisekit", "check", "t.csv", "--json", "out.json", "--program", str(program)]
+    words = [*COMMAND, "check", "t.csv", "--json", "out.json", "--program", str(program)]
     known = {**os.environ, "PYTHONPATH": str(TOP / "companion" / "src")}
     with subprocess.Popen(words, env=known, stdout=subprocess.PIPE, stderr=subprocess.PIPE) as process:
         started = _waited_for(program.with_name("stand.started"))
@@ -260,9 +273,8 @@ def test_a_signal_while_a_page_is_written_leaves_no_temporary_file(room: Path) -
         "sys.exit(main.main(['check', 't.csv', '--json', 'new']))\n"
     )
     before = _contents(room)
-    known = {**os.environ, "PYTHONPATH": str(TOP / "companion" / "src")}
-    done = subprocess.run([sys.executable, "-c", code], env=known, stderr=subprocess.PIPE, check=False)
-    assert (done.returncode, done.stderr) == (143, b"balisekit: ended by SIGTERM\n") and _contents(room) == before
+    assert _run([sys.executable, "-c", code]) == (143, "balisekit: ended by SIGTERM\n")
+    assert _contents(room) == before
 
 
 def test_a_signal_that_is_ignored_stays_ignored(room: Path) -> None:
@@ -270,9 +282,7 @@ def test_a_signal_that_is_ignored_stays_ignored(room: Path) -> None:
     code = "import os, signal; from balisekit.cli import main; main.main(['check', 't.csv', '--json', 'new'])"
     before = set(_contents(room))
     words = ["nohup", sys.executable, "-c", code.replace("main.main", "os.kill(os.getpid(), signal.SIGHUP); main.main")]
-    known = {**os.environ, "PYTHONPATH": str(TOP / "companion" / "src")}
-    done = subprocess.run(words, env=known, stdout=subprocess.DEVNULL, stderr=subprocess.DEVNULL, check=False)
-    assert done.returncode == 0 and set(_contents(room)) - before == {"new"}
+    assert _run(words)[0] == 0 and set(_contents(room)) - before == {"new"}
 
 
 def test_json_has_a_result_a_line(room: Path) -> None:
