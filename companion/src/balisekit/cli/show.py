@@ -12,7 +12,7 @@ from balisekit.cli.options import add_input_options, inputs
 from balisekit.engine.grammar import Refusal
 from balisekit.engine.program import Program, Record
 from balisekit.errors import TableError
-from balisekit.etcs.places import Here, Identities, places_of_rows
+from balisekit.etcs.places import Here, Identities, here_alone, places_of_rows
 from balisekit.etcs.variables import Form
 from balisekit.present.bit_table import bit_lines
 from balisekit.present.refusals import message_refused, telegram_refused
@@ -79,7 +79,8 @@ class _Shown:
         tried = 0
         for (number, text_of_line), answer in zip(texts, self._answers(program, [one for _, one in texts])):
             tried += 1
-            yield telegram(f"line {number}", text_of_line, answer, Here(), self.options.bits)
+            here = here_alone(answer.form) if isinstance(answer, Record) else Here()
+            yield telegram(f"line {number}", text_of_line, answer, here, self.options.bits)
         self.not_looked_at["lines"] = len(texts) - tried
 
     def _telegrams(self, program: Program, table: Table) -> Generator[List[str], None, Mapping[int, Form]]:

@@ -7,9 +7,10 @@ from __future__ import annotations
 
 from dataclasses import dataclass
 from decimal import Decimal
+from enum import Enum
 from functools import cached_property, lru_cache
 from itertools import accumulate
-from typing import Dict, FrozenSet, List, Mapping, NamedTuple, Optional, Sequence, Tuple
+from typing import Dict, FrozenSet, Iterator, List, Mapping, NamedTuple, Optional, Sequence, Tuple
 
 from balisekit.etcs.variables import Form, unit_dm
 from balisekit.tables.model import Group
@@ -208,9 +209,9 @@ def profile(site: Site, packet: Form) -> Profile:
     return Profile(site, packet["nid_packet"], elements[:before], beyond, places[0], places[before])
 
 
-def is_silent(forms: Sequence[Form], balise: int, direction: str) -> bool:
+def is_silent(forms: Sequence[Optional[Form]], balise: int, direction: str) -> bool:
     """Whether a balise is passed behind the one that its duplicate flag names, whose packets are the same."""
-    flag = forms[balise].get("m_dup", 0)
+    flag = (forms[balise] or {}).get("m_dup", 0)
     if direction == NOMINAL:
         return bool(flag == 2 and balise > 0)
     return bool(flag == 1 and balise + 1 < len(forms))
@@ -257,6 +258,35 @@ def _behind_infill(packets: Sequence[Tuple[Site, Form]]) -> FrozenSet[Site]:
             sites.add(site)
         behind = behind or packet["nid_packet"] == INFILL
     return frozenset(sites) if sites else NONE
+
+
+class Origin(Enum):
+    """From which group the distances of a packet count."""
+
+    OWN = "the group of the packet"
+    INFILL = "the group that a packet 136 names"
+    UNREAD = "either: a telegram that is passed before has not been read"
+
+
+def origins(forms: Sequence[Optional[Form]], direction: str) -> Iterator[Tuple[Site, Origin]]:
+    """The origin of each packet for one direction, in passing order. A telegram that was not read is None.
+
+    A silent balise counts from where the balise counts that it stands in for.
+    """
+    origin, before = Origin.OWN, {}
+    step = 1 if direction == NOMINAL else -1
+    for balise in range(len(forms))[::step]:
+        before[balise], form = origin, forms[balise]
+        if form is None:
+            origin = Origin.UNREAD if origin is Origin.OWN else origin
+            continue
+        silent = is_silent(forms, balise, direction)
+        here = before[balise - step] if silent else origin
+        for place, packet in enumerate(form["packets"]):
+            if holds(packet, direction):
+                yield Site(balise, place), here
+                here = Origin.INFILL if packet["nid_packet"] == INFILL else here
+        origin = origin if silent else here
 
 
 def way(forms: Sequence[Form], direction: str, of_infill: bool = False) -> Way:

@@ -1,30 +1,53 @@
 """Places in words: in metres from the group, and in kilometres where the table has them."""
 from __future__ import annotations
 
-from dataclasses import dataclass
+from dataclasses import dataclass, field
 from itertools import accumulate
-from typing import Callable, Dict, Iterator, Mapping, Optional, Sequence, Tuple
+from typing import Callable, Dict, Iterator, List, Mapping, NamedTuple, Optional, Sequence, Tuple
 
-from balisekit.etcs.geometry import DIRECTIONS, ELEMENT_KEYS, Kilometres, Site, authority, holds, infill, kilometres
+from balisekit.etcs.geometry import (
+    DIRECTIONS,
+    ELEMENT_KEYS,
+    Kilometres,
+    Origin,
+    Site,
+    authority,
+    has_infill,
+    holds,
+    kilometres,
+    origins,
+)
 from balisekit.etcs.variables import Form, metres, unit_dm
 from balisekit.tables.model import Group
+from balisekit.tables.names import quoted
 
 Notes = Iterator[Tuple[str, str]]
 Place = Callable[[int], str]
 """How a place of whole decimetres is written."""
+ORIGINS = {
+    Origin.INFILL: "infill: counted from the group of packet 136",
+    Origin.UNREAD: "counted from this group, or from that of a packet 136 in a telegram that is not read",
+}
+
+
+class Passage(NamedTuple):
+    """A way in which a train gets a packet, and from which group the packet's distances then count."""
+
+    aspect: str
+    direction: str
+    origin: Origin
 
 
 @dataclass(frozen=True)
 class Here:
-    """From where distances count: the group's kilometres. `elsewhere` has the packets that count from another group."""
+    """From where the distances of a telegram count: from its group, whose kilometres these are."""
 
     kilometres: Kilometres = Kilometres()
-    elsewhere: Tuple[int, ...] = ()
-    """Packets of the telegram that are passed behind a packet 136, by their places in it."""
+    passages: Mapping[int, Sequence[Passage]] = field(default_factory=dict)
+    """The passages of those packets, by their places in the telegram, that do not always count from the group."""
 
-    def places(self, packet: Form) -> Place:
-        """How a place is written: "850 m, km 13.050", for a packet in both directions with the kilometre of either."""
-        ways = [direction for direction in DIRECTIONS if holds(packet, direction)]
+    def place(self, ways: Sequence[str]) -> Place:
+        """How a place is written: "850 m, km 13.050", for both directions with the kilometre of either."""
         if self.kilometres.group is None or not ways:
             return metres
         words, first, last = self.kilometres.words, ways[0], ways[-1]
@@ -37,6 +60,40 @@ class Here:
             return f"{metres(place_dm)}, km {km} ({first}), km {other} ({last})"
 
         return place
+
+    def notes(self, index: int, packet: Form) -> Dict[str, str]:
+        """What balisekit works out of the packet in this place, by the path of the object within the packet.
+
+        Where passages differ, each note names the aspects and directions that it is true of.
+        """
+        if index not in self.passages:
+            return _notes(packet, Origin.OWN, self.place([way for way in DIRECTIONS if holds(packet, way)]))
+        cases = [
+            (label, _notes(packet, origin, (self if origin is Origin.OWN else Here()).place(ways)))
+            for label, origin, ways in _cases(self.passages[index])
+        ]
+        notes = {}
+        for path in dict.fromkeys(path for _, known in cases for path in known):
+            texts = {label: known[path] for label, known in cases if path in known}
+            alike = len(texts) == len(cases) and len(set(texts.values())) == 1
+            labelled = [text if alike else f"{label}: {text}" for label, text in texts.items()]
+            notes[path] = labelled[0] if alike else "; ".join(labelled)
+        return notes
+
+
+def _cases(passages: Sequence[Passage]) -> Iterator[Tuple[str, Origin, Sequence[str]]]:
+    """Passages of one origin in words, that origin, and their directions."""
+    ways: Dict[str, Dict[Origin, Tuple[str, ...]]] = {}
+    for aspect, direction, origin in passages:
+        known = ways.setdefault(aspect, {})
+        known[origin] = (*known.get(origin, ()), direction)
+    alike: Dict[Tuple[Tuple[Origin, Tuple[str, ...]], ...], List[str]] = {}
+    for aspect, known in ways.items():
+        alike.setdefault(tuple(known.items()), []).append(aspect)
+    for origins_of_them, aspects in alike.items():
+        names = f"aspect{'s' if len(aspects) > 1 else ''} {', '.join(map(quoted, aspects))}" if len(alike) > 1 else ""
+        for origin, directions in origins_of_them:
+            yield f"{names} {directions[0] if len(origins_of_them) > 1 else ''}".strip(), origin, directions
 
 
 class Identities:
@@ -55,23 +112,31 @@ class Identities:
         return self.known.get((message.get("nid_c", -1), message.get("nid_bg", -1)))
 
     def here(self, message: Form) -> Here:
-        """From where the distances of a message count. Those behind a packet 136 count from another group."""
+        """From where the distances of a message count."""
         group = self.group_of(message)
-        elsewhere = {site.packet for direction in DIRECTIONS for site in infill([message], direction)}
-        return Here(Kilometres() if group is None else kilometres(group), tuple(sorted(elsewhere)))
+        return here_alone(message, Kilometres() if group is None else kilometres(group))
+
+
+def here_alone(form: Form, where: Kilometres = Kilometres()) -> Here:
+    """From where the distances of a message count, or those of a telegram of whose group nothing is known."""
+    return Here(where, _passages([("", [(0, form)])]).get(0, {}))
 
 
 def place_notes(form: Form, here: Here) -> Dict[str, str]:
     """What balisekit works out of a telegram or a message 3, by the path of the object that it is about."""
-    found: Dict[str, str] = {}
-    for index, packet in enumerate(form["packets"]):
-        path = f"/packets/{index}"
-        if packet["nid_packet"] in NOTES:
-            place = (Here() if index in here.elsewhere else here).places(packet)
-            found.update((path + below, note) for below, note in NOTES[packet["nid_packet"]](packet, place))
-        if index in here.elsewhere:
-            found[path] = "; ".join(filter(None, ["infill: counted from the group of packet 136", found.get(path)]))
-    return found
+    return {
+        f"/packets/{index}{path}": note
+        for index, packet in enumerate(form["packets"])
+        for path, note in here.notes(index, packet).items()
+    }
+
+
+def _notes(packet: Form, origin: Origin, place: Place) -> Dict[str, str]:
+    """The notes of a packet whose distances have this origin."""
+    notes = dict(NOTES[packet["nid_packet"]](packet, place)) if packet["nid_packet"] in NOTES else {}
+    if origin in ORIGINS:
+        notes[""] = "; ".join(filter(None, [ORIGINS[origin], notes.get("")]))
+    return notes
 
 
 def _authority_notes(packet: Form, place: Place) -> Notes:
@@ -90,21 +155,19 @@ def _authority_notes(packet: Form, place: Place) -> Notes:
         yield "/danger_point", f"at {place(found.danger_point)}"
     if found.overlap is not None and found.overlap_timer is not None:
         yield "/overlap", f"ends at {place(found.overlap)}; timer starts at {place(found.overlap_timer)}"
-    yield "/l_endsection", (
-        f"end of the authority at {place(found.end)}; " f"supervised location at {place(found.supervised)}"
-    )
+    yield "/l_endsection", f"end of the authority at {place(found.end)}; supervised location at {place(found.supervised)}"
 
 
 def _profile_notes(packet: Form, place: Place) -> Notes:
     """Where each element begins, and how far the profile reaches."""
     distance, value, mark = ELEMENT_KEYS[packet["nid_packet"]]
     unit, elements = unit_dm(packet), packet["elements"]
-    said = [place(at * unit) for at in accumulate(element[distance] for element in elements)]
+    places = [place(at * unit) for at in accumulate(element[distance] for element in elements)]
     end = next((index for index, element in enumerate(elements) if element[value] == mark), len(elements))
-    for index, where in enumerate(said):
-        words = f"from {where}" if index < end else f"at {where}" if index == end else f"from {where}, behind the end"
-        yield f"/elements/{index}", words
-    yield "", f"reaches {said[end]}" if end < len(elements) else "no end mark: an open profile"
+    for index, where in enumerate(places):
+        behind = ", behind the end" if index > end else ""
+        yield f"/elements/{index}", f"{'at' if index == end else 'from'} {where}{behind}"
+    yield "", f"reaches {places[end]}" if end < len(elements) else "no end mark: an open profile"
 
 
 def _linking_notes(packet: Form, place: Place) -> Notes:
@@ -133,14 +196,30 @@ NOTES: Mapping[int, Callable[[Form, Place], Notes]] = {
 
 def places_of_rows(group: Group, forms: Mapping[int, Form]) -> Dict[int, Here]:
     """From where the distances of each row count, by the row's number, in the order of the table."""
-    found: Dict[int, Here] = {}
-    where = kilometres(group)
-    for aspect in group.aspects:
-        read: Optional[Sequence[Form]] = None
-        if all(row.number in forms for row in aspect.rows):
-            read = [forms[row.number] for row in aspect.rows]
-        sites = {site for direction in DIRECTIONS for site in infill(read, direction)} if read else set()
-        for balise, row in enumerate(aspect.rows):
-            elsewhere = tuple(sorted(site.packet for site in sites if site.balise == balise))
-            found.setdefault(row.number, Here(where, elsewhere))
-    return dict(sorted(found.items()))
+    where, numbers = kilometres(group), sorted({row.number for row in group.rows()})
+    passages: Mapping[int, Mapping[int, Sequence[Passage]]] = {}
+    if not all(number in forms and not has_infill([forms[number]]) for number in numbers):
+        passages = _passages(
+            [(aspect.name, [(row.number, forms.get(row.number)) for row in aspect.rows]) for aspect in group.aspects]
+        )
+    return {number: Here(where, passages.get(number, {})) for number in numbers}
+
+
+def _passages(
+    aspects: Sequence[Tuple[str, Sequence[Tuple[int, Optional[Form]]]]]
+) -> Dict[int, Dict[int, Sequence[Passage]]]:
+    """The passages of packets that do not always count from the group, by numbers of telegrams and places of packets."""
+    found: Dict[int, Dict[int, List[Passage]]] = {}
+    for name, telegrams in aspects:
+        for direction in DIRECTIONS:
+            for site, origin in origins([form for _, form in telegrams], direction):
+                packets = found.setdefault(telegrams[site.balise][0], {})
+                packets.setdefault(site.packet, []).append(Passage(name, direction, origin))
+    return {
+        number: {
+            place: passages
+            for place, passages in packets.items()
+            if any(passage.origin is not Origin.OWN for passage in passages)
+        }
+        for number, packets in found.items()
+    }

@@ -1,0 +1,327 @@
+"""Hostile inputs of `show` and `diff`: what they state of places, and what they call equal."""
+from __future__ import annotations
+
+import io
+import json
+import re
+from pathlib import Path
+from typing import Any, Callable, Dict, Iterator, List, Tuple
+
+import link_tables
+import pytest
+from conftest import Run
+from telegrams import ALONE, FAULTY, FIRST, MESSAGE, OTHER, SECOND, SPARE
+
+from balisekit.engine.program import Program, Text
+
+Form = Dict[str, Any]
+Write = Callable[..., Path]
+GRADIENTS: Form = {
+    "nid_packet": 21,
+    "q_dir": 1,
+    "q_scale": 1,
+    "elements": [{"d_gradient": 0, "q_gdir": 1, "g_a": 5}, {"d_gradient": 1000, "q_gdir": 0, "g_a": 255}],
+}
+BOTH_WAYS = {**GRADIENTS, "q_dir": 2}
+INFILL: Form = {"nid_packet": 136, "q_dir": 1, "l_packet": 38, "body": "00ca"}
+OWN = "reaches 1000 m, km 11.000"
+ELSEWHERE = "infill: counted from the group of packet 136; reaches 1000 m"
+UNREAD = "counted from this group, or from that of a packet 136 in a telegram that is not read; reaches 1000 m"
+
+
+def packets(position: int, counter: int, *forms: Form) -> Form:
+    """A long telegram of a group of two balises."""
+    return {**link_tables.telegram(1, position, 1, 1, *forms, size=830), "m_mcount": counter}
+
+
+def written(program: Program, table: Write, rows: List[Tuple[str, Any]]) -> Path:
+    """A table of a group at km 10.000, whose kilometres rise. A text stands for itself."""
+    texts = iter(
+        [
+            one.line
+            for one in program.encode([form for _, form in rows if not isinstance(form, str)])
+            if isinstance(one, Text)
+        ]
+    )
+    lines = []
+    for row, form in rows:
+        position = row.split(",")[1]
+        text = form if isinstance(form, str) else next(texts)
+        lines.append(f"G,{row},10.00{position},{text}")
+    return table("group,aspect,balise,km,telegram", *lines)
+
+
+RED, GREEN = ("red,0", packets(0, 1)), ("green,0", packets(0, 2, INFILL))
+PLACES: List[Tuple[str, List[Tuple[str, Any]], List[str]]] = [
+    (
+        "a row of every aspect, behind a packet 136 in one of them",
+        [RED, GREEN, ("*,1", packets(1, 255, GRADIENTS))],
+        [
+            f'aspect "red": {OWN}; aspect "green": {ELSEWHERE}',
+            'aspect "red": from 0 m, km 10.000; aspect "green": from 0 m',
+        ],
+    ),
+    (
+        "the same in the other order of rows",
+        [GREEN, RED, ("*,1", packets(1, 255, GRADIENTS))],
+        [
+            f'aspect "green": {ELSEWHERE}; aspect "red": {OWN}',
+            'aspect "green": from 0 m; aspect "red": from 0 m, km 10.000',
+        ],
+    ),
+    (
+        "behind a packet 136 in every aspect",
+        [("red,0", packets(0, 1, INFILL)), GREEN, ("*,1", packets(1, 255, GRADIENTS))],
+        [ELSEWHERE, "from 0 m"],
+    ),
+    (
+        "a packet in both directions, behind a packet 136 in nominal direction",
+        [("*,0", packets(0, 255, INFILL)), ("*,1", packets(1, 255, BOTH_WAYS))],
+        [f"nominal: {ELSEWHERE}; reverse: reaches 1000 m, km 9.000", "nominal: from 0 m; reverse: from 0 m, km 10.000"],
+    ),
+    (
+        "aspect and direction",
+        [RED, GREEN, ("*,1", packets(1, 255, BOTH_WAYS))],
+        [
+            'aspect "red": reaches 1000 m, km 11.000 (nominal), km 9.000 (reverse); '
+            f'aspect "green" nominal: {ELSEWHERE}; aspect "green" reverse: reaches 1000 m, km 9.000'
+        ],
+    ),
+    (
+        "a refused telegram is passed first, which may have a packet 136",
+        [("red,0", FAULTY), GREEN, ("*,1", packets(1, 255, GRADIENTS))],
+        [f'aspect "red": {UNREAD}; aspect "green": {ELSEWHERE}', "from 0 m"],
+    ),
+    (
+        "a refused telegram that is passed behind it",
+        [("*,0", packets(0, 255, GRADIENTS)), ("red,1", FAULTY)],
+        [OWN, "from 0 m, km 10.000"],
+    ),
+]
+
+
+@pytest.mark.parametrize("rows, wanted", [case[1:] for case in PLACES], ids=[case[0] for case in PLACES])
+def test_places(run: Run, table: Write, program: Program, rows: List[Tuple[str, Any]], wanted: List[str]) -> None:
+    """`show` and `report` state from where distances count, in each aspect and direction."""
+    path = written(program, table, rows)
+    _, out, _ = run("show", path)
+    shown = re.sub(r"\s+", " ", " ".join(out))
+    assert all(f" = {note} " in shown for note in wanted), shown
+    _, out, _ = run("report", path, "--html", "-")
+    page = re.sub(r"\s+", " ", " ".join(out)).replace("&#34;", '"')
+    assert all(f" = {note}" in page for note in wanted)
+
+
+def test_places_of_standard_input(run: Run, monkeypatch: pytest.MonkeyPatch, program: Program) -> None:
+    """What follows a packet 136 in its own telegram counts from another group."""
+    telegram = next(iter(program.encode([packets(0, 1, GRADIENTS, INFILL, GRADIENTS)])))
+    standard_input(monkeypatch, telegram.line.encode())
+    status, out, _ = run("show")
+    assert status == 0 and sum("= infill: counted from the group of packet 136" in line for line in out) == 1
+
+
+def standard_input(monkeypatch: pytest.MonkeyPatch, content: bytes) -> None:
+    """Puts this content on standard input."""
+    monkeypatch.setattr("sys.stdin", io.TextIOWrapper(io.BytesIO(content)))
+
+
+def document(group: Any, messages: Any = ()) -> Form:
+    """A document of a group."""
+    return {"groups": [group], "messages": list(messages)}
+
+
+PROGRAM = "program: refused: "
+DOCUMENTS: List[Tuple[bytes, str]] = [
+    (json.dumps(form).encode(), why)
+    for form, why in [
+        (document({"balises": [OTHER], "aspects": [{"balises": [ALONE]}]}), f"{PROGRAM}form unknown key at /groups/0"),
+        (document({"balises": [ALONE], "x": 1}), f"{PROGRAM}form unknown key at /groups/0"),
+        (document({"aspects": [{"balises": [ALONE], "x": 1}]}), f"{PROGRAM}form unknown key at /groups/0/aspects/0"),
+        (document({"aspects": []}), f"{PROGRAM}group 0: aspects"),
+        ({**document({"balises": [ALONE]}), "x": 1}, f"{PROGRAM}form unknown key at /"),
+        (
+            {"groups": [{"balises": ["zz"]}, {"balises": [ALONE], "x": 1}], "messages": []},
+            "/groups/1 has the keys balises, x",
+        ),
+        ({"groups": [{"balises": ["zz"]}], "messages": [], "x": 1}, "/ has the keys groups, messages, x"),
+    ]
+] + [
+    (json.dumps(document({"balises": [ALONE]})).encode("utf-16"), "it is a document in UTF-16: save it as UTF-8"),
+    (json.dumps(document({"balises": [ALONE]})).encode("utf-16-le"), "it is a document in UTF-16: save it as UTF-8"),
+    (json.dumps(document({"balises": [ALONE]})).encode("utf-16-be"), "it is a document in UTF-16: save it as UTF-8"),
+    (json.dumps(document({"balises": [ALONE]})).encode("utf-8-sig"), f"{PROGRAM}not JSON"),
+    (b'{"groups":[{"balises":["\xff"]}],"messages":[]}', f"{PROGRAM}not JSON"),
+    (b'{"groups":[],"messages":[NaN]}', f"{PROGRAM}not JSON"),
+]
+
+
+@pytest.mark.parametrize("content, why", DOCUMENTS)
+def test_documents_that_the_program_refuses(run: Run, table: Write, content: bytes, why: str) -> None:
+    """They are no release that could be equal to another one."""
+    bad, good = table(content=content, name="bad.json"), table("group,telegram", f"A,{ALONE}", name="good.csv")
+    for words in ((bad, good), (good, bad), (bad, bad)):
+        assert run("diff", *words) == (2, [], [f"balisekit: {bad}: {why}"])
+
+
+@pytest.mark.parametrize("text", [f"0x{ALONE}", f" {ALONE}", f"'{ALONE}'", f"{ALONE}h"])
+def test_texts_of_a_document_are_not_cleaned(run: Run, table: Write, text: str) -> None:
+    """What is cleaned in a cell is refused in a document, by `diff` as by the program."""
+    old = table(content=json.dumps(document({"balises": [text]})).encode(), name="old.json")
+    new = table(content=json.dumps(document({"balises": [ALONE]})).encode(), name="new.json")
+    status, out, _ = run("diff", old, new)
+    assert status == 2 and "    program: not hexadecimal" in out and out[-1].startswith("INCOMPLETE: ")
+
+
+def of_aspects(counters: Dict[str, int], *telegrams: Form) -> List[Tuple[str, Form]]:
+    """Rows of a single balise in these aspects."""
+    return [
+        (name, {**link_tables.telegram(1, 0, 0, 1, *telegrams), "m_mcount": counter})
+        for name, counter in counters.items()
+    ]
+
+
+def rows_of(program: Program, rows: List[Tuple[str, str, Form]]) -> List[str]:
+    """The lines of a table."""
+    texts = program.encode([form for _, _, form in rows])
+    return [f"{group},{aspect},{text.line}" for (group, aspect, _), text in zip(rows, texts)]
+
+
+ORDERS: Dict[str, List[Tuple[str, str, Form]]] = {
+    "counters of aspects (F16)": [("S", name, form) for name, form in of_aspects({"a": 1, "b": 2, "c": 1})],
+    "an identity in the first aspect (F3)": [
+        ("S", "a", {**link_tables.telegram(1, 0, 0, 1), "m_mcount": 1, "m_version": 32}),
+        ("S", "b", {**link_tables.telegram(1, 0, 0, 1), "m_mcount": 2}),
+        ("S", "c", {**link_tables.telegram(1, 0, 0, 1), "m_mcount": 3}),
+    ],
+    "duplicate flags of aspects (F15)": [
+        ("S", "a", {**link_tables.telegram(1, 0, 0, 1), "m_mcount": 1, "m_dup": 1}),
+        ("S", "b", {**link_tables.telegram(1, 0, 0, 1), "m_mcount": 2}),
+        ("S", "c", {**link_tables.telegram(1, 0, 0, 1), "m_mcount": 3}),
+    ],
+    "two groups of one identity (F14)": [
+        ("S", "", link_tables.telegram(1, 0, 0, 1)),
+        ("T", "", link_tables.telegram(1, 0, 0, 1, GRADIENTS)),
+    ],
+}
+
+
+@pytest.mark.parametrize("name", ORDERS)
+def test_another_order_of_rows_is_no_difference(run: Run, table: Write, program: Program, name: str) -> None:
+    """Findings are compared by what they are about, not by which of two comes first."""
+    lines = rows_of(program, ORDERS[name])
+    old = table("group,aspect,telegram", *lines, name="old.csv")
+    new = table("group,aspect,telegram", *reversed(lines), name="new.csv")
+    assert run("check", old)[0] == run("check", new)[0] == 1
+    for words in ((old, new), (new, old)):
+        status, out, _ = run("diff", *words)
+        assert status == 0 and out[-1].endswith("findings new 0, gone 0"), out
+
+
+def test_findings_in_another_order(run: Run, table: Write, program: Program) -> None:
+    """What is new is found, and its line counts in the order of the old release."""
+    lines = rows_of(program, [("S", name, form) for name, form in of_aspects({"a": 1, "b": 2, "c": 1, "d": 2})])
+    old = table("group,aspect,telegram", *lines[:3], name="old.csv")
+    new = table("group,aspect,telegram", *reversed(lines), name="new.csv")
+    status, out, _ = run("diff", old, new)
+    assert status == 1 and [line for line in out if line.startswith(("finding", "    program"))] == [
+        'finding new: row 2  S  aspect "d"  balise 0: aspects not told apart',
+        "    program: F16 group 0 aspect 3 balise 0: aspects not told apart",
+    ]
+    assert any(line.startswith("note: ") and "in the order of the old release" in line for line in out)
+
+
+def test_show_by_position(run: Run, table: Write) -> None:
+    """`show` orders balises as `check` does."""
+    path = table("group,name,telegram", f"S,X,{SECOND}", f"S,Y,{FIRST}")
+    _, out, _ = run("show", path, "--by-position")
+    assert [line for line in out if line.startswith("row ")] == ['row 2  S  balise 1 "X"', 'row 3  S  balise 0 "Y"']
+    assert "note: balises are ordered by N_PIG, as --by-position says, which hides a wrong N_PIG" in out
+    assert [line for line in run("show", path)[1] if line.startswith("row ")] == [
+        'row 2  S  balise 0 "X"',
+        'row 3  S  balise 1 "Y"',
+    ]
+
+
+def incomplete(words: str) -> Tuple[str, str]:
+    """The last lines of standard output and of standard error."""
+    return f"INCOMPLETE: {words}", f"balisekit: INCOMPLETE: {words}"
+
+
+REFUSED = [
+    (["t.csv"], [f"A,{ALONE}", f"B,{SPARE}"], "", "1 of 2 telegrams refused"),
+    (["t.csv", "--messages", "m.txt"], [f"A,{ALONE}"], f"{MESSAGE}\n0304\n", "1 of 2 messages refused"),
+    (
+        ["t.csv", "--messages", "m.txt"],
+        [f"A,{SPARE}", f"B,{FAULTY}"],
+        "0304\n",
+        "2 of 2 telegrams refused, 1 of 1 messages refused",
+    ),
+    (["--messages", "m.txt"], [], "0304\n", "1 of 1 messages refused"),
+    ([], [], f"{ALONE}\n{SPARE}\n", "1 of 2 telegrams refused"),
+]
+
+
+@pytest.mark.parametrize("words, rows, text, why", REFUSED)
+@pytest.mark.parametrize("bits", [False, True])
+def test_show_says_last_that_something_was_refused(
+    run: Run,
+    table: Write,
+    monkeypatch: pytest.MonkeyPatch,
+    words: List[str],
+    rows: List[str],
+    text: str,
+    why: str,
+    bits: bool,
+) -> None:
+    """In a last line, and on standard error."""
+    folder = table("group,telegram", *rows, name="t.csv").parent
+    monkeypatch.chdir(folder)
+    table(content=text.encode() or b"\n", name="m.txt")
+    standard_input(monkeypatch, text.encode())
+    status, out, err = run("show", *words, *(["--bits"] if bits else []))
+    assert (status, out[-1], err) == (2, *incomplete(why)[:1], [incomplete(why)[1]])
+
+
+@pytest.mark.parametrize("content", [b"", b"\n", b" \r\n\t\n", b"\xef\xbb\xbf", b"\xff\xfe", b"\xff"[:0]])
+def test_empty_standard_input(run: Run, monkeypatch: pytest.MonkeyPatch, content: bytes) -> None:
+    """It is no answer that all is well."""
+    standard_input(monkeypatch, content)
+    why = "balisekit: standard input has no telegram: it holds one a line; or name a TABLE, or --messages"
+    assert run("show") == (2, [], [why])
+
+
+class Endless(io.RawIOBase):
+    """Standard input that counts what is read of it."""
+
+    def __init__(self, line: bytes, lines: int) -> None:
+        super().__init__()
+        self.pieces: Iterator[bytes] = iter([line] * lines)
+        self.read_lines = 0
+
+    def readable(self) -> bool:
+        return True
+
+    def readinto(self, room: Any) -> int:
+        piece = next(self.pieces, b"")
+        self.read_lines += bool(piece)
+        room[: len(piece)] = piece
+        return len(piece)
+
+
+def test_standard_input_is_read_as_a_stream(monkeypatch: pytest.MonkeyPatch, run: Run) -> None:
+    """The first telegram is shown before the last one is read."""
+    stream = Endless(f"{ALONE}\n".encode(), 50)
+    monkeypatch.setattr("sys.stdin", io.TextIOWrapper(io.BufferedReader(stream, 64)))
+    seen: List[int] = []
+    monkeypatch.setattr("builtins.print", lambda *words, **_: seen.append(stream.read_lines))
+    run("show")
+    assert stream.read_lines == 50 and seen[0] < 10
+
+
+def test_a_line_without_an_end(monkeypatch: pytest.MonkeyPatch, run: Run) -> None:
+    """It is refused before it is read whole."""
+    stream = Endless(b"0" * 64, 1 << 20)
+    monkeypatch.setattr("sys.stdin", io.TextIOWrapper(io.BufferedReader(stream, 64)))
+    status, _, err = run("show")
+    assert (status, err) == (2, ["balisekit: standard input: line 1: it has more than 100,000 characters"])
+    assert stream.read_lines < 5000
