@@ -9,8 +9,7 @@ from dataclasses import dataclass
 from typing import Any, Callable, Dict, Iterator, List, Optional, Sequence, Tuple, TypeVar
 
 from balisekit.etcs.packets import packet_name
-from balisekit.etcs.variables import DIRECTIONS, ORDER, Around, Form, said, value_words, variable_name
-from balisekit.present.telegram_text import LABELS
+from balisekit.etcs.variables import DIRECTIONS, LABELS, ORDER, Around, Form, said, value_words, variable_name
 
 Item = TypeVar("Item")
 Pair = Tuple[Optional[int], Optional[int]]

@@ -358,6 +358,20 @@ ORDER: Dict[str, int] = {
 }
 
 
+LABELS: Mapping[str, str] = {
+    "packets": "packet",
+    "links": "link",
+    "sections": "section",
+    "elements": "element",
+    "differences": "difference",
+    "transitions": "choice",
+    "section_timer": "section timer",
+    "end_timer": "end timer",
+    "danger_point": "danger point",
+}
+"""The names of parts and of their items, by the keys of the JSON."""
+
+
 def variable_name(key: str, parent: Form) -> str:
     """The standard's name of the variable that this key of `parent` holds."""
     if key == "nc":

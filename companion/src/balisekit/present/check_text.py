@@ -11,7 +11,7 @@ from balisekit.rules.aspect_counts import aspects_found
 from balisekit.rules.checking import Checked, Place, Refused
 from balisekit.rules.remarks import remarks
 from balisekit.tables.model import Group, Table
-from balisekit.tables.names import describe_balise, clean, describe_group, describe_message, passed_over
+from balisekit.tables.names import clean, describe_balise, describe_group, describe_message, passed_over
 
 
 def lines(checked: Checked, explained: bool = False, judged: Optional[Judged] = None) -> Iterator[str]:

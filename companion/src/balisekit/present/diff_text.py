@@ -7,7 +7,7 @@ from balisekit.compare.lines import Changed, Difference
 from balisekit.present.check_text import finding_words
 from balisekit.present.refusals import message_refused, telegram_refused
 from balisekit.rules.checking import Checked
-from balisekit.tables.names import describe_balise, clean, describe_message
+from balisekit.tables.names import clean, describe_balise, describe_message
 
 NOT_PROVED = "pairs and differences are found by balisekit, which is not proved; the program's own lines are quoted"
 

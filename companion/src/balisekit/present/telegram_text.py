@@ -9,21 +9,10 @@ from functools import lru_cache
 from typing import List, Mapping, NamedTuple, Sequence, Tuple, Union
 
 from balisekit.etcs.places import Here, place_notes
-from balisekit.etcs.variables import ORDER, VARIABLES, Around, Form, said
+from balisekit.etcs.variables import LABELS, ORDER, VARIABLES, Around, Form, said
 
 WIDTH = 118
 LABEL_WIDTH = 22
-LABELS: Mapping[str, str] = {
-    "packets": "packet",
-    "links": "link",
-    "sections": "section",
-    "elements": "element",
-    "differences": "difference",
-    "transitions": "choice",
-    "section_timer": "section timer",
-    "end_timer": "end timer",
-    "danger_point": "danger point",
-}
 END_SECTION = "l_endsection"
 """What follows it in an authority belongs to its end section."""
 LEGEND = (
