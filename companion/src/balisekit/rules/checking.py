@@ -146,13 +146,10 @@ def check(
     if by_position:
         kept = tuple(_by_position(group, accepted) for group in kept)
     good, bad = _try_messages(program, messages, everything)
-    report = None
+    verdict: Optional[Verdict] = None
+    places: Tuple[Place, ...] = ()
     if kept or good or not (refused or bad):
-        report = _ask(program, kept, good)
-    found = report.findings if report else ()
-    first = _first_groups(kept, accepted) if any(one.rule == 14 for one in found) else {}
-    forms = _forms(kept, accepted, found)
-    places = tuple(_place(one, kept, first, good, forms) for one in found)
+        verdict, places = findings_of(program, kept, good, accepted)
     return Checked(
         program,
         table,
@@ -164,9 +161,19 @@ def check(
         kept,
         good,
         bad,
-        report.verdict if report else None,
+        verdict,
         places,
     )
+
+
+def findings_of(
+    program: Program, kept: Sequence[Group], messages: Sequence[AcceptedMessage], accepted: Mapping[int, Accepted]
+) -> Tuple[Verdict, Tuple[Place, ...]]:
+    """What the program says of groups and messages whose telegrams it has read."""
+    report = _ask(program, kept, messages)
+    first = _first_groups(kept, accepted) if any(one.rule == 14 for one in report.findings) else {}
+    forms = _forms(kept, accepted, report.findings)
+    return report.verdict, tuple(_place(one, kept, first, messages, forms) for one in report.findings)
 
 
 def document(kept: Sequence[Group], messages: Sequence[AcceptedMessage]) -> Iterator[str]:
