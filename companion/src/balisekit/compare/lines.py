@@ -5,52 +5,82 @@ Groups are paired by their identity, telegrams by aspect and position. So the or
 from __future__ import annotations
 
 import hashlib
-from collections import Counter
-from dataclasses import dataclass, replace
-from typing import Any, Dict, Hashable, Iterator, List, Mapping, Optional, Sequence, Tuple, TypeVar
+import re
+from collections import Counter, deque
+from dataclasses import dataclass, field, replace
+from functools import partial
+from typing import (
+    Callable,
+    Deque,
+    Dict,
+    Hashable,
+    Iterable,
+    Iterator,
+    List,
+    Mapping,
+    NamedTuple,
+    Optional,
+    Sequence,
+    Tuple,
+    TypeVar,
+)
 
 from balisekit.compare.forms import Change, differences
 from balisekit.etcs.variables import Form
-from balisekit.rules.checking import Checked, Place
-from balisekit.rules.links.stations import Identity
+from balisekit.rules.checking import Checked, Place, findings_of
 from balisekit.tables.grouping import EVERY
 from balisekit.tables.model import Group, Message, Row, Table
 from balisekit.tables.names import clean, quoted
 
 Thing = TypeVar("Thing")
+Pairs = List[Tuple[Thing, Thing]]
+Known = Tuple[Hashable, Group]
+HEAD = re.compile(
+    r'\{"m_dup":\d,"m_mcount":\d+,"m_version":\d+,"n_pig":(\d),"n_total":\d,"nid_bg":(\d+),"nid_c":(\d+),'
+)
+"""How the program begins the line of a telegram."""
+BY_ORDER = (3, 14, 15, 16)
+"""The rules whose findings depend on the order of groups or aspects: one is compared with an earlier one."""
+OTHER_ORDER = (
+    "F3, F14, F15 and F16 depend on which group or aspect comes first: the new release was checked for them in the "
+    "order of the old release, with what is added last"
+)
 
 
 @dataclass(frozen=True)
 class Side:
-    """One of the two releases."""
+    """One of the two releases. Its telegrams stay lines of the program until one is compared field by field."""
 
     checked: Checked
-    forms: Mapping[int, Form]
-    messages: Mapping[int, Form]
-    """The forms of messages, by the numbers of their lines."""
-    identities: Mapping[str, Optional[Identity]]
-    """Of each group, by its name. None where no telegram of it could be read."""
+    forms: Dict[int, Form] = field(default_factory=dict)
+    """Those telegrams whose fields have been needed, by their rows."""
 
-    @classmethod
-    def of(cls, checked: Checked) -> Side:
-        """The side of a table whose telegrams have been tried."""
-        forms = {number: one.form for number, one in checked.accepted.items()}
-        identities: Dict[str, Optional[Identity]] = {}
-        for group in checked.table.groups:
-            read = next((forms[row.number] for row in group.rows() if row.number in forms), None)
-            identities[group.name] = (read["nid_c"], read["nid_bg"]) if read else None
-        messages = {one.message.number: one.form for one in checked.accepted_messages}
-        return cls(checked, forms, messages, identities)
+    def form(self, row: Row) -> Form:
+        """The fields of a telegram."""
+        if row.number not in self.forms:
+            self.forms[row.number] = self.checked.accepted[row.number].form
+        return self.forms[row.number]
 
-    def words(self, group: Group, aspect: str = "", row: Optional[Row] = None) -> str:
+    def head(self, row: Row) -> Tuple[int, int, int]:
+        """N_PIG, NID_BG and NID_C of a telegram."""
+        head = HEAD.match(self.checked.accepted[row.number].record.line)
+        if head:
+            return int(head[1]), int(head[2]), int(head[3])
+        form = self.form(row)
+        return form["n_pig"], form["nid_bg"], form["nid_c"]
+
+    def identity(self, group: Group) -> Optional[Tuple[int, int]]:
+        """NID_BG and NID_C of a group, if a telegram of it could be read."""
+        row = next((row for row in group.rows() if row.number in self.checked.accepted), None)
+        return self.head(row)[1:] if row else None
+
+    def describe(self, group: Group, aspect: str = "", row: Optional[Row] = None) -> str:
         """A group, an aspect or a balise by its names."""
-        identity = self.identities[group.name]
-        named = f"  (group {identity[1]} of country or region {identity[0]})" if identity else ""
+        identity = self.identity(group)
+        named = f"  (group {identity[0]} of country or region {identity[1]})" if identity else ""
         parts = [clean(group.name) + named]
         parts += ["every aspect"] if aspect == EVERY else [f"aspect {quoted(aspect)}"] if aspect else []
-        if row is not None:
-            position = self.forms[row.number]["n_pig"]
-            parts += [f"position {position}" + (f" {quoted(row.name)}" if row.name else "")]
+        parts += [f"position {self.head(row)[0]}" + (f" {quoted(row.name)}" if row.name else "")] if row else []
         return "  ".join(parts)
 
 
@@ -65,25 +95,35 @@ class Changed:
     changes: Tuple[Change, ...] = ()
 
 
-@dataclass(frozen=True)
+@dataclass
 class Difference:
     """All that differs between two releases."""
 
     old: Side
     new: Side
-    groups_added: Tuple[str, ...]
-    groups_removed: Tuple[str, ...]
-    added: Tuple[str, ...]
+    groups_added: List[str] = field(default_factory=list)
+    groups_removed: List[str] = field(default_factory=list)
+    added: List[str] = field(default_factory=list)
     """Telegrams of groups that are in both, and messages, which the new release alone has."""
-    removed: Tuple[str, ...]
-    changed: Tuple[Changed, ...]
-    respelled: Tuple[Changed, ...]
-    unchanged: int
-    sha256: str
-    """Of the texts of all unchanged telegrams and messages: in small letters, sorted, a line each."""
-    findings_new: Tuple[Place, ...]
-    findings_gone: Tuple[Place, ...]
-    notes: Tuple[str, ...]
+    removed: List[str] = field(default_factory=list)
+    changed: List[Changed] = field(default_factory=list)
+    respelled: List[Changed] = field(default_factory=list)
+    same: List[str] = field(default_factory=list)
+    """The texts of all unchanged telegrams and messages in small letters."""
+    findings_new: List[Place] = field(default_factory=list)
+    findings_gone: List[Place] = field(default_factory=list)
+    notes: List[str] = field(default_factory=list)
+
+    @property
+    def unchanged(self) -> int:
+        """How many telegrams and messages are unchanged."""
+        return len(self.same)
+
+    @property
+    def sha256(self) -> str:
+        """Of the texts of all unchanged telegrams and messages: in small letters, sorted, a line each."""
+        text = "".join(f"{line}\n" for line in sorted(self.same))
+        return hashlib.sha256(text.encode("utf-8", "surrogatepass")).hexdigest()
 
     @property
     def whole(self) -> bool:
@@ -93,38 +133,21 @@ class Difference:
     @property
     def status(self) -> int:
         """2 if anything was refused, 1 if anything differs, else 0."""
-        some = (
-            self.groups_added,
-            self.groups_removed,
-            self.added,
-            self.removed,
-            self.changed,
-            self.respelled,
-            self.findings_new,
-            self.findings_gone,
-        )
-        return 2 if not self.whole else 1 if any(some) else 0
+        differs = self.groups_added or self.groups_removed or self.added or self.removed or self.changed
+        return 2 if not self.whole else int(bool(differs or self.respelled or self.findings_new or self.findings_gone))
 
-
-@dataclass
-class _Found:
-    """What was found so far."""
-
-    added: List[str]
-    removed: List[str]
-    changed: List[Changed]
-    respelled: List[Changed]
-    same: List[str]
-    notes: List[str]
-
-    def compare(self, words: str, old: Tuple[int, str, Form], new: Tuple[int, str, Form]) -> None:
-        """Compares two telegrams or messages: the number, the text and the form of each."""
-        if old[1] == new[1]:
-            self.same.append(new[1].lower())
-        elif old[1].lower() == new[1].lower() or old[2] == new[2]:
-            self.respelled.append(Changed(words, old[0], new[0]))
+    def compare(
+        self, words: str, numbers: Tuple[int, int], texts: Tuple[str, str], forms: Callable[[], Tuple[Form, Form]]
+    ) -> None:
+        """Compares two telegrams or messages: their numbers, their texts, and their fields where the texts differ."""
+        if texts[0] == texts[1]:
+            self.same.append(texts[1].lower())
+            return
+        old, new = forms()
+        if old == new:
+            self.respelled.append(Changed(words, *numbers))
         else:
-            self.changed.append(Changed(words, old[0], new[0], tuple(differences(old[2], new[2]))))
+            self.changed.append(Changed(words, *numbers, tuple(differences(old, new))))
 
 
 def by_place(table: Table) -> Table:
@@ -132,155 +155,210 @@ def by_place(table: Table) -> Table:
     groups = []
     for group in table.groups:
         names = [str(place) if len(group.aspects) > 1 else "" for place in range(len(group.aspects))]
-        groups.append(replace(group, aspects=tuple(replace(one, name=name) for name, one in zip(names, group.aspects))))
+        aspects = tuple(replace(aspect, name=name) for name, aspect in zip(names, group.aspects))
+        groups.append(replace(group, aspects=aspects))
     return replace(table, groups=tuple(groups))
 
 
-def compare(old_checked: Checked, new_checked: Checked, named: bool = True) -> Difference:
+def compare(old: Checked, new: Checked, named: bool = True) -> Difference:
     """What differs between two releases. There are notes on names and kilometres if both have some of their own."""
-    old, new = Side.of(old_checked), Side.of(new_checked)
-    found = _Found([], [], [], [], [], [])
-    pairs, groups_removed, groups_added = _paired(_keyed(old), _keyed(new))
+    answer = Difference(Side(old), Side(new))
+    pairs, removed, added = _paired_groups(answer.old, answer.new, named)
     for before, after in pairs:
-        found.notes += _renamed(new, before, after) if named else []
-        _group(found, old, new, before, after)
-    _messages(found, old, new)
-    ones, others = _findings(old, pairs, 0), _findings(new, pairs, 1)
-    text = "".join(f"{line}\n" for line in sorted(found.same))
-    return Difference(
-        old,
-        new,
-        tuple(map(new.words, groups_added)),
-        tuple(map(old.words, groups_removed)),
-        tuple(found.added),
-        tuple(found.removed),
-        tuple(found.changed),
-        tuple(found.respelled),
-        len(found.same),
-        hashlib.sha256(text.encode("utf-8", "surrogatepass")).hexdigest(),
-        tuple(_without(others, ones)),
-        tuple(_without(ones, others)),
-        tuple(found.notes),
-    )
-
-
-def _keyed(side: Side) -> List[Tuple[Hashable, Group]]:
-    """The groups that have an identity. One that is used twice counts from the first group on."""
-    return [
-        (side.identities[group.name], group)
-        for group in side.checked.table.groups
-        if side.identities[group.name] is not None
-    ]
+        answer.notes += _renamed(answer.new, before, after) if named else []
+        _compare_group(answer, before, after)
+    answer.groups_removed += map(answer.old.describe, removed)
+    answer.groups_added += map(answer.new.describe, added)
+    _compare_messages(answer)
+    _compare_findings(answer, pairs)
+    return answer
 
 
 def _paired(
-    old: Sequence[Tuple[Hashable, Thing]], new: Sequence[Tuple[Hashable, Thing]]
-) -> Tuple[List[Tuple[Thing, Thing]], List[Thing], List[Thing]]:
-    """Things of one key in their order, those of the old list that are left, and those of the new one."""
-    waiting: Dict[Hashable, List[Thing]] = {}
-    for key, thing in old:
-        waiting.setdefault(key, []).append(thing)
-    pairs, added = [], []
-    for key, thing in new:
-        if waiting.get(key):
-            pairs.append((waiting[key].pop(0), thing))
-        else:
-            added.append(thing)
-    return pairs, [thing for things in waiting.values() for thing in things], added
+    old: Iterable[Thing], new: Iterable[Thing], *keys: Callable[[Thing], Hashable]
+) -> Tuple[Pairs[Thing], List[Thing], List[Thing]]:
+    """Things of one key in their order, old ones that are left, and new ones. Each key pairs what is left before it."""
+    pairs: List[Tuple[int, Thing, Thing]] = []
+    gone, come = list(old), list(enumerate(new))
+    for key in keys:
+        waiting: Dict[Hashable, Deque[Thing]] = {}
+        for thing in gone:
+            waiting.setdefault(key(thing), deque()).append(thing)
+        left = []
+        for place, thing in come:
+            others = waiting.get(key(thing))
+            if others:
+                pairs.append((place, others.popleft(), thing))
+            else:
+                left.append((place, thing))
+        come, gone = left, [thing for things in waiting.values() for thing in things]
+    pairs.sort(key=lambda pair: pair[0])
+    return [(before, after) for _, before, after in pairs], gone, [thing for _, thing in come]
 
 
-Placed = Tuple[str, Row, int]
-"""The name of an aspect, a balise's row in it, and its place."""
-
-
-def _group(found: _Found, old: Side, new: Side, before: Group, after: Group) -> None:
-    """Compares the telegrams of two groups by aspect and position; those that are left by aspect and place."""
-    ones, others = list(_placed(old, before)), list(_placed(new, after))
-    pairs, gone, come = _paired(
-        [((one[0], old.forms[one[1].number]["n_pig"]), one) for one in ones],
-        [((one[0], new.forms[one[1].number]["n_pig"]), one) for one in others],
-    )
-    more, gone, come = _paired([((one[0], one[2]), one) for one in gone], [((one[0], one[2]), one) for one in come])
-    known = {(one[1].number, other[1].number): (one[1], other) for one, other in reversed([*pairs, *more])}
-    for (_, number), (row, other) in sorted(known.items()):
-        found.compare(new.words(after, other[1].aspect, other[1]), _told(old, row), _told(new, other[1]))
-    paired = {row for row, _ in known}, {row for _, row in known}
-    found.added += [
-        f"{new.words(after, row.aspect, row)}  row {row.number}"
-        for row in dict.fromkeys(row for _, row, _ in come)
-        if row.number not in paired[1]
+def _paired_groups(old: Side, new: Side, named: bool) -> Tuple[Pairs[Group], List[Group], List[Group]]:
+    """Groups of one identity. If several have it, those of one name come first, then those with the same telegrams."""
+    keys: List[Callable[[Known], Hashable]] = [
+        lambda known: (known[0], known[1].name),
+        lambda known: (known[0], tuple(row.telegram for row in known[1].rows())),
+        lambda known: known[0],
     ]
-    found.removed += [
-        f"{old.words(before, row.aspect, row)}  row {row.number}"
-        for row in dict.fromkeys(row for _, row, _ in gone)
-        if row.number not in paired[0]
-    ]
+    pairs, gone, come = _paired(_known(old), _known(new), *keys[not named :])
+    groups = [(before, after) for (_, before), (_, after) in pairs]
+    return groups, [group for _, group in gone], [group for _, group in come]
 
 
-def _told(side: Side, row: Row) -> Tuple[int, str, Form]:
-    return row.number, row.telegram, side.forms[row.number]
+def _known(side: Side) -> Iterator[Known]:
+    """The groups that have an identity, after it."""
+    for group in side.checked.table.groups:
+        identity = side.identity(group)
+        if identity is not None:
+            yield identity, group
+
+
+class Placed(NamedTuple):
+    """A telegram that could be read. One that is sent in every aspect comes once for each."""
+
+    aspect: str
+    position: int
+    place: int
+    row: Row
 
 
 def _placed(side: Side, group: Group) -> Iterator[Placed]:
-    """The telegrams that could be read. One that is sent in every aspect comes once for each."""
     for aspect in group.aspects:
         for place, row in enumerate(aspect.rows):
-            if row.number in side.forms:
-                yield aspect.name, row, place
+            if row.number in side.checked.accepted:
+                yield Placed(aspect.name, side.head(row)[0], place, row)
+
+
+def _content(side: Side, group: Group) -> Optional[Sequence[object]]:
+    """What a group sends, if all of it could be read."""
+    if any(row.number not in side.checked.accepted for row in group.rows()):
+        return None
+    return [(aspect.name, [(row.telegram, row.aspect == EVERY) for row in aspect.rows]) for aspect in group.aspects]
+
+
+def _compare_group(answer: Difference, before: Group, after: Group) -> None:
+    """Compares the telegrams of two groups by aspect and position; those that are left by aspect and place."""
+    old, new = answer.old, answer.new
+    content = _content(old, before)
+    if content is not None and content == _content(new, after):
+        answer.same += {row.number: row.telegram.lower() for row in after.rows()}.values()
+        return
+    pairs, gone, come = _paired(
+        _placed(old, before),
+        _placed(new, after),
+        lambda placed: (placed.aspect, placed.position),
+        lambda placed: (placed.aspect, placed.place),
+    )
+    known = {(was.row.number, now.row.number): (was.row, now.row) for was, now in pairs}
+    for numbers, (was, now) in sorted(known.items(), key=lambda item: item[0]):
+        subject = new.describe(after, now.aspect, now)
+        forms = partial(lambda one, other: (old.form(one), new.form(other)), was, now)
+        answer.compare(subject, numbers, (was.telegram, now.telegram), forms)
+    for side, group, some, which, into in ((new, after, come, 1, answer.added), (old, before, gone, 0, answer.removed)):
+        paired = {numbers[which] for numbers in known}
+        rows = {placed.row.number: placed.row for placed in some if placed.row.number not in paired}
+        into += [f"{side.describe(group, row.aspect, row)}  row {row.number}" for row in rows.values()]
 
 
 def _renamed(new: Side, before: Group, after: Group) -> Iterator[str]:
-    """What the table says of a group that differs, without any telegram."""
+    """What the table has of a group that differs, without any telegram."""
     one, other = before.aspects[0].rows[0], after.aspects[0].rows[0]
-    some = (("name", before.name, after.name), ("km", one.km, other.km), ("track", one.track, other.track))
-    for what, was, now in some:
+    columns = (("name", before.name, after.name), ("km", one.km, other.km), ("track", one.track, other.track))
+    for column, was, now in columns:
         if was != now:
-            said = ["none" if value in (None, "") else clean(str(value)) for value in (was, now)]
-            yield f"{new.words(after)}: {what} {said[0]} -> {said[1]}"
+            values = ["none" if value in (None, "") else clean(str(value)) for value in (was, now)]
+            yield f"{new.describe(after)}: {column} {values[0]} -> {values[1]}"
 
 
-def _messages(found: _Found, old: Side, new: Side) -> None:
+def _compare_messages(answer: Difference) -> None:
     """Compares the messages by their names, and those without one by their order."""
-    ones, others = ([(one.message.name, one.message) for one in side.checked.accepted_messages] for side in (old, new))
-    pairs, gone, come = _paired(ones, others)
-    for one, other in pairs:
-        found.compare(
-            _message(other),
-            (one.number, one.text, old.messages[one.number]),
-            (other.number, other.text, new.messages[other.number]),
+    old, new = (side.checked.accepted_messages for side in (answer.old, answer.new))
+    pairs, gone, come = _paired(old, new, lambda accepted: accepted.message.name)
+    for was, now in pairs:
+        numbers, texts = (was.message.number, now.message.number), (was.message.text, now.message.text)
+        answer.compare(
+            _message(now.message), numbers, texts, partial(lambda one, other: (one.form, other.form), was, now)
         )
-    found.added += [_message(one) for one in come]
-    found.removed += [_message(one) for one in gone]
+    answer.added += [_message(accepted.message) for accepted in come]
+    answer.removed += [_message(accepted.message) for accepted in gone]
 
 
 def _message(message: Message) -> str:
     return f"message of line {message.number}" + (f"  {clean(message.name)}" if message.name else "")
 
 
-Named = List[Tuple[Hashable, Place]]
+def _compare_findings(answer: Difference, pairs: Pairs[Group]) -> None:
+    """Which findings are new, and which are gone, by what they are about."""
+    numbers = [{pair[which].name: number for number, pair in enumerate(pairs)} for which in (0, 1)]
+    old = _keyed(answer.old, answer.old.checked.findings, numbers[0])
+    new = _keyed(answer.new, _findings_in_order(answer, pairs), numbers[1])
+    answer.findings_new += _without(new, old)
+    answer.findings_gone += _without(old, new)
 
 
-def _findings(side: Side, pairs: Sequence[Tuple[Group, Group]], which: int) -> Named:
-    """Each finding with what it is about. A packet is named by its number, direction and order."""
-    numbers = {pair[which].name: number for number, pair in enumerate(pairs)}
-    return [(_key(side, place, numbers), place) for place in side.checked.findings]
+def _findings_in_order(answer: Difference, pairs: Pairs[Group]) -> Sequence[Place]:
+    """The findings of the new release. Those that depend on an order are looked for in the order of the old one."""
+    new = answer.new.checked
+    if not any(place.finding.rule in BY_ORDER for place in new.findings):
+        return new.findings
+    places = {group.name: place for place, group in enumerate(answer.old.checked.table.groups)}
+    partners = {after.name: before for before, after in pairs}
+    last = len(places)
+    kept = sorted(
+        (_in_order(group, partners.get(group.name)) for group in new.kept),
+        key=lambda group: places[partners[group.name].name] if group.name in partners else last,
+    )
+    if kept == list(new.kept):
+        return new.findings
+    answer.notes.append(OTHER_ORDER)
+    _, findings = findings_of(new.program, kept, new.accepted_messages, new.accepted)
+    return [
+        *(place for place in new.findings if place.finding.rule not in BY_ORDER),
+        *(place for place in findings if place.finding.rule in BY_ORDER),
+    ]
 
 
-def _key(side: Side, place: Place, numbers: Mapping[str, int]) -> Hashable:
-    finding = place.finding
-    what: Any = ("message", place.message.name) if place.message else None
-    form: Optional[Form] = side.messages[place.message.number] if place.message else None
-    if place.group is not None:
-        what = numbers.get(place.group.name, place.group.name)
-        form = side.forms[place.row.number] if place.row else None
-    packet: Any = None
-    if finding.packet is not None and form is not None:
-        heads = [(one["nid_packet"], one.get("q_dir")) for one in form["packets"][: finding.packet + 1]]
-        packet = (heads[-1], heads.count(heads[-1]))
-    return finding.rule, what, place.aspect, finding.balise, packet, finding.direction
+def _in_order(group: Group, before: Optional[Group]) -> Group:
+    """The group with its aspects in the order of the old one."""
+    names = [aspect.name for aspect in before.aspects] if before else []
+    places = {name: place for place, name in enumerate(names)}
+    return replace(group, aspects=tuple(sorted(group.aspects, key=lambda aspect: places.get(aspect.name, len(names)))))
 
 
-def _without(some: Named, others: Named) -> Iterator[Place]:
+Keyed = List[Tuple[Hashable, Place]]
+
+
+def _keyed(side: Side, findings: Iterable[Place], numbers: Mapping[str, int]) -> Keyed:
+    """Each finding with what it is about."""
+    messages = {accepted.message.number: accepted for accepted in side.checked.accepted_messages}
+    keyed: Keyed = []
+    for place in findings:
+        finding = place.finding
+        subject: Hashable = None
+        form: Optional[Form] = None
+        if place.message is not None:
+            subject = "message", place.message.name
+        elif place.group is not None:
+            subject = numbers.get(place.group.name, place.group.name)
+        if finding.packet is not None:
+            form = side.form(place.row) if place.row else messages[place.message.number].form if place.message else None
+        key = (finding.rule, subject, place.aspect, finding.balise, _packet(form, finding.packet), finding.direction)
+        keyed.append((key, place))
+    return keyed
+
+
+def _packet(form: Optional[Form], place: Optional[int]) -> Hashable:
+    """A packet by its number, direction and order."""
+    if form is None or place is None:
+        return None
+    heads = [(packet["nid_packet"], packet.get("q_dir")) for packet in form["packets"][: place + 1]]
+    return heads[-1], heads.count(heads[-1])
+
+
+def _without(some: Keyed, others: Keyed) -> Iterator[Place]:
     """The findings of one release that the other one has not."""
     counted = Counter(key for key, _ in others)
     for key, place in some:
