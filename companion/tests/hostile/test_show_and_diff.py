@@ -12,7 +12,7 @@ import pytest
 from conftest import Run
 from telegrams import ALONE, FAULTY, FIRST, MESSAGE, OTHER, SECOND, SPARE
 
-from balisekit.engine.program import Program, Text
+from balisekit.engine.program import Program, Report, Text
 
 Form = Dict[str, Any]
 Write = Callable[..., Path]
@@ -130,28 +130,36 @@ def document(group: Any, messages: Any = ()) -> Form:
     return {"groups": [group], "messages": list(messages)}
 
 
-PROGRAM = "program: refused: "
+BROKEN: List[Tuple[Any, str]] = [
+    (
+        {"balises": [OTHER], "aspects": [{"balises": [ALONE]}]},
+        "/groups/0 has the keys balises, aspects, and aspects stands",
+    ),
+    ({"balises": [ALONE], "x": 1}, "/groups/0 has the keys balises, x, and balises stands alone in a document"),
+    ({"aspects": [{"balises": [ALONE], "x": 1}]}, "/groups/0/aspects/0 has the keys balises, x, and balises stands"),
+    ({"aspects": []}, "/groups/0: each aspect has equally many balises, one to 8"),
+    ({"balises": [ALONE] * 9}, "/groups/0: each aspect has equally many balises, one to 8"),
+    ({"balises": ["zz"], "x": 1}, "/groups/0 has the keys balises, x, and balises stands alone in a document"),
+]
+"""Groups of a document that the program refuses."""
+ENCODED = "or with a byte order mark: save it as UTF-8 without one"
 DOCUMENTS: List[Tuple[bytes, str]] = [
-    (json.dumps(form).encode(), why)
-    for form, why in [
-        (document({"balises": [OTHER], "aspects": [{"balises": [ALONE]}]}), f"{PROGRAM}form unknown key at /groups/0"),
-        (document({"balises": [ALONE], "x": 1}), f"{PROGRAM}form unknown key at /groups/0"),
-        (document({"aspects": [{"balises": [ALONE], "x": 1}]}), f"{PROGRAM}form unknown key at /groups/0/aspects/0"),
-        (document({"aspects": []}), f"{PROGRAM}group 0: aspects"),
-        ({**document({"balises": [ALONE]}), "x": 1}, f"{PROGRAM}form unknown key at /"),
-        (
-            {"groups": [{"balises": ["zz"]}, {"balises": [ALONE], "x": 1}], "messages": []},
-            "/groups/1 has the keys balises, x",
-        ),
-        ({"groups": [{"balises": ["zz"]}], "messages": [], "x": 1}, "/ has the keys groups, messages, x"),
-    ]
-] + [
-    (json.dumps(document({"balises": [ALONE]})).encode("utf-16"), "it is a document in UTF-16: save it as UTF-8"),
-    (json.dumps(document({"balises": [ALONE]})).encode("utf-16-le"), "it is a document in UTF-16: save it as UTF-8"),
-    (json.dumps(document({"balises": [ALONE]})).encode("utf-16-be"), "it is a document in UTF-16: save it as UTF-8"),
-    (json.dumps(document({"balises": [ALONE]})).encode("utf-8-sig"), f"{PROGRAM}not JSON"),
-    (b'{"groups":[{"balises":["\xff"]}],"messages":[]}', f"{PROGRAM}not JSON"),
-    (b'{"groups":[],"messages":[NaN]}', f"{PROGRAM}not JSON"),
+    *((json.dumps(document(group)).encode(), why) for group, why in BROKEN),
+    (json.dumps({**document({"balises": [ALONE]}), "x": 1}).encode(), "it has the keys groups, messages, x"),
+    *(
+        (json.dumps(document({"balises": [ALONE]})).encode(encoding), f"it is a document in {name} {ENCODED}")
+        for encoding, name in (
+            ("utf-16", "utf-16"),
+            ("utf-16-le", "utf-16"),
+            ("utf-16-be", "utf-16"),
+            ("utf-8-sig", "utf-8"),
+        )
+    ),
+    (b'{"groups":[{"balises":["\xff"]}],"messages":[]}', f"it is a document in windows-1252 {ENCODED}"),
+    (b'{"groups":[{"balises":["\\ud800"]}],"messages":[]}', "program: refused: not JSON"),
+    (b'{"groups":[],"messages":[],"messages":[]}\x0b', "it is no document that can be read"),
+    (b'{"groups":[],"messages":["\t"]}', "it is no document that can be read"),
+    (b'{"groups":[],"messages":["\x7f", NaN]}', "/messages/1 is no text of hexadecimal digits"),
 ]
 
 
@@ -160,7 +168,32 @@ def test_documents_that_the_program_refuses(run: Run, table: Write, content: byt
     """They are no release that could be equal to another one."""
     bad, good = table(content=content, name="bad.json"), table("group,telegram", f"A,{ALONE}", name="good.csv")
     for words in ((bad, good), (good, bad), (bad, bad)):
-        assert run("diff", *words) == (2, [], [f"balisekit: {bad}: {why}"])
+        status, out, err = run("diff", *words)
+        assert (status, out, len(err)) == (2, [], 1) and err[0].startswith(f"balisekit: {bad}: {why}"), err
+
+
+def test_equal_documents_are_those_of_the_program(run: Run, table: Write, program: Program) -> None:
+    """No document that the program refuses is equal to itself."""
+    hypothesis = pytest.importorskip("hypothesis")
+    st = hypothesis.strategies
+    texts = st.sampled_from([ALONE, OTHER, ALONE.upper(), f" {ALONE}", "", "zz", 7, None])
+    balises = st.fixed_dictionaries(
+        {"balises": st.lists(texts, max_size=3)}, optional={"x": st.none(), "aspects": st.none()}
+    )
+    groups = st.one_of(balises, st.fixed_dictionaries({"aspects": st.lists(balises, max_size=2)}))
+    documents = st.fixed_dictionaries(
+        {
+            "groups": st.lists(groups, max_size=2),
+            "messages": st.lists(st.sampled_from([MESSAGE, "03", "", 1]), max_size=1),
+        }
+    )
+
+    def tried(form: Form) -> None:
+        path = table(content=json.dumps(form).encode(), name="tried.json")
+        status, _, _ = run("diff", path, path)
+        assert (status == 0) == isinstance(program.check(form), Report), form
+
+    hypothesis.settings(max_examples=60)(hypothesis.given(documents)(tried))()
 
 
 @pytest.mark.parametrize("text", [f"0x{ALONE}", f" {ALONE}", f"'{ALONE}'", f"{ALONE}h"])

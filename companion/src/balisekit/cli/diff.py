@@ -6,15 +6,18 @@ from typing import List, Optional, Tuple
 
 from balisekit.cli import options as shared
 from balisekit.compare.lines import Difference, by_place, compare
+from balisekit.engine.grammar import Refusal
 from balisekit.engine.program import Program
 from balisekit.errors import TableError
 from balisekit.io import inputs
+from balisekit.io.inputs import Input
 from balisekit.io.outputs import Output, write_json
 from balisekit.present.check_text import finding_words
 from balisekit.present.diff_text import NOT_PROVED, as_json, last_line, lines, refused_lines, verdict, where
 from balisekit.present.pages import hash_of, pieces, style
 from balisekit.present.report import date
 from balisekit.rules import checking
+from balisekit.rules.checking import Checked
 from balisekit.tables import document as document_file, messages as messages_file, reader as tables
 from balisekit.tables.model import Messages, Table
 from balisekit.tables.names import clean
@@ -39,11 +42,9 @@ def run(options: argparse.Namespace) -> int:
         _read(options.old, options.old_messages, options.sheet),
         _read(options.new, options.new_messages, options.sheet),
     ]
-    named = not any(is_document for _, _, is_document in sides)
-    if not named:
-        sides = [(by_place(table), messages, is_document) for table, messages, is_document in sides]
+    named = not any(document for _, _, document in sides)
     program = Program.find(options.program)
-    old, new = (checking.check(program, table, messages) for table, messages, _ in sides)
+    old, new = (_checked(program, *side, named) for side in sides)
     found = compare(old, new, named)
     if options.html:
         _page(options.html, found)
@@ -55,14 +56,27 @@ def run(options: argparse.Namespace) -> int:
     return found.status
 
 
-def _read(path: str, messages: Optional[str], sheet: Optional[str]) -> Tuple[Table, Optional[Messages], bool]:
-    """A table with its messages, or a document, and whether it is one."""
+def _read(
+    path: str, messages: Optional[str], sheet: Optional[str]
+) -> Tuple[Table, Optional[Messages], Optional[Input]]:
+    """A table with its messages, or those of a document, and the document."""
     file = inputs.read(path)
     if not document_file.is_document(file.content):
-        return tables.read(path, sheet), messages_file.read(messages) if messages else None, False
+        return tables.read(path, sheet), messages_file.read(messages) if messages else None, None
     if messages:
         raise TableError(f"{path}: a document has its messages itself: {messages} can't be beside it")
-    return (*document_file.read(file), True)
+    return (*document_file.read(file), file)
+
+
+def _checked(
+    program: Program, table: Table, messages: Optional[Messages], document: Optional[Input], named: bool
+) -> Checked:
+    """What the program says of a release. TableError is raised if it does not take the document for one."""
+    if document:
+        answer = program.check(document.content)
+        if isinstance(answer, Refusal) and answer.balise is None and answer.message is None:
+            raise TableError(f"{document.path}: program: {answer.line}")
+    return checking.check(program, table if named else by_place(table), messages)
 
 
 def _page(output: Output, found: Difference) -> None:

@@ -2,30 +2,32 @@
 from __future__ import annotations
 
 import json
-from typing import Any, Dict, List, Tuple
+from codecs import BOM_UTF8
+from typing import Any, List, Tuple
 
 from balisekit.errors import TableError
 from balisekit.io.inputs import Input
-from balisekit.tables.cells import digits
 from balisekit.tables.encoding import text_of
 from balisekit.tables.grouping import GREATEST_COUNT
 from balisekit.tables.model import Aspect, Group, Message, Messages, Row, Table
 
 
 def is_document(content: bytes) -> bool:
-    """Whether the file begins as an object of JSON does."""
-    return content.removeprefix(b"\xef\xbb\xbf").lstrip()[:1] == b"{"
+    """Whether the file begins as an object of JSON does, in UTF-8 or UTF-16."""
+    return content.lstrip(b"\xef\xbb\xbf\xff\xfe\0 \t\r\n")[:1] == b"{"
 
 
 def read(file: Input) -> Tuple[Table, Messages]:
     """The groups and messages of a document. Its groups are named by their places, and so are their aspects."""
     try:
         text, encoding = text_of(file.content)
+        if encoding != "utf-8" or file.content.startswith(BOM_UTF8):
+            raise TableError(f"it is a document in {encoding} or with a byte order mark: save it as UTF-8 without one")
         form = json.loads(text)
         groups, rows = _groups(form)
         messages = [
-            Message(place + 1, digits(_text(one, f"/messages/{place}")), name=f"message {place}")
-            for place, one in enumerate(_list(form, "messages", ""))
+            Message(place + 1, _text(text, f"/messages/{place}"), name=f"message {place}")
+            for place, text in enumerate(_list(form, "messages", ""))
         ]
         if sorted(form) != ["groups", "messages"]:
             raise TableError(f"it has the keys {', '.join(form)[:100]}, and a document has groups and messages")
@@ -47,15 +49,13 @@ def _groups(form: Any) -> Tuple[List[Group], List[Row]]:
         path = f"/groups/{place}"
         several = isinstance(group, dict) and "aspects" in group
         aspects = []
-        for number, one in enumerate(_list(group, "aspects", path) if several else [group]):
+        for number, one in enumerate(_list(group, "aspects", path, True) if several else [group]):
             where = f"{path}/aspects/{number}" if several else path
-            texts = [
-                _text(text, f"{where}/balises/{balise}") for balise, text in enumerate(_list(one, "balises", where))
-            ]
+            balises = enumerate(_list(one, "balises", where, True))
+            texts = [_text(text, f"{where}/balises/{balise}") for balise, text in balises]
             name = str(number) if several else ""
             own = tuple(
-                Row(len(rows) + index + 1, f"group {place}", digits(text), text, name)
-                for index, text in enumerate(texts)
+                Row(len(rows) + index + 1, f"group {place}", text, text, name) for index, text in enumerate(texts)
             )
             rows += own
             aspects.append(Aspect(name, own))
@@ -66,15 +66,17 @@ def _groups(form: Any) -> Tuple[List[Group], List[Row]]:
     return groups, rows
 
 
-def _list(form: Any, key: str, path: str) -> List[Any]:
-    found: Dict[str, Any] = form if isinstance(form, dict) else {}
-    if not isinstance(found.get(key), list):
+def _list(form: Any, key: str, path: str, alone: bool = False) -> List[Any]:
+    """The list under a key. The object has no other key if this one stands alone."""
+    values = form.get(key) if isinstance(form, dict) else None
+    if not isinstance(values, list):
         raise TableError(f"{path}/{key} is no list: it is no document of a line")
-    values: List[Any] = found[key]
+    if alone and len(form) > 1:
+        raise TableError(f"{path} has the keys {', '.join(form)[:100]}, and {key} stands alone in a document")
     return values
 
 
 def _text(value: Any, path: str) -> str:
-    if not isinstance(value, str) or not digits(value) or "\n" in value or "\r" in value:
+    if not isinstance(value, str) or not value or "\n" in value or "\r" in value:
         raise TableError(f"{path} is no text of hexadecimal digits")
     return value
