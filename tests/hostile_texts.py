@@ -5,7 +5,7 @@ import re
 import sys
 
 sys.path.insert(0, str(pathlib.Path(__file__).resolve().parents[1] / "companion" / "src"))
-from balisekit import grammar # noqa: E402 the path comes first
+from balisekit.engine import grammar # noqa: E402 the path comes first
 
 USAGE = r"refused: usage is balisecheck check, decode \[--radio\] or encode \[--radio\]\n"
 COMMANDS = (("check",), ("decode",), ("encode",), ("encode", "--radio"), ("decode", "--radio"))

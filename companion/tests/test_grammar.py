@@ -25,8 +25,8 @@ def known(line: str) -> List[str]:
     """The names of the expressions that the line is of."""
     return [
         name
-        for name, some in grammar.EXPRESSIONS.items()
-        if any(one.fullmatch(line) for one in some)
+        for name in dict(grammar.LINES)
+        if any(expression.fullmatch(line) for expression in grammar.expressions(name))
         if name in ("verdict", "finding", "words", "check") or name.startswith(("decode", "encode"))
     ]
 
@@ -71,7 +71,7 @@ def test_document_has_the_grammar() -> None:
 def test_hostile_use_has_the_same_grammar() -> None:
     """tests/hostile_texts.py takes the expressions from here."""
     text = (TOP / "tests/hostile_texts.py").read_text("utf-8")
-    assert "\nfrom balisekit import grammar" in text and "grammar." in text
+    assert "\nfrom balisekit.engine import grammar" in text and "grammar." in text
 
 
 def test_names_are_those_of_the_rules() -> None:

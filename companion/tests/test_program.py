@@ -5,13 +5,14 @@ import json
 import os
 import random
 from pathlib import Path
-from typing import Callable, List
+from typing import Any, Callable, List, Mapping
 
 import pytest
+from fakes import RECORD, fake
 from telegrams import ALONE, FAULTY, MESSAGE, OTHER, SPARE
 
 from balisekit.engine.grammar import Refusal
-from balisekit.engine.program import Program, Record, Report, Text
+from balisekit.engine.program import MessageRecord, Program, Record, Report, Text
 from balisekit.errors import NoAnswer
 
 Stand = Callable[..., Program]
@@ -55,7 +56,7 @@ def test_a_text_is_a_line(program: Program, text: str) -> None:
 def test_records_are_written_again(program: Program) -> None:
     records = [one for one in program.decode([ALONE, OTHER]) if isinstance(one, Record)]
     assert [one.form["nid_bg"] for one in records] == [1, 3]
-    forms = [records[0].form, {**records[0].form, "n_pig": 8}, records[1].form]
+    forms: List[Mapping[str, Any]] = [records[0].form, {**records[0].form, "n_pig": 8}, records[1].form]
     written = list(program.encode(forms))
     assert [one.line if isinstance(one, Text) else one.text for one in written] == [
         ALONE,
@@ -79,7 +80,7 @@ def test_messages_are_no_stream(program: Program) -> None:
 def test_more_messages_than_a_part(program: Program) -> None:
     answers = list(program.messages([MESSAGE] * 1500 + ["0304"] + [MESSAGE] * 700))
     assert [place for place, one in enumerate(answers) if isinstance(one, Refusal)] == [1500]
-    again = next(program.encode([answers[0].form if isinstance(answers[0], Record) else {}], radio=True))
+    again = next(program.encode([answers[0].form if isinstance(answers[0], MessageRecord) else {}], radio=True))
     assert isinstance(again, Text) and again.line == MESSAGE
 
 
@@ -97,21 +98,7 @@ def stand(tmp_path: Path) -> Stand:
     """A program that shakes hands as the right one does, and then does this."""
 
     def make(does: str, first: str = "") -> Program:
-        path = tmp_path / "stand"
-        path.write_text(
-            "#!/bin/sh\n"
-            + first
-            + """
-case "$*" in
-check) read line; case "$line" in '{"groups":[],"messages":[]}'*) echo 'yes: groups 0, messages 0'; exit 0 ;; esac ;;
---version) echo 'refused: usage is balisecheck check, decode [--radio] or encode [--radio]'; exit 2 ;;
-esac
-"""
-            + does
-            + "\n"
-        )
-        path.chmod(0o755)
-        return Program.find(str(path))
+        return Program.find(str(fake(tmp_path / "stand", does, first)))
 
     return make
 
@@ -121,15 +108,18 @@ esac
     [
         ("exit 1", "status 1, 0 lines in place of 2"),
         ("exit 0", "status 0, 0 lines in place of 2"),
-        ("echo '{}'; exit 0", "status 0, 1 lines in place of 2"),
-        ("echo '{}'; echo '{}'; echo '{}'; exit 0", "more lines than it was given"),
+        (f"echo '{RECORD}'; exit 0", "status 0, 1 lines in place of 2"),
+        (f"echo '{RECORD}'; echo '{RECORD}'; echo '{RECORD}'; exit 0", "more lines than it was given"),
         ("echo 'balisecheck: memory' >&2; exit 3", "status 3, balisecheck: memory"),
         ("kill -9 $$", "killed by signal 9"),
         ("echo 'refused: usage is balisecheck check'; exit 2", "refused: usage is"),
         ("echo 'refused: line 2: wrong size'; exit 2", "refused: line 2: wrong size"),
-        ("echo 'refused: line 1: wrong size'; echo '{}'; exit 2", "a line stands behind a refusal"),
+        (f"echo 'refused: line 1: wrong size'; echo '{RECORD}'; exit 2", "a line stands behind a refusal"),
         ("echo 'refused: line 1: wrong size'; exit 0", "status 0"),
-        ("echo '{}'; echo '{}'; echo 'refused: line 3: wrong size'; exit 2", "more lines than it was given"),
+        (
+            f"echo '{RECORD}'; echo '{RECORD}'; echo 'refused: line 3: wrong size'; exit 2",
+            "more lines than it was given",
+        ),
     ],
 )
 def test_no_answer_of_decode(stand: Stand, does: str, said: str) -> None:

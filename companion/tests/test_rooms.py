@@ -12,7 +12,7 @@ PACKAGE = Path(__file__).resolve().parents[1] / "src" / "balisekit"
 BELOW = {
     "io": (),
     "tables": ("io",),
-    "etcs": ("tables",),
+    "etcs": ("engine", "tables"),
     "engine": (),
     "rules": ("engine", "etcs", "io", "tables"),
     "compare": ("engine", "etcs", "rules", "tables"),

@@ -38,7 +38,7 @@ def run(options: argparse.Namespace) -> int:
         last = list(lines(checked, judged=judged))[-1]
         options.junit.write([junit.document(checked, judged, said, [*before_last(checked.table), last])])
     if options.document:
-        options.document.write(checking.document(checked.kept, checked.accepted_messages))
+        options.document.write(checking.document(checked.kept, [one.message for one in checked.accepted_messages]))
     if options.json:
         write_json(options.json, as_json(checked, judged))
     out = shared.text_stream(options.json, options.document, options.propose, options.junit)

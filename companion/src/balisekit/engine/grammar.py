@@ -7,7 +7,8 @@ from __future__ import annotations
 
 import re
 from dataclasses import dataclass
-from typing import Dict, Iterator, List, Match, Optional, Pattern, Tuple
+from functools import lru_cache
+from typing import Dict, List, Match, Optional, Pattern, Tuple
 
 GRAMMAR = r"""
 number          0|[1-9][0-9]*
@@ -60,27 +61,24 @@ check           refused: {message}: (?P<text>not hexadecimal|{message fault})
 """
 
 
-def _whole(text: str) -> Iterator[Tuple[str, str]]:
-    """Each name with its expression, in which the others are put in."""
-    lines = [re.split(" {2,}", line, maxsplit=1) for line in text.split("\n") if line]
-    parts = dict((name, expression) for name, expression in lines)
+LONG = re.compile("[0-9]{19}")
+LINES: List[Tuple[str, str]] = re.findall(r"^(.+?) {2,}(.+)$", GRAMMAR, re.MULTILINE)
+"""Each name with its expression."""
+PARTS = dict(LINES)
+NAMES: Dict[int, str] = {
+    int(expression[1:].split(" ")[0]): expression.rsplit(": ", 1)[1] for name, expression in LINES if name == "finding"
+}
+"""The names of findings by their rules."""
+
+
+@lru_cache(maxsize=None)
+def expressions(name: str) -> Tuple[Pattern[str], ...]:
+    """The expressions of a name: `verdict`, `finding`, and the command whose refusal it is."""
 
     def put_in(expression: str) -> str:
-        return re.sub(r"\{([a-z ]+)\}", lambda found: f"(?:{put_in(parts[found[1]])})", expression)
+        return re.sub(r"\{([a-z ]+)\}", lambda match: f"(?:{put_in(PARTS[match[1]])})", expression)
 
-    for name, expression in lines:
-        yield name, put_in(expression)
-
-
-EXPRESSIONS: Dict[str, List[Pattern[str]]] = {}
-"""The expressions by their names: `verdict`, `finding`, and the command whose refusal it is."""
-for _name, _expression in _whole(GRAMMAR):
-    EXPRESSIONS.setdefault(_name, []).append(re.compile(_expression))
-
-NAMES: Dict[int, str] = {}
-"""The names of findings by their rules."""
-for _line in re.findall(r"^finding +F(.+)$", GRAMMAR, re.MULTILINE):
-    NAMES[int(_line.split(" ")[0])] = _line.rsplit(": ", 1)[1]
+    return tuple(re.compile(put_in(expression)) for key, expression in LINES if key == name)
 
 
 @dataclass(frozen=True)
@@ -135,43 +133,42 @@ class Refusal:
 
 
 def _match(name: str, line: str) -> Optional[Match[str]]:
-    """What the first expression of this name that the line matches has found."""
-    for expression in EXPRESSIONS[name]:
-        found = expression.fullmatch(line)
-        if found:
-            return found
-    return None
+    """The match of the first expression of this name that the line matches. No number has more than 18 digits."""
+    if LONG.search(line):
+        return None
+    return next(filter(None, (expression.fullmatch(line) for expression in expressions(name))), None)
 
 
-def _number(found: Match[str], name: str) -> Optional[int]:
-    digits = found.groupdict().get(name)
-    return None if digits is None else int(digits)
+def _numbers(match: Match[str], *names: str) -> Dict[str, Optional[int]]:
+    parts = match.groupdict()
+    return {name: None if parts.get(name) is None else int(parts[name]) for name in names}
 
 
 def verdict(line: str) -> Optional[Verdict]:
     """The first line of a report, or None if the line is none."""
-    found = _match("verdict", line)
-    if not found:
+    match = _match("verdict", line)
+    if not match:
         return None
-    return Verdict(line, _number(found, "groups"), _number(found, "messages"), _number(found, "findings") or 0)
+    numbers = _numbers(match, "groups", "messages", "findings")
+    return Verdict(line, numbers["groups"], numbers["messages"], numbers["findings"] or 0)
 
 
 def finding(line: str) -> Optional[Finding]:
     """The finding of a line, or None if it is none."""
-    found = _match("finding", line)
-    if not found:
+    match = _match("finding", line)
+    if not match:
         return None
     rule = int(line[1 : line.index(" ")])
-    numbers = {name: _number(found, name) for name in ("group", "message", "aspect", "balise", "packet")}
-    return Finding(line, rule, NAMES[rule], direction=found.groupdict().get("direction"), **numbers)
+    numbers = _numbers(match, "group", "message", "aspect", "balise", "packet")
+    return Finding(line, rule, NAMES[rule], direction=match.groupdict().get("direction"), **numbers)
 
 
 def refusal(command: str, line: str) -> Optional[Refusal]:
     """The refusal that a command has written in a line, or None if it is none of this command."""
-    found = _match(command, line)
-    if not found:
+    match = _match(command, line)
+    if not match:
         return None
-    parts = found.groupdict()
-    numbers = {name: _number(found, name) for name in ("at", "end", "group", "aspect", "balise", "message")}
-    number = _number(found, "line")
+    parts = match.groupdict()
+    numbers = _numbers(match, "at", "end", "group", "aspect", "balise", "message")
+    number = _numbers(match, "line")["line"]
     return Refusal(parts["text"], line, parts.get("why"), path=parts.get("path"), number=number, **numbers)

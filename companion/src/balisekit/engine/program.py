@@ -1,37 +1,88 @@
 """The program: where it is, and what it answers.
 
-`Program.find()` finds it. `decode`, `encode`, `messages` and `check` hand data to it and give its answers in order. One
-process does many lines: behind a refused line another one is started.
+`Program.find()` finds it. `decode`, `encode`, `messages` and `check` hand data to it and give its answers in order. A
+run ends with the first line that it refuses, so another run begins behind that line.
 """
 from __future__ import annotations
 
 import json
 import os
-import subprocess
 import tempfile
-from dataclasses import dataclass, field
-from typing import IO, Any, Dict, Iterable, Iterator, List, Mapping, Optional, Sequence, Tuple, Union
+from collections import deque
+from concurrent.futures import Future, ThreadPoolExecutor
+from dataclasses import dataclass, field, replace
+from threading import Event
+from typing import (
+    IO,
+    Any,
+    Callable,
+    Deque,
+    Dict,
+    Iterable,
+    Iterator,
+    List,
+    Mapping,
+    Optional,
+    Sequence,
+    Tuple,
+    TypeVar,
+    Union,
+)
 
-from balisekit.engine import grammar, location as program_file
+from balisekit.engine import grammar, location, records
 from balisekit.engine.grammar import Finding, Refusal, Verdict
+from balisekit.engine.process import HANDSHAKE_LIMIT, Limit, Run
 from balisekit.errors import NoAnswer
 
-PART = 1000
-"""So many messages are tried by one run of `check`."""
+FEW = 16
+"""After this many refusals the rest is tried in parts, several at a time."""
+PART = 64
+"""The lines or messages of a part."""
+AT_A_TIME = min(4, os.cpu_count() or 1)
+SHOWN = 100
+"""This many characters of a line that is no answer are shown."""
+HANDSHAKE = (
+    (["check"], '{"groups":[],"messages":[]}', 0, "yes: groups 0, messages 0"),
+    (["--version"], "", 2, "refused: usage is balisecheck check, decode [--radio] or encode [--radio]"),
+    (
+        ["decode"],
+        f"a1007fffffffb{'f' * 39}c0\n",
+        0,
+        '{"m_dup":0,"m_mcount":255,"m_version":33,"n_pig":0,"n_total":0,"nid_bg":16383,"nid_c":1023,"packets":[],'
+        '"q_link":0,"user_bits":210}',
+    ),
+)
+"""The words, the input, the status and the answer of each run by which the program is known."""
+Part = Tuple[int, int]
+"""The first line of a part, and the line behind its last one."""
+Answer = Union[str, Refusal]
+Done = TypeVar("Done")
 
 
 @dataclass(frozen=True)
 class Record:
-    """A telegram or message that the program has read."""
+    """A telegram that the program has read."""
 
     line: str
     """The program's line of JSON."""
 
     @property
-    def form(self) -> Dict[str, Any]:
+    def form(self) -> records.Telegram:
         """The object of the line."""
-        form: Dict[str, Any] = json.loads(self.line)
-        return form
+        return records.telegram(self.line)
+
+
+@dataclass(frozen=True)
+class MessageRecord:
+    """A radio message that the program has read."""
+
+    line: str
+    """The program's line of JSON."""
+
+    @property
+    def form(self) -> records.Message:
+        """The object of the line."""
+        return records.message(self.line)
 
 
 @dataclass(frozen=True)
@@ -44,7 +95,7 @@ class Text:
 
 @dataclass(frozen=True)
 class Report:
-    """What `check` says of a document that it has read."""
+    """What `check` reports of a document that it has read."""
 
     verdict: Verdict
     findings: Tuple[Finding, ...]
@@ -58,16 +109,19 @@ class Program:
     sha256: str
     about: Mapping[str, str] = field(default_factory=dict)
     """The papers of a stored program, by the first word of each line. Empty for any other program."""
+    timeout: Optional[float] = None
+    """For how many seconds balisekit waits for an answer; None is a limit by the size of the input."""
+    _stop: Event = field(default_factory=Event, compare=False, repr=False)
 
     @classmethod
-    def find(cls, named: Optional[str] = None) -> Program:
+    def find(cls, named: Optional[str] = None, timeout: Optional[float] = None) -> Program:
         """The program of this path, else of BALISECHECK, else that of the clone, else that on the path.
 
         NoAnswer is raised if there is none, or if it answers as another program or version does.
         """
-        path = program_file.find(named)
-        sha256 = program_file.checksum(path)
-        program = cls(path, sha256, program_file.papers(sha256))
+        path = location.find(named)
+        sha256 = location.checksum(path)
+        program = cls(path, sha256, location.papers(sha256), timeout)
         program._shake_hands()
         return program
 
@@ -78,152 +132,206 @@ class Program:
 
     def decode(self, lines: Iterable[str]) -> Iterator[Union[Record, Refusal]]:
         """A record, or the refusal, for each text of a telegram."""
+        is_telegram = records.telegram_expression().fullmatch
         for answer in self._each(["decode"], lines):
-            yield Record(answer) if isinstance(answer, str) else answer
+            if isinstance(answer, Refusal):
+                yield answer
+            elif is_telegram(answer):
+                yield Record(answer)
+            else:
+                raise self._no_answer("decode", f"no record of a telegram: {answer[:SHOWN]}")
 
     def encode(self, forms: Iterable[Mapping[str, Any]], radio: bool = False) -> Iterator[Union[Text, Refusal]]:
         """The text, or the refusal, for each form of a telegram or, with `radio`, of a message."""
         words = ["encode", "--radio"] if radio else ["encode"]
         for answer in self._each(words, (json.dumps(form) for form in forms)):
+            if isinstance(answer, str) and not records.DIGITS.fullmatch(answer):
+                raise self._no_answer(" ".join(words), f"no hexadecimal digits: {answer[:SHOWN]}")
             yield Text(answer) if isinstance(answer, str) else answer
 
-    def check(self, document: Union[str, bytes, Mapping[str, Any], IO[bytes]]) -> Union[Report, Refusal]:
-        """What the program says of a document of a line: an object, its JSON, or a file that holds it."""
-        with tempfile.TemporaryFile() as room:
-            if isinstance(document, Mapping):
-                document = json.dumps(document, separators=(",", ":"))
-            if isinstance(document, str):
-                document = document.encode("utf-8", "surrogatepass")
-            if isinstance(document, bytes):
-                room.write(document)
-                room.flush()
-                return self._check(room)
-            return self._check(document)
+    def check(self, document: Union[str, bytes, Mapping[str, Any], Iterable[str]]) -> Union[Report, Refusal]:
+        """What the program reports of a document of a line: an object, its JSON, or the pieces of its JSON."""
+        if isinstance(document, Mapping):
+            document = json.dumps(document, separators=(",", ":"))
+        pieces = [document] if isinstance(document, (str, bytes)) else document
+        with tempfile.TemporaryFile() as file:
+            for piece in pieces:
+                file.write(piece.encode("utf-8", "surrogatepass") if isinstance(piece, str) else piece)
+            file.flush()
+            return self._check(file)
 
     def messages(
         self, messages: Iterable[Union[str, bytes]], most: Optional[int] = None
-    ) -> Iterator[Union[Record, Refusal]]:
+    ) -> Iterator[Union[MessageRecord, Refusal]]:
         """A record, or the refusal, for each radio message: its bytes, or their hexadecimal text.
 
-        `decode --radio` reads a stream, in which a wrong L_MESSAGE takes bytes of the next message. So `check` looks at
+        `decode --radio` reads a stream, in which a wrong L_MESSAGE takes bytes of the next message. So `check` tries
         the messages first, and only those that it can read become a stream. The last answer is the refusal with the
-        number `most`, if there are so many.
+        number `most`, if there are that many.
         """
-        texts = [one.hex() if isinstance(one, bytes) else _line(one) for one in messages]
+        texts = [message.hex() if isinstance(message, bytes) else _line(message) for message in messages]
         refused = self._refused_messages(texts, most)
         if most is not None and len(refused) == most:
             texts = texts[: max(refused, default=-1) + 1]
-        read = [text for place, text in enumerate(texts) if place not in refused]
-        records = self._each(["decode", "--radio"], read)
-        for place in range(len(texts)):
-            if place in refused:
-                yield refused[place]
-                continue
-            record = next(records, None)
-            if not isinstance(record, str):
-                raise self._no_answer("decode --radio: it refuses a message that `check` can read")
-            yield Record(record)
+        accepted = self.readable_messages(text for index, text in enumerate(texts) if index not in refused)
+        for index in range(len(texts)):
+            yield refused[index] if index in refused else next(accepted)
+
+    def readable_messages(self, texts: Iterable[str]) -> Iterator[MessageRecord]:
+        """A record for each of these radio messages, all of which `check` can read."""
+        is_message = records.message_expression().fullmatch
+        for answer in self._each(["decode", "--radio"], texts):
+            if isinstance(answer, Refusal):
+                raise self._no_answer("decode --radio", "it refuses a message that `check` can read")
+            if not is_message(answer):
+                raise self._no_answer("decode --radio", f"no record of a message: {answer[:SHOWN]}")
+            yield MessageRecord(answer)
 
     def _refused_messages(self, texts: Sequence[str], most: Optional[int]) -> Dict[int, Refusal]:
-        """The refusals of these messages, or the first of them, by their places."""
+        """The refusals of these messages, or the first of them, by their indexes."""
         refused: Dict[int, Refusal] = {}
-        first = 0
-        while first < len(texts) and len(refused) != most:
-            part = texts[first : first + PART]
-            answer = self.check({"groups": [], "messages": part})
-            if isinstance(answer, Refusal):
-                if answer.message is None or answer.message >= len(part):
-                    raise self._no_answer(f"check: {answer.line}")
-                first += answer.message
-                refused[first] = answer
-                first += 1
-            else:
-                first += len(part)
-        return refused
+        first = self._try_messages(texts, (0, len(texts)), refused, FEW if most is None else min(FEW, most))
 
-    def _each(self, words: Sequence[str], texts: Iterable[str]) -> Iterator[Union[str, Refusal]]:
+        def of_part(program: Program, part: Part) -> Dict[int, Refusal]:
+            own: Dict[int, Refusal] = {}
+            program._try_messages(texts, part, own)
+            return own
+
+        if most is None or len(refused) < most:
+            for own in self._in_order(of_part, first, len(texts)):
+                refused.update(own)
+                if most is not None and len(refused) >= most:
+                    break
+        return dict(list(refused.items())[:most])
+
+    def _try_messages(
+        self, texts: Sequence[str], part: Part, refused: Dict[int, Refusal], most: Optional[int] = None
+    ) -> int:
+        """Adds the refusals of the messages of a part, until there are `most`. The answer is where it has stopped."""
+        first, end = part
+        while first < end and len(refused) != most:
+            answer = self.check({"groups": [], "messages": texts[first:end]})
+            if not isinstance(answer, Refusal):
+                return end
+            if answer.message is None or answer.message >= end - first:
+                raise self._no_answer("check", answer.line)
+            first += answer.message
+            refused[first] = answer
+            first += 1
+        return first
+
+    def _each(self, words: Sequence[str], texts: Iterable[str]) -> Iterator[Answer]:
         """The line, or the refusal, that the command writes for each text."""
         with tempfile.TemporaryFile() as lines:
-            starts: List[int] = []
+            starts = [0]
             for text in texts:
-                starts.append(lines.tell())
-                lines.write(_line(text).encode("utf-8", "surrogatepass") + b"\n")
+                starts.append(starts[-1] + lines.write(_line(text).encode("utf-8", "surrogatepass") + b"\n"))
             lines.flush()
             done = 0
-            while done < len(starts):
-                os.lseek(lines.fileno(), starts[done], os.SEEK_SET)
-                for answer in self._run_lines(words, lines, len(starts) - done):
+            for answer in self._runs(words, lines, starts, FEW):
+                done += 1
+                yield answer
+
+            def of_part(program: Program, part: Part) -> List[Answer]:
+                own = [start - starts[part[0]] for start in starts[part[0] : part[1] + 1]]
+                with tempfile.TemporaryFile() as few:
+                    few.write(os.pread(lines.fileno(), own[-1], starts[part[0]]))
+                    few.flush()
+                    return list(program._runs(words, few, own))
+
+            for answers in self._in_order(of_part, done, len(starts) - 1):
+                yield from answers
+
+    def _in_order(self, work: Callable[[Program, Part], Done], first: int, end: int) -> Iterator[Done]:
+        """What is done for each part of the lines or messages from `first` on: several at a time, in their order."""
+        program = replace(self, _stop=Event())
+        waiting: Deque[Future[Done]] = deque()
+        with ThreadPoolExecutor(AT_A_TIME) as pool:
+            try:
+                for start in range(first, end, PART):
+                    waiting.append(pool.submit(work, program, (start, min(start + PART, end))))
+                    if len(waiting) > 2 * AT_A_TIME:
+                        yield waiting.popleft().result()
+                while waiting:
+                    yield waiting.popleft().result()
+            finally:
+                program._stop.set()
+                for future in waiting:
+                    future.cancel()
+
+    def _runs(
+        self, words: Sequence[str], lines: IO[bytes], starts: Sequence[int], most: Optional[int] = None
+    ) -> Iterator[Answer]:
+        """What the command writes for each line of a file, up to the refusal with the number `most`."""
+        done = refused = 0
+        count = len(starts) - 1
+        while done < count and refused != most:
+            os.lseek(lines.fileno(), starts[done], os.SEEK_SET)
+            with self._run(words, lines, starts[-1] - starts[done]) as run:
+                for answer in _answers(run, " ".join(words), count - done):
                     done += 1
+                    refused += isinstance(answer, Refusal)
                     yield answer
 
-    def _run_lines(self, words: Sequence[str], lines: IO[bytes], left: int) -> Iterator[Union[str, Refusal]]:
-        """What one run writes: lines, and a refusal as the last one if it does not come to the end."""
-        command = " ".join(words)
-        with tempfile.TemporaryFile() as said, self._start(words, lines, said) as run:
-            assert run.stdout is not None
-            read, refusal = 0, None
-            for raw in run.stdout:
-                line = _text(raw)
-                if refusal is not None:
-                    raise self._no_answer(f"{command}: a line stands behind a refusal")
-                if read == left:
-                    raise self._no_answer(f"{command}: it writes more lines than it was given")
-                if not line.startswith("refused: "):
-                    read += 1
-                    yield line
-                    continue
-                refusal = grammar.refusal(command, line)
-                if refusal is None or refusal.number != read + 1:
-                    raise self._no_answer(f"{command}: {line}")
-                yield refusal
-            run.stdout.close()
-            status = run.wait()
-            whole = status == 0 and refusal is None and read == left
-            if not whole and not (status == 2 and refusal is not None):
-                raise self._no_answer(f"{command}: {_how(status, said, read, left)}")
-
     def _check(self, document: IO[bytes]) -> Union[Report, Refusal]:
-        """What `check` says of the document in this file."""
+        """What `check` reports of the document in this file."""
+        size = os.lseek(document.fileno(), 0, os.SEEK_END)
         os.lseek(document.fileno(), 0, os.SEEK_SET)
-        with tempfile.TemporaryFile() as said, self._start(["check"], document, said) as run:
-            lines = [_text(raw) for raw in run.communicate()[0].split(b"\n")[:-1]]
-            status = run.returncode
-            if status == 2 and len(lines) == 1:
-                refusal = grammar.refusal("check", lines[0])
-                if refusal:
-                    return refusal
-            verdict = grammar.verdict(lines[0]) if lines else None
-            findings = [grammar.finding(line) for line in lines[1:]]
-            known = [one for one in findings if one is not None]
-            if verdict and status == (0 if verdict.yes else 1) and len(known) == len(findings) == verdict.findings:
-                return Report(verdict, tuple(known))
-            raise self._no_answer(f"check: {_how(status, said, len(lines), 0)}")
+        with self._run(["check"], document, size) as run:
+            lines = run.lines()
+            first = next(lines, "")
+            verdict, refusal = grammar.verdict(first), grammar.refusal("check", first)
+            count = verdict.findings if verdict else 0
+            findings: Dict[str, Finding] = {}
+            for line in lines:
+                finding = grammar.finding(line)
+                if finding is None or line in findings or len(findings) == count:
+                    raise run.no_answer(f"no line of its report: {line[:SHOWN]}")
+                findings[line] = finding
+            if refusal and run.status == 2:
+                return refusal
+            if verdict and run.status == (0 if verdict.yes else 1) and len(findings) == count:
+                return Report(verdict, tuple(findings.values()))
+            raise run.no_answer(_end(run, bool(first) + len(findings)))
 
-    def _start(self, words: Sequence[str], stdin: IO[bytes], said: IO[bytes]) -> subprocess.Popen[bytes]:
-        try:
-            return subprocess.Popen([self.path, *words], stdin=stdin, stdout=subprocess.PIPE, stderr=said)
-        except OSError as error:
-            raise self._no_answer(error.strerror or str(error)) from error
+    def _run(self, words: Sequence[str], stdin: IO[bytes], size: int) -> Run:
+        return Run(self.path, words, stdin, Limit.of(size, self.timeout, self._stop))
 
     def _shake_hands(self) -> None:
         """Raises NoAnswer if it is not the program whose words this version knows."""
-        try:
-            asked = subprocess.run([self.path, "check"], input=b'{"groups":[],"messages":[]}', capture_output=True)
-            usage = subprocess.run([self.path, "--version"], stdin=subprocess.DEVNULL, capture_output=True)
-        except OSError as error:
-            raise self._no_answer(error.strerror or str(error)) from error
-        verdict = grammar.verdict(_text(asked.stdout[:-1]))
-        knows = asked.returncode == 0 and verdict is not None and (verdict.groups, verdict.messages) == (0, 0)
-        words = grammar.refusal("words", _text(usage.stdout[:-1]))
-        if not knows or usage.returncode != 2 or words is None:
-            raise NoAnswer(f"{self.path} is not the program that this version knows")
+        for words, text, status, answer in HANDSHAKE:
+            with tempfile.TemporaryFile() as file:
+                file.write(text.encode("ascii"))
+                file.seek(0)
+                with Run(self.path, words, file, HANDSHAKE_LIMIT) as run:
+                    lines = list(run.lines())
+                    if run.status is not None and run.status < 0:
+                        raise run.no_answer(_end(run, 0))
+                    if (run.status, lines) != (status, [answer]):
+                        raise NoAnswer(f"{self.path} is not the program that this version knows")
 
-    def _no_answer(self, why: str) -> NoAnswer:
-        return NoAnswer(f"no answer of {self.path}: {why}")
+    def _no_answer(self, command: str, why: str) -> NoAnswer:
+        return NoAnswer(f"no answer of {self.path}: {command}: {why}")
 
 
-def _text(raw: bytes) -> str:
-    return raw.rstrip(b"\n").decode("utf-8", "backslashreplace")
+def _answers(run: Run, command: str, left: int) -> Iterator[Answer]:
+    """What one run writes: lines, and a refusal as the last one if it does not come to the end."""
+    read, refusal = 0, None
+    for line in run.lines():
+        if refusal is not None:
+            raise run.no_answer("a line stands behind a refusal")
+        if read == left:
+            raise run.no_answer("it writes more lines than it was given")
+        if line.startswith("refused: "):
+            refusal = grammar.refusal(command, line)
+            if refusal is None or refusal.number != read + 1:
+                raise run.no_answer(line[:SHOWN])
+            yield refusal
+        else:
+            read += 1
+            yield line
+    if (run.status, read, refusal) != (0, left, None) and (run.status != 2 or refusal is None):
+        raise run.no_answer(_end(run, read, left))
 
 
 def _line(text: str) -> str:
@@ -233,11 +341,11 @@ def _line(text: str) -> str:
     return text
 
 
-def _how(status: int, said: IO[bytes], lines: int, wanted: int) -> str:
+def _end(run: Run, lines: int, wanted: int = 0) -> str:
     """How a run has ended that gave no answer."""
-    said.seek(0)
-    words = said.read(1000).decode("utf-8", "backslashreplace").strip()
-    ended = f"killed by signal {-status}" if status < 0 else f"status {status}"
+    words = run.errors[:1000].decode("utf-8", "backslashreplace").strip()
+    status = run.status or 0
+    end = f"killed by signal {-status}" if status < 0 else f"status {status}"
     if status in (0, 1, 2):
-        ended += f", {lines} lines" + (f" in place of {wanted}" if wanted else "")
-    return f"{ended}, {words}" if words else ended
+        end += f", {lines} lines" + (f" in place of {wanted}" if wanted else "")
+    return f"{end}, {words}" if words else end

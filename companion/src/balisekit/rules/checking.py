@@ -2,21 +2,22 @@
 from __future__ import annotations
 
 import json
-import tempfile
 from dataclasses import dataclass
-from typing import Any, Dict, Iterable, Iterator, List, Mapping, Optional, Sequence, Set, Tuple, Union
+from typing import Any, Dict, Iterable, Iterator, List, Mapping, NamedTuple, Optional, Sequence, Set, Tuple, TypeVar
 
 from balisekit.engine.grammar import Finding, Refusal, Verdict
-from balisekit.engine.program import Program, Record, Report
+from balisekit.engine.program import MessageRecord, Program, Record, Report
+from balisekit.engine.records import Message as MessageForm, Telegram
 from balisekit.errors import NoAnswer
-from balisekit.etcs.variables import Form
 from balisekit.rules.differing import differs
 from balisekit.tables.model import Aspect, Group, Message, Messages, Row, Table
 
 GREATEST_REFUSED = 10_000
 """After so many refused telegrams the others are not tried."""
 ALL_HELP = f"go on after {GREATEST_REFUSED:,} refused telegrams or messages"
-Answer = Union[Record, Refusal]
+ENCODE = json.JSONEncoder(separators=(",", ":")).encode
+Answer = TypeVar("Answer")
+Thing = TypeVar("Thing")
 
 
 @dataclass(frozen=True)
@@ -27,9 +28,43 @@ class Accepted:
     record: Record
 
     @property
-    def form(self) -> Dict[str, Any]:
+    def form(self) -> Telegram:
         """The program's JSON."""
         return self.record.form
+
+
+class Telegrams(Mapping[int, Accepted]):
+    """The telegrams that the program can read, by the number of their rows.
+
+    `check` needs no record for its verdict. So the telegrams are decoded when the first record is asked for.
+    """
+
+    def __init__(self, program: Program, rows: Sequence[Row]) -> None:
+        self._program = program
+        self._rows = {row.number: row for row in rows}
+        self._records: Dict[int, Accepted] = {}
+
+    def decoded(self, numbers: Optional[Iterable[int]] = None) -> Iterator[Accepted]:
+        """The records of these rows, or of all rows. They are decoded now, and not kept."""
+        rows = list(self._rows.values()) if numbers is None else [self._rows[number] for number in numbers]
+        for row, answer in zip(rows, self._program.decode([row.telegram for row in rows])):
+            if isinstance(answer, Refusal):
+                raise NoAnswer(f"the program refuses what it has read: {answer.line}")
+            yield Accepted(row, answer)
+
+    def __getitem__(self, number: int) -> Accepted:
+        if not self._records and self._rows:
+            self._records = {accepted.row.number: accepted for accepted in self.decoded()}
+        return self._records[number]
+
+    def __iter__(self) -> Iterator[int]:
+        return iter(self._rows)
+
+    def __len__(self) -> int:
+        return len(self._rows)
+
+    def __contains__(self, number: object) -> bool:
+        return number in self._rows
 
 
 @dataclass(frozen=True)
@@ -47,10 +82,10 @@ class AcceptedMessage:
     """A message that the program has read."""
 
     message: Message
-    record: Record
+    record: MessageRecord
 
     @property
-    def form(self) -> Dict[str, Any]:
+    def form(self) -> MessageForm:
         """The program's JSON."""
         return self.record.form
 
@@ -95,7 +130,7 @@ class Checked:
     program: Program
     table: Table
     messages: Optional[Messages]
-    accepted: Dict[int, Accepted]
+    accepted: Telegrams
     """By the number of the row."""
     refused: Tuple[Refused, ...]
     not_looked_at: int
@@ -136,56 +171,84 @@ def check(
     by_position: bool = False,
     everything: bool = False,
 ) -> Checked:
-    """Tries each telegram and message, and hands what can be read to `check`.
+    """The program's report on the table, or on what is left of it without the telegrams and messages that it refuses.
 
     After 10,000 refused telegrams or messages the others are not tried, unless `everything` is asked for.
     """
-    accepted, refused = _try_rows(program, table.rows, everything)
-    left = len(table.rows) - len(accepted) - len(refused)
-    left_out, kept = _sort_out(table.groups, accepted, {one.row.number for one in refused})
-    if by_position:
-        kept = tuple(_by_position(group, accepted) for group in kept)
-    good, bad = _try_messages(program, messages, everything)
+    radio = messages.messages if messages else ()
+    report = None if by_position else program.check(document(table.groups, radio))
     verdict: Optional[Verdict] = None
     places: Tuple[Place, ...] = ()
-    if kept or good or not (refused or bad):
-        verdict, places = findings_of(program, kept, good, accepted)
+    if isinstance(report, Report):
+        parts = _all_readable(program, table, radio)
+        verdict, places = report.verdict, _places(report, parts.kept, parts.messages, parts.accepted)
+    else:
+        parts = _readable(program, table, radio, by_position, everything)
+        if parts.kept or parts.messages or not (parts.refused or parts.refused_messages):
+            verdict, places = findings_of(program, parts.kept, parts.messages, parts.accepted)
     return Checked(
         program,
         table,
         messages,
-        accepted,
-        refused,
-        left,
-        left_out,
-        kept,
-        good,
-        bad,
+        parts.accepted,
+        parts.refused,
+        len(table.rows) - len(parts.accepted) - len(parts.refused),
+        parts.left_out,
+        parts.kept,
+        parts.messages,
+        parts.refused_messages,
         verdict,
         places,
     )
 
 
 def findings_of(
-    program: Program, kept: Sequence[Group], messages: Sequence[AcceptedMessage], accepted: Mapping[int, Accepted]
+    program: Program, kept: Sequence[Group], messages: Sequence[AcceptedMessage], accepted: Telegrams
 ) -> Tuple[Verdict, Tuple[Place, ...]]:
-    """What the program says of groups and messages whose telegrams it has read."""
-    report = _ask(program, kept, messages)
-    first = _first_groups(kept, accepted) if any(one.rule == 14 for one in report.findings) else {}
-    forms = _forms(kept, accepted, report.findings)
-    return report.verdict, tuple(_place(one, kept, first, messages, forms) for one in report.findings)
+    """What the program reports of groups and messages whose telegrams it has read."""
+    report = program.check(document(kept, [accepted_message.message for accepted_message in messages]))
+    if isinstance(report, Refusal):
+        raise NoAnswer(f"`check` refuses what `decode` has read: {report.line}")
+    return report.verdict, _places(report, kept, messages, accepted)
 
 
-def document(kept: Sequence[Group], messages: Sequence[AcceptedMessage]) -> Iterator[str]:
+class _Parts(NamedTuple):
+    """What can be read of a table, and what cannot."""
+
+    accepted: Telegrams
+    refused: Tuple[Refused, ...]
+    kept: Tuple[Group, ...]
+    left_out: Tuple[LeftOut, ...]
+    messages: Tuple[AcceptedMessage, ...]
+    refused_messages: Tuple[RefusedMessage, ...]
+
+
+def _all_readable(program: Program, table: Table, radio: Sequence[Message]) -> _Parts:
+    """The parts of a table whose document the program has read."""
+    records = program.readable_messages([message.text for message in radio])
+    messages = tuple(map(AcceptedMessage, radio, records))
+    return _Parts(Telegrams(program, table.rows), (), table.groups, (), messages, ())
+
+
+def _readable(program: Program, table: Table, radio: Sequence[Message], by_position: bool, everything: bool) -> _Parts:
+    """The parts of a table each of whose telegrams and messages is tried."""
+    accepted, refused = _try_rows(program, table.rows, everything)
+    left_out, kept = _sort_out(table.groups, accepted, {one.row.number for one in refused})
+    if by_position:
+        kept = _by_position(kept, accepted)
+    return _Parts(accepted, refused, kept, left_out, *_try_messages(program, radio, everything))
+
+
+def document(groups: Sequence[Group], messages: Iterable[Message]) -> Iterator[str]:
     """The document that is handed to `check`, in pieces."""
     yield '{"groups":['
-    for place, group in enumerate(kept):
+    for index, group in enumerate(groups):
         aspects: List[Any] = [{"balises": [row.telegram for row in aspect.rows]} for aspect in group.aspects]
         form = aspects[0] if len(aspects) == 1 else {"aspects": aspects}
-        yield ("," if place else "") + "\n" + json.dumps(form, separators=(",", ":"))
+        yield ("," if index else "") + "\n" + ENCODE(form)
     yield '\n],"messages":['
-    for place, one in enumerate(messages):
-        yield ("," if place else "") + "\n" + json.dumps(one.message.text)
+    for index, message in enumerate(messages):
+        yield ("," if index else "") + "\n" + ENCODE(message.text)
     yield "\n]}\n"
 
 
@@ -199,33 +262,29 @@ def until_too_many(answers: Iterable[Answer], everything: bool) -> Iterator[Answ
             return
 
 
-def _try_rows(
-    program: Program, rows: Sequence[Row], everything: bool
-) -> Tuple[Dict[int, Accepted], Tuple[Refused, ...]]:
-    accepted: Dict[int, Accepted] = {}
-    refused: List[Refused] = []
-    for place, answer in enumerate(until_too_many(program.decode([row.telegram for row in rows]), everything)):
-        row = rows[place]
-        if isinstance(answer, Refusal):
-            refused.append(Refused(row, answer, rows[place + 1 - (answer.number or 1)].number))
-        else:
-            accepted[row.number] = Accepted(row, answer)
-    return accepted, tuple(refused)
-
-
 def greatest_refused(everything: bool) -> Optional[int]:
     """After how many refused messages the others are not tried."""
     return None if everything else GREATEST_REFUSED
 
 
+def _try_rows(program: Program, rows: Sequence[Row], everything: bool) -> Tuple[Telegrams, Tuple[Refused, ...]]:
+    accepted: List[Row] = []
+    refused: List[Refused] = []
+    for index, answer in enumerate(until_too_many(program.decode([row.telegram for row in rows]), everything)):
+        if isinstance(answer, Refusal):
+            refused.append(Refused(rows[index], answer, rows[index + 1 - (answer.number or 1)].number))
+        else:
+            accepted.append(rows[index])
+    return Telegrams(program, accepted), tuple(refused)
+
+
 def _try_messages(
-    program: Program, messages: Optional[Messages], everything: bool
+    program: Program, radio: Sequence[Message], everything: bool
 ) -> Tuple[Tuple[AcceptedMessage, ...], Tuple[RefusedMessage, ...]]:
     accepted: List[AcceptedMessage] = []
     refused: List[RefusedMessage] = []
-    tried = messages.messages if messages else ()
-    answers = program.messages([one.text for one in tried], greatest_refused(everything))
-    for message, answer in zip(tried, answers):
+    answers = program.messages([message.text for message in radio], greatest_refused(everything))
+    for message, answer in zip(radio, answers):
         if isinstance(answer, Refusal):
             refused.append(RefusedMessage(message, answer))
         else:
@@ -234,77 +293,121 @@ def _try_messages(
 
 
 def _sort_out(
-    groups: Sequence[Group], accepted: Mapping[int, Accepted], refused: Set[int]
+    groups: Sequence[Group], accepted: Telegrams, refused: Set[int]
 ) -> Tuple[Tuple[LeftOut, ...], Tuple[Group, ...]]:
     """The groups with a row that was not accepted, and the others."""
     left_out, kept = [], []
     for group in groups:
-        bad = sorted({row.number for row in group.rows() if row.number in refused})
+        numbers = [row.number for row in group.rows()]
+        bad = sorted({number for number in numbers if number in refused})
         if bad:
             left_out.append(LeftOut(group, f"refused: row{'s' if len(bad) > 1 else ''} {', '.join(map(str, bad))}"))
-        elif any(row.number not in accepted for row in group.rows()):
-            left_out.append(LeftOut(group, "not looked at"))
-        else:
+        elif all(number in accepted for number in numbers):
             kept.append(group)
+        else:
+            left_out.append(LeftOut(group, "not looked at"))
     return tuple(left_out), tuple(kept)
 
 
-def _by_position(group: Group, accepted: Mapping[int, Accepted]) -> Group:
-    def position(row: Row) -> int:
-        return int(accepted[row.number].form["n_pig"])
+def _by_position(groups: Sequence[Group], accepted: Telegrams) -> Tuple[Group, ...]:
+    """The groups with the balises of each aspect in the order of N_PIG."""
+    positions = {telegram.row.number: telegram.form["n_pig"] for telegram in accepted.decoded()}
 
-    aspects = tuple(Aspect(one.name, tuple(sorted(one.rows, key=position))) for one in group.aspects)
-    return Group(group.name, aspects)
+    def ordered(aspect: Aspect) -> Aspect:
+        return Aspect(aspect.name, tuple(sorted(aspect.rows, key=lambda row: positions[row.number])))
 
-
-def _ask(program: Program, kept: Sequence[Group], messages: Sequence[AcceptedMessage]) -> Report:
-    with tempfile.TemporaryFile() as room:
-        for piece in document(kept, messages):
-            room.write(piece.encode("utf-8", "surrogatepass"))
-        room.flush()
-        report = program.check(room)
-    if isinstance(report, Refusal):
-        raise NoAnswer(f"`check` refuses what `decode` has read: {report.line}")
-    counted = (report.verdict.groups, report.verdict.messages)
-    if report.verdict.yes and counted != (len(kept), len(messages)):
-        raise NoAnswer(f"the program has counted otherwise: {report.verdict.line}")
-    return report
+    return tuple(Group(group.name, tuple(map(ordered, group.aspects))) for group in groups)
 
 
-def _forms(kept: Sequence[Group], accepted: Mapping[int, Accepted], found: Sequence[Finding]) -> Dict[int, Form]:
-    """The telegrams, by their rows, of the groups that have F1, F2 or F3."""
-    groups = {one.group or 0 for one in found if one.rule in (1, 2, 3)}
-    rows = {row.number for number in groups if number < len(kept) for row in kept[number].rows()}
-    return {number: accepted[number].form for number in rows}
+class _Names:
+    """What the numbers of findings stand for in the table. NoAnswer is raised for what was not handed in."""
 
+    def __init__(
+        self,
+        kept: Sequence[Group],
+        messages: Sequence[AcceptedMessage],
+        accepted: Telegrams,
+        findings: Sequence[Finding],
+    ) -> None:
+        self._kept, self._messages = kept, messages
+        needed: Set[int] = set()
+        for finding in findings:
+            if finding.rule in (1, 2, 3):
+                needed.update(row.number for row in self._group(finding).rows())
+            elif finding.packet is not None and finding.message is None:
+                needed.add(self._row(finding).number)
+        firsts = [group.aspects[0].rows[0].number for group in kept]
+        identities = any(finding.rule == 14 for finding in findings)
+        needed.update(firsts if identities else ())
+        self._records = {telegram.row.number: telegram.record for telegram in accepted.decoded(sorted(needed))}
+        self._forms: Dict[int, Telegram] = {}
+        self._first: List[Group] = list(self._first_groups(firsts)) if identities else []
 
-def _place(
-    finding: Finding,
-    kept: Sequence[Group],
-    first: Mapping[int, Group],
-    messages: Sequence[AcceptedMessage],
-    forms: Mapping[int, Form],
-) -> Place:
-    """What the numbers of the finding stand for. `first` has the first group with the identity of each one."""
-    try:
+    def _first_groups(self, firsts: Sequence[int]) -> Iterator[Group]:
+        """For each group the first group with the same identity."""
+        first: Dict[Tuple[int, int], Group] = {}
+        for group, number in zip(self._kept, firsts):
+            form = self._records[number].form
+            yield first.setdefault((form["nid_c"], form["nid_bg"]), group)
+
+    def place(self, finding: Finding) -> Place:
+        """What one finding is about."""
         if finding.message is not None:
-            return Place(finding, message=messages[finding.message].message)
-        group = kept[finding.group or 0]
-        whole = finding.aspect is None and (finding.rule in (14, 16) or len(group.aspects) > 1)
-        aspect = group.aspects[finding.aspect or 0]
-        row = None if finding.balise is None else aspect.rows[finding.balise]
-        earlier = first[finding.group or 0] if finding.rule == 14 else None
-        said = differs(finding.rule, group, aspect.rows, finding.balise or 0, forms) if finding.rule < 4 else ""
-    except IndexError:
-        raise NoAnswer(f"the program names what was not handed to it: {finding.line}") from None
-    return Place(finding, group, None if whole else aspect.name, row, earlier=earlier, differs=said)
+            accepted = self._at(self._messages, finding.message, finding)
+            if finding.packet is not None:
+                self._at(accepted.form["packets"], finding.packet, finding)
+            return Place(finding, message=accepted.message)
+        group = self._group(finding)
+        several = len(group.aspects) > 1
+        aspect = None if several and finding.aspect is None else group.aspects[finding.aspect or 0].name
+        row = None if finding.balise is None else self._row(finding)
+        if row is not None and finding.packet is not None:
+            self._at(range(self._records[row.number].line.count('"nid_packet":')), finding.packet, finding)
+        earlier = self._first[finding.group or 0] if finding.rule == 14 else None
+        if earlier is group:
+            raise self._no_answer(finding)
+        return Place(finding, group, aspect, row, earlier=earlier, differs=self._differs(finding, group))
+
+    def _differs(self, finding: Finding, group: Group) -> str:
+        if finding.rule > 3:
+            return ""
+        for row in group.rows():
+            if row.number not in self._forms:
+                self._forms[row.number] = self._records[row.number].form
+        rows = group.aspects[finding.aspect or 0].rows
+        return differs(finding.rule, group, rows, finding.balise or 0, self._forms)
+
+    def _group(self, finding: Finding) -> Group:
+        """The group of a finding, which names an aspect if and only if it is about one of several."""
+        group = self._at(self._kept, finding.group or 0, finding)
+        several = len(group.aspects) > 1
+        if (finding.aspect is not None) != several and not (finding.rule == 14 or finding.rule == 16 and several):
+            raise self._no_answer(finding)
+        self._at(group.aspects, finding.aspect or 0, finding)
+        if finding.balise is not None:
+            self._row(finding, group)
+        return group
+
+    def _row(self, finding: Finding, group: Optional[Group] = None) -> Row:
+        aspect = (group or self._group(finding)).aspects[finding.aspect or 0]
+        return self._at(aspect.rows, finding.balise or 0, finding)
+
+    def _at(self, things: Sequence[Thing], index: int, finding: Finding) -> Thing:
+        if index >= len(things):
+            raise self._no_answer(finding)
+        return things[index]
+
+    @staticmethod
+    def _no_answer(finding: Finding) -> NoAnswer:
+        return NoAnswer(f"the program names what was not handed to it: {finding.line}")
 
 
-def _first_groups(kept: Sequence[Group], accepted: Mapping[int, Accepted]) -> Dict[int, Group]:
-    """The first group with the identity of each group, by its place."""
-    first: Dict[Tuple[int, int], Group] = {}
-    places: Dict[int, Group] = {}
-    for place, group in enumerate(kept):
-        form = accepted[group.aspects[0].rows[0].number].form
-        places[place] = first.setdefault((form["nid_c"], form["nid_bg"]), group)
-    return places
+def _places(
+    report: Report, kept: Sequence[Group], messages: Sequence[AcceptedMessage], accepted: Telegrams
+) -> Tuple[Place, ...]:
+    """What the numbers of each finding stand for."""
+    counts = (report.verdict.groups, report.verdict.messages)
+    if report.verdict.yes and counts != (len(kept), len(messages)):
+        raise NoAnswer(f"the program has counted otherwise: {report.verdict.line}")
+    names = _Names(kept, messages, accepted, report.findings)
+    return tuple(map(names.place, report.findings))
