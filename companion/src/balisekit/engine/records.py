@@ -8,7 +8,7 @@ from __future__ import annotations
 import json
 import re
 from functools import lru_cache
-from typing import Annotated, Any, Dict, List, Match, Optional, Pattern, Tuple, TypedDict, Union, cast, get_type_hints
+from typing import Annotated, Any, Dict, List, Optional, Pattern, Tuple, TypedDict, Union, cast, get_type_hints
 
 Bit = Annotated[int, range(2)]
 Number3 = Annotated[int, range(3)]
@@ -242,7 +242,7 @@ def _list(item: str, least: int, most: Optional[int]) -> str:
 def _object(kind: Any, keys: str = "", **values: str) -> str:
     """An expression for an object of this type. Some values can be given by expressions of their own."""
     hints = get_type_hints(kind, include_extras=True)
-    parts, conditions, comma = [], [], ""
+    parts, conditions = [], []
     names = sorted((keys or KEYS.get(kind, "") or " ".join(hints)).split())
     for name in names:
         key = name.rstrip("?")
