@@ -1,16 +1,21 @@
 """The answer of `check` as JSON, for other tools."""
 from __future__ import annotations
 
+import json
 from typing import Any, Dict, Optional
 
+from balisekit.io.outputs import Json
 from balisekit.present import accepted as accepted_output
 from balisekit.present.check_text import finding_words, last_line
 from balisekit.present.refusals import message_refused, telegram_refused
 from balisekit.rules.accepted import Judged
 from balisekit.rules.aspect_counts import groups_by_aspects
-from balisekit.rules.checking import Accepted, Checked, LeftOut, Place, Refused, RefusedMessage
+from balisekit.rules.checking import Checked, LeftOut, Place, Refused, RefusedMessage
 from balisekit.rules.remarks import remarks
 from balisekit.tables.model import Row
+
+
+ENCODE = json.JSONEncoder(ensure_ascii=False, separators=(",", ":")).encode
 
 
 def as_json(checked: Checked, judged: Optional[Judged] = None) -> Dict[str, Any]:
@@ -43,9 +48,9 @@ def as_json(checked: Checked, judged: Optional[Judged] = None) -> Dict[str, Any]
             "not_looked_at": checked.not_looked_at,
             "messages_not_looked_at": checked.messages_not_looked_at,
         },
-        "telegrams": [_telegram_json(one) for one in checked.accepted.values()],
+        "telegrams": (_with_form(_row_json(one.row), one.record.line) for one in checked.accepted.decoded()),
         "read_messages": [
-            {"line_of_file": one.message.number, "name": one.message.name, "form": one.form}
+            _with_form({"line_of_file": one.message.number, "name": one.message.name}, one.record.line)
             for one in checked.accepted_messages
         ],
         "refused": [_refused_json(one) for one in checked.refused],
@@ -68,8 +73,9 @@ def _row_json(row: Row) -> Dict[str, Any]:
     }
 
 
-def _telegram_json(one: Accepted) -> Dict[str, Any]:
-    return {**_row_json(one.row), "form": one.form}
+def _with_form(members: Dict[str, Any], line: str) -> Json:
+    """An object with the program's line as its last member."""
+    return Json(f'{ENCODE(members)[:-1]},"form":{line}}}')
 
 
 def _refused_json(one: Refused) -> Dict[str, Any]:
