@@ -11,7 +11,7 @@ from typing import IO, Iterator, List, Optional, Sequence
 
 from balisekit.errors import NoAnswer
 
-LEAST_SECONDS = 60.0
+LEAST_SECONDS = 60
 BYTES_A_SECOND = 100_000
 """An answer has a minute, and a second more for each 100,000 bytes of its input, for which the program needs 2 ms."""
 GREATEST_LINE = 4 * 1024 * 1024
@@ -37,7 +37,7 @@ class Limit:
     @classmethod
     def of(cls, size: int, timeout: Optional[float], stop: Event) -> Limit:
         """The limit for an input of this size: the time that the user names, else by the size."""
-        seconds = LEAST_SECONDS + size / BYTES_A_SECOND if timeout is None else timeout
+        seconds = LEAST_SECONDS + size // BYTES_A_SECOND if timeout is None else timeout
         return cls(seconds, hint="; --timeout SECONDS allows more", stop=stop)
 
 

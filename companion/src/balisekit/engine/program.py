@@ -139,14 +139,14 @@ class Program:
             elif is_telegram(answer):
                 yield Record(answer)
             else:
-                raise self._no_answer("decode", f"no record of a telegram: {answer[:SHOWN]}")
+                raise self.no_answer("decode", f"no record of a telegram: {answer[:SHOWN]}")
 
     def encode(self, forms: Iterable[Mapping[str, Any]], radio: bool = False) -> Iterator[Union[Text, Refusal]]:
         """The text, or the refusal, for each form of a telegram or, with `radio`, of a message."""
         words = ["encode", "--radio"] if radio else ["encode"]
         for answer in self._each(words, (json.dumps(form) for form in forms)):
             if isinstance(answer, str) and not records.DIGITS.fullmatch(answer):
-                raise self._no_answer(" ".join(words), f"no hexadecimal digits: {answer[:SHOWN]}")
+                raise self.no_answer(" ".join(words), f"no hexadecimal digits: {answer[:SHOWN]}")
             yield Text(answer) if isinstance(answer, str) else answer
 
     def check(self, document: Union[str, bytes, Mapping[str, Any], Iterable[str]]) -> Union[Report, Refusal]:
@@ -182,9 +182,9 @@ class Program:
         is_message = records.message_expression().fullmatch
         for answer in self._each(["decode", "--radio"], texts):
             if isinstance(answer, Refusal):
-                raise self._no_answer("decode --radio", "it refuses a message that `check` can read")
+                raise self.no_answer("decode --radio", "it refuses a message that `check` can read")
             if not is_message(answer):
-                raise self._no_answer("decode --radio", f"no record of a message: {answer[:SHOWN]}")
+                raise self.no_answer("decode --radio", f"no record of a message: {answer[:SHOWN]}")
             yield MessageRecord(answer)
 
     def _refused_messages(self, texts: Sequence[str], most: Optional[int]) -> Dict[int, Refusal]:
@@ -214,7 +214,7 @@ class Program:
             if not isinstance(answer, Refusal):
                 return end
             if answer.message is None or answer.message >= end - first:
-                raise self._no_answer("check", answer.line)
+                raise self.no_answer("check", answer.line)
             first += answer.message
             refused[first] = answer
             first += 1
@@ -310,28 +310,32 @@ class Program:
                     if (run.status, lines) != (status, [answer]):
                         raise NoAnswer(f"{self.path} is not the program that this version knows")
 
-    def _no_answer(self, command: str, why: str) -> NoAnswer:
+    def no_answer(self, command: str, why: str) -> NoAnswer:
         return NoAnswer(f"no answer of {self.path}: {command}: {why}")
 
 
 def _answers(run: Run, command: str, left: int) -> Iterator[Answer]:
-    """What one run writes: lines, and a refusal as the last one if it does not come to the end."""
-    read, refusal = 0, None
+    """What one run writes: lines, and a refusal as the last one if it does not come to the end.
+
+    An answer is given when the next one has been read. So the last one is given only after the run has ended well.
+    """
+    read = 0
+    answer: Optional[Answer] = None
     for line in run.lines():
-        if refusal is not None:
+        if isinstance(answer, Refusal):
             raise run.no_answer("a line stands behind a refusal")
         if read == left:
             raise run.no_answer("it writes more lines than it was given")
-        if line.startswith("refused: "):
-            refusal = grammar.refusal(command, line)
-            if refusal is None or refusal.number != read + 1:
-                raise run.no_answer(line[:SHOWN])
-            yield refusal
-        else:
-            read += 1
-            yield line
-    if (run.status, read, refusal) != (0, left, None) and (run.status != 2 or refusal is None):
+        if answer is not None:
+            yield answer
+        read += 1
+        answer = grammar.refusal(command, line) if line.startswith("refused: ") else line
+        if answer is None or isinstance(answer, Refusal) and answer.number != read:
+            raise run.no_answer(line[:SHOWN])
+    if run.status != (2 if isinstance(answer, Refusal) else 0) or read < left and not isinstance(answer, Refusal):
         raise run.no_answer(_end(run, read, left))
+    if answer is not None:
+        yield answer
 
 
 def _line(text: str) -> str:

@@ -49,7 +49,7 @@ class Telegrams(Mapping[int, Accepted]):
         rows = list(self._rows.values()) if numbers is None else [self._rows[number] for number in numbers]
         for row, answer in zip(rows, self._program.decode([row.telegram for row in rows])):
             if isinstance(answer, Refusal):
-                raise NoAnswer(f"the program refuses what it has read: {answer.line}")
+                raise self._program.no_answer("decode", f"it refuses what it has read: {answer.line}")
             yield Accepted(row, answer)
 
     def __getitem__(self, number: int) -> Accepted:
@@ -181,7 +181,7 @@ def check(
     places: Tuple[Place, ...] = ()
     if isinstance(report, Report):
         parts = _all_readable(program, table, radio)
-        verdict, places = report.verdict, _places(report, parts.kept, parts.messages, parts.accepted)
+        verdict, places = report.verdict, _places(program, report, parts.kept, parts.messages, parts.accepted)
     else:
         parts = _readable(program, table, radio, by_position, everything)
         if parts.kept or parts.messages or not (parts.refused or parts.refused_messages):
@@ -208,8 +208,8 @@ def findings_of(
     """What the program reports of groups and messages whose telegrams it has read."""
     report = program.check(document(kept, [accepted_message.message for accepted_message in messages]))
     if isinstance(report, Refusal):
-        raise NoAnswer(f"`check` refuses what `decode` has read: {report.line}")
-    return report.verdict, _places(report, kept, messages, accepted)
+        raise program.no_answer("check", f"it refuses what `decode` has read: {report.line}")
+    return report.verdict, _places(program, report, kept, messages, accepted)
 
 
 class _Parts(NamedTuple):
@@ -324,12 +324,13 @@ class _Names:
 
     def __init__(
         self,
+        program: Program,
         kept: Sequence[Group],
         messages: Sequence[AcceptedMessage],
         accepted: Telegrams,
         findings: Sequence[Finding],
     ) -> None:
-        self._kept, self._messages = kept, messages
+        self._program, self._kept, self._messages = program, kept, messages
         needed: Set[int] = set()
         for finding in findings:
             if finding.rule in (1, 2, 3):
@@ -381,7 +382,8 @@ class _Names:
         """The group of a finding, which names an aspect if and only if it is about one of several."""
         group = self._at(self._kept, finding.group or 0, finding)
         several = len(group.aspects) > 1
-        if (finding.aspect is not None) != several and not (finding.rule == 14 or finding.rule == 16 and several):
+        of_aspect = finding.aspect is not None
+        if several < (finding.rule in (15, 16)) or of_aspect != several and (of_aspect or finding.rule not in (14, 16)):
             raise self._no_answer(finding)
         self._at(group.aspects, finding.aspect or 0, finding)
         if finding.balise is not None:
@@ -397,17 +399,16 @@ class _Names:
             raise self._no_answer(finding)
         return things[index]
 
-    @staticmethod
-    def _no_answer(finding: Finding) -> NoAnswer:
-        return NoAnswer(f"the program names what was not handed to it: {finding.line}")
+    def _no_answer(self, finding: Finding) -> NoAnswer:
+        return self._program.no_answer("check", f"it names what was not handed to it: {finding.line}")
 
 
 def _places(
-    report: Report, kept: Sequence[Group], messages: Sequence[AcceptedMessage], accepted: Telegrams
+    program: Program, report: Report, kept: Sequence[Group], messages: Sequence[AcceptedMessage], accepted: Telegrams
 ) -> Tuple[Place, ...]:
     """What the numbers of each finding stand for."""
     counts = (report.verdict.groups, report.verdict.messages)
     if report.verdict.yes and counts != (len(kept), len(messages)):
-        raise NoAnswer(f"the program has counted otherwise: {report.verdict.line}")
-    names = _Names(kept, messages, accepted, report.findings)
+        raise program.no_answer("check", f"it has counted otherwise: {report.verdict.line}")
+    names = _Names(program, kept, messages, accepted, report.findings)
     return tuple(map(names.place, report.findings))

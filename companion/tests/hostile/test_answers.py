@@ -1,0 +1,324 @@
+"""Programs that answer what balisecheck never writes, too late, too much or not at all: no answer, and status 3."""
+from __future__ import annotations
+
+import json
+import signal
+import subprocess
+import sys
+import time
+from dataclasses import replace
+from pathlib import Path
+from typing import Callable, List
+
+import pytest
+from cases_of_program import TOP
+from conftest import Run
+from fakes import RECORD, fake
+from telegrams import ALONE, MESSAGE, OTHER
+
+from balisekit.engine import process
+from balisekit.engine.process import Limit
+from balisekit.engine.program import Program
+from balisekit.errors import NoAnswer
+
+Write = Callable[..., Path]
+
+TELEGRAM = json.loads(RECORD)
+PACKET = {"nid_packet": 21, "q_dir": 1, "q_scale": 1, "elements": [{"d_gradient": 0, "q_gdir": 1, "g_a": 5}]}
+AUTHORITY = (
+    '{"m_ack":0,"nid_bg":1,"nid_c":1,"nid_message":3,"packets":[{"end_speed":0,"end_timeout":1023,"l_endsection":1000,'
+    '"nid_packet":15,"q_dir":1,"q_scale":1,"sections":[]}],"t_train":100}'
+)
+
+
+def line(**keys: object) -> str:
+    """A record with some keys changed, and without those that are None."""
+    form = {**TELEGRAM, **keys}
+    form = {key: value for key, value in form.items() if value is not None}
+    return json.dumps(form, sort_keys=True, separators=(",", ":"))
+
+
+def packet(**keys: object) -> str:
+    """A record with a packet of which some keys are changed."""
+    changed = {key: value for key, value in {**PACKET, **keys}.items() if value is not None}
+    return line(packets=[changed])
+
+
+RECORDS = [
+    "garbage",
+    "",
+    "{}",
+    "[]",
+    "null",
+    "0",
+    '"text"',
+    "[" * 5000,
+    "[" * 5000 + "]" * 5000,
+    line(n_pig=8),
+    line(n_pig=-1),
+    line(n_pig=None),
+    line(n_pig=True),
+    line(n_pig="0"),
+    line(n_pig=[0]),
+    line(n_pig=0.5),
+    line(x=1),
+    line(nid_c=None),
+    line(nid_bg=16_384),
+    line(m_version=16),
+    line(user_bits=211),
+    line(packets=None),
+    line(packets={}),
+    line(packets=[[]]),
+    line(packets=[{}]),
+    line().replace('"nid_c":1023', '"nid_c":' + "1" * 5000),
+    line().replace('"nid_c":1023', '"nid_c":NaN'),
+    line().replace('"nid_c":1023', '"nid_c":1e3'),
+    line().replace('"nid_c":1023', '"nid_c":01023'),
+    line().replace('"n_pig":0', '"n_pig":0,"n_pig":1'),
+    line()[:-1],
+    line() + " ",
+    packet(nid_packet=255),
+    packet(nid_packet=22),
+    packet(q_dir=3),
+    packet(q_scale=None),
+    packet(elements=[]),
+    packet(elements=[{"d_gradient": 0, "q_gdir": 1, "g_a": 5}] * 33),
+    packet(elements=[{"d_static": 0, "v_static": 0, "q_front": 0, "differences": []}]),
+    line(packets=[{"nid_packet": 136, "q_dir": 1, "l_packet": 38, "body": "012"}]),
+    line(packets=[{"nid_packet": 136, "q_dir": 1, "l_packet": 22, "body": ""}]),
+    line(packets=[{"nid_packet": 41, "q_dir": 1, "q_scale": 1, "d_leveltr": 0, "transitions": [{"m_leveltr": 1}]}]),
+]
+"""What `decode` answers to each telegram."""
+MESSAGES = [
+    "garbage",
+    "{}",
+    "[]",
+    AUTHORITY.replace('"nid_message":3', '"nid_message":4'),
+    AUTHORITY.replace('"nid_packet":15', '"nid_packet":16'),
+    AUTHORITY.replace('"nid_bg":1,', ""),
+    RECORD,
+]
+"""What `decode --radio` answers to a message."""
+FINDINGS = [
+    "F9 group 0 balise 0 packet 500: packet not modelled",
+    "F9 group 0 balise 0 packet 0: packet not modelled",
+    "F1 group 0 balise 7: position wrong",
+    "F1 group 2 balise 0: position wrong",
+    "F1 group 0 aspect 0 balise 0: position wrong",
+    "F1 group 0 aspect 1 balise 0: position wrong",
+    "F10 group 0 aspect 0 nominal: no gradient",
+    "F10 message 0 nominal: no gradient",
+    "F9 message 0 packet 0: packet not modelled",
+    "F14 group 0: identity used before",
+    "F14 group 2: identity used before",
+    "F15 group 0 balise 0: marks differ between aspects",
+    "F16 group 0 balise 0: aspects not told apart",
+    f"F14 group {'9' * 5000}: identity used before",
+    f"F14 group {'9' * 18}: identity used before",
+    "F99 group 0: identity used before",
+    "garbage",
+]
+"""A finding in a line of two groups that have one telegram without a packet each."""
+REPORTS = [
+    "yes: groups 1, messages 0",
+    f"yes: groups {'9' * 5000}, messages 0",
+    "yes: groups 2, messages 0\\nF6 group 0 balise 0: counter 254",
+    f"no: findings {'9' * 5000}\\nF6 group 0 balise 0: counter 254",
+    "no: findings 2\\nF6 group 0 balise 0: counter 254\\nF6 group 0 balise 0: counter 254",
+    "no: findings 0",
+    "refused: group 0 balise 0: spare at 15 end 17\\nF6 group 0 balise 0: counter 254",
+    f"refused: group 0 balise 0: spare at {'9' * 5000} end 17",
+    "refused: form missing key at /groups",
+]
+"""A report on two groups."""
+COMMANDS = [
+    "check {t} --json {out}",
+    "check {t} --by-position",
+    "show {t}",
+    "show {t} --bits",
+    "links {t}",
+    "report {t} --html {out}",
+    "draw {t} --group A --svg {out}",
+    "draw {t} --track --svg {out}",
+    "diff {t} {u}",
+]
+"""Commands that need records."""
+
+
+def begin_of(text: str) -> str:
+    """The name of a case."""
+    return text[:60] or "empty"
+
+
+@pytest.fixture
+def answers(tmp_path: Path, run: Run, table: Callable[..., Path]) -> Callable[..., List[str]]:
+    """Standard error of a command with a program that does this. Its status is 3, and it says nothing else."""
+    paths = {
+        "t": table("group,km,nominal,telegram", f"A,1,rising,{ALONE}", f"B,2,rising,{OTHER}"),
+        "u": table("group,km,nominal,telegram", f"A,1,rising,{ALONE}", f"B,3,rising,{ALONE}", name="u.csv"),
+        "m": table(MESSAGE, name="m.txt"),
+        "out": tmp_path / "out",
+    }
+
+    def of(command: str, does: str, first: str = "") -> List[str]:
+        program = fake(tmp_path / "fake", does, first)
+        words = [word.format(**paths) for word in command.split()]
+        status, out, errors = run(*words, "--program", program)
+        assert (status, [word for word in out if "row" in word]) == (3, []) and not (tmp_path / "out").exists()
+        assert len(errors) == 1 and len(errors[0]) < 400 + len(str(tmp_path))
+        assert "an error of balisekit itself" not in errors[0] and str(program) in errors[0]
+        return errors
+
+    return of
+
+
+def decoding(answer: str, radio: str = AUTHORITY) -> str:
+    """Lines of a shell: a program that has a record for each line, and yes for each document."""
+    return (
+        f'case "$*" in\ndecode) {{ echo "$line"; cat; }} | while read -r _; do cat <<\'END\'\n'
+        f"{answer}\nEND\ndone; exit 0 ;;\n*radio) cat <<'END'\n{radio}\nEND\nexit 0 ;;\n"
+        "check) echo 'yes: groups 2, messages 0'; exit 0 ;;\nesac"
+    )
+
+
+@pytest.mark.parametrize("record", RECORDS, ids=begin_of)
+def test_a_record_that_is_none(record: str, answers: Callable[..., List[str]]) -> None:
+    assert "no answer of " in answers("check {t} --json {out}", decoding(record))[0]
+
+
+@pytest.mark.parametrize("command", COMMANDS)
+@pytest.mark.parametrize("record", ["garbage", "{}", line(nid_c=None), line(packets=[{}])])
+def test_a_record_that_is_none_in_each_command(command: str, record: str, answers: Callable[..., List[str]]) -> None:
+    counted = "it has counted otherwise" if "--group" in command else ": decode: no record of a telegram: "
+    assert counted in answers(command, decoding(record))[0]
+
+
+@pytest.mark.parametrize("record", MESSAGES, ids=begin_of)
+def test_a_message_that_is_none(record: str, answers: Callable[..., List[str]]) -> None:
+    assert "no record of a message" in answers("show --messages {m}", decoding(RECORD, record))[0]
+
+
+@pytest.mark.parametrize("finding", FINDINGS, ids=begin_of)
+def test_a_finding_of_what_was_not_handed_in(finding: str, answers: Callable[..., List[str]]) -> None:
+    does = decoding(RECORD).replace("yes: groups 2, messages 0'; exit 0", f"no: findings 1'; echo '{finding}'; exit 1")
+    assert "no answer of " in answers("check {t}", does)[0]
+
+
+@pytest.mark.parametrize("report", REPORTS, ids=begin_of)
+def test_a_report_that_is_none(report: str, answers: Callable[..., List[str]]) -> None:
+    status = {"y": 0, "n": 1, "r": 2}[report[0]]
+    does = decoding(RECORD).replace("echo 'yes: groups 2, messages 0'; exit 0", f"printf '{report}\\n'; exit {status}")
+    assert "no answer of " in answers("check {t}", does)[0]
+
+
+SLEEPERS = [
+    ("", "sleep 60"),
+    ("", "exec >&- 2>&-; sleep 60"),
+    ("", "sleep 60 & exit 0"),
+    ("sleep 60", ""),
+    ("exec >&- 2>&-; sleep 60", ""),
+    ("sleep 60 & exit 0", ""),
+]
+"""What a program does before the handshake, and after it."""
+
+
+@pytest.fixture
+def impatient(monkeypatch: pytest.MonkeyPatch) -> None:
+    """Limits of a second in place of those of a minute."""
+    monkeypatch.setattr("balisekit.engine.program.HANDSHAKE_LIMIT", Limit(1, process.HANDSHAKE_LIMIT.size))
+    monkeypatch.setattr(process, "LEAST_SECONDS", 1)
+    monkeypatch.setattr(process, "AFTER_END", 0.3)
+
+
+@pytest.mark.parametrize("command", ["check {t}", "show {t}", "check {t} --messages {m}", "show --messages {m}"])
+@pytest.mark.parametrize("first, does", SLEEPERS)
+@pytest.mark.usefixtures("impatient")
+def test_a_program_that_does_not_end(command: str, first: str, does: str, answers: Callable[..., List[str]]) -> None:
+    begin = time.monotonic()
+    error = answers(command, does, first)[0]
+    assert "it has not ended within 1 s" in error or "another process keeps its output open" in error
+    assert time.monotonic() - begin < 20
+
+
+FLOODS = [
+    ("yes 'F6 group 0 balise 0: counter 254'", ""),
+    ("yes 'yes: groups 0, messages 0'", ""),
+    ("head -c 9000000 /dev/zero; sleep 60", ""),
+    ("yes >&2", ""),
+    ("", "yes 'F6 group 0 balise 0: counter 254'"),
+    ("", "echo 'no: findings 999999999999'; yes 'F6 group 0 balise 0: counter 254'"),
+    ("", "yes garbage"),
+    ("", "yes '{}'"),
+    ("", "cat /dev/zero"),
+    ("", "yes >&2"),
+    ("", f"yes '{RECORD}'"),
+]
+
+
+@pytest.mark.parametrize("command", ["check {t}", "show {t}", "check {t} --messages {m}"])
+@pytest.mark.parametrize("first, does", FLOODS)
+def test_a_flood(command: str, first: str, does: str, answers: Callable[..., List[str]]) -> None:
+    begin = time.monotonic()
+    assert "no answer of " in answers(command, does, first)[0] or first
+    assert time.monotonic() - begin < 20
+
+
+@pytest.mark.parametrize("number", [signal.SIGINT, signal.SIGTERM, signal.SIGHUP])
+@pytest.mark.parametrize("command", ["check {t} --json {out}", "show {t}"])
+def test_a_signal_ends_the_program(number: signal.Signals, command: str, tmp_path: Path, table: Write) -> None:
+    """Its children too. Nothing is left, although they have a process group of their own."""
+    program = fake(
+        tmp_path / "fake", f"sleep 60 & echo $! $$ > {tmp_path}/pids.new; mv {tmp_path}/pids.new {tmp_path}/pids; wait"
+    )
+    path = table("group,telegram", f"A,{ALONE}")
+    words = [word.format(t=path, out=tmp_path / "out") for word in command.split()]
+    run = subprocess.Popen(
+        [sys.executable, str(TOP / "balisekit"), *words, "--program", str(program)],
+        stderr=subprocess.PIPE,
+        preexec_fn=lambda: signal.signal(signal.SIGINT, signal.SIG_DFL) and None,
+    )
+    until = time.monotonic() + 60
+    while not (tmp_path / "pids").exists() and time.monotonic() < until:
+        time.sleep(0.01)
+    run.send_signal(number)
+    _, errors = run.communicate(timeout=60)
+    assert errors.startswith(b"balisekit: ") and errors.count(b"\n") == 1 and run.returncode > 2
+    assert not any(map(is_running, (tmp_path / "pids").read_text().split())) and not (tmp_path / "out").exists()
+
+
+def is_running(pid: str) -> bool:
+    """Whether a process is there, and has not ended."""
+    try:
+        return ") Z " not in Path(f"/proc/{pid}/stat").read_text()
+    except FileNotFoundError:
+        return False
+
+
+def test_a_line_as_long_as_a_file(answers: Callable[..., List[str]]) -> None:
+    error = answers("check {t}", "head -c 9000000 /dev/zero | tr '\\0' x")[0]
+    assert error.endswith(": check: a line of more than 4 MB")
+
+
+def test_a_timeout_that_the_user_names(tmp_path: Path) -> None:
+    program = Program.find(str(fake(tmp_path / "fake", "sleep 60")), timeout=0.5)
+    begin = time.monotonic()
+    with pytest.raises(NoAnswer, match="it has not ended within 0.5 s; --timeout SECONDS allows more"):
+        program.check({"groups": [], "messages": [""]})
+    assert time.monotonic() - begin < 10
+
+
+def test_only_waiting_counts(program: Program) -> None:
+    """A reader may take longer for the lines than the program has for them."""
+    hasty = replace(program, timeout=0.5)
+    lines = 0
+    for _ in hasty.decode([ALONE] * 3000):
+        lines += 1
+        if lines % 1000 == 0:
+            time.sleep(0.3)
+    assert lines == 3000
+
+
+def test_a_program_that_trickles(tmp_path: Path) -> None:
+    program = Program.find(str(fake(tmp_path / "fake", "while :; do printf x; sleep 0.1; done")), timeout=0.5)
+    with pytest.raises(NoAnswer, match="it has not ended within"):
+        list(program.decode([ALONE]))
