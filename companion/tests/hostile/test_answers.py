@@ -22,6 +22,7 @@ from balisekit.engine.program import Program
 from balisekit.errors import NoAnswer
 
 Write = Callable[..., Path]
+Answers = Callable[..., List[str]]
 
 TELEGRAM = json.loads(RECORD)
 PACKET = {"nid_packet": 21, "q_dir": 1, "q_scale": 1, "elements": [{"d_gradient": 0, "q_gdir": 1, "g_a": 5}]}
@@ -151,7 +152,7 @@ def begin_of(text: str) -> str:
 
 
 @pytest.fixture
-def answers(tmp_path: Path, run: Run, table: Callable[..., Path]) -> Callable[..., List[str]]:
+def answers(tmp_path: Path, run: Run, table: Callable[..., Path]) -> Answers:
     """Standard error of a command with a program that does this. Its status is 3, and it says nothing else."""
     paths = {
         "t": table("group,km,nominal,telegram", f"A,1,rising,{ALONE}", f"B,2,rising,{OTHER}"),
@@ -182,30 +183,30 @@ def decoding(answer: str, radio: str = AUTHORITY) -> str:
 
 
 @pytest.mark.parametrize("record", RECORDS, ids=begin_of)
-def test_a_record_that_is_none(record: str, answers: Callable[..., List[str]]) -> None:
+def test_a_record_that_is_none(record: str, answers: Answers) -> None:
     assert "no answer of " in answers("check {t} --json {out}", decoding(record))[0]
 
 
 @pytest.mark.parametrize("command", COMMANDS)
 @pytest.mark.parametrize("record", ["garbage", "{}", line(nid_c=None), line(packets=[{}])])
-def test_a_record_that_is_none_in_each_command(command: str, record: str, answers: Callable[..., List[str]]) -> None:
+def test_a_record_that_is_none_in_each_command(command: str, record: str, answers: Answers) -> None:
     counted = "it has counted otherwise" if "--group" in command else ": decode: no record of a telegram: "
     assert counted in answers(command, decoding(record))[0]
 
 
 @pytest.mark.parametrize("record", MESSAGES, ids=begin_of)
-def test_a_message_that_is_none(record: str, answers: Callable[..., List[str]]) -> None:
+def test_a_message_that_is_none(record: str, answers: Answers) -> None:
     assert "no record of a message" in answers("show --messages {m}", decoding(RECORD, record))[0]
 
 
 @pytest.mark.parametrize("finding", FINDINGS, ids=begin_of)
-def test_a_finding_of_what_was_not_handed_in(finding: str, answers: Callable[..., List[str]]) -> None:
+def test_a_finding_of_what_was_not_handed_in(finding: str, answers: Answers) -> None:
     does = decoding(RECORD).replace("yes: groups 2, messages 0'; exit 0", f"no: findings 1'; echo '{finding}'; exit 1")
     assert "no answer of " in answers("check {t}", does)[0]
 
 
 @pytest.mark.parametrize("report", REPORTS, ids=begin_of)
-def test_a_report_that_is_none(report: str, answers: Callable[..., List[str]]) -> None:
+def test_a_report_that_is_none(report: str, answers: Answers) -> None:
     status = {"y": 0, "n": 1, "r": 2}[report[0]]
     does = decoding(RECORD).replace("echo 'yes: groups 2, messages 0'; exit 0", f"printf '{report}\\n'; exit {status}")
     assert "no answer of " in answers("check {t}", does)[0]
@@ -233,7 +234,7 @@ def impatient(monkeypatch: pytest.MonkeyPatch) -> None:
 @pytest.mark.parametrize("command", ["check {t}", "show {t}", "check {t} --messages {m}", "show --messages {m}"])
 @pytest.mark.parametrize("first, does", SLEEPERS)
 @pytest.mark.usefixtures("impatient")
-def test_a_program_that_does_not_end(command: str, first: str, does: str, answers: Callable[..., List[str]]) -> None:
+def test_a_program_that_does_not_end(command: str, first: str, does: str, answers: Answers) -> None:
     begin = time.monotonic()
     error = answers(command, does, first)[0]
     assert "it has not ended within 1 s" in error or "another process keeps its output open" in error
@@ -257,7 +258,7 @@ FLOODS = [
 
 @pytest.mark.parametrize("command", ["check {t}", "show {t}", "check {t} --messages {m}"])
 @pytest.mark.parametrize("first, does", FLOODS)
-def test_a_flood(command: str, first: str, does: str, answers: Callable[..., List[str]]) -> None:
+def test_a_flood(command: str, first: str, does: str, answers: Answers) -> None:
     begin = time.monotonic()
     assert "no answer of " in answers(command, does, first)[0] or first
     assert time.monotonic() - begin < 20
@@ -294,7 +295,7 @@ def is_running(pid: str) -> bool:
         return False
 
 
-def test_a_line_as_long_as_a_file(answers: Callable[..., List[str]]) -> None:
+def test_a_line_as_long_as_a_file(answers: Answers) -> None:
     error = answers("check {t}", "head -c 9000000 /dev/zero | tr '\\0' x")[0]
     assert error.endswith(": check: a line of more than 4 MB")
 
@@ -305,6 +306,17 @@ def test_a_timeout_that_the_user_names(tmp_path: Path) -> None:
     with pytest.raises(NoAnswer, match="it has not ended within 0.5 s; --timeout SECONDS allows more"):
         program.check({"groups": [], "messages": [""]})
     assert time.monotonic() - begin < 10
+
+
+@pytest.mark.parametrize("command", COMMANDS)
+def test_the_timeout_of_each_command(command: str, answers: Answers) -> None:
+    assert "it has not ended within 0.2 s" in answers(command + " --timeout 0.2", "sleep 60")[0]
+
+
+@pytest.mark.parametrize("text", ["", "0", "0.0", "-1", "1e9", "nan", "inf", "1234567", "a minute", "²"])
+def test_a_timeout_that_is_none(text: str, run: Run) -> None:
+    status, _, errors = run("check", "t.csv", f"--timeout={text}")
+    assert status == 2 and "is no time in seconds: write 600 or 2.5" in errors[-1]
 
 
 def test_only_waiting_counts(program: Program) -> None:

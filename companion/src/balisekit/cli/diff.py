@@ -43,7 +43,7 @@ def run(options: argparse.Namespace) -> int:
         _read(options.new, options.new_messages, options.sheet),
     ]
     named = not any(document for _, _, document in sides)
-    program = Program.find(options.program)
+    program = Program.find(options.program, options.timeout)
     old, new = (_checked(program, *side, named) for side in sides)
     found = compare(old, new, named)
     if options.html:

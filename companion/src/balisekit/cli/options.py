@@ -21,6 +21,13 @@ def name(text: str) -> str:
     return text
 
 
+def seconds(text: str) -> float:
+    """A time in seconds, greater than 0."""
+    if not re.fullmatch(r"[0-9]{1,6}([.][0-9]{1,3})?", text) or not float(text):
+        raise argparse.ArgumentTypeError(f"{text[:40]} is no time in seconds: write 600 or 2.5")
+    return float(text)
+
+
 def input_path(text: str) -> InputPath:
     """The name of a file that is read."""
     return InputPath(name(text))
@@ -67,6 +74,12 @@ def add_program_options(parser: argparse.ArgumentParser, sheet: str) -> None:
     parser.add_argument(
         "--program", metavar="PATH", type=name, help="the program balisecheck, in place of the one found"
     )
+    parser.add_argument(
+        "--timeout",
+        metavar="SECONDS",
+        type=seconds,
+        help="wait this long for each answer of the program; without it a minute, and more for a large input",
+    )
 
 
 def add_accepted(parser: argparse.ArgumentParser) -> None:
@@ -92,7 +105,7 @@ def inputs(options: argparse.Namespace) -> Tuple[Program, Table, Optional[Messag
     """The program, the table and the messages that the words name."""
     read = table.read(options.table, options.sheet, options.by_position)
     messages = messages_file.read(options.messages) if options.messages else None
-    return Program.find(options.program), read, messages
+    return Program.find(options.program, options.timeout), read, messages
 
 
 def tolerance(text: str) -> Decimal:

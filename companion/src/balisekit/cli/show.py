@@ -58,10 +58,10 @@ class _Shown:
         """The lines of each telegram and message."""
         options = self.options
         if options.table is None and options.messages is None:
-            yield from self._standard_input(Program.find(options.program))
+            yield from self._standard_input(Program.find(options.program, options.timeout))
         elif options.table is None:
             messages = messages_file.read(options.messages)
-            yield from self._messages(Program.find(options.program), messages, Identities((), {}))
+            yield from self._messages(Program.find(options.program, options.timeout), messages, Identities((), {}))
         else:
             program, table, messages_beside = inputs(options)
             forms = yield from self._telegrams(program, table)

@@ -1,0 +1,125 @@
+"""The form of records: the package and the schemas accept the same objects."""
+from __future__ import annotations
+
+import copy
+import json
+import re
+from typing import Any, Dict, Iterator, List, Tuple
+
+import pytest
+from cases_of_program import CASES, EXAMPLES, TOP
+
+from balisekit.engine import records
+
+jsonschema = pytest.importorskip("jsonschema")
+hypothesis = pytest.importorskip("hypothesis")
+from hypothesis import given, strategies as st  # noqa: E402
+
+SCHEMAS = {
+    name: jsonschema.Draft202012Validator(json.loads((TOP / "schemas" / f"{name}.json").read_text("utf-8")))
+    for name in ("telegram", "message")
+}
+EXPRESSIONS = {"telegram": records.telegram_expression, "message": records.message_expression}
+LINES: List[Tuple[str, str]] = [
+    *(("telegram", case.answer) for case in (*CASES, *EXAMPLES[False]) if case.answer.startswith("{")),
+    *(("message", case.answer) for case in EXAMPLES[True]),
+]
+VALUES = (
+    None,
+    True,
+    "",
+    "0",
+    "00",
+    "0g",
+    [],
+    {},
+    [{}],
+    -1,
+    0,
+    1,
+    2,
+    3,
+    7,
+    8,
+    15,
+    31,
+    120,
+    121,
+    126,
+    127,
+    254,
+    255,
+    1023,
+    16_384,
+)
+
+
+def line(form: Any) -> str:
+    """The object as the program writes it."""
+    return json.dumps(form, sort_keys=True, separators=(",", ":"))
+
+
+def agree(name: str, form: Any) -> bool:
+    """Whether the form is accepted, by the schema and by the package."""
+    matches = EXPRESSIONS[name]().fullmatch(line(form)) is not None
+    assert matches == SCHEMAS[name].is_valid(form), (name, form)
+    return matches
+
+
+def places(form: Any, path: Tuple[Any, ...] = ()) -> Iterator[Tuple[Any, ...]]:
+    """The path of each value within a form."""
+    for key, value in form.items() if isinstance(form, dict) else enumerate(form) if isinstance(form, list) else ():
+        yield (*path, key)
+        yield from places(value, (*path, key))
+
+
+def changed(form: Any, path: Tuple[Any, ...], key: Any, value: Any = ...) -> Any:
+    """The form with this value beside the one of this path, or in its place, or without it."""
+    form = copy.deepcopy(form)
+    within = form
+    for step in path[:-1]:
+        within = within[step]
+    if value is ...:
+        del within[key]
+    else:
+        within[key] = value
+    return form
+
+
+def test_examples_and_cases_are_accepted() -> None:
+    assert len(LINES) > 500
+    assert all(agree(name, json.loads(text)) for name, text in LINES)
+    assert all(EXPRESSIONS[name]().fullmatch(text) for name, text in LINES)
+
+
+def shortest() -> List[Tuple[str, str]]:
+    """For each key of telegrams and of messages the shortest line that has it."""
+    lines: Dict[Tuple[str, str], str] = {}
+    for name, text in sorted(LINES, key=lambda pair: -len(pair[1])):
+        lines.update(((name, key), text) for key in re.findall('"([a-z_0-9]+)":', text))
+        lines.update(((name, number), text) for number in re.findall('"nid_packet":[0-9]+', text))
+    return sorted({(name, text) for (name, _), text in lines.items()})
+
+
+@pytest.mark.parametrize("name, text", shortest())
+def test_each_key_is_needed_and_each_value_has_its_range(name: str, text: str) -> None:
+    """Without any key, with another one beside it, and with each of some values in its place."""
+    form = json.loads(text)
+    for path in places(form):
+        key = path[-1]
+        for value in VALUES:
+            agree(name, changed(form, path, key, value))
+        agree(name, changed(form, path, key))
+        if isinstance(key, str):
+            agree(name, changed(changed(form, path, key), path, f"{key}_", 0))
+            agree(name, changed(form, path, "nid_c", 0))
+
+
+@given(st.data())
+def test_several_changes(data: st.DataObject) -> None:
+    name, text = data.draw(st.sampled_from(LINES))
+    form = json.loads(text)
+    for _ in range(data.draw(st.integers(1, 4))):
+        path = data.draw(st.sampled_from(list(places(form)) or [("packets",)]))
+        form = changed(form, path, path[-1], data.draw(st.sampled_from(VALUES)))
+    agree(name, form)
