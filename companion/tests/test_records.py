@@ -24,7 +24,7 @@ LINES: List[Tuple[str, str]] = [
     *(("telegram", case.answer) for case in (*CASES, *EXAMPLES[False]) if case.answer.startswith("{")),
     *(("message", case.answer) for case in EXAMPLES[True]),
 ]
-VALUES = (
+VALUES: Tuple[Any, ...] = (
     None,
     True,
     "",
