@@ -11,19 +11,24 @@ from typing import Any, Callable, Dict, List, Sequence, Tuple
 import line_table
 import link_tables
 import pytest
+import rules_page
 from cases_of_program import TOP
 from conftest import Run
 from telegrams import SPARE
 
 from balisekit.engine.program import Program
-from balisekit.present import explanations as explain
-from balisekit.rules.links.rules import RULES, look
-from balisekit.rules.links.stations import Line, line
+from balisekit.rules.line import Line
+from balisekit.rules.links import RULES, compare
+from balisekit.rules.rule import Options
 from balisekit.tables.model import Aspect, Group, Message, Row
 
 Write = Callable[..., Path]
 Form = Dict[str, Any]
 FOLDER = TOP / "examples" / "links"
+COMPARED = (
+    "L1 3 links, L2 3 links, L3 1 link, L4 2 groups, L5 1 single balise, L6 6 headers, L7 2 profiles, L8 2 profiles, "
+    "L9 3 pairs"
+)
 PAGE = (TOP / "docs" / "LINKS.md").read_text("utf-8")
 
 
@@ -40,7 +45,7 @@ def group(name: str, *kms: str, nominal: str = "", track: str = "") -> Group:
 def line_with(*some: Tuple[Group, List[Form]], messages: Sequence[Tuple[Message, Form]] = ()) -> Line:
     """A line of groups with the forms of their balises."""
     forms = {row.number: form for one, own in some for row, form in zip(one.rows(), own)}
-    return line([one for one, _ in some], forms, messages)
+    return Line([one for one, _ in some], forms, messages)
 
 
 def header(identity: int, *packets: Form, linked: int = 1) -> Form:
@@ -48,9 +53,15 @@ def header(identity: int, *packets: Form, linked: int = 1) -> Form:
     return {"nid_c": 1, "nid_bg": identity, "q_link": linked, "m_dup": 0, "packets": list(packets)}
 
 
-def found(one: Line, tolerance: str = "0") -> List[Tuple[int, str]]:
+def found(one: Line, tolerance: str = "0") -> List[Tuple[str, str]]:
     """The rules that have found something, and about which group."""
-    return [(each.rule, each.group.group.name if each.group else "") for each in look(one, Decimal(tolerance)).found]
+    remarks = compare(one, Options(Decimal(tolerance))).remarks
+    return [(each.rule, each.about.group.name if each.about else "") for each in remarks]
+
+
+def counts(out: Sequence[str]) -> str:
+    """The last line without what each rule has compared."""
+    return out[-1].split("; compared: ")[0]
 
 
 def test_the_example_tables_are_those_of_the_script(program: Program) -> None:
@@ -65,7 +76,7 @@ def test_each_rule_finds_its_fault_alone(run: Run, name: str) -> None:
     status, out, _ = run("links", FOLDER / f"{name}.csv")
     rules = re.findall(r": links (L\d): ", "\n".join(out))
     assert (status, rules) == (1, [f"L{link_tables.FAULTS[name][0]}"])
-    assert out[-1] == f"links: 1 found ({rules[0]} 1) in 4 groups"
+    assert out[-1].startswith(f"links: 1 found ({rules[0]} 1) in 4 groups; compared: L1 ")
 
 
 def test_columns_passed_over_are_named(run: Run, table: Write, tmp_path: Path) -> None:
@@ -92,23 +103,24 @@ def test_the_last_line_counts_by_rules(run: Run, table: Write) -> None:
     known = (FOLDER / "identity-not-known.csv").read_text("utf-8").splitlines()
     twice = [*lines[:6], known[6], known[6].replace("D,D1,12.500", "E,E1,12.600")]
     status, out, _ = run("links", table(*twice))
-    assert (status, out[-1]) == (1, "links: 3 found (L2 1, L6 2) in 5 groups")
+    assert (status, counts(out)) == (1, "links: 3 found (L2 1, L6 2) in 5 groups")
     status, out, _ = run("links", table(*twice, f"F,F1,12.700,rising,{SPARE}"))
-    assert (status, out[-1]) == (2, "INCOMPLETE: 1 of 8 telegrams refused; links: 3 found (L2 1, L6 2) in the rest")
-    assert run("links", table(lines[0], passed_over[1], *lines[2:]))[1][-1] == "links: 1 found (L9 1) in 4 groups"
+    assert status == 2
+    assert counts(out) == "INCOMPLETE: 1 of 8 telegrams refused; links: 3 found (L2 1, L6 2) in the rest"
+    assert counts(run("links", table(lines[0], passed_over[1], *lines[2:]))[1]) == "links: 1 found (L9 1) in 4 groups"
 
 
 def test_the_line_without_fault_is_silent(run: Run) -> None:
     status, out, _ = run("links", FOLDER / "line.csv")
     assert status == 0 and out[1:] == [
         "L1 to L9 are rules of balisekit, which is not proved: they compare what the program has decoded",
-        "links: none found of L1 to L9 in 4 groups",
+        f"links: none found of L1 to L9 in 4 groups; compared: {COMPARED}",
     ]
     assert run("check", FOLDER / "line.csv")[1][-1] == "program: yes: groups 4, messages 0"
 
 
 def test_each_rule_has_a_table() -> None:
-    assert sorted(rule for rule, _ in link_tables.FAULTS.values()) == list(RULES) == list(range(1, 10))
+    assert sorted(f"L{rule}" for rule, _ in link_tables.FAULTS.values()) == [rule.name for rule in RULES]
 
 
 def test_the_example_of_readme_without_its_refused_telegram(run: Run, table: Write, program: Program) -> None:
@@ -118,13 +130,13 @@ def test_the_example_of_readme_without_its_refused_telegram(run: Run, table: Wri
     rows = [[*item[:5], text.line] for item, text in zip(items, texts)]
     status, out, _ = run("links", table(",".join(line_table.HEADING), *map(",".join, rows)))
     assert status == 0 and not any(": links L" in one for one in out)
-    assert out[-1] == "links: none found of L1 to L9 in 9 groups"
+    assert counts(out) == "links: none found of L1 to L9 in 9 groups"
 
 
 def test_the_example_of_readme_has_none(run: Run) -> None:
     status, out, _ = run("links", TOP / "examples" / "table" / "line.csv")
     assert status == 2 and not any(": links L" in one for one in out)
-    assert out[-1] == "INCOMPLETE: 1 of 34 telegrams refused; links: none found of L1 to L9 in the rest"
+    assert counts(out) == "INCOMPLETE: 1 of 34 telegrams refused; links: none found of L1 to L9 in the rest"
     assert any(one.startswith("note: rows 14 to 15  Infill of D  km 16.500: its direction") for one in out)
 
 
@@ -168,7 +180,7 @@ def test_links_that_lead_out_down_the_kilometres() -> None:
             (group("A", "5", nominal="falling", track="2"), [header(1, link_tables.linking(1, *links))]),
             (group("B", "6", nominal="falling", track="2"), [header(2)]),
         )
-        return [note for note in look(made).notes if "lead beyond" in note]
+        return [note for note in compare(made).notes if "lead beyond" in note]
 
     assert line_of_links(500) == line_of_links(500, 500, nid_bg=16_383) == []
     assert line_of_links(500, 500) == [
@@ -190,12 +202,13 @@ def test_the_page_has_what_is_written(run: Run, monkeypatch: pytest.MonkeyPatch)
         assert said.splitlines() == (out[-2:] if cut else out)
 
 
+def test_the_page_is_made_of_the_rules() -> None:
+    assert rules_page.page(PAGE) == PAGE
+    heads = ["What it says", "How urgent", "Usual cause", "What may happen", "How to correct it", "Example"]
+    assert [list(rule.parts) for rule in RULES] == [heads] * 9
+
+
 def test_explain_is_what_the_page_says(run: Run) -> None:
-    known = explain.explanations("LINKS")
-    assert {
-        str(rule): {key: value for key, value in vars(one).items() if key != "rule"} for rule, one in known.items()
-    } == {str(rule): parts for rule, parts in explain.of_document(PAGE, "LINKS").items()}
-    assert sorted(known) == list(range(1, 10)) and all(all(vars(one).values()) for one in known.values())
     out = run("links", FOLDER / "group-passed-over.csv", "--explain")[1]
     assert "L9: linked group passed over" in out and any("How to correct it. Add the group" in one for one in out)
 
@@ -226,12 +239,12 @@ def test_a_link_that_is_not_known_yet_is_no_finding() -> None:
             between,
             (group("C", "2.1", nominal="rising"), [header(3)]),
         )
-    ) == [(2, "C")]
+    ) == [("L2", "C")]
 
 
 @pytest.mark.parametrize(
     "accuracy, tolerance, wanted",
-    [(9, "0", [(2, "B")]), (10, "0", []), (5, "4.9", [(2, "B")]), (5, "5", []), (0, "10", [])],
+    [(9, "0", [("L2", "B")]), (10, "0", []), (5, "4.9", [("L2", "B")]), (5, "5", []), (0, "10", [])],
 )
 def test_a_distance_has_an_accuracy_and_a_tolerance(accuracy: int, tolerance: str, wanted: List[Any]) -> None:
     chain = link_tables.linking(1, {**link_tables.link(1010, 2, 1), "q_locacc": accuracy})
@@ -257,14 +270,14 @@ def test_a_group_behind_the_train_and_one_wrong_distance() -> None:
     links = [link_tables.link(1000, 2, 1), link_tables.link(1000, 3, 1)]
     some = [(group("B", "1", nominal="rising"), [header(2)]), (group("C", "2", nominal="rising"), [header(3)])]
     falling = line_with((group("A", "0", nominal="falling"), [header(1, link_tables.linking(1, *links))]), *some)
-    said = [one.said for one in look(falling).found if one.rule == 2][0]
+    said = [one.sentence for one in compare(falling).remarks if one.rule == "L2"][0]
     assert said.startswith(
         "B (km 1.000) is 1000 m from A (km 0.000) by D_LINK, and 1000 m behind it by the "
         "kilometres: they differ by 2000 m"
     )
     links[0]["d_link"] = 1006
     rising = line_with((group("A", "0", nominal="rising"), [header(1, link_tables.linking(1, *links))]), *some)
-    assert found(rising) == [(2, "B")]
+    assert found(rising) == [("L2", "B")]
 
 
 def test_small_errors_add_up() -> None:
@@ -274,7 +287,7 @@ def test_small_errors_add_up() -> None:
         (group("B", "1", nominal="rising"), [header(2)]),
         (group("C", "2", nominal="rising"), [header(3)]),
     )
-    assert found(one) == [(2, "C")]
+    assert found(one) == [("L2", "C")]
 
 
 def test_a_single_balise_has_no_order() -> None:
@@ -294,7 +307,7 @@ def test_tracks_are_chains_of_their_own() -> None:
         (group("X", "0.7", nominal="rising", track="2"), [header(9)]),
     )
     assert found(one) == []
-    notes = look(one).notes
+    notes = compare(one).notes
     assert len(notes) == 1 and notes[0].endswith("link 0: B (km 7.000) is on another track, and is not compared")
 
 
@@ -308,7 +321,7 @@ def test_aspects_and_duplicates_are_told_once() -> None:
         3: {**header(1, chain), "m_dup": 2},
         4: {**header(1, chain), "m_dup": 2},
     }
-    assert [each.rule for each in look(line([one], forms)).found] == [1]
+    assert [each.rule for each in compare(Line([one], forms)).remarks] == ["L1"]
 
 
 def test_what_infill_says_is_noted_and_not_compared() -> None:
@@ -316,7 +329,7 @@ def test_what_infill_says_is_noted_and_not_compared() -> None:
     one = line_with(
         (group("A", "0", nominal="rising"), [header(1, reference, link_tables.linking(1, link_tables.link(7, 99, 1)))])
     )
-    assert found(one) == [] and "count from the group of packet 136" in look(one).notes[0]
+    assert found(one) == [] and "count from the group of packet 136" in compare(one).notes[0]
 
 
 def test_infill_has_profiles_of_its_own() -> None:
@@ -324,7 +337,7 @@ def test_infill_has_profiles_of_its_own() -> None:
     packets = link_tables.authority()
     packets[2]["elements"].pop()
     one = line_with((group("A", "0", nominal="rising"), [header(1, reference, *packets)]))
-    assert found(one) == [(7, "")]
+    assert found(one) == [("L7", "")]
 
 
 def test_profiles_without_an_authority_are_free() -> None:
@@ -343,7 +356,7 @@ def test_a_profile_that_another_one_completes() -> None:
     }
     assert found(line_with((group("A", "0", "0.003"), [header(1, *packets, late), header(1)]))) == []
     alone = line_with((group("A", "0", "0.003"), [header(1, packets[0], packets[2], late), header(1)]))
-    assert found(alone) == [(8, "")]
+    assert found(alone) == [("L8", "")]
 
 
 def test_messages_count_from_their_group() -> None:
@@ -367,10 +380,10 @@ def test_messages_count_from_their_group() -> None:
     }
     some = [(group("A", "0", nominal="rising"), [header(1)]), (group("B", "1", nominal="rising"), [header(2)])]
     one = line_with(*some, messages=[(Message(3, ""), form)])
-    assert found(one) == [(2, "B"), (7, "")]
-    assert look(one).found[0].words == "message of line 3  packet 1  nominal  link 0"
+    assert found(one) == [("L2", "B"), ("L7", "")]
+    assert str(compare(one).remarks[0].location) == "message of line 3  packet 1  nominal  link 0"
     lost = line_with(*some, messages=[(Message(3, ""), {**form, "nid_bg": 77})])
-    assert found(lost) == [(7, "")] and "its group is not in the table" in look(lost).notes[0]
+    assert found(lost) == [("L7", "")] and "its group is not in the table" in compare(lost).notes[0]
 
 
 def test_notes_on_groups() -> None:
@@ -381,7 +394,7 @@ def test_notes_on_groups() -> None:
         (group("C", "5"), []),
         (group("D", "6", nominal="rising"), [header(2)]),
     )
-    notes = look(one).notes
+    notes = compare(one).notes
     assert found(one) == [] and [note.split(": ", 1)[1][:36] for note in notes] == [
         "its direction along the kilometres i",
         "it has no kilometre: L2 and L9 are n",
@@ -393,8 +406,10 @@ def test_notes_on_groups() -> None:
 def test_linked_by_many() -> None:
     chain = link_tables.linking(1, link_tables.link(1000, 9, 1))
     some = [(group(name, ""), [header(ord(name), chain)]) for name in "ABCDE"]
-    one = look(line_with(*some, (group("Z", ""), [header(9, linked=0)]))).found
-    assert [(each.rule, each.said) for each in one] == [(4, "its Q_LINK is 0, and it is linked by A, B, C and 2 more")]
+    one = compare(line_with(*some, (group("Z", ""), [header(9, linked=0)]))).remarks
+    assert [(each.rule, each.sentence) for each in one] == [
+        ("L4", "its Q_LINK is 0, and it is linked by A, B, C and 2 more")
+    ]
 
 
 def test_bad_input(run: Run, table: Write, tmp_path: Path) -> None:
@@ -404,7 +419,7 @@ def test_bad_input(run: Run, table: Write, tmp_path: Path) -> None:
     assert run("links", tmp_path / "none.csv")[0] == 2 and run("links", tmp_path)[0] == 2
     path = table("group,km,telegram", "A,1," + "0" * 54)
     status, out, _ = run("links", path)
-    assert status == 2 and out[-1] == "INCOMPLETE: 1 of 1 telegrams refused; links: none found of L1 to L9 in the rest"
+    assert status == 2 and counts(out).startswith("INCOMPLETE: 1 of 1 telegrams refused, L5 compared none of 1")
     assert run("links", path, "--json", tmp_path)[0] == 3
     assert run("links", path, "--program", "/bin/false", "--json", tmp_path / "x.json")[0] == 3
     assert not (tmp_path / "x.json").exists()
@@ -438,7 +453,7 @@ def test_any_correct_line_is_silent() -> None:
         assert found(made) == []
         at = wrong % (len(metres) - 1)
         spoilt = _line(metres if up else metres[::-1], up, (faces * 20)[: len(metres)], at, by)
-        assert found(spoilt) == [(2, f"G{at + 1}")]
+        assert found(spoilt) == [("L2", f"G{at + 1}")]
 
     hypothesis.given(
         st.lists(st.integers(0, 30_000), min_size=3, max_size=12),
@@ -476,7 +491,7 @@ def _numbered(some: List[Tuple[Group, List[Form]]]) -> Line:
             rows.append(Row(len(forms) + 2, row.group, "", km=row.km))
             forms[len(forms) + 2] = form
         groups.append(Group(one.name, (Aspect("", tuple(rows)),)))
-    return line(groups, forms)
+    return Line(groups, forms)
 
 
 def test_several_that_are_passed_over_are_one_line() -> None:
@@ -485,7 +500,7 @@ def test_several_that_are_passed_over_are_one_line() -> None:
     one = line_with(
         (group("A", "0", nominal="rising"), [header(1, chain)]), (group("B", "1", nominal="rising"), [header(2)]), *some
     )
-    (said,) = (each.said for each in look(one).found)
+    (said,) = (each.sentence for each in compare(one).remarks)
     assert said == (
         "X1 (km 0.100), X2 (km 0.200), X3 (km 0.300) and 2 more have Q_LINK 1 and stand between A "
         "(km 0.000) and B (km 1.000), and are not linked: a train that uses linking passes them over"
@@ -509,7 +524,7 @@ def test_groups_between_two_are_counted_as_they_are_named() -> None:
     chain = link_tables.linking(1, link_tables.link(9000, 2, 1), link_tables.link(0, 3, 1))
     forms = [[header(identity, *([chain] if name == "A" else []), linked=linked)] for name, _, identity, linked in some]
     one = line_with(*[(group(name, km, nominal="rising"), form) for (name, km, _, _), form in zip(some, forms)])
-    over = [each.said for each in look(one, Decimal(9000)).found if each.rule == 9]
+    over = [each.sentence for each in compare(one, Options(Decimal(9000))).remarks if each.rule == "L9"]
     assert over == [
         "K (km 5.000), L (km 6.000) have Q_LINK 1 and stand between A (km 0.000) and B (km 9.000), and "
         "are not linked: a train that uses linking passes them over",

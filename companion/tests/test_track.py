@@ -20,7 +20,7 @@ from balisekit.drawing.track import LANES, track_pictures, tracks_of
 from balisekit.drawing.track_view import at_km, pages
 from balisekit.etcs.geometry import kilometre
 from balisekit.io import csv_writing
-from balisekit.rules.links.rules import look
+from balisekit.rules.links import compare
 
 Write = Callable[..., Path]
 Form = Dict[str, Any]
@@ -33,7 +33,7 @@ SVG = "{http://www.w3.org/2000/svg}"
 def drawn(*some: Tuple[Any, List[Form]], track: str = "", aspect: Any = None) -> List[Picture]:
     """The pictures of a line."""
     line = line_with(*some)
-    return list(track_pictures(line, look(line), track, aspect))
+    return list(track_pictures(line, compare(line), track, aspect))
 
 
 def looks(picture: Picture, look_wanted: str) -> List[Shape]:
@@ -91,7 +91,7 @@ def test_pages_of_five_kilometres() -> None:
     ]
     assert ends[0][4] == LEFT + ROOM and ends[1][0] == LEFT and abs(ends[0][5] - ends[1][1]) < 1
     line = line_with(*some)
-    assert [len(page.stations) for page in pages(line, look(line), "", None)] == [1, 1, 1]
+    assert [len(page.stations) for page in pages(line, compare(line), "", None)] == [1, 1, 1]
 
 
 def test_wrong_distances_are_red() -> None:

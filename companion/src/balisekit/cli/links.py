@@ -8,8 +8,9 @@ from balisekit.errors import TableError
 from balisekit.io.outputs import write_json
 from balisekit.present.links_text import as_json, lines, status_of
 from balisekit.rules import checking
-from balisekit.rules.links.rules import look
-from balisekit.rules.links.stations import line_of
+from balisekit.rules.line import Line
+from balisekit.rules.links import compare
+from balisekit.rules.rule import Options
 from balisekit.tables.names import passed_over
 
 
@@ -29,7 +30,7 @@ def run(options: argparse.Namespace) -> int:
         why = f"{table.path}: no row has a kilometre: links needs the column km"
         raise TableError("; ".join([why, *passed_over(table)]))
     checked = checking.check(program, table, messages, options.by_position)
-    links = look(line_of(checked), options.tolerance)
+    links = compare(Line.of(checked), Options(options.tolerance))
     status = status_of(checked, links)
     if options.json:
         write_json(options.json, as_json(checked, links, status))

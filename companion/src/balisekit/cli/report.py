@@ -13,8 +13,9 @@ from balisekit.present.pages import hash_of, pieces, style
 from balisekit.present.report import blocks, cover, explained, told_all
 from balisekit.present.telegram_text import LEGEND
 from balisekit.rules import accepted, checking
-from balisekit.rules.links.rules import wrong_distances
-from balisekit.rules.links.stations import line_of
+from balisekit.rules.line import Line
+from balisekit.rules.links import L2, compare
+from balisekit.rules.rule import Options
 from balisekit.tables.names import clean
 
 DISTANCE = "one whose distance differs from the kilometres (L2, a rule of balisekit)"
@@ -39,9 +40,9 @@ def run(options: argparse.Namespace) -> int:
     judged = accepted.judge(checked, entries, accepted.today()) if entries else None
     sheet = style("page.css") + style("picture.css") + style("track.css")
     findings = told_all(checked, judged)
-    line = line_of(checked)
+    line = Line.of(checked)
     tracks = tracks_of(line)
-    links = wrong_distances(line, options.tolerance)
+    links = compare(line, Options(options.tolerance), [L2])
     page = pieces(
         "report.html",
         cover=cover(checked, judged),

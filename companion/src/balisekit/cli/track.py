@@ -15,8 +15,9 @@ from balisekit.present.pages import pieces, style
 from balisekit.present.refusals import message_refused, telegram_refused
 from balisekit.rules import checking
 from balisekit.rules.checking import Checked
-from balisekit.rules.links.rules import wrong_distances
-from balisekit.rules.links.stations import Line, line_of
+from balisekit.rules.line import Line
+from balisekit.rules.links import L2, compare
+from balisekit.rules.rule import Options
 from balisekit.tables.model import Messages, Table
 from balisekit.tables.names import clean, describe_balise, describe_message, passed_over, quoted
 
@@ -33,7 +34,7 @@ def look_at_aspect(table: Table, aspect: Optional[str]) -> None:
 def draw_track(options: argparse.Namespace, program: Program, table: Table, messages: Optional[Messages]) -> int:
     """Draws a track. What is refused is named, and the rest is drawn."""
     checked = checking.check(program, table, messages, options.by_position)
-    line = line_of(checked)
+    line = Line.of(checked)
     known = tracks_of(line)
     track = known[0] if not options.track and len(known) == 1 else options.track
     if track not in known:
@@ -43,7 +44,8 @@ def draw_track(options: argparse.Namespace, program: Program, table: Table, mess
         )
         raise TableError("; ".join([why, *passed_over(table)]))
     look_at_aspect(table, options.aspect)
-    pictures = list(track_pictures(line, wrong_distances(line, options.tolerance), track, options.aspect))
+    links = compare(line, Options(options.tolerance), [L2])
+    pictures = list(track_pictures(line, links, track, options.aspect))
     pictures[:0] = [] if checked.whole else [note(_refused(checked))]
     tops = list(accumulate([0, *(one.height for one in pictures)]))
     page = pieces(
@@ -94,7 +96,7 @@ def _written(line: Line, track: str, options: argparse.Namespace, messages: int)
     """What the picture has, and what it has not: groups by the reason, and messages."""
     reasons: Dict[str, List[str]] = {}
     drawn = line.along[track]
-    for station in line.stations:
+    for station in line.groups:
         if station.km is None or station.track != track:
             why = "left out, no kilometre" if station.km is None else "left out, on another track"
         else:

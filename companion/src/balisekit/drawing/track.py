@@ -13,8 +13,9 @@ from balisekit.drawing.track_bands import LANE, draw_band, lanes
 from balisekit.drawing.track_view import Arc, Band, Page, at_km, pages, place_of
 from balisekit.etcs.geometry import NOMINAL, Kilometres, kilometre
 from balisekit.etcs.variables import metres
-from balisekit.rules.links.rules import Links
-from balisekit.rules.links.stations import Line, Station
+from balisekit.rules.line import Line
+from balisekit.rules.links import Links
+from balisekit.rules.location import BaliseGroup
 from balisekit.tables.names import clean, quoted
 
 ARCS = 84
@@ -43,7 +44,7 @@ def note(words: str) -> Picture:
 
 def tracks_of(line: Line) -> List[str]:
     """The tracks that have a group with a kilometre, in the order of the table."""
-    return list(dict.fromkeys(station.track for station in line.stations if station.km is not None))
+    return list(dict.fromkeys(station.track for station in line.groups if station.km is not None))
 
 
 def _picture(
@@ -87,7 +88,7 @@ def _axis(sheet: Sheet) -> None:
     sheet.text("small", "km", 40, sheet.y + 15)
 
 
-def _names(sheet: Sheet, stations: Sequence[Station]) -> None:
+def _names(sheet: Sheet, stations: Sequence[BaliseGroup]) -> None:
     """Each group as a mark on the axis, and its name below, in as many rows as they need."""
     base = sheet.y
     rows = Rows()
@@ -100,7 +101,7 @@ def _names(sheet: Sheet, stations: Sequence[Station]) -> None:
             if station.identity is None
             else (f"group {station.identity[1]} of country or region {station.identity[0]}")
         )
-        title = f"{clean(station.group.name)}, {at_km(place_of(station))}, {identity}, balises: {station.count}"
+        title = f"{clean(station.group.name)}, {at_km(place_of(station))}, {identity}, balises: {station.balises}"
         title += f"; refused: row {', '.join(map(str, station.unread))}" if station.unread else ""
         y = base + 22 + 13 * row
         sheet.path("leader", "", f"M{tenths(at)} {base + 4}V{y + 2}")
@@ -109,7 +110,7 @@ def _names(sheet: Sheet, stations: Sequence[Station]) -> None:
     sheet.y = base + 40 + 13 * max(rows.count, 1)
 
 
-def _named(sheet: Sheet, station: Station) -> Tuple[int, int, str]:
+def _named(sheet: Sheet, station: BaliseGroup) -> Tuple[int, int, str]:
     """Where a group's name begins, how wide it is, and the name itself behind the arrow of its direction."""
     sign = {1: "\u25b8", -1: "\u25c2"}.get(station.rising or 0, "\u2022")
     name = f"{sign} {clean(station.group.name)}{': refused' if station.unread else ''}"
@@ -137,16 +138,17 @@ def _arc(sheet: Sheet, arc: Arc) -> None:
     title = f"{sender} links {target}: {metres(arc.distance)} by D_LINK, {arc.chain.direction}"
     look = "arc wrong" if arc.wrong else "arc" if arc.chain.direction == NOMINAL else "arc back"
     if arc.wrong:
-        title += f"; links L2: {arc.wrong.said}"
+        title += f"; links L2: {arc.wrong.sentence}"
     sheet.path(look, title, f"M{x / 10:.1f} {y:.1f}Q{middle[0] / 10:.1f} {middle[1]:.1f} {to_x / 10:.1f} {to_y:.1f}")
 
 
 def _wrong(sheet: Sheet, arc: Arc) -> None:
     """What L2 has found, over the middle of the arc."""
     middle = (arc.begin + arc.end) // 2
-    if arc.wrong is None or arc.wrong.by_links is None or not sheet.least <= middle < sheet.greatest:
+    if arc.wrong is None or not sheet.least <= middle < sheet.greatest:
         return
-    words = f"L2: {metres(arc.wrong.by_links)}, by km {arc.wrong.by_kilometres:.0f} m"
+    values = arc.wrong.values
+    words = f"L2: {metres(int(values['metres_by_d_link'] * 10))}, by km {values['metres_by_kilometres']:.0f} m"
     half = len(words) * LETTER // 2
     at = min(max(sheet.x(middle), half), WIDTH * 10 - half)
     sheet.text("red middle", words, at, sheet.y - _height(sheet, arc) - 3)

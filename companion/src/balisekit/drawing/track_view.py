@@ -13,9 +13,11 @@ from balisekit.drawing.group import Short
 from balisekit.drawing.pictures import short_profiles
 from balisekit.etcs.geometry import DIRECTIONS, Way, kilometre_of, way
 from balisekit.etcs.variables import Around, value_words
-from balisekit.rules.links.chains import Chain, Link
-from balisekit.rules.links.rules import Found, Links
-from balisekit.rules.links.stations import Line, Station
+from balisekit.rules.line import Line
+from balisekit.rules.links import Links
+from balisekit.rules.location import BaliseGroup
+from balisekit.rules.passages import Chain, Link
+from balisekit.rules.rule import Remark
 from balisekit.tables.model import Aspect, Row
 from balisekit.tables.names import clean, quoted
 
@@ -27,7 +29,7 @@ PAGE = 50_000
 class Band:
     """What a group says in its chosen aspect, in both directions, and from where to where it reaches."""
 
-    station: Station
+    station: BaliseGroup
     aspect: str
     ways: Tuple[Way, ...]
     begin: int
@@ -54,7 +56,7 @@ class Arc:
     link: Link
     distance: int
     """The sum of D_LINK."""
-    wrong: Optional[Found]
+    wrong: Optional[Remark]
     """What L2 has found of it."""
 
 
@@ -63,7 +65,7 @@ class Page:
     """What lies between two places of a track."""
 
     begin: int
-    stations: Tuple[Station, ...]
+    stations: Tuple[BaliseGroup, ...]
     bands: Tuple[Band, ...]
     arcs: Tuple[Arc, ...]
 
@@ -73,7 +75,7 @@ class Page:
         return self.begin + PAGE
 
 
-def place_of(station: Station) -> int:
+def place_of(station: BaliseGroup) -> int:
     """Where a group is that has a kilometre."""
     return int((station.km or Decimal()) * 10_000)
 
@@ -83,7 +85,7 @@ def at_km(place: int) -> str:
     return f"km {kilometre_of(place)}"
 
 
-def chosen(station: Station, aspect: Optional[str]) -> Optional[Aspect]:
+def chosen(station: BaliseGroup, aspect: Optional[str]) -> Optional[Aspect]:
     """The aspect of this name, the only one, or the first one if no name is given."""
     aspects = station.group.aspects
     if aspect is None or len(aspects) == 1:
@@ -91,7 +93,7 @@ def chosen(station: Station, aspect: Optional[str]) -> Optional[Aspect]:
     return next((one for one in aspects if one.name == aspect), None)
 
 
-def undrawn(station: Station, aspect: Optional[str]) -> str:
+def undrawn(station: BaliseGroup, aspect: Optional[str]) -> str:
     """Why a group is a mark alone, and nothing where what it says can be drawn."""
     one = chosen(station, aspect)
     if one is None:
@@ -107,7 +109,7 @@ def pages(line: Line, links: Links, track: str, aspect: Optional[str]) -> List[P
     if not stations:
         return []
     least, greatest = place_of(stations[0]) // PAGE, place_of(stations[-1]) // PAGE + 1
-    places: Dict[int, Tuple[List[Station], List[Band], List[Arc]]] = {
+    places: Dict[int, Tuple[List[BaliseGroup], List[Band], List[Arc]]] = {
         number: ([], [], []) for number in range(least, greatest + 1)
     }
     for station in stations:
@@ -130,7 +132,7 @@ def _numbers(begin: int, end: int, least: int, greatest: int) -> Iterator[int]:
     yield from range(max(begin // PAGE, least), min(max(end - 1, begin) // PAGE, greatest) + 1)
 
 
-def _bands(line: Line, stations: Sequence[Station], aspect: Optional[str]) -> Iterator[Band]:
+def _bands(line: Line, stations: Sequence[BaliseGroup], aspect: Optional[str]) -> Iterator[Band]:
     """The groups whose direction is known and that have an authority or a profile."""
     for station in stations:
         one = chosen(station, aspect)
@@ -163,9 +165,9 @@ def open_end(one: Way) -> int:
 
 def _arcs(links: Links, track: str, aspect: Optional[str]) -> Iterator[Arc]:
     """The links between groups of the track that are sent in the chosen aspects."""
-    wrong = {one.where.order: one for one in links.found if one.rule == 2}
-    for chain in links.chains:
-        sender, row = chain.sender, chain.where.row
+    wrong = {one.location.order: one for one in links.remarks if one.rule == "L2"}
+    for chain in links.line.chains:
+        sender, row = chain.sender, chain.location.row
         if sender is None or row is None or sender.km is None or sender.track != track:
             continue
         if not _sends(sender, row, aspect):
@@ -174,9 +176,9 @@ def _arcs(links: Links, track: str, aspect: Optional[str]) -> Iterator[Arc]:
         for link in chain.links:
             summed += link.distance
             if link.target is not None and link.target.km is not None and link.target.track == track:
-                yield Arc(place_of(sender), place_of(link.target), chain, link, summed, wrong.get(link.where.order))
+                yield Arc(place_of(sender), place_of(link.target), chain, link, summed, wrong.get(chain.at(link).order))
 
 
-def _sends(station: Station, row: Row, aspect: Optional[str]) -> bool:
+def _sends(station: BaliseGroup, row: Row, aspect: Optional[str]) -> bool:
     one = chosen(station, aspect)
     return one is not None and row in one.rows

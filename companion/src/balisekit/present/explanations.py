@@ -1,6 +1,6 @@
-"""What docs/FINDINGS.md says of each finding, and docs/LINKS.md of each rule of `links`.
+"""Meaning, urgency, cause and remedy of each finding by docs/FINDINGS.md, and of each rule by its own page.
 
-`findings.json` and `links.json` are made of them by `python3 -m balisekit.explain DOCS FINDINGS` and `.. LINKS`.
+`findings.json` is made of FINDINGS.md by `python3 -m balisekit.present.explanations DOCS`.
 """
 from __future__ import annotations
 
@@ -10,7 +10,9 @@ import sys
 import textwrap
 from dataclasses import dataclass
 from pathlib import Path
-from typing import Dict, Iterator
+from typing import Dict, Iterator, Sequence
+
+from balisekit.rules.rule import Rule
 
 WIDTH = 116
 
@@ -22,8 +24,8 @@ PARTS = {
     "How to correct it": "remedy",
 }
 """The paragraphs of a finding, and what they are called here."""
-LETTERS = {"FINDINGS": "F", "LINKS": "L"}
-"""With which letter the rules of a page begin."""
+HEADS = ("What it says", "How urgent", "Usual cause", "How to correct it")
+"""The paragraphs that `--explain` shows."""
 
 
 @dataclass(frozen=True)
@@ -39,11 +41,11 @@ class Explanation:
     remedy: str
 
 
-def of_document(text: str, page: str = "FINDINGS") -> Dict[int, Dict[str, str]]:
+def of_document(text: str) -> Dict[int, Dict[str, str]]:
     """The paragraphs of each rule in the text of the page."""
     found: Dict[int, Dict[str, str]] = {}
     for section in re.split(r"^## ", text, flags=re.MULTILINE):
-        heading = re.match(LETTERS[page] + r"(\d+): (.+)\n", section)
+        heading = re.match(r"F(\d+): (.+)\n", section)
         if heading:
             parts = dict(re.findall(r"^\*\*(.+?)\.\*\* (.+?)(?=^\*\*|^```|\Z)", section, re.MULTILINE | re.DOTALL))
             found[int(heading[1])] = {
@@ -59,24 +61,28 @@ def _plain(text: str) -> str:
     return re.sub(r"\[([^]]+)\]\([^)]+\)", r"\1", line).replace("*", "")
 
 
-def explanations(page: str = "FINDINGS") -> Dict[int, Explanation]:
-    """What the page says of each rule, by its number."""
-    text = Path(__file__).with_name(f"{page.lower()}.json").read_text("utf-8")
+def explanations() -> Dict[int, Explanation]:
+    """The paragraphs on each finding, by its number."""
+    text = Path(__file__).with_name("findings.json").read_text("utf-8")
     return {int(rule): Explanation(int(rule), **parts) for rule, parts in json.loads(text).items()}
 
 
 def lines(label: str, one: Explanation) -> Iterator[str]:
-    """What is said of a rule, as lines of text."""
-    yield f"{label}: {one.name}"
-    for head, text in (
-        ("What it says", one.says),
-        ("How urgent", one.urgent),
-        ("Usual cause", one.cause),
-        ("How to correct it", one.remedy),
-    ):
+    """What is said of a finding, as lines of text."""
+    return _wrapped(f"{label}: {one.name}", (one.says, one.urgent, one.cause, one.remedy))
+
+
+def rule_lines(rule: Rule) -> Iterator[str]:
+    """What the page of a rule says, as lines of text."""
+    return _wrapped(f"{rule.name}: {rule.title}", [_plain(rule.parts.get(head, "")) for head in HEADS])
+
+
+def _wrapped(title: str, texts: Sequence[str]) -> Iterator[str]:
+    yield title
+    for head, text in zip(HEADS, texts):
         yield from textwrap.wrap(f"{head}. {text}", WIDTH, initial_indent="    ", subsequent_indent="    ")
 
 
 if __name__ == "__main__":
-    _text = Path(sys.argv[1], f"{sys.argv[2]}.md").read_text("utf-8")
-    print(json.dumps(of_document(_text, sys.argv[2]), indent=1, ensure_ascii=False))
+    _text = Path(sys.argv[1], "FINDINGS.md").read_text("utf-8")
+    print(json.dumps(of_document(_text), indent=1, ensure_ascii=False))

@@ -1,24 +1,23 @@
 """The answer of `links` in words and as JSON."""
 from __future__ import annotations
 
-from collections import Counter
-from decimal import Decimal
 from typing import Any, Dict, Iterator
 
 from balisekit.present import explanations as explain
 from balisekit.present.refusals import message_refused, telegram_refused
 from balisekit.rules.checking import Checked
-from balisekit.rules.links.rules import Found, Links
-from balisekit.tables.names import describe_balise, clean, describe_message, passed_over
+from balisekit.rules.links import Links
+from balisekit.rules.rule import Remark, Result, Rule
+from balisekit.tables.names import clean, describe_balise, describe_message, passed_over
 
 NOT_PROVED = "L1 to L9 are rules of balisekit, which is not proved: they compare what the program has decoded"
 
 
 def status_of(checked: Checked, links: Links) -> int:
-    """2 if a telegram or message was refused, else 1 if something was found, else 0."""
-    if not checked.whole:
+    """2 if something was refused or a rule compared nothing, else 1 if something was found, else 0."""
+    if not checked.whole or links.empty:
         return 2
-    return 1 if links.found else 0
+    return 1 if links.remarks else 0
 
 
 def lines(checked: Checked, links: Links, explained: bool = False) -> Iterator[str]:
@@ -38,35 +37,50 @@ def lines(checked: Checked, links: Links, explained: bool = False) -> Iterator[s
     for bad in checked.refused_messages:
         yield f"{describe_message(bad.message)}: {message_refused(bad.message.text, bad.refusal)}"
         yield f"    program: {bad.refusal.text}"
-    for found in links.found:
-        yield f"{found.words}: links L{found.rule}: {found.said}"
+    yield from map(_words, links.remarks)
     if explained:
-        known = explain.explanations("LINKS")
-        for rule in sorted({found.rule for found in links.found}):
-            yield from explain.lines(f"L{rule}", known[rule])
+        for rule, result in links.results.items():
+            if result.found:
+                yield from explain.rule_lines(rule)
     yield last_line(checked, links)
 
 
+def _words(remark: Remark) -> str:
+    return f"{remark.location}: links {remark.rule}: {remark.sentence}"
+
+
 def last_line(checked: Checked, links: Links) -> str:
-    """How many were found, and by which rules. It is never a yes."""
-    said = f"links: {_counts(links)}"
+    """How many were found and by which rules, and what each rule has compared. It is never a yes."""
     rows, groups = len(checked.table.rows), len(checked.table.groups)
     parts = [f"{len(checked.refused)} of {rows} telegrams refused"] if checked.refused else []
     if checked.messages and checked.refused_messages:
         parts.append(f"{len(checked.refused_messages)} of {len(checked.messages.messages)} messages refused")
     parts += [f"{checked.not_looked_at} rows not looked at"] if checked.not_looked_at else []
     parts += [f"{checked.messages_not_looked_at} messages not looked at"] if checked.messages_not_looked_at else []
-    if parts:
-        return f"INCOMPLETE: {', '.join(parts)}; {said} in the rest"
-    return f"{said} in {groups} groups"
+    where = "the rest" if parts else f"{groups} groups"
+    parts += [_empty(rule, links.results[rule]) for rule in links.empty]
+    said = f"links: {_counts(links)} in {where}; compared: {', '.join(_compared(links))}"
+    return f"INCOMPLETE: {', '.join(parts)}; {said}" if parts else said
 
 
 def _counts(links: Links) -> str:
     """How much each rule has found."""
-    counted = Counter(found.rule for found in links.found)
-    if not counted:
-        return "none found of L1 to L9"
-    return f"{len(links.found)} found ({', '.join(f'L{rule} {counted[rule]}' for rule in sorted(counted))})"
+    counts = [f"{rule.name} {len(result.found)}" for rule, result in links.results.items() if result.found]
+    return f"{len(links.remarks)} found ({', '.join(counts)})" if counts else "none found of L1 to L9"
+
+
+def _empty(rule: Rule, result: Result) -> str:
+    """Why a rule has compared nothing."""
+    reasons = [f"{why}: {count}" for why, count in result.not_looked_at.items() if count]
+    return f"{rule.name} compared none of {result.skipped} {rule.looks_at} ({', '.join(reasons)})"
+
+
+def _compared(links: Links) -> Iterator[str]:
+    """What each rule has compared, and of how many things if there are more."""
+    for rule, result in links.results.items():
+        total = result.looked_at + result.skipped
+        of_all = f" of {total}" if result.skipped else ""
+        yield f"{rule.name} {result.looked_at}{of_all} {rule.looks_at[:-1] if total == 1 else rule.looks_at}"
 
 
 def as_json(checked: Checked, links: Links, status: int) -> Dict[str, Any]:
@@ -85,23 +99,33 @@ def as_json(checked: Checked, links: Links, status: int) -> Dict[str, Any]:
             "refused_messages": len(checked.refused_messages),
             "not_looked_at": checked.not_looked_at,
         },
+        "rules": {
+            rule.name: {
+                "looks_at": rule.looks_at,
+                "found": len(result.found),
+                "looked_at": result.looked_at,
+                "not_looked_at": {why: count for why, count in result.not_looked_at.items() if count},
+            }
+            for rule, result in links.results.items()
+        },
         "notes": [*table.notes, *links.notes],
-        "found": [_found_json(one) for one in links.found],
+        "found": [_remark_json(remark) for remark in links.remarks],
     }
 
 
-def _found_json(one: Found) -> Dict[str, Any]:
-    where = one.where
+def _remark_json(remark: Remark) -> Dict[str, Any]:
+    where = remark.location
     return {
-        "rule": f"L{one.rule}",
-        "group": where.station.group.name if where.station else None,
+        "rule": remark.rule,
+        "group": where.group.group.name if where.group else None,
         "row": where.row.number if where.row else None,
         "message": where.message.number if where.message else None,
         "packet": where.packet,
         "direction": where.direction or None,
         "link": where.link,
-        "about": one.group.group.name if one.group else None,
-        "metres_by_d_link": None if one.by_links is None else str(Decimal(one.by_links) / 10),
-        "metres_by_kilometres": None if one.by_kilometres is None else str(one.by_kilometres),
-        "words": f"{one.words}: links L{one.rule}: {one.said}",
+        "about": remark.about.group.name if remark.about else None,
+        "metres_by_d_link": None,
+        "metres_by_kilometres": None,
+        **{name: str(value) for name, value in remark.values.items()},
+        "words": _words(remark),
     }

@@ -1,0 +1,60 @@
+"""L4: linked group has Q_LINK 0.
+
+What it says. A group that a packet 5 of the table names says of itself, by Q_LINK 0, that it is not linked. The line is
+about the group that is named, and lists up to three groups whose packets name it (SUBSET-026, 3.4.4 and 7.5.1).
+
+How urgent. To be looked at: linking does not protect the group.
+
+Usual cause. The group was added to the links later, and its telegrams were not made anew. Or a group that is left
+unlinked on purpose got into a packet 5.
+
+What may happen. A train takes a group with Q_LINK 0 at any place, also outside its window of expectation. So linking
+does not protect it against a group that is met at a wrong place, and the train does not use it to correct its position.
+
+How to correct it. Set Q_LINK to 1 in all telegrams of the group, or take it out of the packets 5.
+
+Example. Both balises of group B have Q_LINK 0, and group A links it.
+"""
+from __future__ import annotations
+
+from typing import Dict, List
+
+from balisekit.rules.line import AFTER_INFILL, Line
+from balisekit.rules.location import BaliseGroup, Location
+from balisekit.rules.passages import Chain
+from balisekit.rules.rule import Options, Remark, Result, Rule
+from balisekit.tables.names import clean, describe_message
+
+NAMED = 3
+
+
+def find(line: Line, options: Options) -> Result:
+    """Looks at each group that a link names."""
+    linked: Dict[int, BaliseGroup] = {}
+    senders: Dict[int, List[str]] = {}
+    for chain in line.chains:
+        for link in chain.links:
+            group = link.target
+            if group is not None:
+                linked[group.number] = group
+                if not group.linked:
+                    names = senders.setdefault(group.number, [])
+                    names += [] if _sender(chain) in names else [_sender(chain)]
+    infill = {link.target.number for chain in line.passages.infill_chains for link in chain.links if link.target}
+    found = [_remark(linked[number], names) for number, names in senders.items()]
+    return Result(found, len(linked), {AFTER_INFILL: len(infill - set(linked))})
+
+
+def _remark(group: BaliseGroup, names: List[str]) -> Remark:
+    more = f" and {len(names) - NAMED} more" if len(names) > NAMED else ""
+    sentence = f"its Q_LINK is 0, and it is linked by {', '.join(names[:NAMED])}{more}"
+    return Remark("L4", Location(group), sentence, group)
+
+
+def _sender(chain: Chain) -> str:
+    if chain.location.message is not None:
+        return f"the message of {describe_message(chain.location.message)}"
+    return clean(chain.sender.group.name) if chain.sender else ""
+
+
+RULE = Rule("L4", "groups", __doc__ or "", find)

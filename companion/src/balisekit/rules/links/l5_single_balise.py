@@ -1,0 +1,44 @@
+"""L5: direction of a single balise not known.
+
+What it says. A group of one balise has Q_LINK 0, and one of its packets holds in one direction alone (Q_DIR 0 or 1).
+The line names the first such packet. A single balise has no direction of its own, and one with Q_LINK 0 gets none by
+linking (SUBSET-026, 3.4.2).
+
+How urgent. At worst wrong information for the other direction, or none.
+
+Usual cause. A group of two was reduced to one balise. Q_LINK was left at 0 in a balise that is to be linked. Or the
+packet was meant for both directions.
+
+What may happen. The train does not know in which direction it passes the balise, and cannot tell whether the packet
+holds. It uses none of it.
+
+How to correct it. Link the balise and set Q_LINK to 1, or add a second balise, or set Q_DIR to 2 if the packet holds in
+both directions.
+
+Example. Group D is one balise with Q_LINK 0, and its level transition order holds in nominal direction.
+"""
+from __future__ import annotations
+
+from balisekit.etcs.packets import packet_name
+from balisekit.rules.line import Line
+from balisekit.rules.rule import REFUSED, Options, Remark, Result, Rule
+
+
+def find(line: Line, options: Options) -> Result:
+    """Looks at each group of one balise that has Q_LINK 0."""
+    single = [group for group in line.groups if group.balises == 1 and not group.linked]
+    unread = sum(group.identity is None for group in single)
+    found = [
+        Remark(
+            "L5",
+            each.location,
+            f"the group has one balise and Q_LINK 0, and packet {each.number} ({packet_name(each.number, True)}) holds "
+            f"in {each.direction} direction alone: a train cannot tell its direction by it",
+            each.location.group,
+        )
+        for each in line.passages.one_way
+    ]
+    return Result(found, len(single) - unread, {REFUSED: unread})
+
+
+RULE = Rule("L5", "single balises", __doc__ or "", find)

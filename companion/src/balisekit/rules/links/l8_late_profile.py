@@ -1,0 +1,44 @@
+"""L8: profile begins late.
+
+What it says. In a direction a group, or a message 3, gives a movement authority, and the first D_GRADIENT or D_STATIC
+of a profile is above 0. So the track before it has no profile of this message, unless another one of the same kind
+begins at 0. The program does not look at where a profile begins (SUBSET-026, 3.7, 3.8 and 3.11).
+
+How urgent. At worst an old profile is used on that track. Mostly the authority is refused.
+
+Usual cause. The distance was counted from another balise or from a signal. Or the track before it is meant to have its
+profile from an earlier message.
+
+What may happen. Between the group and the first element the train has no profile, or one of an earlier message. It may
+refuse the authority.
+
+How to correct it. Set the first distance to 0, with the value that holds at the group. If an earlier message gives the
+profile there, note which one.
+
+Example. The speed profile of balise A2 begins at 50 m.
+"""
+from __future__ import annotations
+
+from balisekit.etcs.variables import metres
+from balisekit.rules.line import Line
+from balisekit.rules.passages import PROFILES
+from balisekit.rules.rule import Options, Remark, Result, Rule
+
+
+def find(line: Line, options: Options) -> Result:
+    """Looks at each profile that is given with an authority, those after a packet 136 too."""
+    profiles = line.passages.profiles
+    found = [
+        Remark(
+            "L8",
+            each.location,
+            f"the {PROFILES[each.number]} under an authority begins at {metres(each.begin)}: "
+            "the track before it has none",
+        )
+        for each in profiles
+        if each.is_late
+    ]
+    return Result(found, len(profiles))
+
+
+RULE = Rule("L8", "profiles", __doc__ or "", find)

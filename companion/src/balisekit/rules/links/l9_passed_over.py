@@ -1,0 +1,73 @@
+"""L9: linked group passed over.
+
+What it says. By the kilometres a group with Q_LINK 1 stands between two neighbours of a packet 5, or between the group
+that sends it and the first one that it names, and the packet does not name it. Of several groups between the same two
+the line names up to three. Where one of the two is not in the table, the rule is not looked for between them, and
+neither is it on another track (SUBSET-026, 3.4.4).
+
+How urgent. To be looked at: the group says nothing to a train that uses these links. Harmless where the group has
+nothing to say in this direction.
+
+Usual cause. The group was added later, and the links of its neighbours were not made anew. Or it is a group for the
+other direction.
+
+What may happen. A train that uses linking takes a group with Q_LINK 1 only if it is linked. So it passes over the
+group, and what that one says is lost without a reaction.
+
+How to correct it. Add the group to the packet 5, with its distance, and correct the distance of the one behind it. If
+trains are to take it without linking, set Q_LINK to 0.
+
+Example. Group A links group C alone, and group B stands between them.
+"""
+from __future__ import annotations
+
+from collections import Counter
+from typing import Counter as Counted, Optional, Sequence
+
+from balisekit.rules.line import Line
+from balisekit.rules.location import BaliseGroup
+from balisekit.rules.passages import Chain
+from balisekit.rules.rule import NO_KILOMETRE, NOT_IN_TABLE, OTHER_TRACK, Options, Remark, Result, Rule
+
+
+def find(line: Line, options: Options) -> Result:
+    """Looks between each two neighbours of a packet 5, the group that sends it first."""
+    skipped: Counted[str] = Counter(line.infill_links)
+    found, looked_at = [], 0
+    for chain in line.chains:
+        stops = [chain.sender, *(link.target for link in chain.links)]
+        for before, after, link in zip(stops, stops[1:], chain.links):
+            if before is None or after is None or not _comparable(before, after):
+                skipped[_lacks(before, after)] += link.known
+                continue
+            looked_at += 1
+            groups, count = line.linked[before.track].between(before, after, chain)
+            if groups:
+                found.append(_remark(chain, before, after, groups, count))
+    return Result(found, looked_at, skipped)
+
+
+def _comparable(before: BaliseGroup, after: BaliseGroup) -> bool:
+    return before.km is not None and after.km is not None and before.track == after.track
+
+
+def _lacks(before: Optional[BaliseGroup], after: Optional[BaliseGroup]) -> str:
+    """Why it is not known which groups lie between two."""
+    if before is None or after is None:
+        return NOT_IN_TABLE
+    return NO_KILOMETRE if before.km is None or after.km is None else OTHER_TRACK
+
+
+def _remark(chain: Chain, before: BaliseGroup, after: BaliseGroup, groups: Sequence[BaliseGroup], count: int) -> Remark:
+    more = f" and {count - len(groups)} more" if count > len(groups) else ""
+    words = ("has", "stands", "is", "it") if count == 1 else ("have", "stand", "are", "them")
+    return Remark(
+        "L9",
+        chain.location,
+        f"{', '.join(map(str, groups))}{more} {words[0]} Q_LINK 1 and {words[1]} between {before} and {after}, and "
+        f"{words[2]} not linked: a train that uses linking passes {words[3]} over",
+        groups[0],
+    )
+
+
+RULE = Rule("L9", "pairs", __doc__ or "", find)

@@ -1,0 +1,80 @@
+"""Where something is that a rule speaks of: a balise group on its track, a balise's packet, a message's, a link."""
+from __future__ import annotations
+
+from decimal import Decimal
+from typing import NamedTuple, Optional, Tuple
+
+from balisekit.etcs.geometry import NOMINAL, kilometre
+from balisekit.tables.model import Group, Message, Row
+from balisekit.tables.names import clean, describe_balise, describe_group, describe_message
+
+NOT_KNOWN = 16_383
+"""The NID_BG that says that an identity is not known."""
+Identity = Tuple[int, int]
+"""NID_C and NID_BG."""
+
+
+class BaliseGroup(NamedTuple):
+    """A balise group on its track. What is not known of it is None."""
+
+    number: int
+    """Its place in the table, counted from 0."""
+    group: Group
+    balises: int
+    """How many balises it has."""
+    identity: Optional[Identity]
+    linked: Optional[bool]
+    """Whether Q_LINK is 1."""
+    km: Optional[Decimal]
+    rising: Optional[int]
+    """1 if the kilometres rise in nominal direction, -1 if they fall."""
+    track: str
+    unread: Tuple[int, ...] = ()
+    """The rows whose telegrams the program has not read."""
+
+    def along(self, direction: str) -> Optional[int]:
+        """1 if the kilometres rise for a train that passes in this direction, -1 if they fall."""
+        return self.rising if direction == NOMINAL or self.rising is None else -self.rising
+
+    def __str__(self) -> str:
+        km = "" if self.km is None else f" (km {kilometre(self.km)})"
+        return f"{clean(self.group.name)}{km}"
+
+
+class Location(NamedTuple):
+    """A group, a balise's packet or a message's, and the item of a linking packet."""
+
+    group: Optional[BaliseGroup] = None
+    row: Optional[Row] = None
+    message: Optional[Message] = None
+    packet: Optional[int] = None
+    direction: str = ""
+    link: Optional[int] = None
+
+    @property
+    def order(self) -> Tuple[int, ...]:
+        """By which remarks are sorted: groups in the order of the table, then messages."""
+        return (
+            1 << 40 if self.group is None else self.group.number,
+            -1 if self.message is None else self.message.number,
+            -1 if self.row is None else self.row.number,
+            -1 if self.packet is None else self.packet,
+            int(self.direction != NOMINAL),
+            -1 if self.link is None else self.link,
+        )
+
+    def __str__(self) -> str:
+        parts = []
+        if self.message is not None:
+            parts.append(f"message of {describe_message(self.message)}")
+        elif self.group is not None:
+            group = self.group.group
+            parts.append(describe_group(group) if self.row is None else describe_balise(group, self.row))
+        parts += [] if self.packet is None else [f"packet {self.packet}"]
+        parts += [self.direction] if self.direction else []
+        return "  ".join([*parts, *([] if self.link is None else [f"link {self.link}"])])
+
+
+def identity_words(identity: Identity) -> str:
+    """An identity in words."""
+    return f"group {identity[1]} of country or region {identity[0]}"

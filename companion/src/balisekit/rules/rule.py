@@ -1,0 +1,80 @@
+"""What a rule of balisekit is: its page, and the function that looks for it in a line.
+
+Each rule has a file of its own, whose docstring is its page. A rule is balisekit's own, and not proved.
+"""
+from __future__ import annotations
+
+from dataclasses import dataclass, field
+from decimal import Decimal
+from functools import cached_property
+from typing import Callable, Dict, Mapping, Optional, Sequence
+
+from balisekit.rules.line import Line
+from balisekit.rules.location import BaliseGroup, Location
+
+NOT_IN_TABLE = "not in the table"
+NO_KILOMETRE = "no kilometre"
+NO_DIRECTION = "no direction along the kilometres"
+OTHER_TRACK = "another track"
+REFUSED = "refused"
+
+
+@dataclass(frozen=True)
+class Options:
+    """What a user says of the line."""
+
+    tolerance: Decimal = Decimal()
+    """How many metres the kilometres of the table may be wrong."""
+
+
+@dataclass(frozen=True)
+class Remark:
+    """What a rule has found, and where."""
+
+    rule: str
+    location: Location
+    sentence: str
+    about: Optional[BaliseGroup] = None
+    """The group that the sentence is about, if it is another one."""
+    values: Mapping[str, Decimal] = field(default_factory=dict)
+    """The values that the rule has compared, by their names."""
+
+
+@dataclass(frozen=True)
+class Result:
+    """What a rule has found, how many things it has looked at, and how many not, by the reason."""
+
+    found: Sequence[Remark]
+    looked_at: int
+    not_looked_at: Mapping[str, int] = field(default_factory=dict)
+
+    @property
+    def skipped(self) -> int:
+        """How many things it has not looked at."""
+        return sum(self.not_looked_at.values())
+
+    @property
+    def is_empty(self) -> bool:
+        """Whether there was something to look at, and nothing was looked at."""
+        return self.skipped > 0 and self.looked_at == 0
+
+
+@dataclass(frozen=True, eq=False)
+class Rule:
+    """A rule: its name, what it looks at, its page, and the function that looks for it."""
+
+    name: str
+    looks_at: str
+    page: str
+    find: Callable[[Line, Options], Result]
+
+    @cached_property
+    def title(self) -> str:
+        """What the rule is about, by the first line of its page."""
+        return self.page.split("\n", 1)[0].split(": ", 1)[-1].rstrip(".")
+
+    @cached_property
+    def parts(self) -> Dict[str, str]:
+        """The paragraphs of the page behind the first line, by their first words: `What it says`, `How urgent`."""
+        paragraphs = [" ".join(each.split()) for each in self.page.split("\n\n")[1:]]
+        return {head: text for head, _, text in (each.partition(". ") for each in paragraphs)}
