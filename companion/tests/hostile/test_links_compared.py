@@ -78,9 +78,10 @@ def test_links_to_another_track_are_counted(program: Program, run: Run, table: W
 
 def test_a_link_that_turns_back(program: Program, run: Run, table: Write) -> None:
     """Without a direction the first link shows it: the second one, to the other side, does not pass by its length."""
-    items = [(1, "10", [linking(1, link(1000, 2, 1), link(1000, 3, 1))]), (2, "11", []), (3, "8", [])]
-    texts = [each.line for each in program.encode([telegram(number, 0, 0, 1, *own) for number, _, own in items])]
-    lines = [f"G{number},{km},,{text}" for (number, km, _), text in zip(items, texts)]
+    chain = linking(1, link(1000, 2, 1), link(1000, 3, 1))
+    forms = [telegram(1, 0, 0, 1, chain), telegram(2, 0, 0, 1), telegram(3, 0, 0, 1)]
+    texts = [each.line for each in program.encode(forms)]
+    lines = [f"G{number},{km},,{text}" for number, km, text in zip((1, 2, 3), (10, 11, 8), texts)]
     status, out, _ = run("links", table(HEADING, *lines))
     assert (
         status == 1
