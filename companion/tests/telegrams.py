@@ -1,6 +1,9 @@
 """Telegrams and messages that tests use."""
 from __future__ import annotations
 
+import hashlib
+from typing import Sequence
+
 ONES = "f" * 38
 ALONE = f"a1007f802000ff{ONES}c0"
 """Group 1 of country 1, a single balise."""
@@ -12,3 +15,9 @@ SPARE = f"a101ff802000ff{ONES}c0"
 FAULTY = "a1007f802000c15022a0d4800151402b80d9000105083e87ffffc0"
 """Q_DIR of its second packet is 3."""
 MESSAGE = "03048000001900080021e810901ff801f400"
+
+
+def digest(*findings: Sequence[str]) -> str:
+    """The checksum of an entry about findings, each of them about these telegrams."""
+    blocks = sorted("".join(f"{text.lower()}\n" for text in texts) for texts in findings)
+    return hashlib.sha256("".join(blocks).encode()).hexdigest()

@@ -11,7 +11,7 @@ from typing import Any, Callable, Dict, List
 import pytest
 from cases_of_program import TOP
 from conftest import Run
-from telegrams import ALONE, MESSAGE, OTHER, SPARE
+from telegrams import ALONE, MESSAGE, OTHER, SPARE, digest
 
 from balisekit.engine.program import Program, Text
 from balisekit.io import csv_writing
@@ -45,6 +45,7 @@ def entry(**fields: str) -> str:
         "reason": "by design",
         "who": "J. Doe",
         "date": "2026-01-02",
+        "sha256": digest([ALONE, ALONE]),
         **fields,
     }
     return csv_writing.text([values.get(name, "") for name in COLUMNS], []).rstrip("\n")
@@ -78,7 +79,10 @@ def test_one_is_open(run: Run, table: Write) -> None:
         ({"who": ""}, "no who"),
         ({"date": ""}, "no date"),
         ({"until": "2026-05-27"}, "until 2026-05-27 is past"),
-        ({"reason": "", "who": "", "until": "2020-01-01"}, "no reason, no who, until 2020-01-01 is past"),
+        (
+            {"reason": "", "who": "", "until": "2020-01-01"},
+            "no reason, no who, until 2020-01-01 is before date 2026-01-02",
+        ),
     ],
 )
 def test_an_entry_that_is_not_in_order_accepts_nothing(
@@ -135,11 +139,14 @@ def test_a_group_that_is_put_in_before_moves_nothing(run: Run, table: Write) -> 
     "fields, status",
     [
         ({"aspect": "*", "balise": "*", "packet": "*", "direction": "*", "message": "*"}, 0),
-        ({name: "*" for name in FIELDS}, 0),
+        ({name: "*" for name in FIELDS if name not in ("rule", "nid_c", "nid_bg")}, 0),
+        ({"nid_c": "*"}, 2),
+        ({"nid_c": "", "nid_bg": ""}, 2),
+        ({"rule": "*"}, 2),
         ({"balise": "0"}, 1),
         ({"direction": "nominal"}, 1),
         ({"aspect": "x"}, 1),
-        ({"nid_c": ""}, 1),
+        ({"nid_c": ""}, 2),
         ({"nid_bg": "01"}, 0),
         ({"nid_bg": "2"}, 1),
         ({"rule": "f14"}, 0),
@@ -156,7 +163,7 @@ def test_an_empty_field_matches_where_the_finding_has_none(run: Run, table: Writ
     text = (TOP / "examples" / "check" / "packet-not-modelled.json").read_text("utf-8")
     telegram = json.loads(text)["groups"][0]["balises"][0]
     path = table("group,aspect,telegram", f"A,red,{telegram}")
-    whole = {"rule": "F9", "aspect": "red", "balise": "0", "packet": "0"}
+    whole = {"rule": "F9", "aspect": "red", "balise": "0", "packet": "0", "sha256": digest([telegram])}
     for left_out in ("", "aspect", "balise", "packet"):
         file = table(HEADING, entry(**{**whole, **({left_out: ""} if left_out else {})}), name="accepted.csv")
         assert run("check", path, "--accepted", file)[0] == (1 if left_out else 0), left_out
@@ -164,7 +171,7 @@ def test_an_empty_field_matches_where_the_finding_has_none(run: Run, table: Writ
 
 def test_messages_are_named(run: Run, table: Write) -> None:
     path = table("group,telegram", f"A,{ALONE}")
-    named = {"nid_c": "", "nid_bg": "", "message": "to train 7", "direction": "nominal"}
+    named = {"nid_c": "", "nid_bg": "", "message": "to train 7", "direction": "nominal", "sha256": digest([MESSAGE])}
     file = table(HEADING, entry(**named, rule="F10"), entry(**named, rule="F12"), name="accepted.csv")
     one = table(f"{MESSAGE};to train 7", name="one.txt")
     assert run("check", path, "--messages", one, "--accepted", file)[0] == 0
@@ -173,10 +180,9 @@ def test_messages_are_named(run: Run, table: Write) -> None:
     assert status == 1 and out[-1] == "findings 4: accepted 0, open 4; entries at fault 2"
     assert "note: 4 open findings are of messages without a name of their own, so that no entry names them" in out
     bare = table(MESSAGE, name="bare.txt")
-    star = table(HEADING, entry(**{**named, "message": ""}, rule="*"), name="star.csv")
-    assert run("check", path, "--messages", bare, "--accepted", star)[0] == 1
-    star = table(HEADING, entry(**{**named, "message": "*"}, rule="*"), name="star.csv")
-    assert run("check", path, "--messages", bare, "--accepted", star)[0] == 0
+    for name in ("", "*"):
+        star = table(HEADING, entry(**{**named, "message": name}, rule="F10"), name="star.csv")
+        assert run("check", path, "--messages", bare, "--accepted", star)[0] == 2
 
 
 @pytest.mark.parametrize(
@@ -196,7 +202,7 @@ def test_messages_are_named(run: Run, table: Write) -> None:
             "text",
         ),
         ([HEADING, entry(until="2026-02-30")], "row 2, column until: 2026-02-30 is no date"),
-        ([HEADING, entry() + ",more,still"], "row 2: it has 14 cells, and the heading 12"),
+        ([HEADING, entry() + ",more,still"], "row 2: it has 15 cells, and the heading 13"),
         ([HEADING, entry(reason="a\nb")], "row 2, column reason: a line end stands in the cell"),
         ([HEADING, '"open'], "row 2: a quote is not closed"),
     ],
@@ -222,10 +228,11 @@ def test_what_is_proposed_has_to_be_signed(run: Run, table: Write, tmp_path: Pat
     path, file = twice(table), tmp_path / "accepted.csv"
     assert run("check", path, "--propose", file)[0] == 1
     rows = list(csv.DictReader(io.StringIO(file.read_text("utf-8"))))
-    assert rows == [{**{name: "" for name in COLUMNS}, "rule": "F14", "nid_c": "1", "nid_bg": "1"}]
+    sha256 = digest([ALONE, ALONE])
+    assert rows == [{**{name: "" for name in COLUMNS}, "rule": "F14", "nid_c": "1", "nid_bg": "1", "sha256": sha256}]
     status, out, _ = run("check", path, "--accepted", file)
     assert status == 1 and out[-1] == "findings 1: accepted 0, open 1; entries at fault 1"
-    file.write_text(file.read_text("utf-8").replace(",,,,\n", ",checked,J. Doe,2026-05-28,\n"), "utf-8")
+    file.write_text(file.read_text("utf-8").replace(f",,,,,{sha256}", f",checked,J. Doe,2026-05-28,,{sha256}"), "utf-8")
     assert run("check", path, "--accepted", file, "--propose", tmp_path / "more.csv")[0] == 0
     assert (tmp_path / "more.csv").read_text("utf-8") == HEADING + "\n"
 
@@ -332,7 +339,7 @@ def test_csv_is_written_in_one_place() -> None:
     package = TOP / "companion" / "src" / "balisekit"
     assert [
         path.name
-        for path in sorted(package.glob("*.py"))
+        for path in sorted(package.rglob("*.py"))
         if re.search(r"csv\.(writer|DictWriter)", path.read_text("utf-8"))
     ] == ["csv_writing.py"]
 

@@ -14,7 +14,7 @@ from typing import Any, Callable, Dict, List
 import pytest
 from cases_of_program import TOP
 from conftest import Run
-from telegrams import ALONE, MESSAGE, OTHER, SPARE
+from telegrams import ALONE, MESSAGE, OTHER, SPARE, digest
 
 from balisekit import __version__
 from balisekit.engine.program import Program
@@ -37,6 +37,7 @@ def entry(**fields: str) -> str:
         "reason": "by design",
         "who": "J. Doe",
         "date": "2026-01-02",
+        "sha256": digest([ALONE, ALONE]),
         **fields,
     }
     return csv_writing.text([values.get(name, "") for name in COLUMNS], []).rstrip("\n")

@@ -15,7 +15,7 @@ from typing import Any, Dict, List, Optional, Tuple
 
 import pytest
 from cases_of_program import TOP
-from telegrams import FIRST, MESSAGE, OTHER, SECOND
+from telegrams import FIRST, MESSAGE, OTHER, SECOND, digest
 
 from balisekit.cli import main as cli
 from balisekit.drawing.group import Content, draw
@@ -147,16 +147,20 @@ def test_accepted_findings_stand_apart(tmp_path: Path, capsys: pytest.CaptureFix
     with open(LINE, encoding="utf-8") as file:
         table.write_text("".join(line for line in file if not line.startswith("Signal F")), "utf-8")
     stop, infill = {"nid_bg": "103", "aspect": "red", "direction": "nominal"}, {"nid_bg": "201", "rule": "F9"}
+    texts = [line.rsplit(",", 1)[1] for line in LINE.read_text("utf-8").splitlines()]
+    red, green = digest(texts[9:11]), digest([texts[19], texts[22]])
+    both = digest([texts[13]], [texts[14]])
     rows = [
-        {**stop, "rule": "F10"},
-        {**stop, "rule": "F12"},
-        {**infill, "aspect": "*", "balise": "0", "packet": "0", "until": "2999-01-01"},
+        {**stop, "rule": "F10", "sha256": red},
+        {**stop, "rule": "F12", "sha256": red},
+        {**infill, "aspect": "*", "balise": "0", "packet": "0", "until": "2999-01-01", "sha256": both},
     ]
     last = {"nid_bg": "105", "rule": "F11", "aspect": "*", "balise": "1", "packet": "1", "direction": "nominal"}
+    last["sha256"] = green
     for some, counts, status in (
-        (rows, "accepted 4, open 1", 1),
-        ([*rows, last], "accepted 5, open 0", 0),
-        ([*rows, {**last, "until": "2020-01-01"}], "accepted 4, open 1; entries at fault 1", 1),
+        (rows, "accepted 4 (2 by *), open 1", 1),
+        ([*rows, last], "accepted 5 (3 by *), open 0", 0),
+        ([*rows, {**last, "until": "2026-02-01"}], "accepted 4 (2 by *), open 1; entries at fault 1", 1),
     ):
         words = ["--accepted", str(_accepted(tmp_path / "accepted.csv", *some))]
         assert cli.main(["check", str(table), *words]) == status
@@ -165,9 +169,11 @@ def test_accepted_findings_stand_apart(tmp_path: Path, capsys: pytest.CaptureFix
         page = (tmp_path / "report.html").read_text("utf-8")
         told = capsys.readouterr().out.splitlines()[1:]
         assert told == said[-len(told) :] and "program: no: findings 5" in told
-        closing = "\n".join(["program: no: findings 5", f"findings 5: {counts}", *(["no open findings"][status:])])
+        closing = "\n".join(
+            ["program: no: findings 5", f"findings 5: {counts}", *(["no open findings; accepted by *: 3"][status:])]
+        )
         assert f'<p class="verdict">{closing}</p>' in page
-        assert ("until 2020-01-01 is past" in page) == ("fault" in counts)
+        assert ("until 2026-02-01 is past" in page) == ("fault" in counts)
         still_open = _between(page, "Open findings", "Accepted findings")
         accepted = _between(page, "Accepted findings", "What findings mean")
         assert ("F11 group 5 aspect 2" in still_open, "F11 group 5 aspect 2" in accepted) == (status == 1, status == 0)
@@ -206,9 +212,9 @@ def test_findings_of_one_cause_have_a_heading(tmp_path: Path) -> None:
     ]
     assert listed.count("position wrong</span>") == 6 and page.count("position wrong</span>") == 12
     some = [
-        {"nid_c": "1", "nid_bg": "1", "rule": "F1", "aspect": aspect, "balise": balise}
+        {"nid_c": "1", "nid_bg": "1", "rule": "F1", "aspect": aspect, "balise": balise, "sha256": digest([text])}
         for aspect in ("red", "yellow")
-        for balise in ("0", "1")
+        for balise, text in (("0", SECOND), ("1", FIRST))
     ]
     _, page = _report(table, tmp_path / "r.html", "--accepted", str(_accepted(tmp_path / "a.csv", *some)))
     assert "F1, " not in _between(page, "Open findings", "Accepted findings")

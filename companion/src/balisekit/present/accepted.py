@@ -5,8 +5,8 @@ from typing import Any, Dict, Iterator, List, Optional
 
 from balisekit.io import csv_writing
 from balisekit.rules import correct_data
-from balisekit.rules.accepted import COLUMNS, UNNAMED, Entry, Judged, Key, keys
-from balisekit.rules.checking import Checked
+from balisekit.rules.accepted import COLUMNS, UNNAMED, Entry, Judged, Key, checksum, keys
+from balisekit.rules.checking import Checked, Place
 from balisekit.tables.names import clean
 
 
@@ -26,6 +26,12 @@ def fault_lines(judged: Judged) -> Iterator[str]:
     """The entries at fault, and how many findings no entry can name."""
     path = clean(judged.entries.path)
     yield from (f"{path}: row {entry.row}: {why}" for entry, why in judged.faults)
+    unsigned = sum(not entry.sha256 for entry in judged.entries.entries)
+    if unsigned:
+        yield (
+            f"note: entries without a sha256: {unsigned}. They accept nothing, since nobody knows which telegrams were "
+            "looked at: --propose writes new ones"
+        )
     unnamed = sum(UNNAMED in key for key, entry in zip(keys(judged.checked), judged.by_finding) if entry is None)
     if unnamed:
         yield f"note: {unnamed} open findings are of messages without a name of their own, so that no entry names them"
@@ -38,14 +44,15 @@ def verdict_lines(judged: Judged, last: str) -> Iterator[str]:
         return
     yield from (last, counts(judged))
     if judged.status == 0:
-        yield "no open findings"
+        yield "no open findings" + (f"; accepted by *: {judged.accepted_by_any}" if judged.accepted_by_any else "")
 
 
 def counts(judged: Judged) -> str:
     """How many findings there are, accepted and open, and entries at fault."""
     findings, still_open = len(judged.checked.findings), len(judged.open)
     at_fault = f"; entries at fault {len(judged.faults)}" if judged.faults else ""
-    return f"findings {findings}: accepted {findings - still_open}, open {still_open}{at_fault}"
+    by_any = f" ({judged.accepted_by_any} by *)" if judged.accepted_by_any else ""
+    return f"findings {findings}: accepted {findings - still_open}{by_any}, open {still_open}{at_fault}"
 
 
 def as_json(judged: Judged) -> Dict[str, Any]:
@@ -68,17 +75,26 @@ def entry_json(entry: Entry) -> Dict[str, Any]:
         "who": entry.who,
         "date": str(entry.date or ""),
         "until": str(entry.until or ""),
+        "sha256": entry.sha256,
     }
 
 
 def proposal(checked: Checked, judged: Optional[Judged]) -> str:
-    """A file of entries for the open findings. Nobody has signed them: `who` and `date` are empty."""
+    """A file of entries for the open findings. Nobody has signed them: `who` and `date` are empty.
+
+    An entry of other data that fits a finding gives its reason.
+    """
     accepting = judged.by_finding if judged else (None,) * len(checked.findings)
-    said = correct_data.reasons()
-    del said["pair controlled"]
+    former = judged.former if judged else accepting
+    reasons = correct_data.reasons()
+    del reasons["pair controlled"]
+    findings: Dict[Key, List[Place]] = {}
+    for key, place in zip(keys(checked), checked.findings):
+        findings.setdefault(key, []).append(place)
     rows: Dict[Key, List[str]] = {}
     fits = correct_data.rows_of(checked.findings, checked)
-    for key, row, entry in zip(keys(checked), fits, accepting):
-        if entry is None and UNNAMED not in key:
-            rows.setdefault(key, [*key, said.get(row, ""), "", "", ""])
+    for key, row, entry, known in zip(keys(checked), fits, accepting, former):
+        if entry is None and UNNAMED not in key and key not in rows:
+            reason = known.reason if known else reasons.get(row, "")
+            rows[key] = [*key, reason, "", "", "", checksum(findings[key])]
     return csv_writing.text(COLUMNS, rows.values())

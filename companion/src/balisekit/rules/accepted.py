@@ -1,16 +1,18 @@
-"""Findings that were accepted: the entries of a file, and which findings of a line they are about.
+"""Findings that were accepted: the entries of a file, and which findings of a line they fit.
 
 An entry names a group by its identity, a message by its name in the messages' file, an aspect by its name in the table,
-and a balise and packet by their places. So a group that is put in before moves nothing.
+and a balise and packet by their places. So a group that is put in before moves nothing. The checksum of an entry holds
+the telegrams that were looked at: it accepts no other ones.
 """
 from __future__ import annotations
 
 import datetime
+import hashlib
 import os
 import re
 from collections import Counter
 from dataclasses import dataclass
-from typing import Dict, Iterable, Iterator, List, Mapping, Optional, Sequence, Set, Tuple
+from typing import Dict, Iterable, Iterator, List, Mapping, Optional, Sequence, Tuple
 
 from balisekit.errors import TableError, TableErrors
 from balisekit.io import inputs
@@ -22,10 +24,19 @@ from balisekit.tables.cells import headings
 FIELDS = ("rule", "nid_c", "nid_bg", "message", "aspect", "balise", "packet", "direction")
 """What says which finding is meant."""
 NEEDED = (*FIELDS, "reason", "who", "date")
-COLUMNS = (*NEEDED, "until")
+COLUMNS = (*NEEDED, "until", "sha256")
 ANY = "*"
 UNNAMED = "\0"
-"""In place of a message's name where it has none, or where another one has it too. No entry but `*` is as this."""
+"""Instead of the name of a message that has none, or `*`, or that of another message. No entry is about it."""
+INVISIBLE = "\u115f\u1160\u3164\uffa0"
+"""Letters without ink."""
+EARLIEST = datetime.date(2000, 1, 1)
+ONE_DAY = datetime.timedelta(days=1)
+"""By so much the day of a signature may be after that of the run, which is by universal time."""
+ONE_TELEGRAM = (1, 4, 6, 9)
+"""The findings about one telegram only."""
+ALL_ASPECTS = (3, 14, 15, 16)
+"""The findings that compare aspects or groups. The others are about all telegrams of an aspect."""
 Key = Tuple[str, ...]
 
 
@@ -39,12 +50,39 @@ class Entry:
     who: str
     date: Optional[datetime.date]
     until: Optional[datetime.date]
+    sha256: str = ""
+    """Of the telegrams, or the message, that the findings are about which it accepts."""
+
+    @property
+    def is_wide(self) -> bool:
+        """Whether a `*` lets it fit several findings."""
+        return ANY in self.key
 
     def faults(self, day: datetime.date) -> List[str]:
-        """Why it accepts nothing."""
-        lacks = [name for name, value in (("reason", self.reason), ("who", self.who), ("date", self.date)) if not value]
-        past = [f"until {self.until} is past"] if self.until and self.until < day else []
-        return [f"no {name}" for name in lacks] + past
+        """Why it accepts nothing, whatever the data are."""
+        faults = [f"no {name}" for name, value in (("reason", self.reason), ("who", self.who)) if not _is_text(value)]
+        faults += [] if self.date else ["no date"]
+        if self.date and self.date > day + ONE_DAY:
+            faults.append(f"date {self.date} is after the day of the run, {day}")
+        if self.date and self.date < EARLIEST:
+            faults.append(f"date {self.date} is before {EARLIEST.year}")
+        if self.date and self.until and self.until < self.date:
+            faults.append(f"until {self.until} is before date {self.date}")
+        elif self.until and self.until < day:
+            faults.append(f"until {self.until} is past")
+        return faults
+
+    def changed(self, findings: Sequence[Place]) -> List[str]:
+        """Why it does not accept these findings, which it fits: its checksum is of other data, or it has none."""
+        now = checksum(findings)
+        if self.sha256 == now:
+            return []
+        hint = f": that of the {len(findings)} findings that it fits is {now}" if self.is_wide else ""
+        if not self.sha256:
+            return [f"no sha256{hint}"]
+        what = "telegram has" if len(_texts(findings[0])) == 1 else "telegrams have"
+        what = "message has" if findings[0].message else what
+        return [f"the {what} changed{f' since {self.date}' if self.date else ''}{hint}"]
 
 
 @dataclass(frozen=True)
@@ -65,7 +103,15 @@ class Judged:
     by_finding: Tuple[Optional[Entry], ...]
     """For each finding the entry that accepts it."""
     faults: Tuple[Tuple[Entry, str], ...]
-    """The entries that are unused, past their date, or without reason, name or date, and why."""
+    """The entries that are unused, not in order, or of other data, and why."""
+
+    former: Tuple[Optional[Entry], ...] = ()
+    """For each finding the first entry that fits it only, whether or not it accepts it."""
+
+    @property
+    def accepted_by_any(self) -> int:
+        """How many findings are accepted by entries with `*`."""
+        return sum(entry is not None and entry.is_wide for entry in self.by_finding)
 
     @property
     def open(self) -> Tuple[Place, ...]:
@@ -133,14 +179,16 @@ def _entry(number: int, heading: Sequence[str], cells: Sequence[str]) -> Entry:
         if "\n" in value or "\r" in value:
             raise TableError("a line end stands in the cell", column=name)
     key = tuple(_field(name, values[name]) for name in FIELDS)
-    return Entry(
-        number, key, values["reason"], values["who"], _date("date", values["date"]), _date("until", values["until"])
-    )
+    if {"", ANY} & set(key[1:3]) and key[3] in ("", ANY):
+        why = "an entry is about one group, by nid_c and nid_bg, or about one message, by its name"
+        raise TableError(why, column="message" if key[1:3] == ("", "") else "nid_c")
+    date, until = _date("date", values["date"]), _date("until", values["until"])
+    return Entry(number, key, values["reason"], values["who"], date, until, _checksum(values["sha256"]))
 
 
 def _field(name: str, value: str) -> str:
     """What an entry says of one of the fields, as findings say it."""
-    if value == ANY or name in ("message", "aspect"):
+    if name in ("message", "aspect") or value == ANY and name != "rule":
         return value
     if name == "rule":
         if not re.fullmatch("F([1-9]|1[0-6])", value.upper()):
@@ -153,6 +201,17 @@ def _field(name: str, value: str) -> str:
     if value and not re.fullmatch("[0-9]{1,6}", value):
         raise TableError(f"{value[:40]} is no whole number", column=name)
     return str(int(value)) if value else ""
+
+
+def _checksum(value: str) -> str:
+    if value and not re.fullmatch("[0-9a-f]{64}", value.lower()):
+        raise TableError(f"{value[:40]} is no SHA-256: --propose writes it", column="sha256")
+    return value.lower()
+
+
+def _is_text(value: str) -> bool:
+    """Whether there is anything to read."""
+    return any(letter.isalnum() and letter not in INVISIBLE for letter in value)
 
 
 def _date(name: str, value: str) -> Optional[datetime.date]:
@@ -183,26 +242,51 @@ def _key(place: Place, checked: Checked, names: Mapping[str, int]) -> Key:
         identity = (str(form["nid_c"]), str(form["nid_bg"]))
     message = ""
     if place.message is not None:
-        message = place.message.name if names[place.message.name] == 1 and place.message.name else UNNAMED
+        name = place.message.name
+        message = name if names[name] == 1 and name not in ("", ANY) else UNNAMED
     numbers = ["" if number is None else str(number) for number in (finding.balise, finding.packet)]
     return (f"F{finding.rule}", *identity, message, place.aspect or "", *numbers, finding.direction or "")
 
 
+def checksum(findings: Sequence[Place]) -> str:
+    """The SHA-256 of the telegrams or messages that findings are about: their digits in small letters, a line each."""
+    blocks = {"".join(f"{text.lower()}\n" for text in _texts(place)) for place in findings}
+    return hashlib.sha256("".join(sorted(blocks)).encode("utf-8", "surrogatepass")).hexdigest()
+
+
+def _texts(place: Place) -> List[str]:
+    """The telegrams that a finding is about, in the order of the aspects and of their balises, or the message."""
+    finding, group = place.finding, place.group
+    if place.message is not None:
+        return [place.message.text]
+    if group is None:
+        return []
+    if finding.rule in ONE_TELEGRAM and place.row is not None:
+        return [place.row.telegram]
+    if finding.aspect is not None and finding.rule not in ALL_ASPECTS:
+        return [row.telegram for row in group.aspects[finding.aspect].rows]
+    groups = [group, *([place.earlier] if place.earlier else [])]
+    rows = {row.number: row.telegram for each in groups for row in each.rows()}
+    return list(rows.values())
+
+
 def judge(checked: Checked, entries: Entries, day: datetime.date) -> Judged:
     """Which findings are accepted on this day, and which entries are at fault."""
-    faults = {entry.row: entry.faults(day) for entry in entries.entries}
     by_mask = _by_mask(entries.entries)
-    used: Set[int] = set()
-    by_finding: List[Optional[Entry]] = []
-    for key in keys(checked):
-        about = list(_about(key, by_mask))
-        used.update(entry.row for entry in about)
-        by_finding.append(next((entry for entry in about if not faults[entry.row]), None))
-    told = []
+    about = [list(_about(key, by_mask)) for key in keys(checked)]
+    fitting: Dict[int, List[Place]] = {}
+    for place, fits in zip(checked.findings, about):
+        for entry in fits:
+            fitting.setdefault(entry.row, []).append(place)
+    faults: Dict[int, List[str]] = {}
     for entry in entries.entries:
-        why = [*([] if entry.row in used else ["unused: no finding is as it says"]), *faults[entry.row]]
-        told += [(entry, ", ".join(why))] if why else []
-    return Judged(checked, entries, tuple(by_finding), tuple(told))
+        findings = fitting.get(entry.row)
+        why = entry.changed(findings) if findings else ["unused: no finding is as it says"]
+        faults[entry.row] = why + entry.faults(day)
+    by_finding = [next((entry for entry in fits if not faults[entry.row]), None) for fits in about]
+    former = [next((entry for entry in fits if not entry.is_wide), None) for fits in about]
+    at_fault = [(entry, ", ".join(faults[entry.row])) for entry in entries.entries if faults[entry.row]]
+    return Judged(checked, entries, tuple(by_finding), tuple(at_fault), tuple(former))
 
 
 Masks = Mapping[Tuple[bool, ...], Mapping[Key, Sequence[Entry]]]
