@@ -1,14 +1,13 @@
-"""How many aspects the groups of a table have, and which groups have fewer than those that are like them."""
+"""How many aspects the groups of a table have."""
 from __future__ import annotations
 
-from collections import Counter
-from typing import Dict, FrozenSet, Iterator, List, Tuple
+from typing import Dict, List, Tuple
 
 from balisekit.tables.model import Group, Table
-from balisekit.tables.names import clean, quoted
+from balisekit.tables.names import clean
 
 NAMED = 3
-"""So many groups with one number of aspects, or with the same few aspects, are named."""
+"""So many groups with one number of aspects are named."""
 
 
 def aspects_found(table: Table) -> str:
@@ -28,27 +27,3 @@ def groups_by_aspects(table: Table) -> List[Tuple[int, List[Group]]]:
     for group in table.groups:
         found.setdefault(len(group.aspects), []).append(group)
     return sorted(found.items(), reverse=True)
-
-
-def fewer_aspects(table: Table) -> Iterator[str]:
-    """A line for each group that has only some of the aspects of others.
-
-    At most three groups have just its aspects, and most of the others that have these all have the same further ones.
-    """
-    named = {group.name: frozenset(one.name for one in group.aspects if one.name) for group in table.groups}
-    counts = Counter(some for some in named.values() if some)
-    having: Dict[str, List[FrozenSet[str]]] = {}
-    for some in counts:
-        for aspect in some:
-            having.setdefault(aspect, []).append(some)
-    for name, own in named.items():
-        if not 0 < counts[own] <= NAMED:
-            continue
-        larger = [some for some in min((having[aspect] for aspect in own), key=len) if some > own]
-        most = max(larger, key=lambda some: counts[some], default=own)
-        if most > own and counts[most] * 2 > sum(counts[some] for some in larger) + counts[own] - 1:
-            yield (
-                f"look: {clean(name)} has {len(own)} aspect{'s' if len(own) > 1 else ''}, {counts[most]} "
-                f"other{'s have' if counts[most] > 1 else ' has'} {len(most)}: "
-                f"{', '.join(map(quoted, sorted(most - own)))} too"
-            )

@@ -1,0 +1,72 @@
+"""names alike: two names look alike and differ.
+
+What it says. Two groups, aspects or tracks of the table have names that differ by characters without ink, by letters of
+another script or by the way an accent is written. Names that differ in case or blanks only have a note of their own.
+
+How urgent. To be looked at: what reads as one group or aspect is checked as two.
+
+Usual cause. A name was copied from a document or a page that has such characters.
+
+How to correct it. Write the name anew wherever it is meant.
+"""
+from __future__ import annotations
+
+import re
+import unicodedata
+from typing import Dict, Iterable, Iterator, Tuple
+
+from balisekit.rules.line import Line
+from balisekit.rules.location import Location
+from balisekit.rules.rule import Options, Remark, Result, Rule
+from balisekit.tables.model import Row
+from balisekit.tables.names import quoted
+
+INVISIBLE = re.compile("[\u034f\u115f\u1160\u2800\u3164\uffa0\ufe00-\ufe0f\U000e0100-\U000e01ef]")
+"""Characters without ink that are of no category of such ones."""
+LOOK_ALIKE = str.maketrans(
+    "АВЕЅЗІЈКМНОРСТУХаеѕіјорсухԁԛԝΑΒΕΖΗΙΚΜΝΟΡΤΥΧοѵ‐‑‒–—−", "ABES3IJKMHOPCTYXaesijopcyxdqwABEZHIKMNOPTYXov------"
+)
+"""Letters of Cyrillic and Greek, and dashes, each as the one of Latin that it looks like."""
+
+
+def find(line: Line, options: Options) -> Result:
+    """Compares the names of all groups, of all aspects and of all tracks."""
+    rows = [row for group in line.table_groups for aspect in group.aspects for row in aspect.rows]
+    names = {
+        "groups": {group.name: group.aspects[0].rows[0] for group in reversed(line.table_groups)},
+        "aspects": {row.aspect: row for row in reversed(rows)},
+        "tracks": {row.track: row for row in reversed(rows)},
+    }
+    found = [remark for what, named in names.items() for remark in _compare(what, named)]
+    return Result(sorted(found, key=lambda each: each.location.order), sum(map(len, names.values())))
+
+
+def _compare(what: str, named: Dict[str, Row]) -> Iterator[Remark]:
+    if all(name.isascii() and name.isprintable() for name in named):
+        return
+    first: Dict[str, str] = {}
+    for name, row in reversed(list(named.items())):
+        other = first.setdefault(_look(name), name)
+        if _folded(other) != _folded(name):
+            sentence = f"{what} {quoted(other)} and {quoted(name)} look alike, and differ by {_differing(other, name)}"
+            yield Remark(RULE.name, Location(row=row), sentence)
+
+
+def _folded(name: str) -> str:
+    return re.sub(r"\s+", " ", name).casefold()
+
+
+def _look(name: str) -> str:
+    """What is seen of a name."""
+    seen = [each for each in unicodedata.normalize("NFKC", name) if unicodedata.category(each) not in ("Cc", "Cf")]
+    return _folded(INVISIBLE.sub("", "".join(seen)).translate(LOOK_ALIKE)).strip()
+
+
+def _differing(one: str, other: str) -> str:
+    """The characters that one of the two has only, apart from those of ASCII."""
+    letters = sorted(each for each in set(one) ^ set(other) if not each.isascii())
+    named: Iterable[Tuple[str, str]] = ((each, unicodedata.name(each, "")) for each in letters or [" "])
+    return ", ".join(f"U+{ord(each):04X} {name}".strip() for each, name in named)
+
+
+RULE = Rule("names alike", "names", __doc__ or "", find)

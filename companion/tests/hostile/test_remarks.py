@@ -1,0 +1,77 @@
+"""Remarks `look: ..` on names that look alike, and on a column km in metres."""
+from __future__ import annotations
+
+from pathlib import Path
+from typing import Callable, List, Sequence
+
+import pytest
+from conftest import Run
+from telegrams import ALONE, OTHER
+
+Write = Callable[..., Path]
+
+
+def looks(out: Sequence[str]) -> List[str]:
+    """The remarks of an answer."""
+    return [line for line in out if line.startswith("look: ")]
+
+
+@pytest.mark.parametrize(
+    "one, other, differing",
+    [
+        ("Signal A", "Signal\u200b A", "U+200B ZERO WIDTH SPACE"),
+        ("Signal A", "Signal A\u061c", "U+061C ARABIC LETTER MARK"),
+        ("Signal A", "Signal A\u3164", "U+3164 HANGUL FILLER"),
+        ("Signal A", "Signal A\U000e0041", "U+E0041 TAG LATIN CAPITAL LETTER A"),
+        ("Signal A", "Signal \u0410", "U+0410 CYRILLIC CAPITAL LETTER A"),
+        ("Sign\u0430l A", "Signal A", "U+0430 CYRILLIC SMALL LETTER A"),
+        ("na\u00efve", "nai\u0308ve", "U+00EF LATIN SMALL LETTER I WITH DIAERESIS, U+0308 COMBINING DIAERESIS"),
+        ("A-1", "A\u20131", "U+2013 EN DASH"),
+        ("Signal A", "Signal\u00ad A", "U+00AD SOFT HYPHEN"),
+    ],
+)
+def test_names_that_look_alike(run: Run, table: Write, one: str, other: str, differing: str) -> None:
+    status, out, _ = run("check", table("group,telegram", f"{one},{ALONE}", f"{other},{OTHER}"))
+    (line,) = looks(out)
+    assert status == 0 and line.startswith("look: groups ") and line.endswith(f" look alike, and differ by {differing}")
+
+
+@pytest.mark.parametrize("column, what", [("aspect", "aspects"), ("track", "tracks")])
+def test_aspects_and_tracks_that_look_alike(run: Run, table: Write, column: str, what: str) -> None:
+    lines = [f"A,red,{ALONE}", f"B,r\u0435d,{OTHER}"]
+    out = run("check", table(f"group,{column},telegram", *lines))[1]
+    assert [line for line in looks(out) if "look alike" in line] == [
+        f'look: {what} "red" and "r\u0435d" look alike, and differ by U+0435 CYRILLIC SMALL LETTER IE'
+    ]
+
+
+@pytest.mark.parametrize(
+    "one, other", [("Signal A", "SIGNAL A"), ("Zug", "Z\u00fcg"), ("A1", "AI"), ("\u0410", "\u0411")]
+)
+def test_names_that_differ_to_the_eye(run: Run, table: Write, one: str, other: str) -> None:
+    """Those that differ in case have a note."""
+    assert looks(run("check", table("group,telegram", f"{one},{ALONE}", f"{other},{OTHER}"))[1]) == []
+
+
+@pytest.mark.parametrize(
+    "kms, remark",
+    [
+        (["1850", "2850", "3850"], "1850 to 3850"),
+        (["100", "150", "200"], "100 to 200"),
+        (["1850", "1850.5", "3850"], ""),
+        (["10", "12", "13"], ""),
+        (["10", "112"], ""),
+        (["", ""], ""),
+    ],
+)
+def test_kilometres_that_look_like_metres(run: Run, table: Write, kms: Sequence[str], remark: str) -> None:
+    """One balise a group; `check` says no for the identity, which is the same."""
+    rows = [f"G{number},{km},{ALONE}" for number, km in enumerate(kms)]
+    out = run("check", table("group,km,telegram", *rows))[1]
+    wanted = [f"look: the column km has whole numbers only, {remark}: are they metres?"] if remark else []
+    assert looks(out) == wanted
+
+
+def test_balises_of_a_group_in_metres(run: Run, table: Write) -> None:
+    out = run("check", table("group,km,telegram", f"G,1850,{ALONE}", f"G,1853,{OTHER}"))[1]
+    assert looks(out)[-1] == "look: the column km has whole numbers only, 1850 to 1853: are they metres?"
