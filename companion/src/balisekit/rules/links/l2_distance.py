@@ -2,7 +2,8 @@
 
 What it says. The distance of a linked group by D_LINK differs from that of the kilometres by more than its Q_LOCACC and
 `--tolerance` together. Both distances are in metres, from the group that is named in the line. "Behind it" says that by
-the kilometres the train has passed the linked group already (SUBSET-026, 3.4.4 and 7.5.1).
+the kilometres the train has passed the linked group already. If the direction of the sending group along the kilometres
+is not known, the first link that is compared shows it (SUBSET-026, 3.4.4 and 7.5.1).
 
 How urgent. At worst the train brakes or is tripped, or it takes a wrong place for its own.
 
