@@ -10,6 +10,7 @@ from balisekit.tables.names import clean, describe_balise, describe_group, descr
 
 NOT_KNOWN = 16_383
 """The NID_BG that says that an identity is not known."""
+NOT_IN_TABLE = "not in the table"
 Identity = Tuple[int, int]
 """NID_C and NID_BG."""
 
@@ -78,3 +79,12 @@ class Location(NamedTuple):
 def identity_words(identity: Identity) -> str:
     """An identity in words."""
     return f"group {identity[1]} of country or region {identity[0]}"
+
+
+def incomparable(one: Optional[BaliseGroup], other: Optional[BaliseGroup]) -> str:
+    """Why the kilometres of two groups cannot be compared, or nothing."""
+    if one is None or other is None:
+        return NOT_IN_TABLE
+    if one.km is None or other.km is None:
+        return "no kilometre"
+    return "another track" if one.track != other.track else ""

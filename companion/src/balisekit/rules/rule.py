@@ -12,10 +12,6 @@ from typing import Callable, Dict, Mapping, Optional, Sequence
 from balisekit.rules.line import Line
 from balisekit.rules.location import BaliseGroup, Location
 
-NOT_IN_TABLE = "not in the table"
-NO_KILOMETRE = "no kilometre"
-NO_DIRECTION = "no direction along the kilometres"
-OTHER_TRACK = "another track"
 REFUSED = "refused"
 
 

@@ -25,15 +25,16 @@ from __future__ import annotations
 
 from collections import Counter
 from decimal import Decimal
-from typing import Counter as Counted, Iterator, Optional, Tuple
+from typing import Counter as Counted, Iterator, Optional
 
 from balisekit.rules.line import Line
-from balisekit.rules.location import BaliseGroup
-from balisekit.rules.passages import Chain, Link
-from balisekit.rules.rule import NO_KILOMETRE, NOT_IN_TABLE, OTHER_TRACK, Options, Remark, Result, Rule
+from balisekit.rules.location import incomparable
+from balisekit.rules.passages import Chain
+from balisekit.rules.rule import Options, Remark, Result, Rule
 
 DECIMETRES = 10_000
 """In a kilometre."""
+ZERO = Decimal()
 
 
 def find(line: Line, options: Options) -> Result:
@@ -53,45 +54,27 @@ def _compare(chain: Chain, tolerance: Decimal, skipped: Counted[str]) -> Iterato
     for link in chain.links:
         summed += link.distance
         here = link.target
-        if base is None or here is None or base.km is None or here.km is None or base.track != here.track:
-            skipped[_lacks(base, here)] += link.known
+        why = incomparable(base, here)
+        if base is None or here is None or why:
+            skipped[why] += link.known
             continue
-        wanted = (here.km - base.km) * DECIMETRES
+        wanted = ((here.km or ZERO) - (base.km or ZERO)) * DECIMETRES
         if along is None:
             along = (wanted > 0) - (wanted < 0) or None
         wanted *= along or 1
         if wanted == summed or abs(wanted - summed) <= (link.accuracy + tolerance) * 10:
             yield None
-        else:
-            yield _remark(chain, link, (base, here), (Decimal(summed) / 10, wanted / 10), tolerance)
-            base, summed = here, 0
-
-
-def _lacks(base: Optional[BaliseGroup], here: Optional[BaliseGroup]) -> str:
-    """Why there are no kilometres to compare with."""
-    if base is None or here is None:
-        return NOT_IN_TABLE
-    return NO_KILOMETRE if base.km is None or here.km is None else OTHER_TRACK
-
-
-def _remark(
-    chain: Chain,
-    link: Link,
-    between: Tuple[BaliseGroup, BaliseGroup],
-    distances: Tuple[Decimal, Decimal],
-    tolerance: Decimal,
-) -> Remark:
-    (base, here), (distance, wanted) = between, distances
-    by_kilometres = _metres(wanted) if wanted >= 0 else f"{_metres(-wanted)} behind it"
-    return Remark(
-        "L2",
-        chain.at(link),
-        f"{here} is {_metres(distance)} from {base} by D_LINK, and {by_kilometres} by the kilometres: they differ by "
-        f"{_metres(abs(distance - wanted))}, and Q_LOCACC is {link.accuracy} m"
-        + (f" and the tolerance {_metres(tolerance)}" if tolerance else ""),
-        here,
-        {"metres_by_d_link": distance, "metres_by_kilometres": wanted},
-    )
+            continue
+        distance, by_kilometres = Decimal(summed) / 10, wanted / 10
+        sentence = (
+            f"{here} is {_metres(distance)} from {base} by D_LINK, and {_metres(abs(by_kilometres))}"
+            f"{' behind it' if wanted < 0 else ''} by the kilometres: they differ by "
+            f"{_metres(abs(distance - by_kilometres))}, and Q_LOCACC is {link.accuracy} m"
+            + (f" and the tolerance {_metres(tolerance)}" if tolerance else "")
+        )
+        values = {"metres_by_d_link": distance, "metres_by_kilometres": by_kilometres}
+        yield Remark("L2", chain.at(link), sentence, here, values)
+        base, summed = here, 0
 
 
 def _metres(distance: Decimal) -> str:

@@ -20,13 +20,12 @@ Example. Group B faces the other way, and the link of group A says that it is pa
 from __future__ import annotations
 
 from collections import Counter
-from typing import Counter as Counted, Optional
+from typing import Counter as Counted
 
 from balisekit.etcs.geometry import NOMINAL, REVERSE
 from balisekit.rules.line import Line
-from balisekit.rules.location import BaliseGroup
-from balisekit.rules.passages import Chain, Link
-from balisekit.rules.rule import NO_DIRECTION, NOT_IN_TABLE, OTHER_TRACK, Options, Remark, Result, Rule
+from balisekit.rules.location import NOT_IN_TABLE
+from balisekit.rules.rule import Options, Remark, Result, Rule
 
 
 def find(line: Line, options: Options) -> Result:
@@ -34,35 +33,28 @@ def find(line: Line, options: Options) -> Result:
     skipped: Counted[str] = Counter(line.infill_links)
     found, looked_at = [], 0
     for chain in line.chains:
-        along = chain.sender.along(chain.direction) if chain.sender else None
+        sender = chain.sender
+        along = sender.along(chain.direction) if sender else None
         for link in chain.links:
             here = link.target
-            why = _lacks(chain, along, here)
-            if here is None or why:
-                skipped[why] += link.known
-            elif here.balises > 1:
+            if sender is None or here is None:
+                skipped[NOT_IN_TABLE] += link.known
+            elif here.balises == 1:
+                continue
+            elif here.rising is None or along is None:
+                skipped["no direction along the kilometres"] += 1
+            elif here.track != sender.track:
+                skipped["another track"] += 1
+            else:
                 looked_at += 1
                 if (here.rising == along) != link.nominal:
-                    found.append(_remark(chain, link, here))
+                    announced, wanted = (NOMINAL, REVERSE) if link.nominal else (REVERSE, NOMINAL)
+                    sentence = (
+                        f"Q_LINKORIENTATION says that {here} is passed in {announced} direction, "
+                        f"and by the order of its balises along the track it is passed in {wanted} direction"
+                    )
+                    found.append(Remark("L3", chain.at(link), sentence, here))
     return Result(found, looked_at, skipped)
-
-
-def _lacks(chain: Chain, along: Optional[int], here: Optional[BaliseGroup]) -> str:
-    """Why the orientation cannot be compared. A single balise has none."""
-    if chain.sender is None or here is None:
-        return NOT_IN_TABLE
-    if here.balises > 1 and (here.rising is None or along is None):
-        return NO_DIRECTION
-    return OTHER_TRACK if here.balises > 1 and here.track != chain.sender.track else ""
-
-
-def _remark(chain: Chain, link: Link, here: BaliseGroup) -> Remark:
-    announced, wanted = (NOMINAL, REVERSE) if link.nominal else (REVERSE, NOMINAL)
-    sentence = (
-        f"Q_LINKORIENTATION says that {here} is passed in {announced} direction, "
-        f"and by the order of its balises along the track it is passed in {wanted} direction"
-    )
-    return Remark("L3", chain.at(link), sentence, here)
 
 
 RULE = Rule("L3", "links", __doc__ or "", find)

@@ -30,19 +30,16 @@ NAMED = 3
 
 def find(line: Line, options: Options) -> Result:
     """Looks at each group that a link names."""
-    linked: Dict[int, BaliseGroup] = {}
-    senders: Dict[int, List[str]] = {}
+    senders: Dict[int, Dict[str, None]] = {}
     for chain in line.chains:
         for link in chain.links:
-            group = link.target
-            if group is not None:
-                linked[group.number] = group
-                if not group.linked:
-                    names = senders.setdefault(group.number, [])
-                    names += [] if _sender(chain) in names else [_sender(chain)]
+            if link.target is not None:
+                names = senders.setdefault(link.target.number, {})
+                if not link.target.linked:
+                    names[_sender(chain)] = None
     infill = {link.target.number for chain in line.passages.infill_chains for link in chain.links if link.target}
-    found = [_remark(linked[number], names) for number, names in senders.items()]
-    return Result(found, len(linked), {AFTER_INFILL: len(infill - set(linked))})
+    found = [_remark(line.groups[number], list(names)) for number, names in senders.items() if names]
+    return Result(found, len(senders), {AFTER_INFILL: len(infill - set(senders))})
 
 
 def _remark(group: BaliseGroup, names: List[str]) -> Remark:
@@ -52,9 +49,10 @@ def _remark(group: BaliseGroup, names: List[str]) -> Remark:
 
 
 def _sender(chain: Chain) -> str:
-    if chain.location.message is not None:
-        return f"the message of {describe_message(chain.location.message)}"
-    return clean(chain.sender.group.name) if chain.sender else ""
+    message, sender = chain.location.message, chain.sender
+    if message is not None:
+        return f"the message of {describe_message(message)}"
+    return clean(sender.group.name) if sender else ""
 
 
 RULE = Rule("L4", "groups", __doc__ or "", find)

@@ -22,12 +22,11 @@ Example. Group A links group C alone, and group B stands between them.
 from __future__ import annotations
 
 from collections import Counter
-from typing import Counter as Counted, Optional, Sequence
+from typing import Counter as Counted
 
 from balisekit.rules.line import Line
-from balisekit.rules.location import BaliseGroup
-from balisekit.rules.passages import Chain
-from balisekit.rules.rule import NO_KILOMETRE, NOT_IN_TABLE, OTHER_TRACK, Options, Remark, Result, Rule
+from balisekit.rules.location import incomparable
+from balisekit.rules.rule import Options, Remark, Result, Rule
 
 
 def find(line: Line, options: Options) -> Result:
@@ -37,37 +36,21 @@ def find(line: Line, options: Options) -> Result:
     for chain in line.chains:
         stops = [chain.sender, *(link.target for link in chain.links)]
         for before, after, link in zip(stops, stops[1:], chain.links):
-            if before is None or after is None or not _comparable(before, after):
-                skipped[_lacks(before, after)] += link.known
+            why = incomparable(before, after)
+            if before is None or after is None or why:
+                skipped[why] += link.known
                 continue
             looked_at += 1
             groups, count = line.linked[before.track].between(before, after, chain)
             if groups:
-                found.append(_remark(chain, before, after, groups, count))
+                more = f" and {count - len(groups)} more" if count > len(groups) else ""
+                words = ("has", "stands", "is", "it") if count == 1 else ("have", "stand", "are", "them")
+                sentence = (
+                    f"{', '.join(map(str, groups))}{more} {words[0]} Q_LINK 1 and {words[1]} between {before} and "
+                    f"{after}, and {words[2]} not linked: a train that uses linking passes {words[3]} over"
+                )
+                found.append(Remark("L9", chain.location, sentence, groups[0]))
     return Result(found, looked_at, skipped)
-
-
-def _comparable(before: BaliseGroup, after: BaliseGroup) -> bool:
-    return before.km is not None and after.km is not None and before.track == after.track
-
-
-def _lacks(before: Optional[BaliseGroup], after: Optional[BaliseGroup]) -> str:
-    """Why it is not known which groups lie between two."""
-    if before is None or after is None:
-        return NOT_IN_TABLE
-    return NO_KILOMETRE if before.km is None or after.km is None else OTHER_TRACK
-
-
-def _remark(chain: Chain, before: BaliseGroup, after: BaliseGroup, groups: Sequence[BaliseGroup], count: int) -> Remark:
-    more = f" and {count - len(groups)} more" if count > len(groups) else ""
-    words = ("has", "stands", "is", "it") if count == 1 else ("have", "stand", "are", "them")
-    return Remark(
-        "L9",
-        chain.location,
-        f"{', '.join(map(str, groups))}{more} {words[0]} Q_LINK 1 and {words[1]} between {before} and {after}, and "
-        f"{words[2]} not linked: a train that uses linking passes {words[3]} over",
-        groups[0],
-    )
 
 
 RULE = Rule("L9", "pairs", __doc__ or "", find)
