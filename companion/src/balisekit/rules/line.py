@@ -5,12 +5,13 @@ whoever has read them: a line of 100,000 rows is asked for each record once.
 """
 from __future__ import annotations
 
+import json
 from bisect import bisect_left, bisect_right
 from dataclasses import dataclass
 from decimal import Decimal
 from functools import cached_property
 from itertools import islice
-from typing import Dict, Iterator, List, Mapping, Sequence, Tuple
+from typing import Dict, Iterator, List, Mapping, Optional, Sequence, Tuple
 
 from balisekit.engine.grammar import Finding
 from balisekit.etcs.geometry import kilometres
@@ -21,6 +22,10 @@ from balisekit.rules.passages import Chain, Passages
 from balisekit.tables.model import Group, Message, Row
 
 AFTER_INFILL = "after packet 136"
+PART = 500
+"""So many records are read at once."""
+NO_FORM: Form = {}
+END: Tuple[Optional[Row], Form] = (None, NO_FORM)
 NO_FINDINGS: Mapping[str, Sequence[Finding]] = {}
 Messages = Sequence[Tuple[Message, Form]]
 
@@ -71,6 +76,7 @@ class Line:
         forms: Mapping[int, Form] = {},
         messages: Messages = (),
         findings: Mapping[str, Sequence[Finding]] = NO_FINDINGS,
+        decoded: Optional[Iterator[Accepted]] = None,
     ) -> None:
         self.table_groups = groups
         self.forms = forms
@@ -78,6 +84,7 @@ class Line:
         self.findings = findings
         """What the program has found of a group, by the group's name."""
         self._messages = messages
+        self._decoded = decoded
 
     @classmethod
     def of(cls, checked: Checked) -> Line:
@@ -89,21 +96,34 @@ class Line:
             if place.group is not None:
                 findings.setdefault(place.group.name, []).append(place.finding)
         messages = [(each.message, each.form) for each in checked.accepted_messages]
-        return cls(groups, _Records(checked.accepted), messages, findings)
+        return cls(groups, _Forms(checked.accepted), messages, findings, checked.accepted.decoded())
 
     @cached_property
     def passages(self) -> Passages:
         """What the telegrams and messages give a train: the one pass over all of them."""
         passages = Passages()
-        for number, group in enumerate(self.table_groups):
-            rows = {row.number: row for row in group.rows()}
-            forms = {number: self.forms[number] for number in rows if number in self.forms}
-            passages.add_group(_balise_group(number, group, rows, forms), forms)
+        for number, (group, forms) in enumerate(zip(self.table_groups, self._forms_of_groups())):
+            passages.add_group(_balise_group(number, group, forms), forms)
         for message, form in self._messages:
             if form["nid_message"] == 3:
                 passages.add_message(message, form)
         passages.name_targets()
         return passages
+
+    def _forms_of_groups(self) -> Iterator[Dict[int, Form]]:
+        """The telegrams of each group, by their rows. Those of a table are decoded here, and not kept."""
+        if self._decoded is None:
+            for group in self.table_groups:
+                yield {row.number: self.forms[row.number] for row in group.rows() if row.number in self.forms}
+            return
+        telegrams = _forms_of(self._decoded)
+        row, form = next(telegrams, END)
+        for group in self.table_groups:
+            forms = {}
+            while row is not None and row.group == group.name:
+                forms[row.number] = form
+                row, form = next(telegrams, END)
+            yield forms
 
     @property
     def groups(self) -> Sequence[BaliseGroup]:
@@ -138,17 +158,14 @@ class Line:
         return {track: LinkedGroups.of(groups) for track, groups in self.along.items()}
 
 
-class _Records(Mapping[int, Form]):
-    """The records of rows, each read from its text when it is asked for: all at once take much memory."""
+class _Forms(Mapping[int, Form]):
+    """The records of telegrams, each read from its text when it is asked for: all at once take much memory."""
 
     def __init__(self, accepted: Mapping[int, Accepted]) -> None:
         self._accepted = accepted
 
     def __getitem__(self, row: int) -> Form:
         return self._accepted[row].form
-
-    def __contains__(self, row: object) -> bool:
-        return row in self._accepted
 
     def __iter__(self) -> Iterator[int]:
         return iter(self._accepted)
@@ -157,8 +174,16 @@ class _Records(Mapping[int, Form]):
         return len(self._accepted)
 
 
-def _balise_group(number: int, group: Group, rows: Mapping[int, Row], forms: Mapping[int, Form]) -> BaliseGroup:
-    first = next(iter(forms.values()), None)
+def _forms_of(decoded: Iterator[Accepted]) -> Iterator[Tuple[Optional[Row], Form]]:
+    """Each row with its record. Many records are read at once, which is quicker than one after the other."""
+    for part in iter(lambda: list(islice(decoded, PART)), []):
+        forms: List[Form] = json.loads(f"[{','.join(telegram.record.line for telegram in part)}]")
+        yield from zip((telegram.row for telegram in part), forms)
+
+
+def _balise_group(number: int, group: Group, forms: Mapping[int, Form]) -> BaliseGroup:
+    rows = {row.number: row for row in group.rows()}
+    first = next((forms[row] for row in rows if row in forms), None)
     where = kilometres(group)
     return BaliseGroup(
         number,
@@ -169,5 +194,5 @@ def _balise_group(number: int, group: Group, rows: Mapping[int, Row], forms: Map
         where.group,
         where.rising,
         next((row.track for row in rows.values() if row.track), ""),
-        tuple(sorted(number for number in rows if number not in forms)),
+        tuple(sorted(row for row in rows if row not in forms)) if len(forms) < len(rows) else (),
     )

@@ -16,8 +16,10 @@ LINKING = 5
 AUTHORITIES = (12, 15)
 PROFILES = {21: "gradient profile", 27: "speed profile"}
 COMPARED = {LINKING, *AUTHORITIES, *PROFILES, INFILL}
-Packet = Tuple[int, int, int, Form]
-"""Its place in the telegram, its number, its Q_DIR, and its form."""
+HOLDING = ((1,), (0,), (0, 1))
+"""By Q_DIR: in which directions a packet holds, by their places in DIRECTIONS."""
+Packet = Tuple[int, int, Form]
+"""Its place in the telegram, its number, and its form."""
 Key = Tuple[int, int, str]
 """Row, packet and direction: what tells the packets of a group that its aspects do not repeat."""
 
@@ -155,29 +157,33 @@ class _Reader:
         self._profiles: Dict[Key, Tuple[Optional[Row], int, int, bool]] = {}
         self._late: Set[Key] = set()
 
-    def read(self, forms: Sequence[Form], packets: Sequence[Sequence[Packet]], rows: Sequence[Row]) -> None:
+    def read(self, forms: Sequence[Form], packets: Sequence[Tuple[List[Packet], ...]], rows: Sequence[Row]) -> None:
         """Takes what these telegrams, or the message, give in both directions."""
-        for direction, opposite in zip(DIRECTIONS, (0, 1)):
-            is_infill = has_authority = False
-            profiles: List[Tuple[Key, Optional[Row], Form]] = []
-            for balise in range(len(forms)) if direction == NOMINAL else range(len(forms) - 1, -1, -1):
-                if forms[balise].get("m_dup", 0) and is_silent(forms, balise, direction):
-                    continue
-                row = rows[balise] if rows else None
-                for place, number, q_dir, packet in packets[balise]:
-                    if q_dir == opposite:
-                        continue
-                    key = (row.number if row else 0, place, direction)
-                    if number == LINKING:
-                        self._add_chain(key, row, forms[balise]["nid_c"], packet, is_infill)
-                    elif number in PROFILES:
-                        profiles.append((key, row, packet))
-                    elif number in AUTHORITIES:
-                        has_authority = True
-                    elif not is_infill:  # (what follows a packet 136 counts from another group, and is by itself)
-                        self._add_profiles(profiles if has_authority else ())
-                        is_infill, has_authority, profiles = True, False, []
-            self._add_profiles(profiles if has_authority else ())
+        for index, direction in enumerate(DIRECTIONS):
+            if any(own[index] for own in packets):
+                self._read(direction, forms, [own[index] for own in packets], rows)
+
+    def _read(
+        self, direction: str, forms: Sequence[Form], packets: Sequence[List[Packet]], rows: Sequence[Row]
+    ) -> None:
+        is_infill = has_authority = False
+        profiles: List[Tuple[Key, Optional[Row], Form]] = []
+        for balise in range(len(forms)) if direction == NOMINAL else range(len(forms) - 1, -1, -1):
+            if not packets[balise] or forms[balise].get("m_dup", 0) and is_silent(forms, balise, direction):
+                continue
+            row = rows[balise] if rows else None
+            for place, number, packet in packets[balise]:
+                key = (row.number if row else 0, place, direction)
+                if number in PROFILES:
+                    profiles.append((key, row, packet))
+                elif number == LINKING:
+                    self._add_chain(key, row, forms[balise]["nid_c"], packet, is_infill)
+                elif number in AUTHORITIES:
+                    has_authority = True
+                elif not is_infill:  # (what follows a packet 136 counts from another group, and is by itself)
+                    self._add_profiles(profiles if has_authority else ())
+                    is_infill, has_authority, profiles = True, False, []
+        self._add_profiles(profiles if has_authority else ())
 
     def _add_chain(self, key: Key, row: Optional[Row], country: int, packet: Form, is_infill: bool) -> None:
         if key not in self._chains:
@@ -187,13 +193,13 @@ class _Reader:
 
     def _add_profiles(self, profiles: Sequence[Tuple[Key, Optional[Row], Form]]) -> None:
         """Takes profiles that are given with an authority."""
-        for number in PROFILES if profiles else ():
-            own = [(key, row, *_begin(packet)) for key, row, packet in profiles if packet["nid_packet"] == number]
-            is_late = all(begin > 0 for _, _, begin, _ in own)
-            for key, row, begin, is_open in own:
-                self._profiles.setdefault(key, (row, number, begin, is_open))
-                if is_late:
-                    self._late.add(key)
+        begins = [_begin(packet) for _, _, packet in profiles]
+        covered = {packet["nid_packet"] for (_, _, packet), (begin, _) in zip(profiles, begins) if begin <= 0}
+        for (key, row, packet), (begin, is_open) in zip(profiles, begins):
+            if key not in self._profiles:
+                self._profiles[key] = (row, packet["nid_packet"], begin, is_open)
+            if packet["nid_packet"] not in covered:
+                self._late.add(key)
 
     def _at(self, key: Key, row: Optional[Row]) -> Location:
         return Location(None if self._message else self._sender, row, self._message, key[1], key[2])
@@ -206,13 +212,14 @@ class _Reader:
         ]
 
 
-def _packets(form: Form) -> Sequence[Packet]:
-    """The packets of a telegram or message that rules compare. Packet 0, which has no Q_DIR, is none of them."""
-    return [
-        (place, packet["nid_packet"], packet["q_dir"], packet)
-        for place, packet in enumerate(form["packets"])
-        if packet["nid_packet"] in COMPARED
-    ]
+def _packets(form: Form) -> Tuple[List[Packet], List[Packet]]:
+    """The packets of a telegram or message that rules compare, by direction. Packet 0 has none, and is none of them."""
+    own: Tuple[List[Packet], List[Packet]] = ([], [])
+    for place, packet in enumerate(form["packets"]):
+        if packet["nid_packet"] in COMPARED:
+            for direction in HOLDING[packet["q_dir"]]:
+                own[direction].append((place, packet["nid_packet"], packet))
+    return own
 
 
 def _begin(packet: Form) -> Tuple[int, bool]:
