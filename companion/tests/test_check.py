@@ -79,9 +79,9 @@ def test_messages(run: Run, table: Write) -> None:
         "line 2  cut: L_MESSAGE is 18, but the message has 17 bytes",
         "    program: length at 8 end 18",
     ]
-    assert "line 3: NID_MESSAGE is 4; 3 and 136 are read" in out
-    odd = "line 4: it has 35 digits, an odd number: a digit is missing, or one too many; a message 3 begins with 03"
-    assert odd in out
+    assert "message of line 3: NID_MESSAGE is 4; 3 and 136 are read" in out
+    odd = "it has 35 digits, an odd number: a digit is missing, or one too many; a message 3 begins with 03"
+    assert f"message of line 4: {odd}" in out
     assert "message of line 1  to train 7  nominal: no gradient" in out
     assert out[-1] == (
         "INCOMPLETE: 0 of 3 telegrams refused, 3 of 4 messages refused, 0 of 2 groups left out; "

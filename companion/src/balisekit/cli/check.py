@@ -4,6 +4,7 @@ from __future__ import annotations
 import argparse
 
 from balisekit.cli import options as shared
+from balisekit.io import clock
 from balisekit.io.outputs import write_json
 from balisekit.present import accepted as accepted_output, junit
 from balisekit.present.check_json import as_json
@@ -27,10 +28,11 @@ def add_options(parser: argparse.ArgumentParser) -> None:
 
 def run(options: argparse.Namespace) -> int:
     """Does it. The answer is the exit status."""
+    now = clock.now()
     entries = accepted.read(options.accepted) if options.accepted else None
     program, table, messages = shared.inputs(options)
     checked = checking.check(program, table, messages, options.by_position, options.all)
-    judged = accepted.judge(checked, entries, accepted.today()) if entries else None
+    judged = accepted.judge(checked, entries, now.date()) if entries else None
     if options.propose:
         options.propose.write([accepted_output.proposal(checked, judged)])
     if options.junit:

@@ -2,6 +2,7 @@
 from __future__ import annotations
 
 import argparse
+from datetime import datetime
 from typing import List, Optional, Tuple
 
 from balisekit.cli import options as shared
@@ -9,13 +10,12 @@ from balisekit.compare.lines import Difference, by_place, compare
 from balisekit.engine.grammar import Refusal
 from balisekit.engine.program import Program
 from balisekit.errors import TableError
-from balisekit.io import inputs
+from balisekit.io import clock, inputs
 from balisekit.io.inputs import Input
 from balisekit.io.outputs import Output, write_json
 from balisekit.present.check_text import finding_words
-from balisekit.present.diff_text import NOT_PROVED, as_json, last_line, lines, refused_lines, verdict, where
+from balisekit.present.diff_text import NOT_PROVED, as_json, last_line, lines, not_compared, verdict, where
 from balisekit.present.pages import hash_of, pieces, style
-from balisekit.present.report import date
 from balisekit.rules import checking
 from balisekit.rules.checking import Checked
 from balisekit.tables import document as document_file, messages as messages_file, reader as tables
@@ -38,6 +38,7 @@ def add_options(parser: argparse.ArgumentParser) -> None:
 
 def run(options: argparse.Namespace) -> int:
     """Does it. The answer is the exit status."""
+    now = clock.now()
     sides = [
         _read(options.old, options.old_messages, options.sheet),
         _read(options.new, options.new_messages, options.sheet),
@@ -47,7 +48,7 @@ def run(options: argparse.Namespace) -> int:
     old, new = (_checked(program, *side, named) for side in sides)
     found = compare(old, new, named)
     if options.html:
-        _page(options.html, found)
+        _page(options.html, found, now)
     if options.json:
         write_json(options.json, as_json(found))
     out = shared.text_stream(options.html, options.json)
@@ -79,7 +80,7 @@ def _checked(
     return checking.check(program, table if named else by_place(table), messages)
 
 
-def _page(output: Output, found: Difference) -> None:
+def _page(output: Output, found: Difference, now: datetime) -> None:
     """The answer in the style of the report."""
     sheet = style("page.css")
     sides = [
@@ -91,7 +92,7 @@ def _page(output: Output, found: Difference) -> None:
         for word, places in (("gone", found.findings_gone), ("new", found.findings_new))
     ]
     refused: List[List[str]] = []
-    for line in (*refused_lines("old", found.old.checked), *refused_lines("new", found.new.checked)):
+    for line in not_compared(found):
         if line.startswith("    program: "):
             refused[-1][1] = line[len("    program: ") :]
         else:
@@ -100,7 +101,7 @@ def _page(output: Output, found: Difference) -> None:
         "diff.html",
         style=sheet,
         style_hash=hash_of(str(sheet)),
-        date=date(),
+        date=clock.stamp(now),
         found=found,
         sides=sides,
         findings=findings,

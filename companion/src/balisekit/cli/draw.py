@@ -13,10 +13,10 @@ from balisekit.engine.program import Program
 from balisekit.errors import TableError
 from balisekit.etcs.places import Identities
 from balisekit.present.pages import pieces, style
-from balisekit.present.refusals import message_refused, telegram_refused
+from balisekit.present.refusals import refused
 from balisekit.rules import checking
 from balisekit.tables.model import Messages, Table
-from balisekit.tables.names import describe_balise, describe_message, quoted
+from balisekit.tables.names import describe_message, quoted
 
 
 def add_options(parser: argparse.ArgumentParser) -> None:
@@ -55,12 +55,8 @@ def run(options: argparse.Namespace) -> int:
 def _group(program: Program, alone: Table, options: argparse.Namespace) -> Picture:
     """The picture of the group that this table has alone."""
     checked = checking.check(program, alone, by_position=options.by_position)
-    for refused in checked.refused:
-        row = refused.row
-        raise TableError(
-            f"{describe_balise(alone.groups[0], row)}: {telegram_refused(row.telegram, refused.refusal)}: "
-            f"program: {refused.refusal.text}"
-        )
+    for item in refused(checked):
+        raise TableError(str(item))
     forms = {number: one.form for number, one in checked.accepted.items()}
     return picture_of(checked.kept[0], forms, [place.finding for place in checked.findings], True, options.aspect)
 
@@ -69,10 +65,8 @@ def _message(program: Program, table: Table, alone: Messages) -> Picture:
     """The picture of the message that this file has alone."""
     checked = checking.check(program, table, alone)
     heading = f"message of {describe_message(alone.messages[0])}"
-    for refused in checked.refused_messages:
-        raise TableError(
-            f"{heading}: {message_refused(refused.message.text, refused.refusal)}: " f"program: {refused.refusal.text}"
-        )
+    for item in refused(replace(checked, refused=())):
+        raise TableError(str(item))
     form = checked.accepted_messages[0].form
     where = Identities(table.groups, {number: one.form for number, one in checked.accepted.items()}).here(form)
     findings = [place.finding for place in checked.findings if place.message is not None]

@@ -6,6 +6,7 @@ import argparse
 from balisekit.cli import options as shared
 from balisekit.cli.track import look_at_aspect
 from balisekit.drawing.track import track_pictures, tracks_of
+from balisekit.io import clock
 from balisekit.present import premises
 from balisekit.present.accepted import closing_lines
 from balisekit.present.check_text import last_line
@@ -33,11 +34,12 @@ def add_options(parser: argparse.ArgumentParser) -> None:
 
 def run(options: argparse.Namespace) -> int:
     """Does it. The answer is the exit status."""
+    now = clock.now()
     entries = accepted.read(options.accepted) if options.accepted else None
     program, table, messages = shared.inputs(options)
     look_at_aspect(table, options.aspect)
     checked = checking.check(program, table, messages, options.by_position, options.all)
-    judged = accepted.judge(checked, entries, accepted.today()) if entries else None
+    judged = accepted.judge(checked, entries, now.date()) if entries else None
     sheet = style("page.css") + style("picture.css") + style("track.css")
     findings = told_all(checked, judged)
     line = Line.of(checked)
@@ -45,7 +47,7 @@ def run(options: argparse.Namespace) -> int:
     links = compare(line, Options(options.tolerance), [L2])
     page = pieces(
         "report.html",
-        cover=cover(checked, judged),
+        cover=cover(checked, judged, now),
         findings=findings,
         judged=judged is not None,
         explained=explained(checked),

@@ -1,16 +1,16 @@
 """The answer of `check` in words: every refused telegram, then the program's findings, by row, name and kilometre."""
 from __future__ import annotations
 
-from typing import Dict, Iterator, Optional
+from typing import Iterator, Optional
 
 from balisekit.present import accepted as accepted_output, explanations as explain
 from balisekit.present.headings import headings
-from balisekit.present.refusals import message_refused, telegram_refused
+from balisekit.present.refusals import not_looked_at, refused_lines
 from balisekit.rules.accepted import Judged
 from balisekit.rules.aspect_counts import aspects_found
-from balisekit.rules.checking import Checked, Place, Refused
+from balisekit.rules.checking import Checked, Place
 from balisekit.rules.remarks import remarks
-from balisekit.tables.model import Group, Table
+from balisekit.tables.model import Table
 from balisekit.tables.names import clean, describe_balise, describe_group, describe_message, passed_over
 
 
@@ -20,17 +20,9 @@ def lines(checked: Checked, explained: bool = False, judged: Optional[Judged] = 
     yield f"{clean(table.path)}: {len(table.rows)} telegrams of {len(table.groups)} groups"
     yield from passed_over(table)
     yield from (f"note: {clean(note)}" for note in table.notes)
-    groups = {row.number: group for group in table.groups for row in group.rows()}
-    for refused in checked.refused:
-        yield from _refused(refused, groups)
-    for message in checked.refused_messages:
-        yield f"{describe_message(message.message)}: {message_refused(message.message.text, message.refusal)}"
-        yield f"    program: {message.refusal.text}"
+    yield from refused_lines(checked)
     yield from (f"left out: {describe_group(one.group)}: {one.why}" for one in checked.left_out)
-    if checked.not_looked_at:
-        yield f"and {checked.not_looked_at} rows not looked at: --all goes on"
-    if checked.messages_not_looked_at:
-        yield f"and {checked.messages_not_looked_at} messages not looked at: --all goes on"
+    yield from (f"and {count}: --all goes on" for count in not_looked_at(checked))
     entries = judged.by_finding if judged else (None,) * len(checked.findings)
     for heading, place, entry in zip(headings(checked.findings), checked.findings, entries):
         yield from [heading] if heading else []
@@ -48,12 +40,6 @@ def before_last(table: Table) -> Iterator[str]:
     """What is said of the table before the last line, and changes neither that nor the status."""
     yield from remarks(table)
     yield aspects_found(table)
-
-
-def _refused(refused: Refused, groups: Dict[int, Group]) -> Iterator[str]:
-    words = describe_balise(groups.get(refused.row.number), refused.row)
-    yield f"{words}: {telegram_refused(refused.row.telegram, refused.refusal)}"
-    yield f"    program: {refused.refusal.text}"
 
 
 def finding_words(place: Place) -> str:
@@ -90,8 +76,6 @@ def last_line(checked: Checked) -> str:
     if checked.messages and checked.refused_messages:
         parts.append(f"{len(checked.refused_messages)} of {len(checked.messages.messages)} messages refused")
     parts.append(f"{len(checked.left_out)} of {len(groups)} groups left out")
-    parts += [f"{checked.not_looked_at} rows not looked at"] if checked.not_looked_at else []
-    some = checked.messages_not_looked_at
-    parts += [f"{some} messages not looked at"] if some else []
+    parts += not_looked_at(checked)
     found = f"; findings in the rest: {len(checked.findings)}" if checked.findings else ""
     return f"INCOMPLETE: {', '.join(parts)}{found}"

@@ -5,9 +5,9 @@ from typing import Any, Dict, Iterator, List
 
 from balisekit.compare.lines import Changed, Difference
 from balisekit.present.check_text import finding_words
-from balisekit.present.refusals import message_refused, telegram_refused
+from balisekit.present.refusals import not_looked_at, refused_lines
 from balisekit.rules.checking import Checked
-from balisekit.tables.names import clean, describe_balise, describe_message
+from balisekit.tables.names import clean
 
 NOT_PROVED = "pairs and differences are found by balisekit, which is not proved; the program's own lines are quoted"
 
@@ -19,8 +19,7 @@ def lines(found: Difference) -> Iterator[str]:
         yield f"{word}: {clean(table.path)}: {len(table.rows)} telegrams of {len(table.groups)} groups"
     yield NOT_PROVED
     yield from (f"note: {note}" for note in found.notes)
-    yield from refused_lines("old", found.old.checked)
-    yield from refused_lines("new", found.new.checked)
+    yield from not_compared(found)
     for word, some in (("removed", found.groups_removed), ("added", found.groups_added)):
         yield from (f"group {word}: {words}" for words in some)
     for word, some in (("removed", found.removed), ("added", found.added)):
@@ -42,21 +41,11 @@ def where(changed: Changed) -> str:
     return f"{changed.words}  rows {changed.old} and {changed.new}"
 
 
-def refused_lines(word: str, checked: Checked) -> Iterator[str]:
-    """What could not be compared of one release."""
-    groups = {row.number: group for group in checked.table.groups for row in group.rows()}
-    for one in checked.refused:
-        words = describe_balise(groups.get(one.row.number), one.row)
-        yield f"refused in {word}: {words}: {telegram_refused(one.row.telegram, one.refusal)}"
-        yield f"    program: {one.refusal.text}"
-    for bad in checked.refused_messages:
-        said = message_refused(bad.message.text, bad.refusal)
-        yield f"refused in {word}: message of {describe_message(bad.message)}: {said}"
-        yield f"    program: {bad.refusal.text}"
-    if checked.not_looked_at:
-        yield f"not looked at in {word}: {checked.not_looked_at} rows"
-    if checked.messages_not_looked_at:
-        yield f"not looked at in {word}: {checked.messages_not_looked_at} messages"
+def not_compared(found: Difference) -> Iterator[str]:
+    """What could not be compared."""
+    for word, checked in (("old", found.old.checked), ("new", found.new.checked)):
+        yield from refused_lines(checked, f"refused in {word}: ")
+        yield from (f"in {word}: {count}" for count in not_looked_at(checked))
 
 
 def last_line(found: Difference) -> str:
@@ -85,7 +74,7 @@ def as_json(found: Difference) -> Dict[str, Any]:
             for word, side in (("old", found.old), ("new", found.new))
         },
         "notes": list(found.notes),
-        "refused": [*refused_lines("old", found.old.checked), *refused_lines("new", found.new.checked)],
+        "refused": list(not_compared(found)),
         "groups_added": list(found.groups_added),
         "groups_removed": list(found.groups_removed),
         "added": list(found.added),

@@ -4,11 +4,11 @@ from __future__ import annotations
 from typing import Any, Dict, Iterator
 
 from balisekit.present import explanations as explain
-from balisekit.present.refusals import message_refused, telegram_refused
+from balisekit.present.refusals import not_looked_at, refused_lines
 from balisekit.rules.checking import Checked
 from balisekit.rules.links import Links
 from balisekit.rules.rule import Remark, Result, Rule
-from balisekit.tables.names import clean, describe_balise, describe_message, passed_over
+from balisekit.tables.names import clean, passed_over
 
 NOT_PROVED = "L1 to L9 are rules of balisekit, which is not proved: they compare what the program has decoded"
 
@@ -27,16 +27,7 @@ def lines(checked: Checked, links: Links, explained: bool = False) -> Iterator[s
     yield from passed_over(table)
     yield NOT_PROVED
     yield from (f"note: {clean(note)}" for note in (*table.notes, *links.notes))
-    groups = {row.number: group for group in table.groups for row in group.rows()}
-    for one in checked.refused:
-        yield (
-            f"{describe_balise(groups.get(one.row.number), one.row)}: "
-            f"{telegram_refused(one.row.telegram, one.refusal)}"
-        )
-        yield f"    program: {one.refusal.text}"
-    for bad in checked.refused_messages:
-        yield f"{describe_message(bad.message)}: {message_refused(bad.message.text, bad.refusal)}"
-        yield f"    program: {bad.refusal.text}"
+    yield from refused_lines(checked)
     yield from map(_words, links.remarks)
     if explained:
         for rule, result in links.results.items():
@@ -55,8 +46,7 @@ def last_line(checked: Checked, links: Links) -> str:
     parts = [f"{len(checked.refused)} of {rows} telegrams refused"] if checked.refused else []
     if checked.messages and checked.refused_messages:
         parts.append(f"{len(checked.refused_messages)} of {len(checked.messages.messages)} messages refused")
-    parts += [f"{checked.not_looked_at} rows not looked at"] if checked.not_looked_at else []
-    parts += [f"{checked.messages_not_looked_at} messages not looked at"] if checked.messages_not_looked_at else []
+    parts += not_looked_at(checked)
     where = "the rest" if parts else f"{groups} groups"
     parts += [_empty(rule, links.results[rule]) for rule in links.empty]
     said = f"links: {_counts(links)} in {where}; compared: {', '.join(_compared(links))}"

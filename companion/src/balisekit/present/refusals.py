@@ -1,17 +1,55 @@
-"""Refusals in sentences: the field that the program's words and place are about."""
+"""What the program has refused: where it is, and a sentence on the field that the program's words are about."""
 from __future__ import annotations
 
-from typing import Callable, Dict, Sequence
+from typing import Callable, Dict, Iterator, List, NamedTuple, Sequence
 
 from balisekit.engine.grammar import Refusal
 from balisekit.etcs.layout import Field, bits_of, message_fields, telegram_fields, user_bits
-from balisekit.tables.names import quoted
+from balisekit.rules.checking import Checked
+from balisekit.tables.names import describe_balise, describe_message, quoted
 
 ORDINALS = ("first", "second", "third", "fourth", "fifth", "sixth", "seventh", "eighth", "ninth", "tenth")
 CODED = {86: 341, 256: 1023}
 """The digits of a telegram with its channel coding, and its bits."""
 LENGTHS = (54, 208)
 """The digits of a short telegram and of a long one."""
+
+
+class RefusedInput(NamedTuple):
+    """A telegram or message that the program has refused."""
+
+    words: str
+    """Where it is, and why it is refused."""
+    program: str
+    """The program's words."""
+    id: str
+    """Its place in a report."""
+
+    def __str__(self) -> str:
+        return f"{self.words}: program: {self.program}"
+
+
+def refused(checked: Checked) -> Iterator[RefusedInput]:
+    """Each refused telegram, then each refused message."""
+    groups = {row.number: group for group in checked.table.groups for row in group.rows()} if checked.refused else {}
+    for row, refusal in ((telegram.row, telegram.refusal) for telegram in checked.refused):
+        where = describe_balise(groups.get(row.number), row)
+        yield RefusedInput(f"{where}: {telegram_refused(row.telegram, refusal)}", refusal.text, f"r{row.number}")
+    for message, refusal in ((item.message, item.refusal) for item in checked.refused_messages):
+        where = f"message of {describe_message(message)}"
+        yield RefusedInput(f"{where}: {message_refused(message.text, refusal)}", refusal.text, f"m{message.number}")
+
+
+def refused_lines(checked: Checked, before: str = "") -> Iterator[str]:
+    """Two lines for each refused telegram and message: where it is and why, and the program's words."""
+    for item in refused(checked):
+        yield from (before + item.words, f"    program: {item.program}")
+
+
+def not_looked_at(checked: Checked) -> List[str]:
+    """How many rows and messages were not tried after too many refused ones."""
+    counts = ((checked.not_looked_at, "rows"), (checked.messages_not_looked_at, "messages"))
+    return [f"{count} {what} not looked at" for count, what in counts if count]
 
 
 def telegram_refused(digits: str, refusal: Refusal) -> str:

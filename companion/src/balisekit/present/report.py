@@ -1,9 +1,8 @@
 """What a report is made of: the cover, the findings, and a block for each group and message."""
 from __future__ import annotations
 
-import os
 from dataclasses import dataclass
-from datetime import datetime, timezone
+from datetime import datetime
 from typing import Dict, Iterator, List, Mapping, Optional, Sequence, Tuple
 
 from balisekit import __version__
@@ -13,6 +12,7 @@ from balisekit.engine.grammar import Finding
 from balisekit.etcs.geometry import kilometre
 from balisekit.etcs.places import Here, Identities, places_of_rows
 from balisekit.etcs.variables import Form
+from balisekit.io import clock
 from balisekit.present.accepted import accepted_words, fault_lines, verdict_lines
 from balisekit.present.check_text import finding_words, last_line
 from balisekit.present.explanations import Explanation, explanations
@@ -89,14 +89,7 @@ class Cover:
     notes: Tuple[str, ...]
 
 
-def date() -> str:
-    """The time of the run, or of SOURCE_DATE_EPOCH."""
-    fixed = os.environ.get("SOURCE_DATE_EPOCH", "")
-    now = datetime.fromtimestamp(int(fixed), timezone.utc) if fixed.isdigit() else datetime.now(timezone.utc)
-    return now.strftime("%Y-%m-%d %H:%M UTC")
-
-
-def cover(checked: Checked, judged: Optional[Judged] = None) -> Cover:
+def cover(checked: Checked, judged: Optional[Judged], now: datetime) -> Cover:
     """What the first page says."""
     table, program = checked.table, checked.program
     groups = {row.number: group for group in table.groups for row in group.rows()}
@@ -127,7 +120,7 @@ def cover(checked: Checked, judged: Optional[Judged] = None) -> Cover:
     papers += [] if program.about else [("version", "not a released program")]
     said = verdict_lines(judged, last_line(checked)) if judged else (last_line(checked),)
     return Cover(
-        date(),
+        clock.stamp(now),
         tuple(_inputs(checked, judged)),
         tuple(papers),
         __version__,

@@ -8,7 +8,6 @@ from __future__ import annotations
 
 import datetime
 import hashlib
-import os
 import re
 from collections import Counter
 from dataclasses import dataclass
@@ -124,14 +123,6 @@ class Judged:
         if not self.checked.whole or self.checked.verdict is None:
             return 2
         return 1 if self.open or self.faults else 0
-
-
-def today() -> datetime.date:
-    """The day of the run by universal time, or that of SOURCE_DATE_EPOCH."""
-    fixed = os.environ.get("SOURCE_DATE_EPOCH", "")
-    zone = datetime.timezone.utc
-    now = datetime.datetime.fromtimestamp(int(fixed), zone) if fixed.isdigit() else datetime.datetime.now(zone)
-    return now.date()
 
 
 def read(path: str) -> Entries:
