@@ -15,7 +15,6 @@ from telegrams import ALONE, MESSAGE, OTHER, SPARE, digest
 
 from balisekit.engine.program import Program, Text
 from balisekit.io import csv_writing
-from balisekit.rules import correct_data
 from balisekit.rules.accepted import COLUMNS, FIELDS
 
 Write = Callable[..., Path]
@@ -253,11 +252,6 @@ def test_proposed_entries_are_about_their_findings(run: Run, tmp_path: Path) -> 
     file.write_text(csv_writing.text(rows[0], signed), "utf-8")
     out = run("check", LINE, "--accepted", file)[1]
     assert out[-2] == "findings 5: accepted 4, open 1; entries at fault 1"
-
-
-def test_reasons_are_those_of_the_document() -> None:
-    text = (TOP / "docs" / "FINDINGS.md").read_text("utf-8")
-    assert correct_data.reasons() == correct_data.of_document(text) and len(correct_data.reasons()) == 9
 
 
 def test_correct_data_is_recognized(run: Run, table: Write, tmp_path: Path) -> None:

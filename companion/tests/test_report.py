@@ -21,40 +21,25 @@ from balisekit.cli import main as cli
 from balisekit.drawing.group import Content, draw
 from balisekit.engine.program import Program
 from balisekit.etcs.geometry import Kilometres
-from balisekit.etcs.variables import metres
 from balisekit.io import csv_writing
-from balisekit.present.pages import pieces, style
-from balisekit.present.premises import of_document, premises
+from balisekit.present.pages import pieces
 from balisekit.rules.accepted import COLUMNS
 
 LINE = TOP / "examples" / "table" / "line.csv"
 HEADER = "a1007f802000" + "f" * 40 + "c0"
 HOSTILE = "<script>alert(1)</script>&\"'\x07\x1b[2J\u202e=1+1"
-ATTRIBUTES = {
-    "id",
-    "class",
-    "href",
-    "lang",
-    "charset",
-    "http-equiv",
-    "content",
-    "name",
-    "aria-hidden",
-    "role",
-    "x",
-    "y",
-    "width",
-    "height",
-    "viewbox",
-    "d",
-    "fill",
-    "stroke",
-    "stroke-width",
-    "patternunits",
-    "cx",
-    "cy",
-    "r",
-}
+TAGS = set(
+    (
+        "html head meta title style body svg defs pattern rect path circle text div h1 h2 h3 p table tr th td "
+        "br bdi a b span section pre ul li "
+    ).split()
+)
+ATTRIBUTES = set(
+    (
+        "id class href lang charset http-equiv content name aria-hidden role x y width height viewbox d fill "
+        "stroke stroke-width patternunits cx cy r "
+    ).split()
+)
 
 
 class _Page(HTMLParser):
@@ -115,6 +100,17 @@ def test_the_cover_says_how_balises_are_ordered(tmp_path: Path) -> None:
     for words, status in (((), 1), (("--by-position",), 0)):
         found, page = _report(path, tmp_path / "report.html", *words)
         assert found == status and ("ordered by N_PIG, as --by-position says" in page) == bool(words)
+
+
+def test_a_page_on_standard_output(tmp_path: Path, capfd: pytest.CaptureFixture[str]) -> None:
+    """It is the page of a file, and the verdict is on standard error."""
+    _, page = _report(LINE, tmp_path / "r.html")
+    verdict = capfd.readouterr().out.splitlines()[1:]
+    assert cli.main(["report", str(LINE), "--html", "-"]) == 2
+    out, err = capfd.readouterr()
+    date = re.compile("<td>[0-9-]{10} [0-9:]{5} UTC</td>")
+    assert date.sub("", out) == date.sub("", page)
+    assert err.splitlines() == ["written: standard output", *verdict] and verdict[-1].startswith("INCOMPLETE: ")
 
 
 def test_the_rows_of_a_block(tmp_path: Path) -> None:
@@ -235,39 +231,7 @@ def test_names_do_no_harm(tmp_path: Path) -> None:
     table = _table(tmp_path / "t.csv", {"group": name, "name": name, "aspect": name, "telegram": HEADER})
     _, page = _report(table, tmp_path / "r.html")
     seen = _Page(page)
-    assert {tag for tag, _ in seen.tags} <= {
-        "html",
-        "head",
-        "meta",
-        "title",
-        "style",
-        "body",
-        "svg",
-        "defs",
-        "pattern",
-        "rect",
-        "path",
-        "circle",
-        "text",
-        "div",
-        "h1",
-        "h2",
-        "h3",
-        "p",
-        "table",
-        "tr",
-        "th",
-        "td",
-        "br",
-        "bdi",
-        "a",
-        "b",
-        "span",
-        "section",
-        "pre",
-        "ul",
-        "li",
-    }
+    assert {tag for tag, _ in seen.tags} <= TAGS
     assert {name for _, attributes in seen.tags for name in attributes} <= ATTRIBUTES
     assert "<script" not in page and "\u202e" not in page and "<script>alert(1)</script>" in "".join(seen.texts)
     assert cli.main(["draw", str(table), "--group", name, "--svg", str(tmp_path / "a.svg")]) == 0
@@ -353,7 +317,7 @@ def _profile(direction: int, *elements: Tuple[int, int]) -> Any:
 def test_reverse_is_the_mirror_image() -> None:
     """The same profile in both directions: to the right, and as far to the left."""
     form = {"m_dup": 0, "packets": [_profile(2, (0, 20), (1000, 127))]}
-    shapes = [one for one in draw("A", [Content("", [form])], Kilometres()).shapes if one.look == "speed"]
+    shapes = [one for one in draw("A", [Content("", [form])], Kilometres()).shapes if one.style == "speed"]
     right, left = sorted(shapes, key=lambda one: float(one.x), reverse=True)
     assert abs(float(right.width) - float(left.width)) < 0.2
     assert abs(float(left.x) + float(left.width) - float(right.x)) < 0.2
@@ -363,7 +327,7 @@ def test_reverse_is_the_mirror_image() -> None:
 def test_open_profiles_and_their_beginning() -> None:
     """An arrow in place of a bar; the track before the first element is marked."""
     form = {"m_dup": 0, "packets": [_profile(1, (50, 20), (1000, 10))]}
-    looks = [one.look for one in draw("A", [Content("", [form])], Kilometres()).shapes]
+    looks = [one.style for one in draw("A", [Content("", [form])], Kilometres()).shapes]
     assert "arrow" in looks and "none" in looks and "endmark" not in looks and "step open" in looks
 
 
@@ -519,12 +483,6 @@ def test_messages_that_cannot_be_drawn(
     assert sorted(os.listdir(tmp_path)) == ["m.txt"]
 
 
-def test_premises_are_those_of_the_document() -> None:
-    """The package has what docs/FINDINGS.md says."""
-    assert premises() == of_document((TOP / "docs" / "FINDINGS.md").read_text("utf-8"))
-    assert len(premises()) == 7 and metres(1) == "0.1 m"
-
-
 def test_findings_stand_before_what_a_yes_means(tmp_path: Path) -> None:
     """The cover has a link to it."""
     _, page = _report(LINE, tmp_path / "r.html")
@@ -566,4 +524,4 @@ def test_any_name_makes_a_picture() -> None:
 
 def _svg(name: str) -> str:
     picture = draw(name, [Content(name, [{"m_dup": 0, "packets": [_profile(1, (0, 20), (1000, 127))]}])], Kilometres())
-    return "".join(pieces("group.svg", picture=picture, style=style("picture.css")))
+    return "".join(pieces("group.svg", ["picture.css"], picture=picture))

@@ -15,9 +15,9 @@ from conftest import Run
 from telegrams import ALONE, MESSAGE
 from test_links import group, header, line_with
 
-from balisekit.drawing.canvas import LEFT, RIGHT, WIDTH, Picture, Shape
+from balisekit.drawing.scale import LEFT, RIGHT, WIDTH, Picture, Shape
 from balisekit.drawing.track import LANES, track_pictures, tracks_of
-from balisekit.drawing.track_view import at_km, pages
+from balisekit.drawing.track_pages import at_km, pages
 from balisekit.etcs.geometry import kilometre
 from balisekit.io import csv_writing
 from balisekit.rules.links import compare
@@ -38,7 +38,7 @@ def drawn(*some: Tuple[Any, List[Form]], track: str = "", aspect: Any = None) ->
 
 def looks(picture: Picture, look_wanted: str) -> List[Shape]:
     """The shapes of a look."""
-    return [one for one in picture.shapes if one.look == look_wanted]
+    return [one for one in picture.shapes if one.style == look_wanted]
 
 
 def place(picture_x: str) -> float:
@@ -63,7 +63,9 @@ def test_directions(nominal: str, direction: int, wanted: Tuple[int, int]) -> No
         assert abs(place(one.x) - wanted[0]) < 0.01
         assert abs(place(one.x) + float(one.width) / ROOM * 5 - wanted[1]) < 0.01
     assert looks(picture, "end") and looks(picture, "supervised")
-    assert "from km 2.000 to km" in looks(picture, "section0")[0].title
+    whose = f"to km {sum(wanted) - 2}.000, {'nominal' if direction else 'reverse'}, A"
+    assert looks(picture, "section0")[0].title == f"end section: 1000 m, {whose}"
+    assert looks(picture, "speed")[0].title == f"100 km/h from km 2.000 {whose}"
 
 
 def test_pages_of_five_kilometres() -> None:
@@ -83,7 +85,7 @@ def test_pages_of_five_kilometres() -> None:
         assert abs(float(one.width) - ROOM / 10) < 0.2
         assert len(looks(picture, "arc")) == 1
         for shape in picture.shapes:
-            if shape.kind == "rect":
+            if shape.tag == "rect":
                 assert LEFT - 0.1 <= float(shape.x) and float(shape.x) + float(shape.width) <= LEFT + ROOM + 0.2
     ends = [
         [float(number) for number in re.findall(r"-?[0-9.]+", looks(picture, "arc")[0].path)]
@@ -143,7 +145,7 @@ def test_an_open_profile_is_dashed_and_ends_somewhere() -> None:
     packets[2]["elements"].pop()
     (picture,) = drawn((group("A", "1", nominal="rising"), [header(1, *packets)]))
     (one,) = looks(picture, "step open")
-    assert "to an open end" in one.title
+    assert one.title == "100 km/h from km 1.000 on: an open profile, nominal, A"
 
 
 def test_tracks_are_apart() -> None:

@@ -15,7 +15,7 @@ from balisekit.io.inputs import Input
 from balisekit.io.outputs import Output, write_json
 from balisekit.present.check_text import finding_words
 from balisekit.present.diff_text import NOT_PROVED, as_json, last_line, lines, not_compared, verdict, where
-from balisekit.present.pages import hash_of, pieces, style
+from balisekit.present.pages import pieces
 from balisekit.rules import checking
 from balisekit.rules.checking import Checked
 from balisekit.tables import document as document_file, messages as messages_file, reader as tables
@@ -82,7 +82,6 @@ def _checked(
 
 def _page(output: Output, found: Difference, now: datetime) -> None:
     """The answer in the style of the report."""
-    sheet = style("page.css")
     sides = [
         (word, clean(side.checked.table.path), side.checked.table.sha256, verdict(side.checked))
         for word, side in (("old", found.old), ("new", found.new))
@@ -99,8 +98,7 @@ def _page(output: Output, found: Difference, now: datetime) -> None:
             refused.append([line, ""])
     page = pieces(
         "diff.html",
-        style=sheet,
-        style_hash=hash_of(str(sheet)),
+        ["page.css"],
         date=clock.stamp(now),
         found=found,
         sides=sides,

@@ -2,21 +2,27 @@
 from __future__ import annotations
 
 import argparse
+import sys
 from dataclasses import replace
+from itertools import accumulate
 from typing import Optional
 
 from balisekit.cli import options as shared
-from balisekit.cli.track import draw_track
-from balisekit.drawing.canvas import Picture
-from balisekit.drawing.pictures import picture_of, picture_of_message
-from balisekit.engine.program import Program
+from balisekit.drawing.group import picture_of, picture_of_message
+from balisekit.drawing.scale import WIDTH, Picture
+from balisekit.drawing.track import note, track_pictures, tracks_of
 from balisekit.errors import TableError
 from balisekit.etcs.places import Identities
-from balisekit.present.pages import pieces, style
-from balisekit.present.refusals import refused
+from balisekit.present.pages import pieces
+from balisekit.present.refusals import not_looked_at, refused
+from balisekit.present.track_text import refused_rows, written
 from balisekit.rules import checking
+from balisekit.rules.checking import Checked
+from balisekit.rules.line import Line
+from balisekit.rules.links import L2, compare
+from balisekit.rules.rule import Options
 from balisekit.tables.model import Messages, Table
-from balisekit.tables.names import describe_message, quoted
+from balisekit.tables.names import clean, describe_message, passed_over, quoted
 
 
 def add_options(parser: argparse.ArgumentParser) -> None:
@@ -43,55 +49,101 @@ def run(options: argparse.Namespace) -> int:
         raise TableError("--aspect is for --group and --track: a message has no aspects")
     program, table, messages = shared.inputs(options)
     if options.track is not None:
-        return draw_track(options, program, table, messages)
+        return _track(options, checking.check(program, table, messages, options.by_position))
     if options.group is not None:
-        picture = _group(program, _only(table, options.group, options.aspect), options)
+        group = _only(table, options.group, options.aspect)
+        picture = _group(checking.check(program, group, by_position=options.by_position), options.aspect)
     else:
-        picture = _message(program, table, _only_message(messages, options.message))
-    options.svg.write(pieces("group.svg", picture=picture, style=style("picture.css")))
+        picture = _message(checking.check(program, table, _only_message(messages, options.message)))
+    options.svg.write(pieces("group.svg", ["picture.css"], picture=picture))
     return 0
 
 
-def _group(program: Program, alone: Table, options: argparse.Namespace) -> Picture:
-    """The picture of the group that this table has alone."""
-    checked = checking.check(program, alone, by_position=options.by_position)
+def _group(checked: Checked, aspect: Optional[str]) -> Picture:
+    """The picture of the only group of a table."""
     for item in refused(checked):
         raise TableError(str(item))
-    forms = {number: one.form for number, one in checked.accepted.items()}
-    return picture_of(checked.kept[0], forms, [place.finding for place in checked.findings], True, options.aspect)
+    forms = {number: accepted.form for number, accepted in checked.accepted.items()}
+    return picture_of(checked.kept[0], forms, [place.finding for place in checked.findings], True, aspect)
 
 
-def _message(program: Program, table: Table, alone: Messages) -> Picture:
-    """The picture of the message that this file has alone."""
-    checked = checking.check(program, table, alone)
-    heading = f"message of {describe_message(alone.messages[0])}"
+def _message(checked: Checked) -> Picture:
+    """The picture of the only message of a file. Refused telegrams of the table do not matter to it."""
     for item in refused(replace(checked, refused=())):
         raise TableError(str(item))
-    form = checked.accepted_messages[0].form
-    where = Identities(table.groups, {number: one.form for number, one in checked.accepted.items()}).here(form)
+    message = checked.accepted_messages[0]
+    heading = f"message of {describe_message(message.message)}"
+    forms = {number: accepted.form for number, accepted in checked.accepted.items()}
+    here = Identities(checked.table.groups, forms).here(message.form)
     findings = [place.finding for place in checked.findings if place.message is not None]
-    picture = picture_of_message(heading, form, findings, where.kilometres, titled=True)
+    picture = picture_of_message(heading, message.form, findings, here.kilometres, titled=True)
     if picture is None:
         raise TableError(f"{heading}: it has no authority, gradient or speed profile")
     return picture
 
 
+def _track(options: argparse.Namespace, checked: Checked) -> int:
+    """Draws a track. What is refused is named, and the rest is drawn."""
+    line, table = Line.of(checked), checked.table
+    track = _chosen_track(line, table, options.track)
+    check_aspect(table, options.aspect)
+    links = compare(line, Options(options.tolerance), [L2])
+    pictures = list(track_pictures(line, links, track, options.aspect))
+    pictures[:0] = [] if checked.whole else [note(refused_rows(checked))]
+    tops = list(accumulate([0, *(picture.height for picture in pictures)]))
+    page = pieces(
+        "track.svg",
+        ["picture.css", "track.css"],
+        title=f"track {clean(track)}" if track else "the track",
+        width=WIDTH,
+        height=tops[-1],
+        pictures=list(zip(tops, pictures)),
+    )
+    options.svg.write(page)
+    for item in [*refused(checked), *not_looked_at(checked)]:
+        print(f"balisekit: {item}", file=sys.stderr)
+    where = "standard output" if options.svg.is_standard_output else clean(options.svg.path)
+    lines = [*passed_over(table), *written(line, track, options.aspect, where)]
+    count = len(checked.accepted_messages)
+    lines += [f"left out: {count} message{'s' * (count > 1)}, which --message draws"] if count else []
+    for text in lines:
+        print(text, file=shared.text_stream(options.svg))
+    return 0 if checked.whole else 2
+
+
+def _chosen_track(line: Line, table: Table, name: str) -> str:
+    """The track of this name, or the only one if no name is given."""
+    known = tracks_of(line)
+    track = known[0] if not name and len(known) == 1 else name
+    if track not in known:
+        tracks = ", ".join(map(quoted, known)) or "no group has a kilometre"
+        why = f"there is no track {quoted(track)} with kilometres in {clean(table.path)}: {tracks}"
+        raise TableError("; ".join([why, *passed_over(table)]))
+    return track
+
+
+def check_aspect(table: Table, aspect: Optional[str]) -> None:
+    """Raises TableError if no group has the aspect that is asked for."""
+    if aspect is not None and not any(known.name == aspect for group in table.groups for known in group.aspects):
+        raise TableError(f"there is no aspect {quoted(aspect)} in {table.path}")
+
+
 def _only_message(messages: Optional[Messages], line: int) -> Messages:
-    """The file of messages with the one of this line alone."""
+    """The file of messages with only the message of this line."""
     if messages is None:
         raise TableError("--message needs --messages FILE")
-    found = tuple(one for one in messages.messages if one.number == line)
-    if not found:
+    chosen = tuple(message for message in messages.messages if message.number == line)
+    if not chosen:
         raise TableError(f"line {line} of {messages.path} has no message")
-    return replace(messages, messages=found)
+    return replace(messages, messages=chosen)
 
 
 def _only(table: Table, name: str, aspect: Optional[str]) -> Table:
-    """The table with this group alone, which has the aspect that is asked for."""
+    """The table with only this group, which has the aspect that is asked for."""
     groups = tuple(group for group in table.groups if group.name == name)
     if not groups:
         raise TableError(f"there is no group {quoted(name)} in {table.path}")
-    known = [one.name for one in groups[0].aspects]
+    known = [known.name for known in groups[0].aspects]
     if aspect is not None and aspect not in known:
         has = f"its aspects are {', '.join(map(quoted, known))}" if any(known) else "what it sends is for every aspect"
         raise TableError(f"group {quoted(name)} has no aspect {quoted(aspect)}: {has}")

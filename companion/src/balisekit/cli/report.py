@@ -4,14 +4,14 @@ from __future__ import annotations
 import argparse
 
 from balisekit.cli import options as shared
-from balisekit.cli.track import look_at_aspect
+from balisekit.cli.draw import check_aspect
 from balisekit.drawing.track import track_pictures, tracks_of
 from balisekit.io import clock
-from balisekit.present import premises
 from balisekit.present.accepted import closing_lines
 from balisekit.present.check_text import last_line
-from balisekit.present.pages import hash_of, pieces, style
-from balisekit.present.report import blocks, cover, explained, told_all
+from balisekit.present.explanations import explanations
+from balisekit.present.pages import pieces, premises
+from balisekit.present.report import blocks, cover, listed_findings
 from balisekit.present.telegram_text import LEGEND
 from balisekit.rules import accepted, checking
 from balisekit.rules.line import Line
@@ -37,32 +37,30 @@ def run(options: argparse.Namespace) -> int:
     now = clock.now()
     entries = accepted.read(options.accepted) if options.accepted else None
     program, table, messages = shared.inputs(options)
-    look_at_aspect(table, options.aspect)
+    check_aspect(table, options.aspect)
     checked = checking.check(program, table, messages, options.by_position, options.all)
     judged = accepted.judge(checked, entries, now.date()) if entries else None
-    sheet = style("page.css") + style("picture.css") + style("track.css")
-    findings = told_all(checked, judged)
+    findings = listed_findings(checked, judged)
+    explanation = explanations()
     line = Line.of(checked)
-    tracks = tracks_of(line)
     links = compare(line, Options(options.tolerance), [L2])
     page = pieces(
         "report.html",
+        ["page.css", "picture.css", "track.css"],
         cover=cover(checked, judged, now),
         findings=findings,
         judged=judged is not None,
-        explained=explained(checked),
+        explained=[explanation[rule] for rule in sorted({listed.finding.rule for listed in findings})],
         blocks=blocks(checked, line.forms, findings),
-        style=sheet,
-        style_hash=hash_of(str(sheet)),
         legend=LEGEND,
-        premises=premises.blocks(),
+        premises=premises(),
         links_rule=DISTANCE,
         aspect=options.aspect,
-        tracks=((clean(name), track_pictures(line, links, name, options.aspect)) for name in tracks),
+        tracks=((clean(name), track_pictures(line, links, name, options.aspect)) for name in tracks_of(line)),
     )
     options.html.write(page)
-    if not options.html.is_standard_output:
-        print(f"written: {clean(options.html.path)}")
-        for said in closing_lines(judged, last_line(checked)) if judged else (last_line(checked),):
-            print(said)
+    where = "standard output" if options.html.is_standard_output else clean(options.html.path)
+    verdict = closing_lines(judged, last_line(checked)) if judged else [last_line(checked)]
+    for text in (f"written: {where}", *verdict):
+        print(text, file=shared.text_stream(options.html))
     return judged.status if judged else checked.status

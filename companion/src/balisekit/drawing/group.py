@@ -1,323 +1,212 @@
-"""A group as a picture, out of the places of authorities and profiles.
+"""The picture of a group or message: a row for each aspect, with its speeds, gradients and authorities in lanes.
 
-Metres from the group go from left to right in nominal direction, and to the left in reverse.
+Metres from the group lead to the right in nominal direction, and to the left in reverse.
 """
 from __future__ import annotations
 
 from dataclasses import dataclass
-from itertools import zip_longest
-from typing import Iterable, Iterator, Optional, Sequence, Tuple
+from functools import lru_cache
+from itertools import count, zip_longest
+from typing import Callable, List, Mapping, Optional, Sequence
 
-from balisekit.drawing.canvas import LEFT, LETTER, WIDTH, Picture, Sheet, draw_axis, tenths
-from balisekit.etcs.geometry import (
-    DIRECTIONS,
-    NOMINAL,
-    REVERSE,
-    Authority,
-    Element,
-    Kilometres,
-    Profile,
-    Site,
-    Way,
-    way,
+from balisekit.drawing.scale import BOLD_LETTER, LEFT, LETTER, WIDTH, Lane, Picture, Sheet, tenths
+from balisekit.drawing.way import (
+    Sizes,
+    WayDrawing,
+    gap_label,
+    is_about,
+    profile_number,
+    reach,
+    short_profiles,
+    speed_top,
 )
+from balisekit.engine.grammar import Finding
+from balisekit.etcs.geometry import DIRECTIONS, NOMINAL, REVERSE, Authority, Kilometres, Way, infill, kilometres, way
 from balisekit.etcs.variables import Around, Form, metres, value_words
-from balisekit.tables.names import clean
+from balisekit.tables.model import Group
+from balisekit.tables.names import clean, quoted
 
-SPEED_HEIGHT, GRADIENT_HEIGHT, AUTHORITY_HEIGHT = 58, 20, 50
-LINE = 12
-NO_PROFILE = {10: "no gradient", 12: "no speed profile"}
-"""The findings of a profile that is missing as a whole."""
-BOLD_LETTER = 70
-"""The width of a bold letter, in tenths of a pixel."""
-
-
-@dataclass(frozen=True)
-class Short:
-    """A profile that the program has found too short, F11 or F13, or missing, F10 or F12."""
-
-    rule: int
-    direction: str
-    site: Optional[Site]
-    """Which packet. A profile that is missing has none."""
+PROFILES = ((27, "speed, km/h", 58), (21, "gradient, ‰", 20))
+"""The lanes of profiles: packet, name and height."""
+MISSING_HEIGHT, AUTHORITY_HEIGHT, LINE = 20, 50, 12
+SIZES = Sizes(speed=46, above=3, end=4, supervised=10)
+Describe = Callable[[int], str]
 
 
 @dataclass(frozen=True)
 class Content:
-    """What one row of the picture is about: the telegrams of an aspect in nominal order, and their findings."""
+    """A row of the picture: the telegrams of an aspect in nominal order, or a message, and their findings."""
 
     title: str
     forms: Sequence[Form]
-    short: Tuple[Short, ...] = ()
+    short: Sequence[Finding] = ()
     infill: bool = False
 
 
-def _sign(direction: str) -> int:
-    return 1 if direction == NOMINAL else -1
+def picture_of(
+    group: Group,
+    forms: Mapping[int, Form],
+    findings: Sequence[Finding],
+    titled: bool = False,
+    only: Optional[str] = None,
+) -> Picture:
+    """The picture of a group whose telegrams the program has read, in all aspects or only one.
+
+    A picture by itself has a title.
+    """
+    contents: List[Content] = []
+    for index, aspect in enumerate(group.aspects):
+        if only in (None, aspect.name):
+            title = f"aspect {quoted(aspect.name)}" if aspect.name else "in every aspect"
+            of_aspect = [finding for finding in findings if (finding.aspect or 0) == index]
+            contents += _contents(title, [forms[row.number] for row in aspect.rows], of_aspect)
+    return draw(group.name, contents, kilometres(group), titled)
 
 
-def _reach(one: Way) -> Iterable[int]:
-    """All places of a way that the picture has to show."""
-    for authority in one.authorities:
-        yield from (authority.end, authority.supervised, authority.danger_point or 0)
-    for profile in (*one.gradients, *one.speeds):
-        places = [element.begin for element in (*profile.elements, *profile.beyond)]
-        yield from places
-        yield profile.reach if profile.reach is not None else max(places) * 11 // 10 + 1000
+def picture_of_message(
+    title: str, form: Form, findings: Sequence[Finding], where: Kilometres, titled: bool = False
+) -> Optional[Picture]:
+    """The picture of a message 3, whose places count from the group of NID_LRBG. A message 136 has none."""
+    if form["nid_message"] == 136 or not any(
+        way([form], direction, elsewhere) for direction in DIRECTIONS for elsewhere in (False, True)
+    ):
+        return None
+    lrbg = f"NID_C {form['nid_c']}, NID_BG {form['nid_bg']}"
+    return draw(title, _contents(f"metres from the group of NID_LRBG ({lrbg})", [form], findings), where, titled)
 
 
-def draw(title: str, contents: Sequence[Content], kilometres: Kilometres, titled: bool = False) -> Picture:
+def _contents(title: str, forms: Sequence[Form], findings: Sequence[Finding]) -> List[Content]:
+    """What these telegrams say of places from their own group, and from the group of a packet 136."""
+    contents = [Content(title, forms, short_profiles(findings))]
+    if any(infill(forms, direction) for direction in DIRECTIONS):
+        contents.append(Content(f"{title}, infill: metres from the group of packet 136", forms, infill=True))
+    return contents
+
+
+def draw(title: str, contents: Sequence[Content], where: Kilometres, titled: bool = False) -> Picture:
     """The picture of a group: a row for each content, below the title if it is to be seen."""
-    rows = [(one, [way(one.forms, direction, one.infill) for direction in DIRECTIONS]) for one in contents]
-    ends = {
-        direction: max((place for _, ways in rows for place in _reach(ways[index])), default=0)
-        for index, direction in enumerate(DIRECTIONS)
-    }
-    least, greatest = -ends[REVERSE], ends[NOMINAL]
-    greatest = max(greatest, least + 1000)
-    sheet = Sheet(least, greatest, kilometres)
+    rows = [(content, [way(content.forms, each, content.infill) for each in DIRECTIONS]) for content in contents]
+    nominal, reverse = (
+        max((place for _, ways in rows for place in reach(ways[index])), default=0) for index in range(2)
+    )
+    sheet = Sheet(-reverse, max(nominal, 1000 - reverse))
     if titled:
         sheet.text("title", clean(title), 40, 20)
         sheet.y = 28
-    top = speed_top(ways for _, ways in rows)
-    last = max((place for place, (one, ways) in enumerate(rows) if any(ways) and not one.infill), default=None)
-    for place, (content, ways) in enumerate(rows):
-        sheet.count_from(Kilometres() if content.infill else kilometres)
-        _row(sheet, content, ways, top)
-        if any(ways):
-            _base(sheet, content, content.infill or place == last)
-    return Picture(clean(title), WIDTH, sheet.y + 6, tuple(sheet.shapes))
+    own, elsewhere = ([_describing(known, each) for each in DIRECTIONS] for known in (where, Kilometres()))
+    top_speed = speed_top([each for _, ways in rows for each in ways])
+    last = max((index for index, (content, ways) in enumerate(rows) if any(ways) and not content.infill), default=None)
+    for index, (content, ways) in enumerate(rows):
+        sheet.text("head", clean(content.title), 40, sheet.y + 18)
+        sheet.y += 26
+        if not any(ways):
+            sheet.text("small", "no authority, gradient or speed profile", LEFT * 10, sheet.y + 10)
+            sheet.y += 20
+            continue
+        begin = sheet.y
+        _row(sheet, content, ways, elsewhere if content.infill else own, top_speed)
+        group = "the infill's group" if content.infill else "the group"
+        sheet.path("group", group, f"M{tenths(sheet.x(0))} {begin}V{sheet.y + 4}")
+        if content.infill or index == last:
+            _axis(sheet, Kilometres() if content.infill else where)
+    return sheet.picture(clean(title), 6)
 
 
-def speed_top(ways: Iterable[Sequence[Way]]) -> int:
-    """The speed at the upper edge: the greatest one, rounded up to 20 km/h."""
-    speeds = [
-        element.value * 5 for some in ways for one in some for profile in one.speeds for element in profile.elements
-    ]
-    return max(20, -(-max(speeds, default=20) // 20) * 20)
+def _describing(where: Kilometres, direction: str) -> Describe:
+    """Places of this direction in words. An element ends where the next one begins, so they are kept."""
+
+    @lru_cache(maxsize=None)
+    def describe(place: int) -> str:
+        km = where.words(place, direction)
+        return f"{metres(place)}, km {km}" if km else metres(place)
+
+    return describe
 
 
-def _row(sheet: Sheet, content: Content, ways: Sequence[Way], top: int) -> None:
-    sheet.y += 18
-    sheet.text("head", clean(content.title), 40, sheet.y)
-    sheet.y += 8
-    if not any(ways):
-        sheet.text("small", "no authority, gradient or speed profile", LEFT * 10, sheet.y + 10)
-        sheet.y += 20
-        return
-    sheet.start = sheet.y
-    if any(ways[1:]):
+def _row(sheet: Sheet, content: Content, ways: Sequence[Way], describe: Sequence[Describe], top_speed: int) -> None:
+    if ways[1]:
         sheet.text("small ending", "← reverse", sheet.x(0) - 60, sheet.y)
         if ways[0]:
             sheet.text("small begin", "nominal →", sheet.x(0) + 60, sheet.y)
-    for some in zip_longest(*[one.speeds for one in ways]):
-        _lane(sheet, "speed, km/h", SPEED_HEIGHT)
-        for one, profile in zip(ways, some):
-            if profile:
-                _speed(sheet, profile, one.direction, top)
-                _gap(sheet, content, profile, one)
-    _missing(sheet, content, ways, 12)
-    for some in zip_longest(*[one.gradients for one in ways]):
-        _lane(sheet, "gradient, ‰", GRADIENT_HEIGHT)
-        for one, profile in zip(ways, some):
-            if profile:
-                _gradient(sheet, profile, one.direction)
-                _gap(sheet, content, profile, one)
-    _missing(sheet, content, ways, 10)
-    for few in zip_longest(*[one.authorities for one in ways]):
-        _lane(sheet, "authority", AUTHORITY_HEIGHT + (LINE if all(few) else 0))
-        labels = [_authority(sheet, authority, direction) for direction, authority in zip(DIRECTIONS, few) if authority]
-        for place, label in enumerate(labels):
-            words = f"{DIRECTIONS[place]}: {label}" if len(labels) > 1 else label
-            at = max(40, min(sheet.x(0) + 40, WIDTH * 10 - len(words) * LETTER))
-            sheet.text("small begin halo", words, at, sheet.top + 40 + place * LINE)
+    drawings = [
+        WayDrawing(sheet, each, SIZES, describe[index], each.direction, 1 - 2 * index)
+        for index, each in enumerate(ways)
+    ]
+    for number, name, height in PROFILES:
+        for profiles in zip_longest(*[each.speeds if number == 27 else each.gradients for each in ways]):
+            lane = _lane(sheet, name, height)
+            for drawing, profile in zip(drawings, profiles):
+                if profile:
+                    drawing.profile(profile, lane, top_speed)
+                    _gaps(drawing, [finding for finding in content.short if is_about(finding, profile)], lane)
+        missing = [finding for finding in content.short if finding.packet is None and profile_number(finding) == number]
+        if missing:
+            lane = _lane(sheet, name, MISSING_HEIGHT)
+            for drawing in drawings:
+                _gaps(drawing, missing, lane)
+    for authorities in zip_longest(*[each.authorities for each in ways]):
+        lane = _lane(sheet, "authority", AUTHORITY_HEIGHT + (LINE if all(authorities) else 0))
+        drawn = [(drawing, authority) for drawing, authority in zip(drawings, authorities) if authority]
+        for drawing, authority in drawn:
+            drawing.authority(authority, Lane(lane.top + 12, 14))
+        for index, (drawing, authority) in enumerate(drawn):
+            label = f"{drawing.whose}: " * (len(drawn) > 1) + _authority_words(authority)
+            left = max(40, min(sheet.x(0) + 40, WIDTH * 10 - len(label) * LETTER))
+            sheet.text("small begin halo", label, left, lane.top + 40 + index * LINE)
 
 
-def _lane(sheet: Sheet, label: str, height: int) -> None:
-    """Room for the next packet of either direction, below what is drawn."""
-    sheet.top, sheet.height = sheet.y + 6, height
-    sheet.y = sheet.top + height
-    sheet.text("small", label, 40, sheet.top + height // 2 + 4)
+def _lane(sheet: Sheet, name: str, height: int) -> Lane:
+    """The next lane, below what is drawn."""
+    lane = Lane(sheet.y + 6, height)
+    sheet.y = lane.bottom
+    sheet.text("small", name, 40, lane.top + height // 2 + 4)
+    return lane
 
 
-def _elements(sheet: Sheet, profile: Profile, direction: str) -> Iterator[Tuple[Element, int, int, str]]:
-    """Each element with its two places in the picture, and where it is in words."""
-    edge = sheet.edge(direction)
-    for element in profile.elements:
-        end = edge if element.end is None else element.end
-        words = f"from {sheet.place(element.begin, direction)}"
-        words += f" to {sheet.place(element.end, direction)}" if element.end is not None else " on: an open profile"
-        yield element, _sign(direction) * element.begin, _sign(direction) * end, f"{words}, {direction}"
-    if profile.first > 0 and profile.elements:
-        sheet.rect(
-            "none",
-            f"not given here: up to {sheet.place(profile.first, direction)}, {direction}",
-            (0, _sign(direction) * profile.first),
-            sheet.top,
-            sheet.height,
-        )
-
-
-def _speed(sheet: Sheet, profile: Profile, direction: str, most: int) -> None:
-    for element, begin, end, where in _elements(sheet, profile, direction):
-        tall = max(1, element.value * 5 * (sheet.height - 12) // most)
-        title = f"{element.value * 5} km/h {where}"
-        y = sheet.top + sheet.height - tall
-        left, right = sheet.rect("speed", title, (begin, end), y, tall)
-        open_end = " open" if element.end is None else ""
-        sheet.path(f"step{open_end}", title, f"M{tenths(left)} {y}H{tenths(right)}")
-        sheet.inside("small", str(element.value * 5), left, right, y - 3)
-    _ending(sheet, profile, direction, "speed profile")
-
-
-def gradient_words(element: Element) -> str:
-    """A gradient with a minus that is as wide as a plus, so that it is seen on the dots of downhill."""
-    return value_words("g_a", element.value, Around({}, element.form)).replace("-", "\u2212")
-
-
-def _gradient(sheet: Sheet, profile: Profile, direction: str) -> None:
-    for element, begin, end, where in _elements(sheet, profile, direction):
-        up = bool(element.form["q_gdir"])
-        words = gradient_words(element)
-        look = "level" if element.value == 0 else "up" if up else "down"
-        left, right = sheet.rect(look, f"{words} {where}", (begin, end), sheet.top, sheet.height)
-        sheet.inside("small halo", words, left, right, sheet.top + 14)
-    _ending(sheet, profile, direction, "gradient profile")
-
-
-def _ending(sheet: Sheet, profile: Profile, direction: str, name: str) -> None:
-    """An end mark as a bar, elements behind it pale, and an open profile as an arrow."""
-    sign = _sign(direction)
-    if profile.reach is not None:
-        sheet.mark(
-            "endmark",
-            f"end mark: the {name} reaches {sheet.place(profile.reach, direction)}, {direction}",
-            sign * profile.reach,
-            sheet.top,
-            sheet.height,
-        )
-    else:
-        tip, middle = sheet.x(sign * sheet.edge(direction)), sheet.top + sheet.height - 6
-        sheet.path(
-            "arrow",
-            f"the {name} has no end mark: it is open, {direction}",
-            f"M{tenths(tip - sign * 80)} {middle - 5}L{tenths(tip)} {middle}"
-            f"L{tenths(tip - sign * 80)} {middle + 5}",
-        )
-    for element in profile.beyond:
-        sheet.mark(
-            "pale",
-            f"behind the end mark: an element at {sheet.place(element.begin, direction)}",
-            sign * element.begin,
-            sheet.top,
-            sheet.height,
-        )
-
-
-def missing(short: Short, one: Way) -> Optional[Tuple[int, int]]:
-    """From where to where a profile is missing: up to the greatest supervised location."""
-    if one.supervised is None:
-        return None
-    if short.site is None:
-        return 0, one.supervised
-    reach = next((profile.reach for profile in (*one.gradients, *one.speeds) if profile.site == short.site), None)
-    return None if reach is None else (reach, one.supervised)
-
-
-def _gap(sheet: Sheet, content: Content, profile: Profile, one: Way) -> None:
-    """The track between a profile that the program has found too short and the greatest supervised location."""
-    for short in content.short:
-        places = missing(short, one)
-        if (short.site, short.direction) != (profile.site, one.direction) or places is None:
+def _gaps(drawing: WayDrawing, findings: Sequence[Finding], lane: Lane) -> None:
+    """Where profiles of a direction are missing, with a text: inside if there is room, else below the lane."""
+    for finding in findings:
+        edges = drawing.gap(finding, lane) if finding.direction == drawing.way.direction else None
+        if edges is None:
             continue
-        reach, supervised = places
-        sign, length = _sign(one.direction), metres(supervised - reach)
-        title = (
-            f"F{short.rule}: {length} are missing, from {sheet.place(reach, one.direction)} "
-            f"to {sheet.place(supervised, one.direction)}, {one.direction}"
-        )
-        left, right = sheet.rect("gap", title, (sign * reach, sign * supervised), sheet.top, sheet.height)
-        _red(sheet, f"F{short.rule}: {length}", left, right)
+        label, (left, right) = gap_label(finding, drawing.way), edges
+        width, middle = len(label) * BOLD_LETTER, (left + right) // 2
+        if width + 2 * BOLD_LETTER < right - left:
+            drawing.sheet.text("red middle", label, middle, lane.top + 14)
+        else:
+            left = max(40, min(middle - width // 2, WIDTH * 10 - width - 20))
+            drawing.sheet.text("red begin", label, left, lane.bottom + LINE - 1)
+            drawing.sheet.y = max(drawing.sheet.y, lane.bottom + LINE + 2)
 
 
-def _red(sheet: Sheet, words: str, left: int, right: int) -> None:
-    """A bold text about what lies between these coordinates: within it if there is room, else below the lane."""
-    room, middle = len(words) * BOLD_LETTER, (left + right) // 2
-    if room + 2 * BOLD_LETTER < right - left:
-        sheet.text("red middle", words, middle, sheet.top + 14)
-        return
-    below = sheet.top + sheet.height
-    sheet.text("red begin", words, max(40, min(middle - room // 2, WIDTH * 10 - room - 20)), below + LINE - 1)
-    sheet.y = max(sheet.y, below + LINE + 2)
+def _authority_words(authority: Authority) -> str:
+    """Speeds and places of an authority."""
+    form, dp, overlap = authority.form, authority.danger_point, authority.overlap
+    parts = [f"V_MAIN {value_words('v_main', form['v_main'], Around())}"] if "v_main" in form else []
+    parts += [f"V_LOA {value_words('end_speed', form['end_speed'], Around())}", f"end {metres(authority.end)}"]
+    parts += [] if dp is None else [f"DP {metres(dp)}"]
+    parts += [] if overlap is None else [f"overlap to {metres(overlap)}"]
+    return "; ".join([*parts, f"SvL {metres(authority.supervised)}"])
 
 
-def _missing(sheet: Sheet, content: Content, ways: Sequence[Way], rule: int) -> None:
-    """A lane for a profile that the program has found missing, F10 or F12."""
-    found = [short for short in content.short if short.rule == rule]
-    if not found:
-        return
-    name = NO_PROFILE[rule]
-    _lane(sheet, "gradient, ‰" if rule == 10 else "speed, km/h", GRADIENT_HEIGHT)
-    for short in found:
-        supervised = ways[DIRECTIONS.index(short.direction)].supervised
-        if supervised is not None:
-            title = f"F{rule}: {name} up to {sheet.place(supervised, short.direction)}, {short.direction}"
-            left, right = sheet.rect("gap", title, (0, _sign(short.direction) * supervised), sheet.top, sheet.height)
-            _red(sheet, f"F{rule}: {name}", left, right)
+def _axis(sheet: Sheet, where: Kilometres) -> None:
+    """An axis with metres, and with kilometres if the table has them."""
+    sheet.y += 8
+    step = _tick(sheet.greatest - sheet.least)
+    places = range(-(-sheet.least // step) * step, sheet.greatest + 1, step)
+    sheet.axis("metres from the group", places)
+    known = [(place, where.words(abs(place), REVERSE if place < 0 else NOMINAL)) for place in places]
+    has_km = all(km for _, km in known)
+    for place, km in known:
+        sheet.text("tick", metres(abs(place)), sheet.x(place), sheet.y + 14)
+        if has_km:
+            sheet.text("tick", km, sheet.x(place), sheet.y + 25)
+    if has_km:
+        sheet.text("small", "km", 40, sheet.y + 25)
+    sheet.y += 32 if has_km else 20
 
 
-def _authority(sheet: Sheet, authority: Authority, direction: str) -> str:
-    """Draws it. The answer is its numbers in words."""
-    sign, top, begin = _sign(direction), sheet.top + 12, 0
-    cuts = [*authority.cuts, authority.end]
-    for place, cut in enumerate(cuts):
-        name = f"section {place}" if place < len(authority.cuts) else "end section"
-        title = f"{name}: {metres(cut - begin)}, to {sheet.place(cut, direction)}, {direction}"
-        left, right = sheet.rect(f"section{place % 2}", title, (sign * begin, sign * cut), top, 14)
-        sheet.inside("light", metres(cut - begin), left, right, top + 11)
-        begin = cut
-    if authority.overlap is not None:
-        length = metres(authority.overlap - authority.end)
-        sheet.rect(
-            "overlap",
-            f"overlap: {length}, to {sheet.place(authority.overlap, direction)}, {direction}",
-            (sign * authority.end, sign * authority.overlap),
-            top,
-            14,
-        )
-    sheet.mark(
-        "end",
-        f"end of the authority: {sheet.place(authority.end, direction)}, {direction}",
-        sign * authority.end,
-        top - 4,
-        22,
-    )
-    labels = [f"end {metres(authority.end)}"]
-    if authority.danger_point is not None:
-        x = tenths(sheet.x(sign * authority.danger_point))
-        title = f"danger point: {sheet.place(authority.danger_point, direction)}, {direction}"
-        sheet.path("danger", title, f"M{x} {top - 1}l5 8l-5 8l-5 -8z")
-        labels.append(f"DP {metres(authority.danger_point)}")
-    if authority.overlap is not None:
-        labels.append(f"overlap to {metres(authority.overlap)}")
-    sheet.mark(
-        "supervised",
-        f"supervised location: {sheet.place(authority.supervised, direction)}, {direction}",
-        sign * authority.supervised,
-        top - 10,
-        28,
-    )
-    labels.append(f"SvL {metres(authority.supervised)}")
-    main = authority.form.get("v_main")
-    if main is not None:
-        labels.insert(0, f"V_MAIN {value_words('v_main', main, Around())}")
-    labels.insert(1, f"V_LOA {value_words('end_speed', authority.form['end_speed'], Around())}")
-    return "; ".join(labels)
-
-
-def _base(sheet: Sheet, content: Content, has_axis: bool) -> None:
-    """A line at the group, and below the last row metres, and kilometres where the table has them."""
-    group = "the infill's group" if content.infill else "the group"
-    sheet.path("group", group, f"M{tenths(sheet.x(0))} {sheet.start}V{sheet.y + 4}")
-    if has_axis:
-        draw_axis(sheet)
+def _tick(length: int) -> int:
+    """A distance between ticks of 1, 2 or 5 times a power of ten, for ten ticks at most."""
+    steps = (int(digit * 10**power) for power in count(1) for digit in (1, 2, 5))
+    return next(step for step in steps if length // step < 11)

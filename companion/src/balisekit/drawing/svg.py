@@ -6,7 +6,7 @@ from typing import Iterable
 
 from markupsafe import Markup, escape
 
-from balisekit.drawing.canvas import Shape
+from balisekit.drawing.scale import Shape
 
 
 @lru_cache(maxsize=1 << 16)
@@ -15,19 +15,19 @@ def _escaped(text: str) -> str:
     return str(escape(text))
 
 
-def _svg(one: Shape) -> str:
-    """A shape, a line each. Titles and texts are escaped; the rest is made of numbers and of words of balisekit."""
-    kind, look, title, x, y, width, height, path, text = one
-    if kind == "rect":
+def _svg(shape: Shape) -> str:
+    """A line for a shape. Titles and texts are escaped; all else is numbers and words of balisekit."""
+    tag, style, title, x, y, width, height, path, text = shape
+    if tag == "rect":
         return (
-            f'<rect class="{look}" x="{x}" y="{y}" width="{width}" height="{height}">'
+            f'<rect class="{style}" x="{x}" y="{y}" width="{width}" height="{height}">'
             f"<title>{_escaped(title)}</title></rect>\n"
         )
-    if kind == "path":
-        return f'<path class="{look}" d="{path}">{f"<title>{_escaped(title)}</title>" if title else ""}</path>\n'
-    return f'<text class="{look}" x="{x}" y="{y}">{_escaped(text)}</text>\n'
+    if tag == "path":
+        return f'<path class="{style}" d="{path}">{f"<title>{_escaped(title)}</title>" if title else ""}</path>\n'
+    return f'<text class="{style}" x="{x}" y="{y}">{_escaped(text)}</text>\n'
 
 
 def svg(shapes: Iterable[Shape]) -> Markup:
-    """The shapes of a picture, a line for each one."""
+    """The shapes of a picture, a line each."""
     return Markup("".join(map(_svg, shapes)))

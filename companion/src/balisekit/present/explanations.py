@@ -1,12 +1,11 @@
 """Meaning, urgency, cause and remedy of each finding by docs/FINDINGS.md, and of each rule by its own page.
 
-`findings.json` is made of FINDINGS.md by `python3 -m balisekit.present.explanations DOCS`.
+companion/tools/from_docs.py makes `findings.json` of FINDINGS.md.
 """
 from __future__ import annotations
 
 import json
 import re
-import sys
 import textwrap
 from dataclasses import dataclass
 from pathlib import Path
@@ -16,14 +15,6 @@ from balisekit.rules.rule import Rule
 
 WIDTH = 116
 
-PARTS = {
-    "What it says": "says",
-    "How urgent": "urgent",
-    "Usual cause": "cause",
-    "What may happen": "happens",
-    "How to correct it": "remedy",
-}
-"""The paragraphs of a finding, and what they are called here."""
 HEADS = ("What it says", "How urgent", "Usual cause", "How to correct it")
 """The paragraphs that `--explain` shows."""
 
@@ -39,20 +30,6 @@ class Explanation:
     cause: str
     happens: str
     remedy: str
-
-
-def of_document(text: str) -> Dict[int, Dict[str, str]]:
-    """The paragraphs of each rule in the text of the page."""
-    found: Dict[int, Dict[str, str]] = {}
-    for section in re.split(r"^## ", text, flags=re.MULTILINE):
-        heading = re.match(r"F(\d+): (.+)\n", section)
-        if heading:
-            parts = dict(re.findall(r"^\*\*(.+?)\.\*\* (.+?)(?=^\*\*|^```|\Z)", section, re.MULTILINE | re.DOTALL))
-            found[int(heading[1])] = {
-                "name": heading[2],
-                **{key: _plain(parts.get(part, "")) for part, key in PARTS.items()},
-            }
-    return found
 
 
 def _plain(text: str) -> str:
@@ -81,8 +58,3 @@ def _wrapped(title: str, texts: Sequence[str]) -> Iterator[str]:
     yield title
     for head, text in zip(HEADS, texts):
         yield from textwrap.wrap(f"{head}. {text}", WIDTH, initial_indent="    ", subsequent_indent="    ")
-
-
-if __name__ == "__main__":
-    _text = Path(sys.argv[1], "FINDINGS.md").read_text("utf-8")
-    print(json.dumps(of_document(_text), indent=1, ensure_ascii=False))

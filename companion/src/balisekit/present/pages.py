@@ -3,25 +3,27 @@ from __future__ import annotations
 
 import base64
 import hashlib
+import json
+from itertools import groupby
 from pathlib import Path
-from typing import Any, Iterator
+from typing import Any, Iterator, List, Sequence, Tuple
 
 from balisekit.errors import NoAnswer
 
-LACKS = "pictures and reports need jinja2 (Debian: python3-jinja2)"
 PIECES = 100
 """So many pieces of a page become one."""
 TEMPLATES = Path(__file__).with_name("templates")
 
 
-def pieces(template: str, **values: Any) -> Iterator[str]:
-    """The page in pieces, so that it never stands in memory whole. All values are escaped."""
+def pieces(template: str, styles: Sequence[str], **values: Any) -> Iterator[str]:
+    """The page in pieces, so that it never stands in memory whole. All values but its style sheets are escaped."""
     try:
         from jinja2 import Environment, FileSystemLoader, StrictUndefined
+        from markupsafe import Markup
 
         from balisekit.drawing.svg import svg
     except ImportError as error:
-        raise NoAnswer(LACKS) from error
+        raise NoAnswer("pictures and reports need jinja2 (Debian: python3-jinja2)") from error
     environment = Environment(
         loader=FileSystemLoader(str(TEMPLATES)),
         autoescape=True,
@@ -30,20 +32,19 @@ def pieces(template: str, **values: Any) -> Iterator[str]:
         lstrip_blocks=True,
     )
     environment.filters["svg"] = svg
-    page = environment.get_template(template).stream(**values)
+    style = "".join((TEMPLATES / name).read_text("utf-8") for name in styles)
+    page = environment.get_template(template).stream(style=Markup(style), style_hash=_hash(style), **values)
     page.enable_buffering(PIECES)
     yield from page
 
 
-def style(name: str) -> Any:
-    """A style sheet of the package, which is not escaped."""
-    try:
-        from markupsafe import Markup
-    except ImportError as error:
-        raise NoAnswer(LACKS) from error
-    return Markup((TEMPLATES / name).read_text("utf-8"))
+def _hash(style: str) -> str:
+    """The checksum by which a page's policy allows its style sheet."""
+    return "sha256-" + base64.b64encode(hashlib.sha256(style.encode("utf-8")).digest()).decode()
 
 
-def hash_of(text: str) -> str:
-    """The checksum by which a page's policy allows a style sheet."""
-    return "sha256-" + base64.b64encode(hashlib.sha256(text.encode("utf-8")).digest()).decode()
+def premises() -> List[Tuple[bool, List[str]]]:
+    """What a yes means, rests on and does not cover: paragraphs in blocks, and whether each block is a list."""
+    paragraphs: List[str] = json.loads((TEMPLATES / "premises.json").read_text("utf-8"))
+    parts = groupby(paragraphs, lambda paragraph: paragraph.startswith("- "))
+    return [(is_list, [paragraph[2 * is_list :] for paragraph in block]) for is_list, block in parts]

@@ -1,7 +1,7 @@
 """What the program has refused: where it is, and a sentence on the field that the program's words are about."""
 from __future__ import annotations
 
-from typing import Callable, Dict, Iterator, List, NamedTuple, Sequence
+from typing import Iterator, List, NamedTuple, Optional, Sequence
 
 from balisekit.engine.grammar import Refusal
 from balisekit.etcs.layout import Field, bits_of, message_fields, telegram_fields, user_bits
@@ -13,12 +13,25 @@ CODED = {86: 341, 256: 1023}
 """The digits of a telegram with its channel coding, and its bits."""
 LENGTHS = (54, 208)
 """The digits of a short telegram and of a long one."""
+SENTENCES = {
+    "spare": "{name} is {value}, which is spare",
+    "short": "{name} needs {width} bits, and {left} are left: a count or length before it is too great, or the text is "
+    "too small",
+    "length": "{name} is {value}, but its fields have {fields} bits",
+    "version": "{name} is {value}{version}; 32 (2.0) and 33 (2.1) are read",
+    "loop": "{name} is {value}: it is for a loop, not for a balise",
+    "down-link": "{name} is {value}: it goes from train to track",
+    "message kind": "{name} is {value}; 3 and 136 are read",
+    "no authority": "message 3 has no packet 15: its packets end at bit {at}",
+    "no report": "message 136 has no packet 0 or 1: its packets end at bit {at}",
+}
+"""What the program's words mean for the field at their place."""
 
 
 class RefusedInput(NamedTuple):
     """A telegram or message that the program has refused."""
 
-    words: str
+    sentence: str
     """Where it is, and why it is refused."""
     program: str
     """The program's words."""
@@ -26,7 +39,7 @@ class RefusedInput(NamedTuple):
     """Its place in a report."""
 
     def __str__(self) -> str:
-        return f"{self.words}: program: {self.program}"
+        return f"{self.sentence}: program: {self.program}"
 
 
 def refused(checked: Checked) -> Iterator[RefusedInput]:
@@ -43,7 +56,7 @@ def refused(checked: Checked) -> Iterator[RefusedInput]:
 def refused_lines(checked: Checked, before: str = "") -> Iterator[str]:
     """Two lines for each refused telegram and message: where it is and why, and the program's words."""
     for item in refused(checked):
-        yield from (before + item.words, f"    program: {item.program}")
+        yield from (before + item.sentence, f"    program: {item.program}")
 
 
 def not_looked_at(checked: Checked) -> List[str]:
@@ -71,15 +84,16 @@ def message_refused(digits: str, refusal: Refusal) -> str:
         odd = f"it has {len(digits)} digits, an odd number: a digit is missing, or one too many"
         return _no_digit(digits) or odd + ("; a message 3 begins with 03" if digits[:2] == "30" else "")
     fields = message_fields(bits_of(digits))
-    if refusal.why == "length" and refusal.at == 8:
-        return f"L_MESSAGE is {_field(fields, 8).value}, but the message has {len(digits) // 2} bytes"
+    length = _field(fields, 8)
+    if refusal.why == "length" and refusal.at == 8 and length:
+        return f"L_MESSAGE is {length.value}, but the message has {len(digits) // 2} bytes"
     from_train = bool(fields) and fields[0].value == 136
     return _at_field(fields, refusal, 8 if from_train else 10)
 
 
 def _wrong_length(length: int) -> str:
     """The length of a telegram's text, beside the nearer one of the two that it may have."""
-    nearest = min(LENGTHS, key=lambda one: abs(length - one))
+    nearest = min(LENGTHS, key=lambda known: abs(length - known))
     far = f"{nearest - length} short of" if length < nearest else f"{length - nearest} more than"
     return f"it has {length} digits, {far} {nearest}: a short telegram has {LENGTHS[0]}, a long one {LENGTHS[1]}"
 
@@ -93,51 +107,27 @@ def _no_digit(digits: str) -> str:
     return ""
 
 
-def _field(fields: Sequence[Field], at: int) -> Field:
+def _field(fields: Sequence[Field], at: int) -> Optional[Field]:
     """The field that begins at this bit."""
-    return next(field for field in fields if field.at == at and field.width)
-
-
-def _packet(field: Field) -> str:
-    if field.packet is None:
-        return ""
-    place = ORDINALS[field.packet] if field.packet < len(ORDINALS) else f"{field.packet + 1}th"
-    return f" of packet {field.number} ({place} packet)"
+    return next((field for field in fields if field.at == at and field.width), None)
 
 
 def _at_field(fields: Sequence[Field], refusal: Refusal, before_length: int) -> str:
     """A refusal with a place, by the field that begins there."""
-    at, end = refusal.at or 0, refusal.end or 0
-    if refusal.why == "no end":
+    at, end, why = refusal.at or 0, refusal.end or 0, refusal.why
+    if why == "no end":
         packets = [field for field in fields if field.packet is not None and field.at < at]
         last = f" behind packet {packets[-1].number}" if packets else ""
         return f"no packet 255{last}: the packets end at bit {at}"
-    try:
-        field = _field(fields, at)
-    except StopIteration:
+    field = _field(fields, at)
+    if field is None or why not in SENTENCES:
         return refusal.text
-    name, value = field.name + _packet(field), field.value
-    size = at + field.width
-    left = end - at
-    fields_end = end - at + before_length
-    sentences: Dict[str, Callable[[], str]] = {
-        "spare": lambda: f"{name} is {value}, which is spare",
-        "short": lambda: f"{name} needs {field.width} bits, and {left} are left: a count or length before it is too "
-        "great, or the text is too small",
-        "length": lambda: (
-            f"{name} is {value}, less than the {fields_end} bits of its head"
-            if end == size
-            else f"{name} is {value}, but its fields have {fields_end} bits"
-        ),
-        "version": lambda: f"{name} is {value}{_version(value)}; 32 (2.0) and 33 (2.1) are read",
-        "loop": lambda: f"{name} is {value}: it is for a loop, not for a balise",
-        "down-link": lambda: f"{name} is {value}: it goes from train to track",
-        "message kind": lambda: f"{name} is {value}; 3 and 136 are read",
-        "no authority": lambda: f"message 3 has no packet 15: its packets end at bit {at}",
-        "no report": lambda: f"message 136 has no packet 0 or 1: its packets end at bit {at}",
-    }
-    return sentences.get(refusal.why or "", lambda: refusal.text)()
-
-
-def _version(value: int) -> str:
-    return f" ({value // 16}.{value % 16})" if value >= 16 else ""
+    name, value, index = field.name, field.value, field.packet
+    if index is not None:
+        ordinal = ORDINALS[index] if index < len(ORDINALS) else f"{index + 1}th"
+        name += f" of packet {field.number} ({ordinal} packet)"
+    if why == "length" and end == at + field.width:
+        return f"{name} is {value}, less than the {end - at + before_length} bits of its head"
+    numbers = {"width": field.width, "left": end - at, "fields": end - at + before_length, "at": at}
+    version = f" ({value // 16}.{value % 16})" if value >= 16 else ""
+    return SENTENCES[why].format(name=name, value=value, version=version, **numbers)

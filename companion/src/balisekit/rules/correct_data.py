@@ -1,44 +1,21 @@
 """Findings on correct data: which row of that table of docs/FINDINGS.md a finding fits, by the program's JSON.
 
-`correct_data.json` is made of the table by `python3 -m balisekit.correct_data DOCS`.
+companion/tools/from_docs.py makes `correct_data.json` of the table.
 """
 from __future__ import annotations
 
 import json
-import re
-import sys
 from pathlib import Path
-from typing import Any, Callable, Dict, Iterator, List, Sequence, Tuple
+from typing import Callable, Dict, Iterator, List, Sequence, Tuple
 
 from balisekit.etcs.geometry import passed
 from balisekit.etcs.variables import Form
 from balisekit.rules.checking import Checked, Place
 
 MADE = Path(__file__).with_name("correct_data.json")
-ROWS = (
-    "stop aspect",
-    "one controlled balise",
-    "pair controlled",
-    "infill",
-    "default group",
-    "default aspect",
-    "cover marker",
-    "message",
-    "earlier group",
-)
-"""The rows of the table in their order."""
 MISSING, SHORT = (10, 12), (11, 13)
 PROFILES = (21, 27)
 Forms = Sequence[Form]
-
-
-def of_document(text: str) -> Dict[str, str]:
-    """For each row of the table the data that is correct, and what to do, in the text of docs/FINDINGS.md."""
-    section = text.split("\n## Findings on correct data\n", 1)[1].split("\n###", 1)[0]
-    lines = [line.strip("| ").split(" | ") for line in section.split("\n") if line.startswith("| ")][1:]
-    if len(lines) != len(ROWS):
-        raise ValueError(f"the table has {len(lines)} rows, and {len(ROWS)} are known")
-    return {name: f"{re.sub(r' [(].*[)]$', '', cells[0])}: {cells[3]}" for name, cells in zip(ROWS, lines)}
 
 
 def reasons() -> Dict[str, str]:
@@ -171,13 +148,3 @@ TESTS: Sequence[Tuple[str, Test]] = (
     ("earlier group", _earlier),
 )
 """A pair of duplicates that is controlled has no test: by the table it is not accepted by a rule."""
-
-
-def main(arguments: Sequence[Any]) -> None:
-    """Writes what stands in `correct_data.json`."""
-    text = Path(arguments[0], "FINDINGS.md").read_text("utf-8")
-    print(json.dumps(of_document(text), indent=1, ensure_ascii=False))
-
-
-if __name__ == "__main__":
-    main(sys.argv[1:])

@@ -2,7 +2,7 @@
 from __future__ import annotations
 
 import re
-from typing import List, Optional
+from typing import List, Optional, Sequence, Tuple
 
 from balisekit.tables.model import Group, Message, Row, Table
 
@@ -66,6 +66,17 @@ def describe_rows(group: Group, aspect: Optional[str] = None) -> str:
     if aspect is None or numbers[-1] - numbers[0] + 1 == len(numbers):
         return f"rows {numbers[0]} to {numbers[-1]}"
     return f"rows {', '.join(map(str, numbers))}"
+
+
+def describe_identity(identity: Tuple[int, int]) -> str:
+    """A group by its NID_C and NID_BG."""
+    return f"group {identity[1]} of country or region {identity[0]}"
+
+
+def listed(names: Sequence[str], most: int, count: Optional[int] = None) -> str:
+    """The first of these names, and how many more there are. `count` has those that `names` does not hold too."""
+    more = (len(names) if count is None else count) - most
+    return ", ".join(names[:most]) + (f" and {more} more" if more > 0 else "")
 
 
 def describe_message(message: Message) -> str:

@@ -1,0 +1,107 @@
+#!/usr/bin/env python3
+"""Writes the texts that balisekit takes from docs/FINDINGS.md, as JSON files of the package.
+
+    companion/tools/from_docs.py [--check] [--docs DOCS]
+
+With --check nothing is written: each file that differs is named, and the exit status is 1 if there is one.
+"""
+from __future__ import annotations
+
+import argparse
+import json
+import re
+import sys
+from pathlib import Path
+from typing import Any, Callable, Dict, List, Optional
+
+TOP = Path(__file__).resolve().parents[2]
+PACKAGE = TOP / "companion" / "src" / "balisekit"
+PARTS = {
+    "What it says": "says",
+    "How urgent": "urgent",
+    "Usual cause": "cause",
+    "What may happen": "happens",
+    "How to correct it": "remedy",
+}
+"""The paragraphs about a finding, and their keys."""
+YES = ("An aspect of a group, or", "- ", "A yes rests", "A yes does not cover", "The rules ask how far")
+"""The beginnings of the paragraphs on a yes that a report has. Its list of words is left out."""
+CORRECT_DATA = (
+    "stop aspect",
+    "one controlled balise",
+    "pair controlled",
+    "infill",
+    "default group",
+    "default aspect",
+    "cover marker",
+    "message",
+    "earlier group",
+)
+"""The rows of the table of findings on correct data, in their order."""
+
+
+def plain(text: str) -> str:
+    """The text without the marks of links and emphasis."""
+    return re.sub(r"\[([^]]+)\]\([^)]+\)", r"\1", text).replace("*", "")
+
+
+def section(page: str, heading: str, end: str) -> str:
+    """The part of a page below a heading."""
+    return page.split(f"\n{heading}\n", 1)[1].split(end, 1)[0]
+
+
+def explanations(page: str) -> Dict[int, Dict[str, str]]:
+    """The paragraphs about each finding, by its number."""
+    rules: Dict[int, Dict[str, str]] = {}
+    for text in re.split(r"^## ", page, flags=re.MULTILINE):
+        heading = re.match(r"F(\d+): (.+)\n", text)
+        if heading:
+            parts = dict(re.findall(r"^\*\*(.+?)\.\*\* (.+?)(?=^\*\*|^```|\Z)", text, re.MULTILINE | re.DOTALL))
+            lines = {
+                part: " ".join(re.sub(r"^- ", "", parts.get(part, ""), flags=re.MULTILINE).split()) for part in PARTS
+            }
+            rules[int(heading[1])] = {"name": heading[2], **{key: plain(lines[part]) for part, key in PARTS.items()}}
+    return rules
+
+
+def premises(page: str) -> List[str]:
+    """The paragraphs about what a yes means."""
+    lines = section(page, "## What a yes means", "\n## ").split("\n")
+    return [plain(line) for line in lines if line.startswith(YES) and not line.startswith('- "')]
+
+
+def correct_data(page: str) -> Dict[str, str]:
+    """For each row of the table the data that is correct, and what to do."""
+    lines = section(page, "## Findings on correct data", "\n###").split("\n")
+    rows = [line.strip("| ").split(" | ") for line in lines if line.startswith("| ")][1:]
+    if len(rows) != len(CORRECT_DATA):
+        raise SystemExit(f"the table of findings on correct data has {len(rows)} rows: from_docs.py has names of 9")
+    return {name: f"{re.sub(r' [(].*[)]$', '', cells[0])}: {cells[3]}" for name, cells in zip(CORRECT_DATA, rows)}
+
+
+FILES: Dict[str, Callable[[str], Any]] = {
+    "present/findings.json": explanations,
+    "present/templates/premises.json": premises,
+    "rules/correct_data.json": correct_data,
+}
+
+
+def main(arguments: Optional[List[str]] = None) -> int:
+    """Writes the files, or names those that differ."""
+    parser = argparse.ArgumentParser(description="Texts of docs/FINDINGS.md as JSON files of balisekit.")
+    parser.add_argument("--check", action="store_true", help="only name the files that differ; status 1 if one does")
+    parser.add_argument("--docs", type=Path, default=TOP / "docs", help="the folder of the page")
+    options = parser.parse_args(arguments)
+    differing, page = 0, (options.docs / "FINDINGS.md").read_text("utf-8")
+    for name, make in FILES.items():
+        path, text = PACKAGE / name, json.dumps(make(page), indent=1, ensure_ascii=False) + "\n"
+        if not options.check:
+            path.write_text(text, "utf-8")
+        elif path.read_text("utf-8") != text:
+            print(f"{name} is not that of {options.docs}: run companion/tools/from_docs.py")
+            differing += 1
+    return min(differing, 1)
+
+
+if __name__ == "__main__":
+    sys.exit(main())
