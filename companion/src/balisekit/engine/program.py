@@ -32,6 +32,7 @@ from typing import (
 from balisekit.engine import grammar, location, records
 from balisekit.engine.grammar import Finding, Refusal, Verdict
 from balisekit.engine.process import HANDSHAKE_LIMIT, Limit, Run
+from balisekit.engine.records import Form, form_of
 from balisekit.errors import NoAnswer
 
 FEW = 16
@@ -61,28 +62,15 @@ Done = TypeVar("Done")
 
 @dataclass(frozen=True)
 class Record:
-    """A telegram that the program has read."""
+    """A telegram or message that the program has read."""
 
     line: str
-    """The program's line of JSON."""
+    """The program's line of JSON. It has the form of records."""
 
     @property
-    def form(self) -> records.Telegram:
+    def form(self) -> Form:
         """The object of the line."""
-        return records.telegram(self.line)
-
-
-@dataclass(frozen=True)
-class MessageRecord:
-    """A radio message that the program has read."""
-
-    line: str
-    """The program's line of JSON."""
-
-    @property
-    def form(self) -> records.Message:
-        """The object of the line."""
-        return records.message(self.line)
+        return form_of(self.line)
 
 
 @dataclass(frozen=True)
@@ -162,7 +150,7 @@ class Program:
 
     def messages(
         self, messages: Iterable[Union[str, bytes]], most: Optional[int] = None
-    ) -> Iterator[Union[MessageRecord, Refusal]]:
+    ) -> Iterator[Union[Record, Refusal]]:
         """A record, or the refusal, for each radio message: its bytes, or their hexadecimal text.
 
         `decode --radio` reads a stream, in which a wrong L_MESSAGE takes bytes of the next message. So `check` tries
@@ -177,7 +165,7 @@ class Program:
         for index in range(len(texts)):
             yield refused[index] if index in refused else next(accepted)
 
-    def readable_messages(self, texts: Iterable[str]) -> Iterator[MessageRecord]:
+    def readable_messages(self, texts: Iterable[str]) -> Iterator[Record]:
         """A record for each of these radio messages, all of which `check` can read."""
         is_message = records.message_expression().fullmatch
         for answer in self._each(["decode", "--radio"], texts):
@@ -185,7 +173,7 @@ class Program:
                 raise self.no_answer("decode --radio", "it refuses a message that `check` can read")
             if not is_message(answer):
                 raise self.no_answer("decode --radio", f"no record of a message: {answer[:SHOWN]}")
-            yield MessageRecord(answer)
+            yield Record(answer)
 
     def _refused_messages(self, texts: Sequence[str], most: Optional[int]) -> Dict[int, Refusal]:
         """The refusals of these messages, or the first of them, by their indexes."""

@@ -6,8 +6,8 @@ from dataclasses import dataclass
 from typing import Any, Dict, Iterable, Iterator, List, Mapping, NamedTuple, Optional, Sequence, Set, Tuple, TypeVar
 
 from balisekit.engine.grammar import Finding, Refusal, Verdict
-from balisekit.engine.program import MessageRecord, Program, Record, Report
-from balisekit.engine.records import Message as MessageForm, Telegram
+from balisekit.engine.program import Program, Record, Report
+from balisekit.engine.records import Form
 from balisekit.errors import NoAnswer
 from balisekit.rules.differing import differs
 from balisekit.tables.model import Aspect, Group, Message, Messages, Row, Table
@@ -28,7 +28,7 @@ class Accepted:
     record: Record
 
     @property
-    def form(self) -> Telegram:
+    def form(self) -> Form:
         """The program's JSON."""
         return self.record.form
 
@@ -82,10 +82,10 @@ class AcceptedMessage:
     """A message that the program has read."""
 
     message: Message
-    record: MessageRecord
+    record: Record
 
     @property
-    def form(self) -> MessageForm:
+    def form(self) -> Form:
         """The program's JSON."""
         return self.record.form
 
@@ -341,7 +341,7 @@ class _Names:
         identities = any(finding.rule == 14 for finding in findings)
         needed.update(firsts if identities else ())
         self._records = {telegram.row.number: telegram.record for telegram in accepted.decoded(sorted(needed))}
-        self._forms: Dict[int, Telegram] = {}
+        self._forms: Dict[int, Form] = {}
         self._first: List[Group] = list(self._first_groups(firsts)) if identities else []
 
     def _first_groups(self, firsts: Sequence[int]) -> Iterator[Group]:
