@@ -329,7 +329,7 @@ def test_one_aspect_of_a_group(tmp_path: Path, capsys: pytest.CaptureFixture[str
     assert capsys.readouterr().err.splitlines() == [
         'balisekit: group "Signal E" has no aspect "gren": its aspects are "red", "yellow", "green"',
         'balisekit: group "A" has no aspect "red": what it sends is for every aspect',
-        "balisekit: --aspect is for --group and --track: a message has no aspects",
+        "balisekit: --aspect is not used with --message",
     ]
     assert (tmp_path / "e.svg").read_bytes() == before
 

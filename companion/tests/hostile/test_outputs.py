@@ -69,7 +69,7 @@ def room(tmp_path: Path, monkeypatch: pytest.MonkeyPatch, program: Program) -> P
     for name, text in (("t.csv", TABLE), ("u.csv", TABLE), ("m.txt", f"{MESSAGE};x\n"), ("a.csv", ENTRIES)):
         (tmp_path / name).write_text(text, "utf-8")
     (tmp_path / "soft.csv").symlink_to("t.csv")
-    (tmp_path / "hard.csv").hardlink_to(tmp_path / "t.csv")
+    os.link(tmp_path / "t.csv", tmp_path / "hard.csv")
     shutil.copy(program.path, tmp_path / "prog")
     monkeypatch.chdir(tmp_path)
     return tmp_path
@@ -135,8 +135,8 @@ def test_an_existing_file_is_replaced_by_force_only(words: str, room: Path, run:
 
 def test_proposed_entries_replace_nothing_even_by_force(room: Path, run: Run) -> None:
     (room / "kept").write_text("signed", "utf-8")
-    for force in ([], ["--force"]):
-        status, _, err = run("check", "t.csv", "--propose", "kept", *force)
+    for words in ("check t.csv --propose kept", "check t.csv --propose kept --force"):
+        status, _, err = run(*words.split())
         why = "balisekit: kept: it exists already: name a new file, so that no entry is lost"
         assert (status, err) == (2, [why]) and (room / "kept").read_text("utf-8") == "signed"
 

@@ -42,6 +42,8 @@ def run(options: argparse.Namespace) -> int:
         _read(options.old, options.old_messages, options.sheet),
         _read(options.new, options.new_messages, options.sheet),
     ]
+    if options.sheet and all(document for _, _, document in sides):
+        raise TableError("--sheet is not used with two documents")
     named = not any(document for _, _, document in sides)
     program = Program.find(options.program, options.timeout)
     old, new = (_checked(program, *side, named) for side in sides)

@@ -8,10 +8,14 @@ from decimal import Decimal
 from typing import Any, Optional, TextIO, Tuple
 
 from balisekit.engine.program import Program
+from balisekit.errors import TableError
 from balisekit.io.inputs import InputPath
 from balisekit.io.outputs import Output
 from balisekit.tables import messages as messages_file, reader as table
 from balisekit.tables.model import Messages, Table
+
+
+NO_TOLERANCE = Decimal()
 
 
 def name(text: str) -> str:
@@ -108,6 +112,13 @@ def inputs(options: argparse.Namespace) -> Tuple[Program, Table, Optional[Messag
     return Program.find(options.program, options.timeout), read, messages
 
 
+def refuse_unused(options: argparse.Namespace, purpose: str, *names: str) -> None:
+    """Raises TableError if one of these options is given, which have another purpose than what is asked for."""
+    for name in names:
+        if not any(getattr(options, name) is default for default in (None, False, NO_TOLERANCE)):
+            raise TableError(f"--{name.replace('_', '-')} is not used {purpose}")
+
+
 def tolerance(text: str) -> Decimal:
     """A number of metres."""
     if not re.fullmatch(r"[0-9]{1,5}([.,][0-9])?", text):
@@ -121,7 +132,7 @@ def add_tolerance(parser: argparse.ArgumentParser) -> None:
         "--tolerance",
         metavar="METRES",
         type=tolerance,
-        default=Decimal(),
+        default=NO_TOLERANCE,
         help="by how much the kilometres of the table may be wrong, beside Q_LOCACC; 0 else",
     )
 

@@ -8,7 +8,7 @@ import sys
 import textwrap
 from typing import Dict, Generator, Iterator, List, Mapping, Optional, Sequence, Union
 
-from balisekit.cli.options import add_input_options, inputs
+from balisekit.cli.options import add_input_options, inputs, refuse_unused
 from balisekit.engine.grammar import Refusal
 from balisekit.engine.program import Program, Record
 from balisekit.errors import TableError
@@ -35,6 +35,8 @@ def add_options(parser: argparse.ArgumentParser) -> None:
 
 def run(options: argparse.Namespace) -> int:
     """Does it. The answer is the exit status."""
+    if options.table is None:
+        refuse_unused(options, "without TABLE", "sheet", "by_position")
     shown = _Shown(options)
     for lines in shown.blocks():
         print("\n".join(lines))
