@@ -46,13 +46,7 @@ TERMINATING = (signal.SIGTERM, signal.SIGHUP)
 class _Once(argparse.Action):
     """Stores the value of an option, which is given once."""
 
-    def __call__(
-        self,
-        parser: argparse.ArgumentParser,
-        namespace: argparse.Namespace,
-        values: Any,
-        option_string: Optional[str] = None,
-    ) -> None:
+    def __call__(self, parser: Any, namespace: Any, values: Any, option_string: Optional[str] = None) -> None:
         if option_string and getattr(namespace, self.dest, self.default) is not self.default:
             parser.error(f"argument {option_string}: it is given twice")
         setattr(namespace, self.dest, values)
@@ -66,8 +60,8 @@ class _Parser(argparse.ArgumentParser):
         self.register("action", None, _Once)
 
 
-def parser(words: Sequence[str]) -> argparse.ArgumentParser:
-    """The options of the command that these words name. Only its module is imported."""
+def parser(arguments: Sequence[str]) -> argparse.ArgumentParser:
+    """The options of the command that these arguments name. Only its module is imported."""
     whole = _Parser(
         prog="balisekit",
         description="What balisecheck says of a table of telegrams.",
@@ -77,7 +71,7 @@ def parser(words: Sequence[str]) -> argparse.ArgumentParser:
     whole.add_argument("--version", action="version", version=f"balisekit {__version__}")
     _add_debug(whole)
     commands = whole.add_subparsers(dest="command", required=True, metavar="COMMAND")
-    named = next((word for word in words if not word.startswith("-")), None)
+    named = next((argument for argument in arguments if not argument.startswith("-")), None)
     for name, text in COMMANDS.items():
         command = commands.add_parser(name, help=text, description=text)
         if name == named:
@@ -94,12 +88,12 @@ def _add_debug(command: argparse.ArgumentParser) -> None:
 
 
 def main(arguments: Optional[List[str]] = None) -> int:
-    """Runs the words of the command line. The answer is the exit status."""
+    """Runs a command line. The answer is the exit status."""
     if _is_closed():
         return _ended(NoAnswer(CLOSED), False, CLOSED)
     options = argparse.Namespace(debug=False)
     try:
-        with _without_collection(), _terminating():
+        with _terminating():
             _parse(sys.argv[1:] if arguments is None else arguments, options)
             return _run(options)
     except KitError as error:
@@ -110,10 +104,10 @@ def main(arguments: Optional[List[str]] = None) -> int:
         return _ended(error, options.debug, _reason(error))
 
 
-def _parse(words: List[str], options: argparse.Namespace) -> None:
+def _parse(arguments: List[str], options: argparse.Namespace) -> None:
     """Puts the options into the namespace. SystemExit is raised for wrong ones, and once help has been written."""
     try:
-        parser(words).parse_args(words, options)
+        parser(arguments).parse_args(arguments, options)
     except SystemExit:
         sys.stdout.flush()
         raise
@@ -145,20 +139,8 @@ def _inputs(options: argparse.Namespace, outputs: Sequence[Output]) -> List[str]
 
 
 @contextmanager
-def _without_collection() -> Iterator[None]:
-    """Nothing here refers to what refers to it, so that all is freed without a search for cycles."""
-    collects = gc.isenabled()
-    gc.disable()
-    try:
-        yield
-    finally:
-        if collects:
-            gc.enable()
-
-
-@contextmanager
 def _terminating() -> Iterator[None]:
-    """Raises Terminated for the first SIGTERM or SIGHUP, unless the caller of balisekit has it ignored."""
+    """Raises Terminated for the first SIGTERM or SIGHUP, unless it is ignored. Nothing is searched for cycles."""
 
     def terminate(number: int, frame: object) -> None:
         for other in handlers:
@@ -170,9 +152,13 @@ def _terminating() -> Iterator[None]:
         for number in TERMINATING:
             if signal.getsignal(number) is not signal.SIG_IGN:
                 handlers[number] = signal.signal(number, terminate)
+    collects = gc.isenabled()
+    gc.disable()  # (no object here refers to one that refers to it)
     try:
         yield
     finally:
+        if collects:
+            gc.enable()
         for number, handler in handlers.items():
             signal.signal(number, handler)
 
