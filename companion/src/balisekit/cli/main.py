@@ -132,6 +132,8 @@ def _inputs(options: argparse.Namespace, outputs: Sequence[Output]) -> List[str]
     from balisekit.io.inputs import InputPath
 
     inputs: List[str] = [value for value in vars(options).values() if isinstance(value, InputPath)]
+    if not inputs:  # `show`
+        inputs.append("/dev/stdin")
     if any(os.path.lexists(output.path) for output in outputs):
         named = options.program or os.environ.get("BALISECHECK") or "balisecheck"
         inputs += filter(None, (shutil.which(named), location.find(options.program)))
