@@ -138,7 +138,7 @@ def test_10000_groups(
     times = {}
     for count in (few, many):
         old, new = releases(count)
-        names = {"OLD": old, "NEW": new, "OUT": tmp_path / "out"}
+        names = {"OLD": old, "NEW": new, "OUT": tmp_path / str(count)}
         before = _work()
         status, out, seconds = _timed(_words(program, *[names.get(word, word) for word in words]))
         work = (before + _work()) / 2

@@ -172,20 +172,20 @@ def test_another_owner_is_refused(room: Path, monkeypatch: pytest.MonkeyPatch) -
         Output("kept").check([], force=True)
 
 
-def test_a_file_that_is_mounted_by_itself_is_kept(room: Path) -> None:
+def test_a_mount_point_is_kept(room: Path) -> None:
     """Before anything is read. A container has such files."""
     (room / "kept 1").write_text("kept", "utf-8")
     mounted = ["unshare", "-m", "sh", "-c", 'mount --bind u.csv "kept 1" && exec "$@"', "sh"]
     if subprocess.run([*mounted, "true"], stderr=subprocess.DEVNULL, check=False).returncode:
         pytest.skip("files cannot be mounted here")
     answer = _run([*mounted, *COMMAND, "check", "t.csv", "--json", "kept 1", "--force"])
-    assert answer == (3, "balisekit: kept 1: it is mounted by itself and cannot be replaced: name a new file\n")
+    assert answer == (3, "balisekit: kept 1: it is a mount point, which cannot be replaced: name a new file\n")
     assert (room / "u.csv").read_text("utf-8") == TABLE and not list(room.glob(".balisekit-*"))
 
 
-@pytest.mark.parametrize("name", ["circle", ".", "/dev/null", "pipe"])
+@pytest.mark.parametrize("name", ["loop", ".", "/dev/null", "pipe"])
 def test_what_is_no_file_is_refused(name: str, room: Path, run: Run) -> None:
-    (room / "circle").symlink_to("circle")
+    (room / "loop").symlink_to("loop")
     os.mkfifo(room / "pipe")
     status, _, err = run("check", "t.csv", "--json", name, "--force")
     assert status == 3 and err[0].startswith(f"balisekit: {name}: no file can be written there: it is a folder, ")

@@ -12,7 +12,7 @@ from typing import Iterable, Iterator, List, Mapping, Optional, Sequence, Union
 from balisekit.errors import NoAnswer, TableError
 
 INPUT = "it is an input: an output never replaces one"
-NO_FILE = "no file can be written there: it is a folder, a device, a pipe or a circle of links"
+NO_FILE = "no file can be written there: it is a folder, a device, a pipe or a loop of links"
 
 
 class Output:
@@ -68,7 +68,7 @@ class Output:
         if os.geteuid() and (existing.st_uid != os.geteuid() or existing.st_gid not in groups):
             raise NoAnswer(f"{self.path}: it belongs to another user or group")
         if _is_mounted(self.target):
-            raise NoAnswer(f"{self.path}: it is mounted by itself and cannot be replaced: name a new file")
+            raise NoAnswer(f"{self.path}: it is a mount point, which cannot be replaced: name a new file")
 
     def write(self, pieces: Iterable[Union[str, bytes]]) -> None:
         """Writes the content. It is at its path once `place` is called."""
