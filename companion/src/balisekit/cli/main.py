@@ -33,10 +33,10 @@ exit status:
   0  the program says yes to all that was handed in, nothing is open or found, or the command has done what it is
      asked for
   1  findings of `check`, entries of accepted findings at fault, or what `links` or `diff` has found
-  2  refused: a telegram or message, so that the answer is INCOMPLETE, or a table or words that cannot be read, or an
+  2  refused: a telegram or message, so that the answer is INCOMPLETE; a table that cannot be read; wrong options; an
      output that would replace an input or, without --force, another file
-  3  no answer: no program, a file that cannot be written, an interrupt; ended by SIGTERM the status is 143, by SIGHUP
-     129
+  3  no answer: no program, a file that cannot be written, an interrupt
+  SIGTERM ends a command with status 143, SIGHUP with 129
 
 balisekit is not proved. It presents what balisecheck says, and quotes its lines in full.
 """
@@ -93,7 +93,7 @@ def main(arguments: Optional[List[str]] = None) -> int:
         return _ended(NoAnswer(CLOSED), False, CLOSED)
     options = argparse.Namespace(debug=False)
     try:
-        with _terminating():
+        with _process():
             _parse(sys.argv[1:] if arguments is None else arguments, options)
             return _run(options)
     except KitError as error:
@@ -141,8 +141,8 @@ def _inputs(options: argparse.Namespace, outputs: Sequence[Output]) -> List[str]
 
 
 @contextmanager
-def _terminating() -> Iterator[None]:
-    """Raises Terminated for the first SIGTERM or SIGHUP, unless it is ignored. Nothing is searched for cycles."""
+def _process() -> Iterator[None]:
+    """Raises Terminated for the first SIGTERM or SIGHUP, unless that is ignored. Searches for no cycles of objects."""
 
     def terminate(number: int, frame: object) -> None:
         for other in handlers:
@@ -155,7 +155,7 @@ def _terminating() -> Iterator[None]:
             if signal.getsignal(number) is not signal.SIG_IGN:
                 handlers[number] = signal.signal(number, terminate)
     collects = gc.isenabled()
-    gc.disable()  # (no object here refers to one that refers to it)
+    gc.disable()  # (there are none)
     try:
         yield
     finally:
@@ -180,7 +180,7 @@ def _reason(error: BaseException) -> str:
 
 
 def _is_closed() -> bool:
-    """Whether there is no standard output. What is said to a stream that is closed goes nowhere, and not to another."""
+    """Whether standard output is closed. Text for a closed stream is dropped, and goes to no other stream."""
     closed = sys.stdout is None
     sys.stdout, sys.stderr = (
         open(os.devnull, "w", encoding="utf-8") if stream is None else stream for stream in (sys.stdout, sys.stderr)
@@ -192,7 +192,7 @@ def _is_closed() -> bool:
 
 
 def _ended(error: BaseException, debug: bool, *lines: str, status: int = 3) -> int:
-    """Tells why there is no answer. Where nobody can be told the status still says it."""
+    """Reports why there is no answer. If that cannot be written, the exit status still reports it."""
     from balisekit.tables.names import clean
 
     try:
@@ -210,7 +210,7 @@ def _ended(error: BaseException, debug: bool, *lines: str, status: int = 3) -> i
 
 
 def _let_go(stream: TextIO) -> None:
-    """Drops what a stream cannot take: Python would try again at its end, and end with a status of its own."""
+    """Drops what a stream cannot take. Otherwise Python would try again at exit, and set a status of its own."""
     try:
         stream.flush()
     except OSError:
