@@ -197,8 +197,8 @@ def test_messages_are_named(run: Run, table: Write) -> None:
         ([HEADING, entry(direction="up")], "row 2, column direction: up is neither nominal nor reverse"),
         (
             [HEADING, entry(date="26.11.2026")],
-            "row 2, column date: 26.11.2026 is no date: write it as 2026-11-26; a spreadsheet changes it unless the column is "
-            "text",
+            "row 2, column date: 26.11.2026 is no date: write it as 2026-11-26; a spreadsheet changes it unless the "
+            "column is text",
         ),
         ([HEADING, entry(until="2026-02-30")], "row 2, column until: 2026-02-30 is no date"),
         ([HEADING, entry() + ",more,still"], "row 2: it has 15 cells, and the heading 13"),
