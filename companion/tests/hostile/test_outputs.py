@@ -238,7 +238,14 @@ def test_signals_leave_nothing(
     program.chmod(0o755)
     words = [*COMMAND, "check", "t.csv", "--json", "out.json", "--program", str(program)]
     known = {**os.environ, "PYTHONPATH": str(TOP / "companion" / "src")}
-    with subprocess.Popen(words, env=known, stdout=subprocess.PIPE, stderr=subprocess.PIPE) as process:
+    with subprocess.Popen(
+        words,
+        env=known,
+        stdout=subprocess.PIPE,
+        stderr=subprocess.PIPE,
+        preexec_fn=lambda: signal.signal(signal.SIGINT, signal.SIG_DFL)
+        and None,  # (a job in the background ignores it)
+    ) as process:
         started = _waited_for(program.with_name("stand.started"))
         process.send_signal(number)
         _, said = process.communicate(timeout=20)
