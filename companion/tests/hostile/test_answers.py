@@ -5,7 +5,6 @@ import json
 import os
 import signal
 import subprocess
-import sys
 import time
 from dataclasses import replace
 from pathlib import Path
@@ -276,7 +275,7 @@ def test_a_signal_ends_the_program(number: signal.Signals, command: str, tmp_pat
     path = table("group,telegram", f"A,{ALONE}")
     words = [word.format(t=path, out=tmp_path / "out") for word in command.split()]
     run = subprocess.Popen(
-        [sys.executable, str(TOP / "balisekit"), *words, "--program", str(program)],
+        [str(TOP / "balisekit"), *words, "--program", str(program)],
         stderr=subprocess.PIPE,
         preexec_fn=lambda: signal.signal(signal.SIGINT, signal.SIG_DFL) and None,
     )

@@ -1,10 +1,9 @@
 """The answer of `check` as JSON, for other tools."""
 from __future__ import annotations
 
-import json
 from typing import Any, Dict, Optional
 
-from balisekit.io.outputs import Json
+from balisekit.io.outputs import Json, encode
 from balisekit.present import accepted as accepted_output
 from balisekit.present.check_text import finding_words, last_line
 from balisekit.present.refusals import message_refused, telegram_refused
@@ -13,8 +12,6 @@ from balisekit.rules.aspect_counts import groups_by_aspects
 from balisekit.rules.checking import AcceptedMessage, Checked, LeftOut, Place, Refused, RefusedMessage
 from balisekit.rules.remarks import remarks
 from balisekit.tables.model import Row
-
-ENCODE = json.JSONEncoder(ensure_ascii=False, separators=(",", ":")).encode
 
 
 def as_json(checked: Checked, judged: Optional[Judged] = None) -> Dict[str, Any]:
@@ -71,7 +68,7 @@ def _row(row: Row) -> Dict[str, Any]:
 
 def _with_form(members: Dict[str, Any], line: str) -> Json:
     """An object with the program's line as its last member."""
-    return Json(f'{ENCODE(members)[:-1]},"form":{line}}}')
+    return Json(f'{encode(members)[:-1]},"form":{line}}}')
 
 
 def _message(accepted: AcceptedMessage) -> Json:
