@@ -312,7 +312,7 @@ def test_several_faults_have_a_line_each(table: Write) -> None:
         (b"group,telegram\nA\x81,00\n", "it is neither UTF-8 nor Windows-1252: byte 81 at 16: save it as UTF-8"),
         (b"\xff\xfea", "it begins as UTF-16, and is none"),
         (b"\xd0\xcf\x11\xe0more", "it is an .xls, or protected by a password: save it as .xlsx or CSV"),
-        (b"PK\x03\x04more", "it is an .xls, or protected by a password"),
+        (b"PK\x03\x04more", "it is cut short or damaged (File is not a zip file): copy it again, or save it as CSV"),
     ],
 )
 def test_contents_that_cannot_be_read(table: Write, content: bytes, said: str) -> None:
@@ -545,27 +545,23 @@ class TestWorkbooks:
         """What spreadsheets do to cells."""
         assert fault(self.book(tmp_path, [["group", "telegram"], row])).startswith(said)
 
-    def test_a_workbook_that_is_too_large(self, tmp_path: Path, monkeypatch: pytest.MonkeyPatch) -> None:
+    def test_a_workbook_that_is_too_large(self, tmp_path: Path) -> None:
         """Its size is looked at before it is unpacked: zeros take a thousandth of their size in the file."""
-        pytest.importorskip("openpyxl")
-        assert xlsx_file.GREATEST == 500_000_000
-        monkeypatch.setattr(xlsx_file, "GREATEST", 5_000_000)
+        assert (xlsx_file.GREATEST, xlsx_file.GREATEST_PART, xlsx_file.GREATEST_RATIO) == (2 * 10**8, 10**8, 100)
         path = tmp_path / "table.xlsx"
         with zipfile.ZipFile(path, "w", zipfile.ZIP_DEFLATED) as parts:
             parts.writestr("xl/worksheets/sheet1.xml", bytes(6_000_000))
         assert path.stat().st_size < 10_000
-        assert fault(path) == "the workbook has 6,000,000 bytes unpacked, more than 5,000,000"
+        assert fault(path).startswith("xl/worksheets/sheet1.xml in it has 6,000,000 bytes unpacked, more than 100 times")
 
     def test_without_openpyxl(self, run: Run, tmp_path: Path, monkeypatch: pytest.MonkeyPatch) -> None:
         """One line says which package is missing, and what to do without it. CSV needs none."""
         path = self.book(tmp_path, [["group", "telegram"], ["A", ALONE]])
         modules: Dict[str, Any] = sys.modules
         monkeypatch.setitem(modules, "openpyxl", None)
-        assert run("check", path) == (
-            2,
-            [],
-            [f"balisekit: {path}: reading .xlsx needs openpyxl (Debian: python3-openpyxl); or save it as CSV"],
-        )
+        status, out, err = run("check", path)
+        assert (status, out, len(err)) == (3, [], 1)
+        assert err[0].startswith("balisekit: reading .xlsx (CSV needs no package) needs openpyxl, which ")
 
 
 def test_tables_that_are_made() -> None:
