@@ -133,8 +133,9 @@ def fault(path: Path, **words: Any) -> str:
 
 H = "group,telegram"
 BAD: Sequence[Any] = [
-    ([], "row 1: it is empty"),
-    (["", H], "row 1: it is empty"),
+    ([], "the table is empty: its first row has to hold the headings"),
+    (["", ","], "the table is empty: its first row has to hold the headings"),
+    (["", H], "row 1: it is empty: delete it, as the first row has to hold the headings"),
     (
         [f"A,{ALONE}"],
         "row 1: there is no heading, as the first row has a telegram: put a row with the names of the "

@@ -2,7 +2,7 @@
 from __future__ import annotations
 
 import csv
-import io
+import re
 from typing import Iterator, List, Sequence
 
 from balisekit.errors import TableError
@@ -10,6 +10,7 @@ from balisekit.tables.cells import COLUMNS, NEEDED, Sheet, headings
 from balisekit.tables.encoding import text_of
 
 SEPARATORS = (";", "\t", ",")
+LINE = re.compile("[^\r\n]*(?:\r\n?|\n)|[^\r\n]+")
 GREATEST_CELL = 100_000
 """In characters."""
 
@@ -43,8 +44,7 @@ def _rows(text: str, separator: str) -> List[List[str]]:
     rows: List[List[str]] = []
     before = csv.field_size_limit(GREATEST_CELL)
     try:
-        for row in _reader(text, separator):
-            rows.append(row)
+        rows.extend(_reader(text, separator))
     except csv.Error as error:
         raise TableError(_why(str(error)), row=len(rows) + 1) from error
     finally:
@@ -53,7 +53,8 @@ def _rows(text: str, separator: str) -> List[List[str]]:
 
 
 def _reader(text: str, separator: str) -> Iterator[List[str]]:
-    return csv.reader(io.StringIO(text, newline=""), delimiter=separator, strict=True)
+    lines = (line[0] for line in LINE.finditer(text))  # (io.StringIO would take four bytes for each character)
+    return csv.reader(lines, delimiter=separator, strict=True)
 
 
 def _why(error: str) -> str:

@@ -36,4 +36,6 @@ def _messages(text: str) -> List[Message]:
             faults.append(TableError("no message before the semicolon", line=number))
     if faults:
         raise TableErrors(faults)
+    if not messages:
+        raise TableError("the file has no message: hexadecimal digits in a line, and a name behind ;")
     return messages

@@ -3,11 +3,11 @@ from __future__ import annotations
 
 from dataclasses import dataclass
 from decimal import Decimal
-from typing import Iterator, Optional, Tuple
+from functools import cached_property
+from typing import Dict, Iterator, NamedTuple, Optional, Tuple
 
 
-@dataclass(frozen=True)
-class Row:
+class Row(NamedTuple):
     """One telegram of the table."""
 
     number: int
@@ -49,6 +49,11 @@ class Group:
         for aspect in self.aspects:
             yield from aspect.rows
 
+    @cached_property
+    def places(self) -> Dict[int, int]:
+        """The place of each row's balise in nominal order, by the number of the row."""
+        return {row.number: place for aspect in reversed(self.aspects) for place, row in enumerate(aspect.rows)}
+
 
 @dataclass(frozen=True)
 class Table:
@@ -68,6 +73,11 @@ class Table:
     """What the user should know of how the table was read."""
     meant: Tuple[str, ...] = ()
     """Of each heading that is passed over: the one for which it may have been mistyped, or nothing."""
+
+    @cached_property
+    def group_of(self) -> Dict[int, Group]:
+        """The group of each row, by the number of the row."""
+        return {row.number: group for group in self.groups for row in group.rows()}
 
 
 @dataclass(frozen=True)

@@ -34,15 +34,7 @@ def passed_over(table: Table) -> List[str]:
 
 def describe_balise(group: Optional[Group], row: Row) -> str:
     """Where a row's balise is: row, group, kilometre, aspect, index and name."""
-    place = next(
-        (
-            place
-            for aspect in (group.aspects if group else ())
-            for place, one in enumerate(aspect.rows)
-            if one.number == row.number
-        ),
-        None,
-    )
+    place = group.places.get(row.number) if group else None
     parts = [f"row {row.number}", clean(row.group), *_where(row)]
     parts += ["every aspect"] if row.aspect == "*" else [f"aspect {quoted(row.aspect)}"] if row.aspect else []
     if place is not None:

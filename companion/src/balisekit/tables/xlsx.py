@@ -13,8 +13,8 @@ from typing import Any, Dict, Iterator, List, Optional, Pattern, Tuple
 from balisekit.errors import KitError, TableError
 from balisekit.io.packages import package
 from balisekit.tables.cells import NEEDED, Sheet, headings
+from balisekit.tables.encoding import ZIPS
 
-ZIPS = (b"PK\x03\x04", b"PK\x05\x06")
 OLD = b"\xd0\xcf\x11\xe0"
 BEGINS = (*ZIPS, OLD)
 """A zip, which a workbook is, and what an .xls or a workbook with a password begins with."""
