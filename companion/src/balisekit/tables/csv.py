@@ -2,15 +2,15 @@
 from __future__ import annotations
 
 import csv
-import re
-from typing import Iterator, List, Sequence
+import io
+from typing import Iterable, Iterator, List, Sequence
 
 from balisekit.errors import TableError
 from balisekit.tables.cells import COLUMNS, NEEDED, Sheet, headings
 from balisekit.tables.encoding import text_of
 
 SEPARATORS = (";", "\t", ",")
-LINE = re.compile("[^\r\n]*(?:\r\n?|\n)|[^\r\n]+")
+OTHER_ENDS = "\v\f\x1c\x1d\x1e\x85\u2028\u2029"
 GREATEST_CELL = 100_000
 """In characters."""
 
@@ -53,7 +53,10 @@ def _rows(text: str, separator: str) -> List[List[str]]:
 
 
 def _reader(text: str, separator: str) -> Iterator[List[str]]:
-    lines = (line[0] for line in LINE.finditer(text))  # (io.StringIO would take four bytes for each character)
+    # (StringIO takes four bytes for each character, and splitlines ends lines at more characters than CSV does.)
+    lines: Iterable[str] = (
+        io.StringIO(text, newline="") if any(end in text for end in OTHER_ENDS) else text.splitlines(keepends=True)
+    )
     return csv.reader(lines, delimiter=separator, strict=True)
 
 

@@ -4,17 +4,16 @@ from __future__ import annotations
 import re
 from decimal import Decimal
 from difflib import get_close_matches
-from typing import Any, Callable, Dict, Iterator, List, Mapping, Optional, Sequence, Tuple, Union
+from typing import Any, Callable, Dict, Iterator, List, Mapping, Optional, Sequence, Tuple
 
 from balisekit.errors import TableError, TableErrors
 from balisekit.io import inputs
 from balisekit.tables import csv as csv_file, xlsx as xlsx_file
-from balisekit.tables.cells import COLUMNS, ERROR, NEEDED, Sheet, digits, headings
+from balisekit.tables.cells import COLUMNS, DIGITS, ERROR, NEEDED, Sheet, digits, headings, kind_and_text
 from balisekit.tables.grouping import groups_of
 from balisekit.tables.model import Row, Table
 
-KM = re.compile(r"(?P<whole>-?[0-9]{1,4})(?:[.,](?P<part>[0-9]{1,6}))?")
-KM_PLUS = re.compile(r"(?P<whole>[0-9]{1,4})\+(?P<part>[0-9]{3})(?:[.,](?P<more>[0-9]{1,3}))?")
+KM = re.compile(r"(?!-[0-9]+\+)(-?[0-9]{1,4})(?:[.,]([0-9]{1,6})|\+([0-9]{3})(?:[.,]([0-9]{1,3}))?)?")
 SCIENTIFIC = re.compile(r"[0-9]+[.,][0-9]+[eE]\+?[0-9]+|[0-9][eE]\+[0-9]+")
 TELEGRAM = re.compile("[0-9A-Fa-f]{20,}")
 ALIKE = 0.75
@@ -24,8 +23,8 @@ GREATEST_NAME = 1000
 """So many characters a cell may have that is no telegram, and are shown of a heading."""
 ABSENT = -1
 """The place of a column that the table has not: each row that is read ends with an empty cell."""
-Cell = Union[str, Tuple[str, str]]
-"""The text of a cell. What is no text in a workbook has its kind beside it."""
+PLAIN = re.compile(r"[^\0\r\n#]{0,1000}")
+"""A cell of text in which nothing has to be looked for."""
 
 
 def read(path: str, sheet: Optional[str] = None, by_position: bool = False) -> Table:
@@ -117,11 +116,14 @@ def _passed_over(sheet: Sheet) -> Tuple[str, ...]:
 def _rows(sheet: Sheet, places: Dict[str, int]) -> Tuple[Row, ...]:
     """The rows behind the heading that have a cell with something in it."""
     columns = [_Column(name, places.get(name, ABSENT), meaning) for name, meaning in MEANINGS.items()]
-    reading = [(column, column.place) for column in columns]
+    reading = [(column, column.place) for column in columns if column.name != "telegram"]
+    telegrams, at, is_plain = columns[0], places["telegram"], DIGITS.fullmatch
     width, rows, wide = len(sheet.rows[0]), [], False
     for number, cells in _filled(sheet, width):
-        telegram, group, *others = [column[cells[place]] for column, place in reading]
-        rows.append(Row(number, group, telegram, str(cells[places["telegram"]]).strip(), *others))
+        cell = cells[at]
+        telegram = cell if is_plain(cell) else telegrams[cell]
+        group, *others = [column[cells[place]] for column, place in reading]
+        rows.append(Row(number, group, telegram, cell.strip(), *others))
         wide = wide or len(cells) > width + 1
     faults = list(_faults(sheet, columns, width)) if wide or any(column.faults for column in columns) else []
     if faults:
@@ -131,33 +133,31 @@ def _rows(sheet: Sheet, places: Dict[str, int]) -> Tuple[Row, ...]:
     return tuple(rows)
 
 
-def _filled(sheet: Sheet, width: int) -> Iterator[Tuple[int, List[Cell]]]:
+def _filled(sheet: Sheet, width: int) -> Iterator[Tuple[int, List[str]]]:
     """The numbers and cells of these rows. The last cell of each is an empty one, for columns that are absent."""
-    for index, row in enumerate(sheet.rows[1:], 1):
+    pad = [""] * (width + 1)
+    for number, row in enumerate(sheet.rows[1:], 2):
         if any(map(str.strip, row)):
-            cells: List[Cell] = [*row, *[""] * max(1, width + 1 - len(row))]
-            if sheet.kinds:
-                kinds = [sheet.kinds.get((index, place), "") for place in range(len(cells))]
-                cells = [(cell, kind) if kind else cell for cell, kind in zip(row, kinds)] + cells[len(row) :]
-            yield index + 1, cells
+            yield number, row + pad[min(len(row), width) :]
 
 
-class _Column(Dict[Cell, Any]):
+class _Column(Dict[str, Any]):
     """What the cells of a column mean. Most cells of a table have the text of another one."""
 
     def __init__(self, name: str, place: int, meaning: Callable[[str, str], object]) -> None:
         super().__init__()
         self.name, self.place, self.meaning = name, place, meaning
-        self.faults: Dict[Cell, str] = {}
+        self.faults: Dict[str, str] = {}
 
-    def __missing__(self, cell: Cell) -> object:
+    def __missing__(self, cell: str) -> object:
         try:
-            self[cell] = self._read(*((cell, "") if isinstance(cell, str) else cell))
+            meaning = self.meaning(cell.strip(), "") if PLAIN.fullmatch(cell) else self._read(*kind_and_text(cell))
         except TableError as fault:
-            self[cell], self.faults[cell] = None, fault.why
-        return self[cell]
+            meaning, self.faults[cell] = None, fault.why
+        self[cell] = meaning
+        return meaning
 
-    def _read(self, text: str, kind: str) -> object:
+    def _read(self, kind: str, text: str) -> object:
         if "\n" in text or "\r" in text:
             raise TableError("a line end stands in the cell")
         if ERROR.fullmatch(text.strip()):
@@ -170,13 +170,12 @@ class _Column(Dict[Cell, Any]):
 def _faults(sheet: Sheet, columns: Sequence[_Column], width: int) -> Iterator[TableError]:
     """What is wrong with each row, its width first."""
     for number, cells in _filled(sheet, width):
-        if any(cell if isinstance(cell, tuple) else cell.strip() for cell in cells[width:]):
+        if any(map(str.strip, cells[width:])):
             hint = ": is a decimal comma not quoted?" if sheet.separator == "," else ""
             yield TableError(f"it has {len(cells) - 1} cells, and the heading {width}{hint}", number)
         for column in columns:
-            why = column.faults.get(cells[column.place])
-            if why:
-                yield TableError(why, number, column.name)
+            if cells[column.place] in column.faults:
+                yield TableError(column.faults[cells[column.place]], number, column.name)
 
 
 def _telegram(cell: str, kind: str) -> str:
@@ -209,13 +208,13 @@ def _balise(cell: str, _: str) -> Optional[int]:
 
 
 def _km(cell: str, kind: str) -> Optional[Decimal]:
-    text = cell.replace("\u2212", "-")
-    plain, plus = KM.fullmatch(text), KM_PLUS.fullmatch(text)
-    if kind == "date" or cell and not plain and not plus:
+    found = KM.fullmatch(cell.replace("\u2212", "-"))
+    if found and kind != "date":
+        whole, part, metres, more = found.groups(default="")
+        return Decimal(f"{whole}.{part or metres or '0'}{more}")
+    if cell:
         raise TableError(f"{cell[:40]} is no kilometre: one is written like 13.850, 13,850 or 13+850")
-    if plus:
-        return Decimal(f"{plus['whole']}.{plus['part']}{plus['more'] or ''}")
-    return Decimal(f"{plain['whole']}.{plain['part'] or '0'}") if plain else None
+    return None
 
 
 def _nominal(cell: str, _: str) -> str:

@@ -12,7 +12,7 @@ from typing import Any, Dict, Iterator, List, Optional, Pattern, Tuple
 
 from balisekit.errors import KitError, TableError
 from balisekit.io.packages import package
-from balisekit.tables.cells import NEEDED, Sheet, headings
+from balisekit.tables.cells import NEEDED, Sheet, headings, kind_and_text, of_kind
 from balisekit.tables.encoding import ZIPS
 
 OLD = b"\xd0\xcf\x11\xe0"
@@ -174,18 +174,12 @@ class _Strings(List[str]):
 
 def _cells(sheet: Any, note: str) -> Sheet:
     rows: List[List[str]] = []
-    kinds: Dict[Tuple[int, int], str] = {}
-    for number, values in enumerate(_values(sheet)):
+    for number, values in enumerate(_values(sheet), 1):
         if len(values) > GREATEST_COLUMNS:
-            raise TableError(f"it has more than {GREATEST_COLUMNS} columns: {SHORT_WAY_OUT}", row=number + 1)
-        row = list(values)
-        for column, value in enumerate(row):
-            if type(value) is not str:
-                row[column], kind = _text(value)
-                if kind:
-                    kinds[number, column] = kind
-        rows.append(row)
-    return Sheet("xlsx", "", rows, kinds, (note, *_read_as_empty(sheet)))
+            raise TableError(f"it has more than {GREATEST_COLUMNS} columns: {SHORT_WAY_OUT}", row=number)
+        rows.append([value if type(value) is str else _text(value) for value in values])
+    rows[:1] = [[kind_and_text(cell)[1] for cell in row] for row in rows[:1]]
+    return Sheet("xlsx", "", rows, (note, *_read_as_empty(sheet)))
 
 
 def _read_as_empty(sheet: Any) -> Iterator[str]:
@@ -195,23 +189,26 @@ def _read_as_empty(sheet: Any) -> Iterator[str]:
     cell, formula, merged = (_tag(name, xml).pattern for name in (b"c", b"f", b"mergeCell"))
     no_value = cell + REFERENCE % b"r" + b"[^<]*" + formula + NO_VALUE
     for places, what in (
-        (re.findall(no_value, xml) if re.search(formula, xml) else [], "formulas without a stored value, read as empty"),
+        (
+            re.findall(no_value, xml) if re.search(formula, xml) else [],
+            "formulas without a stored value, read as empty",
+        ),
         (re.findall(merged + REFERENCE % b"ref", xml), "merged ranges, of which only the first cell is not empty"),
     ):
         if places:
             yield f"{what}: {len(places)}, the first {places[0].decode('utf-8', 'replace')[:40]}"
 
 
-def _text(value: Any) -> Tuple[str, str]:
-    """The text of a cell, and what it is if it is no text."""
+def _text(value: Any) -> str:
+    """A cell that is no text."""
     if value is None:
-        return "", ""
+        return ""
     if isinstance(value, bool):
-        return str(value).upper(), "truth value"
-    if isinstance(value, int) or isinstance(value, float) and not math.isfinite(value):
-        return str(value), "number"
-    if isinstance(value, float):
+        return of_kind("truth value", str(value).upper())
+    if isinstance(value, float) and math.isfinite(value):
         exact = Decimal(repr(value))
         whole = exact == exact.to_integral_value()
-        return (str(int(exact)) if whole else f"{round(exact, PLACES).normalize():f}"), "number"
-    return str(value), "date" if isinstance(value, DATES) else ""
+        return of_kind("number", str(int(exact)) if whole else f"{round(exact, PLACES).normalize():f}")
+    if isinstance(value, (int, float)):
+        return of_kind("number", str(value))
+    return of_kind("date", str(value)) if isinstance(value, DATES) else str(value)
