@@ -203,7 +203,9 @@ def texts() -> Iterator[Any]:
     yield workbook(sheet(KM, cell("<v>1e309</v>"))), "row 2, column km: inf is no kilometre: "
     yield workbook(sheet(KM, cell("<v>x</v>"))), "row 2: openpyxl cannot read it (ValueError: invalid literal for int()"
     yield workbook(sheet(KM, "<row><c r='A'><v>x</v>")), "openpyxl cannot read it (ParseError: "
-    yield workbook(sheet(HEADING, GOOD).replace("<sheetData>", "<sheetData>\0")), "openpyxl cannot read it (ParseError: "
+    yield workbook(
+        sheet(HEADING, GOOD).replace("<sheetData>", "<sheetData>\0")
+    ), "openpyxl cannot read it (ParseError: "
     yield workbook(sheet(HEADING, GOOD).encode("utf-16")), f"xl/worksheets/sheet1.xml in it is not UTF-8: {SAVE}"
 
 

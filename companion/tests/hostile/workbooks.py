@@ -28,7 +28,9 @@ def sheet(*rows: str, behind: str = "") -> str:
     return f"<worksheet xmlns='{MAIN}'><sheetData>{''.join(rows)}</sheetData>{behind}</worksheet>"
 
 
-def workbook(*sheets: Union[str, bytes], states: Sequence[str] = (), more: Sequence[Tuple[str, str, str]] = ()) -> bytes:
+def workbook(
+    *sheets: Union[str, bytes], states: Sequence[str] = (), more: Sequence[Tuple[str, str, str]] = ()
+) -> bytes:
     """A workbook of these sheets. Each of the other parts has a name, the kind of its contents and its XML."""
     names = [f"xl/worksheets/sheet{number}.xml" for number in range(1, len(sheets) + 1)]
     kinds = {"xl/workbook.xml": "sheet.main", **{name: "worksheet" for name in names}, **{n: k for n, k, _ in more}}
