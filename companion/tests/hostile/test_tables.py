@@ -120,6 +120,7 @@ INVISIBLE = {
     "\u3164": "\\u3164",
     "\u00ad": "\\xad",
     "\u2060": "\\u2060",
+    "\u2800": "\\u2800",
     "\U000e0041": "\\U000e0041",
     "\ufe0f": "\\ufe0f",
     "\u034f": "\\u034f",
@@ -155,43 +156,12 @@ def test_kilometres_are_not_rounded(run: Run, table: Write, km: str) -> None:
     assert status == 2 and out[1].startswith(f"row 2  A  km {km}  balise 0: ")
 
 
-def test_kilometres_far_apart_are_not_rounded(run: Run, table: Write) -> None:
-    """Nor are they in a remark."""
-    _, out, _ = run("check", table("group,km,telegram", f"A,1.0005,{ALONE}", f"A,7.0015,{OTHER}"))
-    assert "look: A: row 2 (km 1.0005) and row 3 (km 7.0015) stand 6001 m apart by km" in out
-
-
-@pytest.mark.parametrize(
-    "km, is_remarked",
-    [
-        (["1850", "1853", "2400"], True),
-        (["0", "350", "700"], True),
-        (["1850.0", "1853.5", "2400"], False),
-        (["1", "2", "3"], False),
-        (["1850.000", "1853.000", "2400.000"], False),
-        (["1850", "1850", "1850"], False),
-        (["1850", "", ""], False),
-    ],
-)
-def test_kilometres_that_look_like_metres(run: Run, table: Write, km: List[str], is_remarked: bool) -> None:
-    """Whole numbers, of which some are far from each other."""
-    rows = [f"{name},{cell},{ALONE}" for name, cell in zip("ABC", km)]
-    _, out, _ = run("check", table("group,km,telegram", *rows))
-    lines = [line for line in out if line.startswith("look: the kilometres")]
-    assert len(lines) == is_remarked
-    if lines:
-        assert lines == [
-            f"look: the kilometres are whole numbers from {km[0]} to {km[-1]}: are they metres? Write 1850 m as 1.850"
-        ]
-
-
 def test_order_of_positions() -> None:
     """As check and show order balises with --by-position."""
     rows = [Row(number, "A", ALONE, aspect="x") for number in (2, 3, 4)]
     group = Group("A", (Aspect("x", tuple(rows)),))
     ordered = grouping.by_position(group, {2: 2, 3: 0, 4: 1})
     assert [row.number for row in ordered.rows()] == [3, 4, 2] and ordered.places == {3: 0, 4: 1, 2: 2}
-    assert grouping.by_position(group, {2: 2, 3: 0}) == group
 
 
 def test_files_that_are_too_large(run: Run, tmp_path: Path) -> None:

@@ -39,6 +39,15 @@ def groups_of(rows: Sequence[Row], by_position: bool = False) -> Tuple[Tuple[Gro
     return tuple(groups), tuple(notes)
 
 
+def by_position(group: Group, positions: Mapping[int, int]) -> Group:
+    """The group with the balises of each aspect in the order of N_PIG, which is given by the rows' numbers."""
+    aspects = (
+        Aspect(aspect.name, tuple(sorted(aspect.rows, key=lambda row: positions[row.number])))
+        for aspect in group.aspects
+    )
+    return Group(group.name, tuple(aspects))
+
+
 def _has_one_name(block: Sequence[Row]) -> bool:
     """Whether all balises of a group have one name, and there are several in each aspect."""
     names, counts = {row.name for row in block}, Counter(row.aspect for row in block)
@@ -142,17 +151,6 @@ def _members(block: List[Row]) -> Dict[str, List[Row]]:
         return members
     names = list(members or [""])[: 1 if len(every) > GREATEST_COUNT else None]  # (too many are refused by the first)
     return {name: sorted([*every, *members.get(name, [])]) for name in names}
-
-
-def by_position(group: Group, positions: Mapping[int, int]) -> Group:
-    """The group with the balises of each aspect ordered by N_PIG, if that of each row is known by its number."""
-    if any(row.number not in positions for row in group.rows()):
-        return group
-    aspects = [
-        Aspect(aspect.name, tuple(sorted(aspect.rows, key=lambda row: positions[row.number])))
-        for aspect in group.aspects
-    ]
-    return Group(group.name, tuple(aspects))
 
 
 def _repeated(members: Iterable[Sequence[Row]], column: str) -> List[TableError]:

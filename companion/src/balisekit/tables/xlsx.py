@@ -98,7 +98,7 @@ def _look_at_size(part: zipfile.ZipInfo) -> None:
 
 
 def _look_at_elements(name: str, xml: bytes) -> Optional[TableError]:
-    """TableError is raised for a part with more than a spreadsheet writes. The answer is the fault of rows in disorder."""
+    """The fault of rows in disorder. TableError is raised for a part with more than a spreadsheet writes."""
     if name.endswith((".xml", ".rels")) and (b"\0" in xml[:4] or xml[:2] in (b"\xff\xfe", b"\xfe\xff")):
         raise TableError(f"{name} in it is not UTF-8: {SHORT_WAY_OUT}")
     if b"<!DOCTYPE" in xml:
