@@ -3,6 +3,7 @@
 from __future__ import annotations
 
 import os
+import random
 import time
 from decimal import Decimal
 from pathlib import Path
@@ -162,6 +163,34 @@ def test_order_of_positions() -> None:
     group = Group("A", (Aspect("x", tuple(rows)),))
     ordered = grouping.by_position(group, {2: 2, 3: 0, 4: 1})
     assert [row.number for row in ordered.rows()] == [3, 4, 2] and ordered.places == {3: 0, 4: 1, 2: 2}
+
+
+def test_the_short_way_of_groups() -> None:
+    """What is found at once of a group without a fault is what all the checks find of it."""
+    draw = random.Random(7)
+    plain = 0
+    for _ in range(20_000):
+        count = draw.randint(1, 5)
+        use = [draw.random() < 0.5 for _ in range(5)]
+        rows = [
+            Row(
+                number,
+                "A",
+                ALONE,
+                aspect=draw.choice(["", "x"]) if use[0] else "*xy"[number % 3],
+                balise=draw.choice([None, 0, 1]) if use[1] else None,
+                name=draw.choice(["A", "a", "b", ""]) if use[2] else "",
+                km=draw.choice([None, Decimal(1), Decimal(2), Decimal(3)]) if use[3] else None,
+                track=draw.choice(["", "t", "u"]) if use[4] else "",
+            )
+            for number in range(2, 2 + count)
+        ]
+        aspects = grouping._plain_aspects("A", rows)
+        if aspects is not None:
+            plain += 1
+            assert grouping._aspects("A", rows, False) == (aspects, [])
+            assert grouping._aspects("A", rows, True) == (aspects, [])
+    assert plain > 1000
 
 
 def test_files_that_are_too_large(run: Run, tmp_path: Path) -> None:

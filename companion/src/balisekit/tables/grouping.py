@@ -3,9 +3,10 @@ from __future__ import annotations
 
 import re
 from collections import Counter
+from functools import lru_cache
 from itertools import groupby, islice
 from operator import attrgetter
-from typing import Dict, Iterable, List, Mapping, Sequence, Tuple
+from typing import Any, Dict, Iterable, List, Mapping, Optional, Sequence, Tuple
 
 from balisekit.errors import TableError, TableErrors
 from balisekit.tables.model import Aspect, Group, Row
@@ -28,9 +29,11 @@ def groups_of(rows: Sequence[Row], by_position: bool = False) -> Tuple[Tuple[Gro
     groups, shared, notes = [], [], _alike(blocks)
     for name, block in blocks.items():
         try:
-            aspects, gaps = _aspects(name, block, by_position)
+            aspects = _plain_aspects(name, block)
+            if aspects is None:
+                aspects, gaps = _aspects(name, block, by_position)
+                notes += gaps
             groups.append(Group(name, aspects))
-            notes += gaps
         except (TableError, TableErrors) as fault:
             faults += fault.faults if isinstance(fault, TableErrors) else [fault]
             shared += [block] if _has_one_name(block) else []
@@ -114,6 +117,38 @@ def _alike(names: Iterable[str]) -> List[str]:
             notes.append(f'groups "{seen[key]}" and "{name}" differ in case or blanks alone')
         seen.setdefault(key, name)
     return notes
+
+
+def _plain_aspects(name: str, block: List[Row]) -> Optional[Tuple[Aspect, ...]]:
+    """The aspects of a group like most, in which nothing is to be refused or noted. None is inconclusive."""
+    columns: List[Tuple[Any, ...]] = list(zip(*block))
+    layout = _layout(columns[COLUMN["aspect"]], columns[COLUMN["balise"]])
+    if layout is None or len(set(columns[COLUMN["track"]])) > 1 or len(set(columns[COLUMN["nominal"]])) > 1:
+        return None
+    for column in ("name", "km"):
+        values = columns[COLUMN[column]]
+        if len(set(values)) == 1 and (len(layout[1]) == 1 or values[0] in ("", name, None)):
+            continue
+        known = [values[rows[0]] for rows in layout[1]]
+        if any(values[row] != value for value, rows in zip(known, layout[1]) for row in rows):
+            return None
+        if UNKNOWN & set(known) or (len(set(known)) < len(known) if column == "name" else not _rise_or_fall(known)):
+            return None
+    return tuple([Aspect(aspect, tuple([block[row] for row in rows])) for aspect, rows in layout[0]])
+
+
+@lru_cache(maxsize=1 << 10)
+def _layout(
+    names: Tuple[str, ...], balises: Tuple[Optional[int], ...]
+) -> Optional[Tuple[List[Tuple[str, List[int]]], List[List[int]]]]:
+    """Of a group with these columns: each aspect with its rows, counted from 0, and the rows of each balise."""
+    rows = [Row(row, "", "", aspect=name, balise=balise) for row, (name, balise) in enumerate(zip(names, balises))]
+    try:
+        aspects, notes = _aspects("", rows, False)
+    except (TableError, TableErrors):
+        return None
+    members = [(aspect.name, [row.number for row in aspect.rows]) for aspect in aspects]
+    return None if notes else (members, [sorted(set(places)) for places in zip(*(rows for _, rows in members))])
 
 
 def _aspects(name: str, block: List[Row], by_position: bool) -> Tuple[Tuple[Aspect, ...], List[str]]:
@@ -295,8 +330,10 @@ def _look_at_values(rows: Sequence[Row], column: str, of_group: bool = False) ->
 
 
 def _look_at_kilometres(rows: Sequence[Row]) -> None:
-    """The kilometres of a group rise or fall."""
-    known = [row.km for row in rows if row.km is not None]
-    if len(known) > 2 and known not in (sorted(known), sorted(known, reverse=True)):
-        last = next(row for row in reversed(rows) if row.km is not None)
-        raise TableError("the kilometres of the group rise and fall", last.number, "km")
+    known = [row for row in rows if row.km is not None]
+    if not _rise_or_fall([row.km for row in known]):
+        raise TableError("the kilometres of the group rise and fall", known[-1].number, "km")
+
+
+def _rise_or_fall(values: List[Any]) -> bool:
+    return len(values) < 3 or values in (sorted(values), sorted(values, reverse=True))
