@@ -35,7 +35,7 @@ def groups_of(rows: Sequence[Row], by_position: bool = False) -> Tuple[Tuple[Gro
                 notes += gaps
             groups.append(Group(name, aspects))
         except (TableError, TableErrors) as fault:
-            faults += fault.faults if isinstance(fault, TableErrors) else [fault]
+            faults += fault.faults
             shared += [block] if _has_one_name(block) else []
     if faults:
         raise TableErrors([*_shared_names(shared), *faults])

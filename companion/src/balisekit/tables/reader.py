@@ -6,7 +6,7 @@ from decimal import Decimal
 from difflib import get_close_matches
 from typing import Any, Callable, Dict, Iterator, List, Mapping, Optional, Sequence, Tuple
 
-from balisekit.errors import TableError, TableErrors
+from balisekit.errors import TableError, TableErrors, faults_of
 from balisekit.io import inputs
 from balisekit.tables import csv as csv_file, xlsx as xlsx_file
 from balisekit.tables.cells import COLUMNS, DIGITS, ERROR, NEEDED, Sheet, digits, headings, kind_and_text
@@ -30,29 +30,24 @@ PLAIN = re.compile(r"[^\0\r\n#]{0,1000}")
 def read(path: str, sheet: Optional[str] = None, by_position: bool = False) -> Table:
     """The table of this file. TableError or TableErrors is raised if it cannot be read."""
     file = inputs.read(path)
-    hints: List[TableError] = []
-    try:
-        if file.content.startswith(xlsx_file.BEGINS):
-            cells = xlsx_file.read(file.content, sheet)
-        elif sheet is not None:
+    is_workbook = file.content.startswith(xlsx_file.BEGINS)
+    with faults_of(path):
+        if sheet is not None and not is_workbook:
             raise TableError("--sheet is for an .xlsx, and this is none")
-        else:
-            cells = csv_file.read(file.content)
+        cells = xlsx_file.read(file.content, sheet) if is_workbook else csv_file.read(file.content)
         places = _places(cells)
         passed_over = _passed_over(cells)
         meant = tuple(_meant(name, places) for name in passed_over)
-        hints += [
-            TableError(f'the column {name} is passed over: did you mean "{known}"?', row=1)
-            for name, known in zip(passed_over, meant)
-            if known
-        ]
-        rows = _rows(cells, places)
-        groups, notes = groups_of(rows, by_position)
-    except (TableError, TableErrors) as error:
-        faults = [*hints, *(error.faults if isinstance(error, TableErrors) else [error])]
-        for fault in faults:
-            fault.path = path
-        raise TableErrors(faults) from error
+        try:
+            rows = _rows(cells, places)
+            groups, notes = groups_of(rows, by_position)
+        except (TableError, TableErrors) as error:
+            hints = [
+                TableError(f'the column {name} is passed over: did you mean "{known}"?', row=1)
+                for name, known in zip(passed_over, meant)
+                if known
+            ]
+            raise TableErrors([*hints, *error.faults]) from error
     return Table(
         path,
         file.sha256,
