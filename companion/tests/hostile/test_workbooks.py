@@ -124,6 +124,10 @@ DISORDER = "in the workbook, which is damaged: save it again"
         ([row("B", OTHER, number="-5")], f"row -5: it follows row 2 {DISORDER}"),
         ([row("B", OTHER, number="x")], f"row 0: it follows row 2 {DISORDER}"),
         ([row("B", OTHER, number="7"), row("C", OTHER, number="6")], f"row 6: it follows row 7 {DISORDER}"),
+        (
+            [f"<row>{text(OTHER, 'B3')}{text('B', 'A3')}</row>"],
+            "row 3: its cells are not in the order of their columns",
+        ),
         (["<row><c t='s'><v>-1</v></c></row>"], "row 3: openpyxl cannot read it (IndexError: shared string -1): "),
     ],
 )

@@ -32,6 +32,7 @@ SHORT_WAY_OUT = "save the table as CSV, or in a workbook of its own"
 
 NUMBER = re.compile(rb"""[^<]*?\sr\s*=\s*["']\s*([^"']*?)\s*["']""")
 REFERENCE = rb"""[^<]*?\s%b\s*=\s*["']([^"']*)"""
+COLUMN = re.compile(rb"""r(?<=\sr)\s*=\s*["']([A-Za-z]{1,3})[0-9]""")
 NO_VALUE = rb"[^<]*(?:</[^<]*)?(?:<[^\s<>/]*v\s*/>\s*|<[^\s<>/]*v\s*>\s*</[^<]*)?</[^<]*c\s*>"
 """What follows a formula whose value is not stored, up to the end of its cell."""
 PLACES = 6
@@ -115,6 +116,9 @@ def _look_at_elements(name: str, xml: bytes) -> Optional[TableError]:
             raise TableError(f"row {number} of {name} in it has more than {GREATEST_CELLS:,} cells: {SHORT_WAY_OUT}")
         if number <= before and fault is None:  # (openpyxl would drop it)
             fault = TableError(f"it follows row {before} in the workbook, which is damaged: save it again", row=number)
+        letters = COLUMN.findall(row)
+        if letters != sorted(letters, key=lambda column: (len(column), column)) and fault is None:  # (as well)
+            fault = TableError("its cells are not in the order of their columns: save the workbook again", row=number)
     return fault
 
 
