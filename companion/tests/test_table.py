@@ -174,8 +174,8 @@ BAD: Sequence[Any] = [
     ([H, *[f"A,{ALONE}"] * 9], 'row 10: group "A" has 9 balises, and at most 8 are possible'),
     (
         ["group,aspect,telegram", f"A,x,{ALONE}", f"A,y,{ALONE}", f"A,y,{ALONE}"],
-        'row 2: aspect "x" of group "A" has 1 balise (row 2), and aspect "y" has 2 (rows 3, 4): a row is missing, or one '
-        "too many; the column balise or name tells which",
+        'row 2: aspect "x" of group "A" has 1 balise (row 2), and aspect "y" has 2 (rows 3, 4): a row is missing, or '
+        "one too many; the column balise or name tells which",
     ),
     (
         ["group,aspect,balise,telegram", f"A,x,1,{ALONE}", f"A,x,2,{ALONE}", f"A,y,1,{ALONE}"],
@@ -553,7 +553,9 @@ class TestWorkbooks:
         with zipfile.ZipFile(path, "w", zipfile.ZIP_DEFLATED) as parts:
             parts.writestr("xl/worksheets/sheet1.xml", bytes(6_000_000))
         assert path.stat().st_size < 10_000
-        assert fault(path).startswith("xl/worksheets/sheet1.xml in it has 6,000,000 bytes unpacked, more than 100 times")
+        assert fault(path).startswith(
+            "xl/worksheets/sheet1.xml in it has 6,000,000 bytes unpacked, more than 100 times"
+        )
 
     def test_without_openpyxl(self, run: Run, tmp_path: Path, monkeypatch: pytest.MonkeyPatch) -> None:
         """One line says which package is missing, and what to do without it. CSV needs none."""
