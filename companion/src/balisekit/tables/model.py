@@ -74,11 +74,6 @@ class Table:
     meant: Tuple[str, ...] = ()
     """Of each heading that is passed over: the one for which it may have been mistyped, or nothing."""
 
-    @cached_property
-    def group_of(self) -> Dict[int, Group]:
-        """The group of each row, by the number of the row."""
-        return {row.number: group for group in self.groups for row in group.rows()}
-
 
 @dataclass(frozen=True)
 class Message:

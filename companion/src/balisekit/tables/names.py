@@ -16,7 +16,7 @@ BLANK = re.compile("[\u034f\u115f\u1160\u17b4\u17b5\u180b-\u180f\u2800\u3164\ufe
 
 def clean(text: str) -> str:
     """The text with escapes for characters that show nothing, move a cursor or turn the direction of writing."""
-    if text.isascii() and text.isprintable():
+    if text.isprintable() and (text.isascii() or not BLANK.search(text)):
         return text
     return "".join(map(_shown, text))
 
