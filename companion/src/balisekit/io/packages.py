@@ -2,16 +2,17 @@
 from __future__ import annotations
 
 import sys
-from importlib import import_module
-from typing import Any
+from contextlib import contextmanager
+from typing import Iterator
 
 from balisekit.errors import NoAnswer
 
 
-def package(name: str, purpose: str, module: str = "") -> Any:
-    """The package of this name, or a module of it. NoAnswer is raised if it is absent or broken."""
+@contextmanager
+def needed(name: str, purpose: str) -> Iterator[None]:
+    """Where a package is imported: NoAnswer is raised if it is absent or broken."""
     try:
-        return import_module(module or name)
+        yield
     except MemoryError:
         raise
     except Exception as error:  # a broken package raises whatever it likes

@@ -11,7 +11,7 @@ from decimal import Decimal
 from typing import Any, Dict, Iterator, List, Optional, Pattern, Tuple
 
 from balisekit.errors import KitError, TableError
-from balisekit.io.packages import package
+from balisekit.io.packages import needed
 from balisekit.tables.cells import NEEDED, Sheet, headings, kind_and_text, of_kind
 from balisekit.tables.encoding import ZIPS
 
@@ -43,7 +43,8 @@ DATES = (datetime.date, datetime.time, datetime.timedelta)
 def read(content: bytes, name: Optional[str]) -> Sheet:
     """The cells of the sheet of this name, else of the one that has the needed headings."""
     faults = _look_at_parts(content)
-    openpyxl = package("openpyxl", "reading .xlsx (CSV needs no package)")
+    with needed("openpyxl", "reading .xlsx (CSV needs no package)"):
+        import openpyxl
     with warnings.catch_warnings():
         warnings.simplefilter("ignore")  # (openpyxl warns of what it would not write again)
         try:
