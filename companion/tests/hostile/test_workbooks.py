@@ -222,17 +222,23 @@ def test_texts(table: Write, content: bytes, wanted: str) -> None:
     assert refusal(table(content=content)).startswith(wanted)
 
 
-def test_a_broken_openpyxl(run: Run, table: Write, tmp_path: Path, monkeypatch: pytest.MonkeyPatch) -> None:
+@pytest.mark.parametrize(
+    "name, words",
+    [("openpyxl", ["check"]), ("jinja2", ["report", "--html", "-"]), ("jinja2", ["draw", "--group", "A"])],
+)
+def test_broken_packages(
+    name: str, words: List[str], run: Run, table: Write, tmp_path: Path, monkeypatch: pytest.MonkeyPatch
+) -> None:
     """A package that fails to load is named with the interpreter, and a command that installs it."""
-    path = table(content=workbook(sheet(HEADING, GOOD)))
-    (tmp_path / "openpyxl.py").write_text("def (")
-    for name in [name for name in sys.modules if name.split(".")[0] == "openpyxl"]:
-        monkeypatch.delitem(sys.modules, name)
+    book, csv = table(content=workbook(sheet(HEADING, GOOD))), table("group,telegram", f"A,{ALONE}", name="t.csv")
+    (tmp_path / f"{name}.py").write_text("def (")
+    for module in [module for module in sys.modules if module.split(".")[0] == name]:
+        monkeypatch.delitem(sys.modules, module)
     monkeypatch.syspath_prepend(tmp_path)
-    status, out, err = run("check", path)
+    status, out, err = run(words[0], book if name == "openpyxl" else csv, *words[1:])
     assert (status, out, len(err)) == (3, [], 1)
-    assert f"needs openpyxl, which {sys.executable} cannot import (SyntaxError: invalid syntax" in err[0]
-    assert "apt install python3-openpyxl" in err[0] and f"{sys.executable} -m pip install openpyxl" in err[0]
+    assert f"needs {name}, which {sys.executable} cannot import (SyntaxError: invalid syntax" in err[0]
+    assert f"apt install python3-{name}" in err[0] and f"{sys.executable} -m pip install {name}" in err[0]
 
 
 def test_mistakes_of_balisekit_are_not_blamed_on_the_workbook(table: Write, monkeypatch: pytest.MonkeyPatch) -> None:
