@@ -6,9 +6,9 @@ import hashlib
 from pathlib import Path
 from typing import Any, Iterator
 
-from balisekit.errors import NoAnswer
+from balisekit.io.packages import needed
 
-LACKS = "pictures and reports need jinja2 (Debian: python3-jinja2)"
+NEEDS = "a picture or a page"
 PIECES = 100
 """So many pieces of a page become one."""
 TEMPLATES = Path(__file__).with_name("templates")
@@ -16,12 +16,10 @@ TEMPLATES = Path(__file__).with_name("templates")
 
 def pieces(template: str, **values: Any) -> Iterator[str]:
     """The page in pieces, so that it never stands in memory whole. All values are escaped."""
-    try:
+    with needed("jinja2", NEEDS):
         from jinja2 import Environment, FileSystemLoader, StrictUndefined
 
         from balisekit.drawing.svg import svg
-    except ImportError as error:
-        raise NoAnswer(LACKS) from error
     environment = Environment(
         loader=FileSystemLoader(str(TEMPLATES)),
         autoescape=True,
@@ -37,10 +35,8 @@ def pieces(template: str, **values: Any) -> Iterator[str]:
 
 def style(name: str) -> Any:
     """A style sheet of the package, which is not escaped."""
-    try:
+    with needed("jinja2", NEEDS):
         from markupsafe import Markup
-    except ImportError as error:
-        raise NoAnswer(LACKS) from error
     return Markup((TEMPLATES / name).read_text("utf-8"))
 
 
