@@ -137,11 +137,8 @@ def _between(page: str, begin: str, end: str) -> str:
     return page[page.index(f"<h2>{begin}</h2>") : page.index(f"<h2>{end}</h2>")]
 
 
-def test_accepted_findings_stand_apart(tmp_path: Path, capsys: pytest.CaptureFixture[str]) -> None:
-    """With reason, name and date, behind those that are open. The cover has the lines of `check`, and so its status."""
-    table = tmp_path / "line.csv"
-    with open(LINE, encoding="utf-8") as file:
-        table.write_text("".join(line for line in file if not line.startswith("Signal F")), "utf-8")
+def _entries_of_the_line() -> List[Dict[str, str]]:
+    """Entries for all findings of the example table."""
     stop, infill = {"nid_bg": "103", "aspect": "red", "direction": "nominal"}, {"nid_bg": "201", "rule": "F9"}
     texts = [line.rsplit(",", 1)[1] for line in LINE.read_text("utf-8").splitlines()]
     red, green = digest(texts[9:11]), digest([texts[19], texts[22]])
@@ -152,7 +149,15 @@ def test_accepted_findings_stand_apart(tmp_path: Path, capsys: pytest.CaptureFix
         {**infill, "aspect": "*", "balise": "0", "packet": "0", "until": "2999-01-01", "sha256": both},
     ]
     last = {"nid_bg": "105", "rule": "F11", "aspect": "*", "balise": "1", "packet": "1", "direction": "nominal"}
-    last["sha256"] = green
+    return [*rows, {**last, "sha256": green}]
+
+
+def test_accepted_findings_stand_apart(tmp_path: Path, capsys: pytest.CaptureFixture[str]) -> None:
+    """With reason, name and date, behind those that are open. The cover has the lines of `check`, and so its status."""
+    table = tmp_path / "line.csv"
+    with open(LINE, encoding="utf-8") as file:
+        table.write_text("".join(line for line in file if not line.startswith("Signal F")), "utf-8")
+    *rows, last = _entries_of_the_line()
     for some, counts, status in (
         (rows, "accepted 4 (2 by *), open 1", 1),
         ([*rows, last], "accepted 5 (3 by *), open 0", 0),
