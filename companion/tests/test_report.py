@@ -84,7 +84,7 @@ def test_the_page_has_all_that_was_said(tmp_path: Path, capsys: pytest.CaptureFi
     for line in said[1:]:
         assert line.strip().replace("program: ", "").replace("left out: ", "") in text, line
     assert hashlib.sha256(LINE.read_bytes()).hexdigest() in text
-    assert text.count("presented by balisekit, which is not proved; the program's own lines are quoted in full") == 1
+    assert text.count("balisekit is not proved; the program's own lines are quoted in full") == 1
     ids = [attributes["id"] for _, attributes in seen.tags if "id" in attributes]
     links = {(attributes["href"] or "")[1:] for tag, attributes in seen.tags if tag == "a"}
     assert len(ids) == len(set(ids)) and links <= set(ids) and len(links) > 3
