@@ -1,6 +1,8 @@
 """What the tests share: the program, rooms with tables, and runs of the command line."""
 from __future__ import annotations
 
+import os
+import sys
 from importlib.util import find_spec
 from pathlib import Path
 from typing import Callable, List, Tuple
@@ -18,6 +20,8 @@ try:
 except ImportError:
     pass
 
+os.environ.setdefault("BALISEKIT_PYTHON", sys.executable)
+"""What ./balisekit is run by in these tests."""
 PAGES = ["test_browser.py", "test_report.py", "test_track.py"]
 """The tests of pages and pictures, which need jinja2."""
 collect_ignore = [] if find_spec("jinja2") else PAGES

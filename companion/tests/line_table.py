@@ -10,7 +10,7 @@ import csv
 import io
 import sys
 from pathlib import Path
-from typing import Any, Dict, Iterator, List, Sequence, Tuple
+from typing import Any, Iterator, List, Sequence, Tuple
 
 HERE = Path(__file__).resolve().parent
 sys.path.insert(0, str(HERE.parent / "src"))
@@ -29,7 +29,7 @@ SPEEDS = ((12000, 120), (15900, 100), (18900, 120), (22000, 80))
 OVERLAP = 200
 INFILL = (SIGNALS["D"] - 400, 201)
 """Place and number of the infill group."""
-Form = Dict[str, Any]
+Form = Any
 Item = Tuple[str, str, str, str, str, Form]
 
 

@@ -19,7 +19,7 @@ from balisekit.engine.program import Program, Text  # noqa: E402  (the path come
 
 FOLDER = HERE.parents[1] / "examples" / "links"
 HEADING = ("group", "name", "km", "nominal", "telegram")
-Form = Dict[str, Any]
+Form = Any
 Item = Tuple[str, str, str, str, Form]
 
 

@@ -28,7 +28,7 @@ HEADING = "group,name,km,aspect,telegram"
 SOUND = [HEADING, f"Signal A,A1,13.850,,{FIRST}", f"Signal A,A2,13.853,,{SECOND}", f"Signal B,B1,15,,{OTHER}"]
 ASPECTS = "aspects found: 1 in {} groups"
 YES = "program: yes: groups 2, messages 0"
-STARTED = [sys.executable, str(TOP / "balisekit")]
+STARTED = [str(TOP / "balisekit")]
 """The start script, as a process of its own."""
 
 
@@ -437,7 +437,7 @@ def test_example(run: Run, monkeypatch: pytest.MonkeyPatch, program: Program) ->
 def test_start_script(table: Write, tmp_path: Path) -> None:
     link = tmp_path / "link"
     os.symlink(TOP / "balisekit", link)
-    words: List[str] = [sys.executable, str(link), "check", str(table(*SOUND))]
+    words: List[str] = [str(link), "check", str(table(*SOUND))]
     done = subprocess.run(words, cwd=tmp_path, stdout=subprocess.PIPE, check=False)
     assert (done.returncode, done.stdout.decode().splitlines()[-1]) == (0, YES)
 

@@ -125,7 +125,7 @@ def release(tmp_path_factory: pytest.TempPathFactory, program: Program) -> Path:
     room = tmp_path_factory.mktemp("release")
     top = room / NAME
     top.mkdir()
-    for name in ("balisekit", "companion/pyproject.toml"):
+    for name in ("balisekit", "companion/pyproject.toml", "companion/start.py"):
         (top / name).parent.mkdir(exist_ok=True)
         shutil.copy(TOP / name, top / name)
     shutil.copytree(TOP / "companion" / "src", top / "companion" / "src", ignore=shutil.ignore_patterns("__pycache__"))

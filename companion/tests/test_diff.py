@@ -9,7 +9,7 @@ import re
 import shutil
 import subprocess
 from pathlib import Path
-from typing import Any, Callable, Dict, List
+from typing import Any, Callable, List
 
 import link_tables
 import pytest
@@ -22,7 +22,7 @@ from balisekit.engine.program import Program, Text
 from balisekit.io import csv_writing
 
 Write = Callable[..., Path]
-Form = Dict[str, Any]
+Form = Any
 LINE = TOP / "examples" / "table" / "line.csv"
 LINKS = TOP / "examples" / "links"
 NONE = (

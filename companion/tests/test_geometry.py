@@ -3,11 +3,12 @@ from __future__ import annotations
 
 import json
 from decimal import Decimal
-from typing import Any, Dict, List, Optional, Tuple
+from typing import Any, List, Optional, Tuple
 
 import pytest
 from cases_of_program import TOP
 
+from balisekit.engine.records import Form
 from balisekit.etcs.geometry import (
     DIRECTIONS,
     NOMINAL,
@@ -57,12 +58,12 @@ def test_authority_by_radio() -> None:
 
 def test_supervised_location_without_overlap() -> None:
     """The danger point, else the end; an overlap of length 0 counts."""
-    base: Dict[str, Any] = {"nid_packet": 12, "q_dir": 1, "q_scale": 1, "sections": [], "l_endsection": 100}
-    point: Dict[str, Any] = {"danger_point": {"d_dp": 50, "v_releasedp": 0}}
-    overlap: Dict[str, Any] = {"overlap": {"d_ol": 0, "d_startol": 0, "t_ol": 0, "v_releaseol": 0}}
+    base: Form = {"nid_packet": 12, "q_dir": 1, "q_scale": 1, "sections": [], "l_endsection": 100}
     assert authority(HERE, base).supervised == 1000
-    assert authority(HERE, {**base, **point}).supervised == 1500
-    assert authority(HERE, {**base, **point, **overlap}).supervised == 1000
+    base["danger_point"] = {"d_dp": 50, "v_releasedp": 0}
+    assert authority(HERE, base).supervised == 1500
+    base["overlap"] = {"d_ol": 0, "d_startol": 0, "t_ol": 0, "v_releaseol": 0}
+    assert authority(HERE, base).supervised == 1000
 
 
 PROFILES: List[Tuple[str, int, Tuple[int, ...], int]] = [
@@ -80,7 +81,7 @@ def test_profiles(name: str, number: int, begins: Tuple[int, ...], reach: int) -
     assert (tuple(element.begin for element in found.elements), found.reach) == (begins, reach)
 
 
-def _gradients(scale: int, *elements: Tuple[int, int]) -> Dict[str, Any]:
+def _gradients(scale: int, *elements: Tuple[int, int]) -> Form:
     return {
         "nid_packet": 21,
         "q_dir": 1,

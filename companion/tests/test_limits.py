@@ -12,7 +12,6 @@ import os
 import resource
 import signal
 import subprocess
-import sys
 import time
 from pathlib import Path
 from typing import Any, Callable, Dict, List, Tuple
@@ -42,7 +41,7 @@ exec sleep 60
 
 
 def _words(program: Program, *words: object) -> List[str]:
-    return [sys.executable, str(TOP / "balisekit"), *map(str, words), "--program", program.path]
+    return [str(TOP / "balisekit"), *map(str, words), "--program", program.path]
 
 
 def _spent() -> float:
@@ -139,7 +138,7 @@ def test_10000_groups(
     times = {}
     for count in (few, many):
         old, new = releases(count)
-        names = {"OLD": old, "NEW": new, "OUT": tmp_path / "out"}
+        names = {"OLD": old, "NEW": new, "OUT": tmp_path / str(count)}
         before = _work()
         status, out, seconds = _timed(_words(program, *[names.get(word, word) for word in words]))
         work = (before + _work()) / 2
@@ -242,7 +241,6 @@ def test_an_interrupt_while_the_program_runs(words: List[str], table: Write, tmp
     stand.chmod(0o755)
     path = table("group,km,telegram", f"A,1,{ALONE}")
     command = [
-        sys.executable,
         str(TOP / "balisekit"),
         words[0],
         str(path),
@@ -258,6 +256,6 @@ def test_an_interrupt_while_a_file_is_written(great: Path, program: Program, tmp
     """What was there before stays as it was, and nothing is left beside it."""
     pytest.importorskip("jinja2")
     (tmp_path / "report.html").write_text("before")
-    command = _words(program, "report", great, "--html", tmp_path / "report.html")
+    command = _words(program, "report", great, "--force", "--html", tmp_path / "report.html")
     assert _interrupted(command, lambda: len(os.listdir(tmp_path)) > 1) == (3, b"balisekit: interrupted\n")
     assert os.listdir(tmp_path) == ["report.html"] and (tmp_path / "report.html").read_text() == "before"

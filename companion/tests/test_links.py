@@ -23,7 +23,7 @@ from balisekit.rules.rule import Options
 from balisekit.tables.model import Aspect, Group, Message, Row
 
 Write = Callable[..., Path]
-Form = Dict[str, Any]
+Form = Any
 FOLDER = TOP / "examples" / "links"
 COMPARED = (
     "L1 3 links, L2 3 links, L3 1 link, L4 2 groups, L5 1 single balise, L6 6 headers, L7 2 profiles, L8 2 profiles, "
@@ -316,7 +316,7 @@ def test_aspects_and_duplicates_are_told_once() -> None:
     fixed, switched = Row(2, "A", "", aspect="*", km=Decimal(0)), Row(3, "A", "", aspect="x", km=Decimal(1))
     other = Row(4, "A", "", aspect="y", km=Decimal(1))
     one = Group("A", (Aspect("x", (fixed, switched)), Aspect("y", (fixed, other))))
-    forms = {
+    forms: Dict[int, Form] = {
         2: {**header(1, chain), "m_dup": 1},
         3: {**header(1, chain), "m_dup": 2},
         4: {**header(1, chain), "m_dup": 2},

@@ -12,7 +12,7 @@ from fakes import RECORD, fake
 from telegrams import ALONE, FAULTY, MESSAGE, OTHER, SPARE
 
 from balisekit.engine.grammar import Refusal
-from balisekit.engine.program import MessageRecord, Program, Record, Report, Text
+from balisekit.engine.program import Program, Record, Report, Text
 from balisekit.errors import NoAnswer
 
 Stand = Callable[..., Program]
@@ -80,7 +80,7 @@ def test_messages_are_no_stream(program: Program) -> None:
 def test_more_messages_than_a_part(program: Program) -> None:
     answers = list(program.messages([MESSAGE] * 1500 + ["0304"] + [MESSAGE] * 700))
     assert [place for place, one in enumerate(answers) if isinstance(one, Refusal)] == [1500]
-    again = next(program.encode([answers[0].form if isinstance(answers[0], MessageRecord) else {}], radio=True))
+    again = next(program.encode([answers[0].form if isinstance(answers[0], Record) else {}], radio=True))
     assert isinstance(again, Text) and again.line == MESSAGE
 
 

@@ -20,6 +20,7 @@ from telegrams import FIRST, MESSAGE, OTHER, SECOND, digest
 from balisekit.cli import main as cli
 from balisekit.drawing.group import Content, draw
 from balisekit.engine.program import Program
+from balisekit.engine.records import Form
 from balisekit.etcs.geometry import Kilometres
 from balisekit.io import csv_writing
 from balisekit.present.pages import pieces
@@ -303,7 +304,7 @@ def test_one_aspect_of_a_group(tmp_path: Path, capsys: pytest.CaptureFixture[str
     assert capsys.readouterr().err.splitlines() == [
         'balisekit: group "Signal E" has no aspect "gren": its aspects are "red", "yellow", "green"',
         'balisekit: group "A" has no aspect "red": what it sends is for every aspect',
-        "balisekit: --aspect is for --group and --track: a message has no aspects",
+        "balisekit: --aspect is not used with --message",
     ]
     assert (tmp_path / "e.svg").read_bytes() == before
 
@@ -321,7 +322,7 @@ def _profile(direction: int, *elements: Tuple[int, int]) -> Any:
 
 def test_reverse_is_the_mirror_image() -> None:
     """The same profile in both directions: to the right, and as far to the left."""
-    form = {"m_dup": 0, "packets": [_profile(2, (0, 20), (1000, 127))]}
+    form: Form = {"m_dup": 0, "packets": [_profile(2, (0, 20), (1000, 127))]}
     shapes = [one for one in draw("A", [Content("", [form])], Kilometres()).shapes if one.style == "speed"]
     right, left = sorted(shapes, key=lambda one: float(one.x), reverse=True)
     assert abs(float(right.width) - float(left.width)) < 0.2
@@ -331,7 +332,7 @@ def test_reverse_is_the_mirror_image() -> None:
 
 def test_open_profiles_and_their_beginning() -> None:
     """An arrow in place of a bar; the track before the first element is marked."""
-    form = {"m_dup": 0, "packets": [_profile(1, (50, 20), (1000, 10))]}
+    form: Form = {"m_dup": 0, "packets": [_profile(1, (50, 20), (1000, 10))]}
     looks = [one.style for one in draw("A", [Content("", [form])], Kilometres()).shapes]
     assert "arrow" in looks and "none" in looks and "endmark" not in looks and "step open" in looks
 
@@ -388,7 +389,7 @@ def test_messages_are_drawn_and_shown(tmp_path: Path, capsys: pytest.CaptureFixt
 
 def test_an_authority_has_all_its_places() -> None:
     """Sections, end, danger point, overlap and supervised location, in both directions, with their numbers."""
-    packet = {
+    packet: Form = {
         "nid_packet": 12,
         "q_dir": 2,
         "q_scale": 1,
@@ -400,7 +401,7 @@ def test_an_authority_has_all_its_places() -> None:
         "danger_point": {"d_dp": 60, "v_releasedp": 5},
         "overlap": {"d_startol": 100, "t_ol": 30, "d_ol": 120, "v_releaseol": 126},
     }
-    form = {"m_dup": 0, "packets": [packet]}
+    form: Form = {"m_dup": 0, "packets": [packet]}
     picture = draw("A", [Content("", [form])], Kilometres(Decimal(10), 1))
     titles = {one.title for one in picture.shapes if one.title}
     for direction, along in (("nominal", 1), ("reverse", -1)):

@@ -8,7 +8,7 @@ from pathlib import Path
 import pytest
 from cases_of_program import TOP
 
-SOURCES = [TOP / "balisekit", *sorted((TOP / "companion").rglob("*.py"))]
+SOURCES = sorted((TOP / "companion").rglob("*.py"))
 NAMES = [path.name for path in SOURCES]
 LONGEST = 40
 

@@ -6,7 +6,7 @@ import re
 import xml.etree.ElementTree as ElementTree
 from decimal import Decimal
 from pathlib import Path
-from typing import Any, Callable, Dict, List, Tuple
+from typing import Any, Callable, List, Tuple
 
 import link_tables
 import pytest
@@ -23,7 +23,7 @@ from balisekit.io import csv_writing
 from balisekit.rules.links import compare
 
 Write = Callable[..., Path]
-Form = Dict[str, Any]
+Form = Any
 LINE = TOP / "examples" / "table" / "line.csv"
 LINKS = TOP / "examples" / "links"
 ROOM = WIDTH - LEFT - RIGHT

@@ -14,7 +14,7 @@ class KitError(Exception):
     status = 3
 
     def lines(self) -> List[str]:
-        """What the user is told."""
+        """The lines for the user."""
         return [str(self)]
 
 

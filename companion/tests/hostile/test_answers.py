@@ -2,6 +2,7 @@
 from __future__ import annotations
 
 import json
+import os
 import signal
 import subprocess
 import sys
@@ -14,9 +15,10 @@ import pytest
 from cases_of_program import TOP
 from conftest import Run
 from fakes import RECORD, fake
-from telegrams import ALONE, MESSAGE, OTHER
+from telegrams import ALONE, MESSAGE, OTHER, SPARE
 
 from balisekit.engine import process
+from balisekit.engine.grammar import Refusal
 from balisekit.engine.process import Limit
 from balisekit.engine.program import Program
 from balisekit.errors import NoAnswer
@@ -334,3 +336,39 @@ def test_a_program_that_trickles(tmp_path: Path) -> None:
     program = Program.find(str(fake(tmp_path / "fake", "while :; do printf x; sleep 0.1; done")), timeout=0.5)
     with pytest.raises(NoAnswer, match="it has not ended within"):
         list(program.decode([ALONE]))
+
+
+def test_a_program_that_is_a_pipe(tmp_path: Path, run: Run, table: Write) -> None:
+    """It is not opened: nobody writes into it."""
+    os.mkfifo(tmp_path / "pipe", 0o755)
+    error = [f"balisekit: there is no program {tmp_path}/pipe"]
+    assert run("check", table("group,telegram", f"A,{ALONE}"), "--program", tmp_path / "pipe") == (3, [], error)
+
+
+def test_many_refused_lines(program: Program, monkeypatch: pytest.MonkeyPatch) -> None:
+    """Several at a time, in their order, each as a run by itself has it."""
+    monkeypatch.setattr("balisekit.engine.program.FEW", 2)
+    monkeypatch.setattr("balisekit.engine.program.PART", 3)
+    telegrams = [ALONE, SPARE, OTHER, "zz", SPARE[:-2], *([SPARE] * 7), ALONE, *([OTHER] * 8), "z"]
+    answers = [(type(answer), getattr(answer, "text", answer.line)) for answer in program.decode(telegrams)]
+    alone = [next(program.decode([text])) for text in telegrams]
+    assert answers == [(type(answer), getattr(answer, "text", answer.line)) for answer in alone]
+    messages = [MESSAGE, "0304", "z", MESSAGE, *([MESSAGE[:-2]] * 9), MESSAGE, "0400c0"]
+    texts = [getattr(answer, "text", "read") for answer in program.messages(messages)]
+    assert texts == [getattr(next(program.messages([text])), "text", "read") for text in messages]
+    few = list(program.messages(messages, most=5))
+    assert len(few) == 7 and sum(isinstance(answer, Refusal) for answer in few) == 5
+
+
+def test_a_reader_that_stops(tmp_path: Path) -> None:
+    """No process goes on for a reader that wants no more answers."""
+    does = (
+        f"read -r line; echo $$ >> {tmp_path}/pids; case $line in *) echo 'refused: line 1: wrong size'; exit 2 ;; esac"
+    )
+    program = Program.find(str(fake(tmp_path / "fake", f'case "$*" in decode) {does} ;; esac')))
+    answers = program.decode([ALONE] * 5000)
+    assert [next(answers) for _ in range(100)]
+    del answers  # (which ends it)
+    count = len((tmp_path / "pids").read_text().split())
+    time.sleep(0.3)
+    assert count < 1500 and count == len((tmp_path / "pids").read_text().split())

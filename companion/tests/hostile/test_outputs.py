@@ -1,7 +1,6 @@
 """Outputs never replace an input, replace another file only by --force, and appear all together or not at all."""
 from __future__ import annotations
 
-import errno
 import json
 import os
 import shutil
@@ -69,7 +68,7 @@ def room(tmp_path: Path, monkeypatch: pytest.MonkeyPatch, program: Program) -> P
     for name, text in (("t.csv", TABLE), ("u.csv", TABLE), ("m.txt", f"{MESSAGE};x\n"), ("a.csv", ENTRIES)):
         (tmp_path / name).write_text(text, "utf-8")
     (tmp_path / "soft.csv").symlink_to("t.csv")
-    (tmp_path / "hard.csv").hardlink_to(tmp_path / "t.csv")
+    os.link(tmp_path / "t.csv", tmp_path / "hard.csv")
     shutil.copy(program.path, tmp_path / "prog")
     monkeypatch.chdir(tmp_path)
     return tmp_path
@@ -109,6 +108,14 @@ def test_nothing_is_appended_to_an_input(room: Path, program: Program) -> None:
         assert _contents(room) == before
 
 
+def test_nothing_is_appended_to_standard_input(room: Path) -> None:
+    (room / "lines.txt").write_text(f"{ALONE}\n", "utf-8")
+    before = _contents(room)
+    status, said = _run(["sh", "-c", f"{' '.join(COMMAND)} show <lines.txt >>lines.txt"])
+    assert (status, said) == (2, "balisekit: standard output: it is an input: an output never replaces one\n")
+    assert _contents(room) == before and _run(["sh", "-c", f"{' '.join(COMMAND)} show </dev/null >/dev/null"])[0] == 0
+
+
 def _run(command: Sequence[str], stdout: Union[int, IO[bytes]] = subprocess.DEVNULL) -> Tuple[int, str]:
     """The status of a process with balisekit, and what it has written to standard error."""
     known = {**os.environ, "PYTHONPATH": str(TOP / "companion" / "src")}
@@ -135,8 +142,8 @@ def test_an_existing_file_is_replaced_by_force_only(words: str, room: Path, run:
 
 def test_proposed_entries_replace_nothing_even_by_force(room: Path, run: Run) -> None:
     (room / "kept").write_text("signed", "utf-8")
-    for force in ([], ["--force"]):
-        status, _, err = run("check", "t.csv", "--propose", "kept", *force)
+    for words in ("check t.csv --propose kept", "check t.csv --propose kept --force"):
+        status, _, err = run(*words.split())
         why = "balisekit: kept: it exists already: name a new file, so that no entry is lost"
         assert (status, err) == (2, [why]) and (room / "kept").read_text("utf-8") == "signed"
 
@@ -165,17 +172,23 @@ def test_another_owner_is_refused(room: Path, monkeypatch: pytest.MonkeyPatch) -
         Output("kept").check([], force=True)
 
 
-def test_a_file_that_is_mounted_by_itself_is_refused(room: Path, monkeypatch: pytest.MonkeyPatch) -> None:
-    def busy(*_: object) -> None:
-        raise OSError(errno.EBUSY, "Device or resource busy")
+def test_a_mount_point_is_kept(room: Path) -> None:
+    """Before anything is read. A container has such files."""
+    (room / "kept 1").write_text("kept", "utf-8")
+    mounted = ["unshare", "-m", "sh", "-c", 'mount --bind u.csv "kept 1" && exec "$@"', "sh"]
+    if subprocess.run([*mounted, "true"], stderr=subprocess.DEVNULL, check=False).returncode:
+        pytest.skip("files cannot be mounted here")
+    answer = _run([*mounted, *COMMAND, "check", "t.csv", "--json", "kept 1", "--force"])
+    assert answer == (3, "balisekit: kept 1: it is a mount point, which cannot be replaced: name a new file\n")
+    assert (room / "u.csv").read_text("utf-8") == TABLE and not list(room.glob(".balisekit-*"))
 
-    (room / "kept").write_text("kept", "utf-8")
-    output = Output("kept")
-    monkeypatch.setattr(os, "replace", busy)
-    with pytest.raises(NoAnswer, match="kept: it is mounted by itself and cannot be replaced"):
-        with placing([output], True):
-            output.write(["new"])
-    assert not list(room.glob(".balisekit-*")) and (room / "kept").read_text("utf-8") == "kept"
+
+@pytest.mark.parametrize("name", ["loop", ".", "/dev/null", "pipe"])
+def test_what_is_no_file_is_refused(name: str, room: Path, run: Run) -> None:
+    (room / "loop").symlink_to("loop")
+    os.mkfifo(room / "pipe")
+    status, _, err = run("check", "t.csv", "--json", name, "--force")
+    assert status == 3 and err[0].startswith(f"balisekit: {name}: no file can be written there: it is a folder, ")
 
 
 def test_of_two_commands_at_once_one_writes(room: Path) -> None:

@@ -14,7 +14,7 @@ from telegrams import ALONE, FAULTY, FIRST, MESSAGE, OTHER, SECOND, SPARE
 
 from balisekit.engine.program import Program, Report, Text
 
-Form = Dict[str, Any]
+Form = Any
 Write = Callable[..., Path]
 GRADIENTS: Form = {
     "nid_packet": 21,

@@ -19,9 +19,9 @@ def add_options(parser: argparse.ArgumentParser) -> None:
     parser.add_argument("--all", action="store_true", help=checking.ALL_HELP)
     shared.add_accepted(parser)
     proposal = "write entries for the open findings, to be signed, into a new file"
-    shared.add_output(parser, "--propose", proposal, type=shared.new_output)
+    shared.add_output(parser, "--propose", proposal, always_new=True)
     shared.add_output(parser, "--junit", "write a case for each group and message as JUnit does")
-    shared.add_output(parser, "--json", "write all of the answer as JSON")
+    shared.add_output(parser, "--json", shared.JSON)
     shared.add_output(parser, "--document", "write the document that the program has checked")
     shared.add_force(parser)
 

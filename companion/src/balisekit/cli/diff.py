@@ -26,13 +26,12 @@ from balisekit.tables.names import clean
 def add_options(parser: argparse.ArgumentParser) -> None:
     """The options of this command."""
     text = "a table, or a document of a line as --document writes it"
-    parser.add_argument("old", metavar="OLD", type=shared.input_path, help=text)
-    parser.add_argument("new", metavar="NEW", type=shared.input_path, help=text)
     for side in ("old", "new"):
-        shared.add_messages(parser, f"--{side}-messages", f"radio messages beside the {side} table")
+        shared.add_input(parser, side, text, side.upper())
+        shared.add_input(parser, f"--{side}-messages", f"radio messages beside the {side} table")
     shared.add_program_options(parser, "which sheet of an .xlsx, in both")
     shared.add_output(parser, "--html", "write the answer as one page of HTML")
-    shared.add_output(parser, "--json", "write all of the answer as JSON")
+    shared.add_output(parser, "--json", shared.JSON)
     shared.add_force(parser)
 
 
@@ -43,6 +42,8 @@ def run(options: argparse.Namespace) -> int:
         _read(options.old, options.old_messages, options.sheet),
         _read(options.new, options.new_messages, options.sheet),
     ]
+    if options.sheet and all(document for _, _, document in sides):
+        raise TableError("--sheet is not used with two documents")
     named = not any(document for _, _, document in sides)
     program = Program.find(options.program, options.timeout)
     old, new = (_checked(program, *side, named) for side in sides)

@@ -45,8 +45,10 @@ def add_options(parser: argparse.ArgumentParser) -> None:
 
 def run(options: argparse.Namespace) -> int:
     """Does it. The answer is the exit status."""
-    if options.message is not None and options.aspect is not None:
-        raise TableError("--aspect is for --group and --track: a message has no aspects")
+    if options.message is not None:
+        shared.refuse_unused(options, "with --message", "aspect", "tolerance", "by_position")
+    if options.group is not None:
+        shared.refuse_unused(options, "with --group", "messages", "tolerance")
     program, table, messages = shared.inputs(options)
     if options.track is not None:
         return _track(options, checking.check(program, table, messages, options.by_position))

@@ -19,7 +19,7 @@ def add_options(parser: argparse.ArgumentParser) -> None:
     shared.add_input_options(parser)
     shared.add_tolerance(parser)
     parser.add_argument("--explain", action="store_true", help="show cause and remedy of each rule that has found")
-    shared.add_output(parser, "--json", "write all of the answer as JSON")
+    shared.add_output(parser, "--json", shared.JSON)
     shared.add_force(parser)
 
 

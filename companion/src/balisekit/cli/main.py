@@ -33,10 +33,10 @@ exit status:
   0  the program says yes to all that was handed in, nothing is open or found, or the command has done what it is
      asked for
   1  findings of `check`, entries of accepted findings at fault, or what `links` or `diff` has found
-  2  refused: a telegram or message, so that the answer is INCOMPLETE, or a table or words that cannot be read, or an
+  2  refused: a telegram or message, so that the answer is INCOMPLETE; a table that cannot be read; wrong options; an
      output that would replace an input or, without --force, another file
-  3  no answer: no program, a file that cannot be written, an interrupt; ended by SIGTERM the status is 143, by SIGHUP
-     129
+  3  no answer: no program, a file that cannot be written, an interrupt
+  SIGTERM ends a command with status 143, SIGHUP with 129
 
 balisekit is not proved. It presents what balisecheck says, and quotes its lines in full.
 """
@@ -46,13 +46,7 @@ TERMINATING = (signal.SIGTERM, signal.SIGHUP)
 class _Once(argparse.Action):
     """Stores the value of an option, which is given once."""
 
-    def __call__(
-        self,
-        parser: argparse.ArgumentParser,
-        namespace: argparse.Namespace,
-        values: Any,
-        option_string: Optional[str] = None,
-    ) -> None:
+    def __call__(self, parser: Any, namespace: Any, values: Any, option_string: Optional[str] = None) -> None:
         if option_string and getattr(namespace, self.dest, self.default) is not self.default:
             parser.error(f"argument {option_string}: it is given twice")
         setattr(namespace, self.dest, values)
@@ -66,8 +60,8 @@ class _Parser(argparse.ArgumentParser):
         self.register("action", None, _Once)
 
 
-def parser(words: Sequence[str]) -> argparse.ArgumentParser:
-    """The options of the command that these words name. Only its module is imported."""
+def parser(arguments: Sequence[str]) -> argparse.ArgumentParser:
+    """The options of the command that these arguments name. Only its module is imported."""
     whole = _Parser(
         prog="balisekit",
         description="What balisecheck says of a table of telegrams.",
@@ -77,7 +71,7 @@ def parser(words: Sequence[str]) -> argparse.ArgumentParser:
     whole.add_argument("--version", action="version", version=f"balisekit {__version__}")
     _add_debug(whole)
     commands = whole.add_subparsers(dest="command", required=True, metavar="COMMAND")
-    named = next((word for word in words if not word.startswith("-")), None)
+    named = next((argument for argument in arguments if not argument.startswith("-")), None)
     for name, text in COMMANDS.items():
         command = commands.add_parser(name, help=text, description=text)
         if name == named:
@@ -94,12 +88,12 @@ def _add_debug(command: argparse.ArgumentParser) -> None:
 
 
 def main(arguments: Optional[List[str]] = None) -> int:
-    """Runs the words of the command line. The answer is the exit status."""
+    """Runs a command line. The answer is the exit status."""
     if _is_closed():
         return _ended(NoAnswer(CLOSED), False, CLOSED)
     options = argparse.Namespace(debug=False)
     try:
-        with _without_collection(), _terminating():
+        with _process():
             _parse(sys.argv[1:] if arguments is None else arguments, options)
             return _run(options)
     except KitError as error:
@@ -110,10 +104,10 @@ def main(arguments: Optional[List[str]] = None) -> int:
         return _ended(error, options.debug, _reason(error))
 
 
-def _parse(words: List[str], options: argparse.Namespace) -> None:
+def _parse(arguments: List[str], options: argparse.Namespace) -> None:
     """Puts the options into the namespace. SystemExit is raised for wrong ones, and once help has been written."""
     try:
-        parser(words).parse_args(words, options)
+        parser(arguments).parse_args(arguments, options)
     except SystemExit:
         sys.stdout.flush()
         raise
@@ -138,6 +132,8 @@ def _inputs(options: argparse.Namespace, outputs: Sequence[Output]) -> List[str]
     from balisekit.io.inputs import InputPath
 
     inputs: List[str] = [value for value in vars(options).values() if isinstance(value, InputPath)]
+    if not inputs:  # `show`
+        inputs.append("/dev/stdin")
     if any(os.path.lexists(output.path) for output in outputs):
         named = options.program or os.environ.get("BALISECHECK") or "balisecheck"
         inputs += filter(None, (shutil.which(named), location.find(options.program)))
@@ -145,20 +141,8 @@ def _inputs(options: argparse.Namespace, outputs: Sequence[Output]) -> List[str]
 
 
 @contextmanager
-def _without_collection() -> Iterator[None]:
-    """Nothing here refers to what refers to it, so that all is freed without a search for cycles."""
-    collects = gc.isenabled()
-    gc.disable()
-    try:
-        yield
-    finally:
-        if collects:
-            gc.enable()
-
-
-@contextmanager
-def _terminating() -> Iterator[None]:
-    """Raises Terminated for the first SIGTERM or SIGHUP, unless the caller of balisekit has it ignored."""
+def _process() -> Iterator[None]:
+    """Raises Terminated for the first SIGTERM or SIGHUP, unless that is ignored. Searches for no cycles of objects."""
 
     def terminate(number: int, frame: object) -> None:
         for other in handlers:
@@ -170,9 +154,13 @@ def _terminating() -> Iterator[None]:
         for number in TERMINATING:
             if signal.getsignal(number) is not signal.SIG_IGN:
                 handlers[number] = signal.signal(number, terminate)
+    collects = gc.isenabled()
+    gc.disable()  # (there are none)
     try:
         yield
     finally:
+        if collects:
+            gc.enable()
         for number, handler in handlers.items():
             signal.signal(number, handler)
 
@@ -192,7 +180,7 @@ def _reason(error: BaseException) -> str:
 
 
 def _is_closed() -> bool:
-    """Whether there is no standard output. What is said to a stream that is closed goes nowhere, and not to another."""
+    """Whether standard output is closed. Text for a closed stream is dropped, and goes to no other stream."""
     closed = sys.stdout is None
     sys.stdout, sys.stderr = (
         open(os.devnull, "w", encoding="utf-8") if stream is None else stream for stream in (sys.stdout, sys.stderr)
@@ -204,7 +192,7 @@ def _is_closed() -> bool:
 
 
 def _ended(error: BaseException, debug: bool, *lines: str, status: int = 3) -> int:
-    """Tells why there is no answer. Where nobody can be told the status still says it."""
+    """Reports why there is no answer. If that cannot be written, the exit status still reports it."""
     from balisekit.tables.names import clean
 
     try:
@@ -222,7 +210,7 @@ def _ended(error: BaseException, debug: bool, *lines: str, status: int = 3) -> i
 
 
 def _let_go(stream: TextIO) -> None:
-    """Drops what a stream cannot take: Python would try again at its end, and end with a status of its own."""
+    """Drops what a stream cannot take. Otherwise Python would try again at exit, and set a status of its own."""
     try:
         stream.flush()
     except OSError:

@@ -8,10 +8,16 @@ from decimal import Decimal
 from typing import Any, Optional, TextIO, Tuple
 
 from balisekit.engine.program import Program
+from balisekit.errors import TableError
 from balisekit.io.inputs import InputPath
 from balisekit.io.outputs import Output
-from balisekit.tables import messages as messages_file, reader as table
+from balisekit.tables import messages as messages_file, reader
 from balisekit.tables.model import Messages, Table
+
+TABLE = "a CSV file or an .xlsx with the columns group and telegram"
+JSON = "write all of the answer as JSON"
+EXACT = Decimal()
+"""The tolerance without --tolerance."""
 
 
 def name(text: str) -> str:
@@ -28,44 +34,34 @@ def seconds(text: str) -> float:
     return float(text)
 
 
-def input_path(text: str) -> InputPath:
-    """The name of a file that is read."""
-    return InputPath(name(text))
+def add_input(parser: argparse.ArgumentParser, option: str, text: str, metavar: str = "FILE", **settings: Any) -> None:
+    """A file that is read."""
+    parser.add_argument(option, metavar=metavar, type=lambda path: InputPath(name(path)), help=text, **settings)
 
 
-def new_output(text: str) -> Output:
-    """A file that is written and replaces none, not even by --force."""
-    return Output(name(text), always_new=True)
-
-
-def output(text: str) -> Output:
+def add_output(
+    parser: argparse.ArgumentParser, option: str, text: str, always_new: bool = False, **settings: Any
+) -> None:
     """A file that is written."""
-    return Output(name(text))
+    text += "; - is standard output"
+    parser.add_argument(option, metavar="FILE", type=lambda path: Output(name(path), always_new), help=text, **settings)
 
 
-def text_stream(*outputs: Optional[Output]) -> TextIO:
-    """Where the answer in words goes: standard error if one of these outputs is standard output."""
-    return sys.stderr if any(output and output.is_standard_output for output in outputs) else sys.stdout
+def add_force(parser: argparse.ArgumentParser) -> None:
+    """The option by which outputs replace existing files."""
+    parser.add_argument(
+        "--force", action="store_true", help="replace existing files by the outputs, but never an input"
+    )
 
 
-def add_input_options(parser: argparse.ArgumentParser, table_needed: bool = True) -> None:
+def add_input_options(parser: argparse.ArgumentParser, **table: Any) -> None:
     """The options that name what is read, and the program."""
-    text = "a CSV file or an .xlsx with the columns group and telegram"
-    if table_needed:
-        parser.add_argument("table", metavar="TABLE", type=input_path, help=text)
-    else:
-        text += "; without it and --messages, telegrams of standard input, one a line"
-        parser.add_argument("table", metavar="TABLE", nargs="?", type=input_path, help=text)
-    add_messages(parser, "--messages", "radio messages, one a line, a name behind ;")
+    add_input(parser, **{"option": "table", "metavar": "TABLE", "text": TABLE, **table})
+    add_input(parser, "--messages", "radio messages, one a line, a name behind ;")
     parser.add_argument(
         "--by-position", action="store_true", help="order the balises of a group by N_PIG, which hides a wrong N_PIG"
     )
     add_program_options(parser, "which sheet of an .xlsx")
-
-
-def add_messages(parser: argparse.ArgumentParser, option: str, text: str) -> None:
-    """An option that names a file of radio messages."""
-    parser.add_argument(option, metavar="FILE", type=input_path, help=text)
 
 
 def add_program_options(parser: argparse.ArgumentParser, sheet: str) -> None:
@@ -84,53 +80,42 @@ def add_program_options(parser: argparse.ArgumentParser, sheet: str) -> None:
 
 def add_accepted(parser: argparse.ArgumentParser) -> None:
     """The file of accepted findings."""
-    text = "a CSV file of findings that were accepted, and by whom"
-    parser.add_argument("--accepted", metavar="FILE", type=input_path, help=text)
+    add_input(parser, "--accepted", "a CSV file of findings that were accepted, and by whom")
 
 
-def add_output(parser: argparse.ArgumentParser, option: str, text: str, **settings: Any) -> None:
-    """An option that names a file to be written."""
-    settings = {"type": output, **settings}
-    parser.add_argument(option, metavar="FILE", help=f"{text}; - is standard output", **settings)
+def add_tolerance(parser: argparse.ArgumentParser) -> None:
+    """How exact the kilometres of the table are."""
+    text = "by how much the kilometres of the table may be wrong, beside Q_LOCACC; 0 else"
+    parser.add_argument("--tolerance", metavar="METRES", type=_tolerance, default=EXACT, help=text)
 
 
-def add_force(parser: argparse.ArgumentParser) -> None:
-    """The option by which outputs replace existing files."""
-    parser.add_argument(
-        "--force", action="store_true", help="replace existing files by the outputs, but never an input"
-    )
+def add_track_options(parser: argparse.ArgumentParser, group: str = "") -> None:
+    """What is drawn of a track, and of a group."""
+    text = f"which aspect of the groups a track shows; without it the first one of each group{group}"
+    parser.add_argument("--aspect", metavar="NAME", help=text)
+    add_tolerance(parser)
 
 
-def inputs(options: argparse.Namespace) -> Tuple[Program, Table, Optional[Messages]]:
-    """The program, the table and the messages that the words name."""
-    read = table.read(options.table, options.sheet, options.by_position)
-    messages = messages_file.read(options.messages) if options.messages else None
-    return Program.find(options.program, options.timeout), read, messages
-
-
-def tolerance(text: str) -> Decimal:
-    """A number of metres."""
+def _tolerance(text: str) -> Decimal:
     if not re.fullmatch(r"[0-9]{1,5}([.,][0-9])?", text):
         raise argparse.ArgumentTypeError(f"{text[:40]} is no number of metres: write 5 or 2.5")
     return Decimal(text.replace(",", "."))
 
 
-def add_tolerance(parser: argparse.ArgumentParser) -> None:
-    """The word that says how exact the kilometres of the table are."""
-    parser.add_argument(
-        "--tolerance",
-        metavar="METRES",
-        type=tolerance,
-        default=Decimal(),
-        help="by how much the kilometres of the table may be wrong, beside Q_LOCACC; 0 else",
-    )
+def refuse_unused(options: argparse.Namespace, purpose: str, *names: str) -> None:
+    """Raises TableError if one of these options is given, which serve another purpose."""
+    for name in names:
+        if not any(getattr(options, name) is default for default in (None, False, EXACT)):
+            raise TableError(f"--{name.replace('_', '-')} is not used {purpose}")
 
 
-def add_track_options(parser: argparse.ArgumentParser, group: str = "") -> None:
-    """The words that say what is drawn of a track, and of a group."""
-    parser.add_argument(
-        "--aspect",
-        metavar="NAME",
-        help=f"which aspect of the groups a track shows; without it the first one of each group{group}",
-    )
-    add_tolerance(parser)
+def inputs(options: argparse.Namespace) -> Tuple[Program, Table, Optional[Messages]]:
+    """The program, the table and the messages that the options name."""
+    table = reader.read(options.table, options.sheet, options.by_position)
+    messages = messages_file.read(options.messages) if options.messages else None
+    return Program.find(options.program, options.timeout), table, messages
+
+
+def text_stream(*outputs: Optional[Output]) -> TextIO:
+    """Where the answer in words goes: standard error if one of these outputs is standard output."""
+    return sys.stderr if any(output and output.is_standard_output for output in outputs) else sys.stdout

@@ -8,7 +8,7 @@ import sys
 import textwrap
 from typing import Dict, Generator, Iterator, List, Mapping, Optional, Sequence, Union
 
-from balisekit.cli.options import add_input_options, inputs
+from balisekit.cli.options import TABLE, add_input_options, inputs, refuse_unused
 from balisekit.engine.grammar import Refusal
 from balisekit.engine.program import Program, Record
 from balisekit.errors import TableError
@@ -28,13 +28,16 @@ Answer = Union[Record, Refusal]
 
 def add_options(parser: argparse.ArgumentParser) -> None:
     """The options of this command."""
-    add_input_options(parser, table_needed=False)
+    text = f"{TABLE}; without it and --messages, telegrams of standard input, one a line"
+    add_input_options(parser, text=text, nargs="?")
     parser.add_argument("--bits", action="store_true", help="show each field with its bit places")
     parser.add_argument("--all", action="store_true", help=ALL_HELP)
 
 
 def run(options: argparse.Namespace) -> int:
     """Does it. The answer is the exit status."""
+    if options.table is None:
+        refuse_unused(options, "without TABLE", "sheet", "by_position")
     shown = _Shown(options)
     for lines in shown.blocks():
         print("\n".join(lines))

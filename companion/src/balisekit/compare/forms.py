@@ -9,7 +9,7 @@ from dataclasses import dataclass
 from typing import Any, Callable, Dict, Iterator, List, Optional, Sequence, Tuple, TypeVar
 
 from balisekit.etcs.packets import packet_name
-from balisekit.etcs.variables import DIRECTIONS, LABELS, ORDER, Around, Form, said, value_words, variable_name
+from balisekit.etcs.variables import DIRECTIONS, LABELS, ORDER, Around, Values, said, value_words, variable_name
 
 Item = TypeVar("Item")
 Pair = Tuple[Optional[int], Optional[int]]
@@ -38,7 +38,7 @@ class Change:
         return f"{where}{self.kind}: {self.old or self.new}"
 
 
-def differences(old: Form, new: Form) -> List[Change]:
+def differences(old: Values, new: Values) -> List[Change]:
     """All that differs between two forms."""
     track = (old.get("nid_message") != 136, new.get("nid_message") != 136)
     found = list(_object("", old, new, Around(from_track=track[0]), Around(from_track=track[1])))
@@ -55,10 +55,10 @@ def differences(old: Form, new: Form) -> List[Change]:
     return found
 
 
-def _packet_pairs(old: Sequence[Form], new: Sequence[Form]) -> List[Pair]:
+def _packet_pairs(old: Sequence[Values], new: Sequence[Values]) -> List[Pair]:
     """Packets of one number and direction in their order, and then those that are left by their number alone."""
     pairs: List[Pair] = []
-    keys: Sequence[Callable[[Form], Any]] = (
+    keys: Sequence[Callable[[Values], Any]] = (
         lambda one: (one["nid_packet"], one.get("q_dir")),
         lambda one: one["nid_packet"],
     )
@@ -81,7 +81,7 @@ def _packet_pairs(old: Sequence[Form], new: Sequence[Form]) -> List[Pair]:
 
 
 def _packet(
-    old: Sequence[Form], new: Sequence[Form], before: Optional[int], after: Optional[int], track: Tuple[bool, bool]
+    old: Sequence[Values], new: Sequence[Values], before: Optional[int], after: Optional[int], track: Tuple[bool, bool]
 ) -> Iterator[Change]:
     if before is None or after is None:
         alone, from_track = (new[after or 0], track[1]) if before is None else (old[before], track[0])
@@ -95,7 +95,7 @@ def _packet(
     yield from _object(label, one, other, Around(from_track=track[0]), Around(from_track=track[1]))
 
 
-def _object(where: str, old: Form, new: Form, before: Around, after: Around) -> Iterator[Change]:
+def _object(where: str, old: Values, new: Values, before: Around, after: Around) -> Iterator[Change]:
     """The fields of an object that differ, and what differs in its parts."""
     before, after = _inner(old, before), _inner(new, after)
     for key in sorted({*old, *new} - {"packets"}, key=lambda one: (ORDER.get(one, len(ORDER)), one)):
@@ -113,11 +113,11 @@ def _object(where: str, old: Form, new: Form, before: Around, after: Around) -> 
                 yield Change(CHANGED, where, variable_name(key, new if key in new else old), *values)
 
 
-def _inner(form: Form, around: Around) -> Around:
+def _inner(form: Values, around: Around) -> Around:
     return Around(form if "nid_packet" in form else around.packet, form, around.from_track)
 
 
-def _value(key: str, value: Any, form: Form, around: Around) -> str:
+def _value(key: str, value: Any, form: Values, around: Around) -> str:
     if value is None:
         return "none"
     words = value_words(key, value, around)
@@ -137,7 +137,7 @@ def _list(
             yield _part(f"{label} {one} of the old one", REMOVED, ones[one], before)
 
 
-def _as_object(key: str, item: Any) -> Form:
+def _as_object(key: str, item: Any) -> Values:
     return item if isinstance(item, dict) else {key: item}
 
 
@@ -147,7 +147,7 @@ def _part(where: str, kind: str, form: Any, around: Around) -> Change:
     return Change(kind, where, "", *((text, "") if kind == REMOVED else ("", text)))
 
 
-def _shown(form: Form, around: Around) -> Iterator[str]:
+def _shown(form: Values, around: Around) -> Iterator[str]:
     inner = _inner(form, around)
     for key in sorted(form, key=lambda one: (ORDER.get(one, len(ORDER)), one)):
         value = form[key]
@@ -158,7 +158,7 @@ def _shown(form: Form, around: Around) -> Iterator[str]:
                 yield from said((key,), {**form, key: item}, inner)
 
 
-def align(old: Sequence[Form], new: Sequence[Form]) -> List[Pair]:
+def align(old: Sequence[Values], new: Sequence[Values]) -> List[Pair]:
     """Pairs the items of two lists in their order, so that the fewest fields differ."""
     first = next((place for place, (one, other) in enumerate(zip(old, new)) if one != other), min(len(old), len(new)))
     pairs: List[Pair] = [(place, place) for place in range(first)]

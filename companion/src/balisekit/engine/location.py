@@ -1,4 +1,4 @@
-"""Where the program's file is, and the papers of a stored one."""
+"""Where the program's file is, and the metadata of a stored one."""
 from __future__ import annotations
 
 import hashlib
@@ -12,6 +12,8 @@ from balisekit.errors import NoAnswer
 
 TOP = Path(__file__).resolve().parents[4]
 """The top of the repository, if this is a clone."""
+SECONDS = 10
+"""For how long the start script of the clone may take."""
 
 
 def find(named: Optional[str]) -> str:
@@ -21,7 +23,7 @@ def find(named: Optional[str]) -> str:
     is_clone = (TOP / "companion" / "pyproject.toml").is_file() and script.is_file()
     if named:
         path = shutil.which(named)
-        if path is None:
+        if path is None or not os.path.isfile(path):
             raise NoAnswer(f"there is no program {named}")
     elif is_clone:
         path = str(script)
@@ -38,11 +40,12 @@ def find(named: Optional[str]) -> str:
 def _stored(script: str) -> str:
     """The program that the start script would run."""
     try:
-        run = subprocess.run(
-            [script], stdin=subprocess.DEVNULL, capture_output=True, env={**os.environ, "BALISECHECK_PATH": "1"}
-        )
+        environment = {**os.environ, "BALISECHECK_PATH": "1"}
+        run = subprocess.run([script], stdin=subprocess.DEVNULL, capture_output=True, env=environment, timeout=SECONDS)
     except OSError as error:
         raise NoAnswer(f"{script}: {error.strerror}") from error
+    except subprocess.TimeoutExpired as error:
+        raise NoAnswer(f"{script}: it has not ended within {SECONDS} s") from error
     path = os.fsdecode(run.stdout.rstrip(b"\n"))
     if run.returncode != 0 or not os.path.isfile(path):
         said = run.stderr.decode("utf-8", "backslashreplace").strip().split("\n")[-1]
@@ -52,10 +55,14 @@ def _stored(script: str) -> str:
 
 def checksum(path: str) -> str:
     """The SHA-256 of the file."""
+    digest = hashlib.sha256()
     try:
-        return hashlib.sha256(Path(path).read_bytes()).hexdigest()
+        with open(path, "rb") as file:
+            for piece in iter(lambda: file.read(1 << 20), b""):
+                digest.update(piece)
     except OSError as error:
         raise NoAnswer(f"{path}: {error.strerror}") from error
+    return digest.hexdigest()
 
 
 def papers(sha256: str) -> Dict[str, str]:

@@ -32,6 +32,7 @@ from typing import (
 from balisekit.engine import grammar, location, records
 from balisekit.engine.grammar import Finding, Refusal, Verdict
 from balisekit.engine.process import HANDSHAKE_LIMIT, Limit, Run
+from balisekit.engine.records import Form, form_of
 from balisekit.errors import NoAnswer
 
 FEW = 16
@@ -61,28 +62,15 @@ Done = TypeVar("Done")
 
 @dataclass(frozen=True)
 class Record:
-    """A telegram that the program has read."""
+    """A telegram or message that the program has read."""
 
     line: str
-    """The program's line of JSON."""
+    """The program's line of JSON. It has the form of records."""
 
     @property
-    def form(self) -> records.Telegram:
+    def form(self) -> Form:
         """The object of the line."""
-        return records.telegram(self.line)
-
-
-@dataclass(frozen=True)
-class MessageRecord:
-    """A radio message that the program has read."""
-
-    line: str
-    """The program's line of JSON."""
-
-    @property
-    def form(self) -> records.Message:
-        """The object of the line."""
-        return records.message(self.line)
+        return form_of(self.line)
 
 
 @dataclass(frozen=True)
@@ -162,7 +150,7 @@ class Program:
 
     def messages(
         self, messages: Iterable[Union[str, bytes]], most: Optional[int] = None
-    ) -> Iterator[Union[MessageRecord, Refusal]]:
+    ) -> Iterator[Union[Record, Refusal]]:
         """A record, or the refusal, for each radio message: its bytes, or their hexadecimal text.
 
         `decode --radio` reads a stream, in which a wrong L_MESSAGE takes bytes of the next message. So `check` tries
@@ -170,14 +158,18 @@ class Program:
         number `most`, if there are that many.
         """
         texts = [message.hex() if isinstance(message, bytes) else _line(message) for message in messages]
-        refused = self._refused_messages(texts, most)
-        if most is not None and len(refused) == most:
-            texts = texts[: max(refused, default=-1) + 1]
-        accepted = self.readable_messages(text for index, text in enumerate(texts) if index not in refused)
-        for index in range(len(texts)):
-            yield refused[index] if index in refused else next(accepted)
+        tried: List[Optional[Refusal]] = []
+        refused = 0
+        for refusal in self._several(lambda program, part: program._refusals(texts[slice(*part)]), len(texts)):
+            tried.append(refusal)
+            refused += refusal is not None
+            if refused == most:
+                break
+        accepted = self.readable_messages(text for text, refusal in zip(texts, tried) if refusal is None)
+        for refusal in tried:
+            yield refusal or next(accepted)
 
-    def readable_messages(self, texts: Iterable[str]) -> Iterator[MessageRecord]:
+    def readable_messages(self, texts: Iterable[str]) -> Iterator[Record]:
         """A record for each of these radio messages, all of which `check` can read."""
         is_message = records.message_expression().fullmatch
         for answer in self._each(["decode", "--radio"], texts):
@@ -185,93 +177,66 @@ class Program:
                 raise self.no_answer("decode --radio", "it refuses a message that `check` can read")
             if not is_message(answer):
                 raise self.no_answer("decode --radio", f"no record of a message: {answer[:SHOWN]}")
-            yield MessageRecord(answer)
+            yield Record(answer)
 
-    def _refused_messages(self, texts: Sequence[str], most: Optional[int]) -> Dict[int, Refusal]:
-        """The refusals of these messages, or the first of them, by their indexes."""
-        refused: Dict[int, Refusal] = {}
-        first = self._try_messages(texts, (0, len(texts)), refused, FEW if most is None else min(FEW, most))
-
-        def of_part(program: Program, part: Part) -> Dict[int, Refusal]:
-            own: Dict[int, Refusal] = {}
-            program._try_messages(texts, part, own)
-            return own
-
-        if most is None or len(refused) < most:
-            for own in self._in_order(of_part, first, len(texts)):
-                refused.update(own)
-                if most is not None and len(refused) >= most:
-                    break
-        return dict(list(refused.items())[:most])
-
-    def _try_messages(
-        self, texts: Sequence[str], part: Part, refused: Dict[int, Refusal], most: Optional[int] = None
-    ) -> int:
-        """Adds the refusals of the messages of a part, until there are `most`. The answer is where it has stopped."""
-        first, end = part
-        while first < end and len(refused) != most:
-            answer = self.check({"groups": [], "messages": texts[first:end]})
-            if not isinstance(answer, Refusal):
-                return end
-            if answer.message is None or answer.message >= end - first:
-                raise self.no_answer("check", answer.line)
-            first += answer.message
-            refused[first] = answer
-            first += 1
-        return first
+    def _refusals(self, texts: Sequence[str]) -> Iterator[Optional[Refusal]]:
+        """The refusal of each message, or None if `check` can read it."""
+        while texts:
+            answer = self.check({"groups": [], "messages": texts})
+            readable = len(texts)
+            if isinstance(answer, Refusal):
+                if answer.message is None or answer.message >= readable:
+                    raise self.no_answer("check", answer.line)
+                readable = answer.message
+            yield from [None] * readable
+            if isinstance(answer, Refusal):
+                yield answer
+            texts = texts[readable + 1 :]
 
     def _each(self, words: Sequence[str], texts: Iterable[str]) -> Iterator[Answer]:
         """The line, or the refusal, that the command writes for each text."""
-        with tempfile.TemporaryFile() as lines:
-            starts = [0]
-            for text in texts:
-                starts.append(starts[-1] + lines.write(_line(text).encode("utf-8", "surrogatepass") + b"\n"))
-            lines.flush()
-            done = 0
-            for answer in self._runs(words, lines, starts, FEW):
-                done += 1
-                yield answer
+        lines = [_line(text).encode("utf-8", "surrogatepass") + b"\n" for text in texts]
+        return self._several(lambda program, part: program._answers(words, lines[slice(*part)]), len(lines))
 
-            def of_part(program: Program, part: Part) -> List[Answer]:
-                own = [start - starts[part[0]] for start in starts[part[0] : part[1] + 1]]
-                with tempfile.TemporaryFile() as few:
-                    few.write(os.pread(lines.fileno(), own[-1], starts[part[0]]))
-                    few.flush()
-                    return list(program._runs(words, few, own))
+    def _answers(self, words: Sequence[str], lines: Sequence[bytes]) -> Iterator[Answer]:
+        """What the command writes for each of these lines."""
+        with tempfile.TemporaryFile() as file:
+            file.writelines(lines)
+            size = file.tell()
+            file.flush()
+            done = begin = 0
+            while done < len(lines):
+                os.lseek(file.fileno(), begin, os.SEEK_SET)
+                with self._run(words, file, size - begin) as run:
+                    for answer in _answers(run, " ".join(words), len(lines) - done):
+                        begin += len(lines[done])
+                        done += 1
+                        yield answer
 
-            for answers in self._in_order(of_part, done, len(starts) - 1):
-                yield from answers
-
-    def _in_order(self, work: Callable[[Program, Part], Done], first: int, end: int) -> Iterator[Done]:
-        """What is done for each part of the lines or messages from `first` on: several at a time, in their order."""
+    def _several(self, work: Callable[[Program, Part], Iterator[Done]], count: int) -> Iterator[Done]:
+        """What is done for each line or message: by one run after the other, and after a few refusals by several."""
+        done = refused = 0
+        for answer in work(self, (0, count)):
+            done += 1
+            refused += isinstance(answer, Refusal)
+            yield answer
+            if refused == FEW:
+                break
         program = replace(self, _stop=Event())
-        waiting: Deque[Future[Done]] = deque()
+        waiting: Deque[Future[List[Done]]] = deque()
         with ThreadPoolExecutor(AT_A_TIME) as pool:
             try:
-                for start in range(first, end, PART):
-                    waiting.append(pool.submit(work, program, (start, min(start + PART, end))))
+                for start in range(done, count, PART):
+                    part = (start, min(start + PART, count))
+                    waiting.append(pool.submit(lambda part: list(work(program, part)), part))
                     if len(waiting) > 2 * AT_A_TIME:
-                        yield waiting.popleft().result()
+                        yield from waiting.popleft().result()
                 while waiting:
-                    yield waiting.popleft().result()
+                    yield from waiting.popleft().result()
             finally:
                 program._stop.set()
                 for future in waiting:
                     future.cancel()
-
-    def _runs(
-        self, words: Sequence[str], lines: IO[bytes], starts: Sequence[int], most: Optional[int] = None
-    ) -> Iterator[Answer]:
-        """What the command writes for each line of a file, up to the refusal with the number `most`."""
-        done = refused = 0
-        count = len(starts) - 1
-        while done < count and refused != most:
-            os.lseek(lines.fileno(), starts[done], os.SEEK_SET)
-            with self._run(words, lines, starts[-1] - starts[done]) as run:
-                for answer in _answers(run, " ".join(words), count - done):
-                    done += 1
-                    refused += isinstance(answer, Refusal)
-                    yield answer
 
     def _check(self, document: IO[bytes]) -> Union[Report, Refusal]:
         """What `check` reports of the document in this file."""

@@ -8,165 +8,118 @@ from __future__ import annotations
 import json
 import re
 from functools import lru_cache
-from typing import Annotated, Any, Dict, List, Optional, Pattern, Tuple, TypedDict, Union, cast, get_type_hints
+from typing import Annotated, Any, Dict, List, Optional, Pattern, Tuple, TypedDict, Union, get_type_hints
 
 Bit = Annotated[int, range(2)]
-Number3 = Annotated[int, range(3)]
+UpToTwo = Annotated[int, range(3)]
 Byte = Annotated[int, range(256)]
-Number15 = Annotated[int, range(32_768)]
+Distance = Annotated[int, range(32_768)]
 Seconds = Annotated[int, range(1024)]
 Speed = Annotated[int, range(121)]
 ReleaseSpeed = Annotated[int, range(121), 126, 127]
 Level = Annotated[int, range(5)]
 Country = Annotated[int, range(1024)]
 GroupNumber = Annotated[int, range(16_384)]
-Clock = Annotated[int, range(2**32)]
 
 
-class SectionTimer(TypedDict):
-    """A section timer of a movement authority."""
+class Form(TypedDict, total=False):
+    """An object of a record. Its kind decides which of these keys it has: see `KEYS`.
 
-    t_sectiontimer: Seconds
-    d_sectiontimerstoploc: Number15
-
-
-class EndTimer(TypedDict):
-    """The timer of the end section."""
-
-    t_endtimer: Seconds
-    d_endtimerstartloc: Number15
-
-
-class DangerPoint(TypedDict):
-    """The danger point beyond the end of an authority."""
-
-    d_dp: Number15
-    v_releasedp: ReleaseSpeed
-
-
-class Overlap(TypedDict):
-    """The overlap beyond the end of an authority."""
-
-    d_startol: Number15
-    t_ol: Seconds
-    d_ol: Number15
-    v_releaseol: ReleaseSpeed
-
-
-class Section(TypedDict, total=False):
-    """A section of an authority."""
-
-    l_section: Number15
-    section_timer: SectionTimer
-
-
-class Link(TypedDict, total=False):
-    """A balise group that linking announces."""
-
-    d_link: Number15
-    nid_c: Country
-    nid_bg: GroupNumber
-    q_linkorientation: Bit
-    q_linkreaction: Number3
-    q_locacc: Annotated[int, range(64)]
-
-
-class Difference(TypedDict):
-    """A speed for some trains."""
-
-    q_diff: Number3
-    nc: Annotated[int, range(16)]
-    v_diff: Speed
-
-
-class Element(TypedDict, total=False):
-    """An element of a gradient profile or of a static speed profile."""
-
-    d_gradient: Number15
-    q_gdir: Bit
-    g_a: Byte
-    d_static: Number15
-    v_static: Annotated[int, range(121), 127]
-    q_front: Bit
-    differences: Annotated[List[Difference], 0, 31]
-
-
-class LevelOrder(TypedDict, total=False):
-    """A level of a level transition order."""
-
-    m_leveltr: Level
-    nid_ntc: Byte
-    l_ackleveltr: Number15
-
-
-class Packet(TypedDict, total=False):
-    """A packet. Which of these keys it has depends on its number."""
-
-    nid_packet: Annotated[int, range(255)]
-    q_dir: Number3
-    q_scale: Number3
-    nid_vbcmk: Annotated[int, range(64)]
-    links: Annotated[List[Link], 1, 32]
-    v_main: Speed
-    end_speed: Speed
-    end_timeout: Seconds
-    sections: Annotated[List[Section], 0, 31]
-    l_endsection: Number15
-    section_timer: SectionTimer
-    end_timer: EndTimer
-    danger_point: DangerPoint
-    overlap: Overlap
-    elements: Annotated[List[Element], 1, 32]
-    d_leveltr: Number15
-    transitions: Annotated[List[LevelOrder], 1, 32]
-    l_packet: Annotated[int, range(21, 8192)]
-    body: str
-    nid_c: Country
-    nid_bg: GroupNumber
-    prv_nid_c: Country
-    prv_nid_bg: GroupNumber
-    d_lrbg: Number15
-    q_dirlrbg: Number3
-    q_dlrbg: Number3
-    l_doubtover: Number15
-    l_doubtunder: Number15
-    q_length: Annotated[int, range(4)]
-    l_trainint: Number15
-    v_train: Annotated[int, range(128)]
-    q_dirtrain: Number3
-    m_mode: Annotated[int, range(16)]
-    m_level: Level
-    nid_ntc: Byte
-
-
-class Telegram(TypedDict):
-    """A telegram."""
+    A number is annotated with the values that it may have, and a list with its least and greatest length.
+    """
 
     user_bits: Annotated[int, 210, 830]
     m_version: Annotated[int, 32, 33]
     n_pig: Annotated[int, range(8)]
     n_total: Annotated[int, range(8)]
-    m_dup: Number3
+    m_dup: UpToTwo
     m_mcount: Byte
     nid_c: Country
     nid_bg: GroupNumber
     q_link: Bit
-    packets: List[Packet]
-
-
-class Message(TypedDict, total=False):
-    """A radio message: 3, a movement authority, or 136, a position report."""
-
     nid_message: Annotated[int, 3, 136]
-    t_train: Clock
+    t_train: Annotated[int, range(2**32)]
     m_ack: Bit
-    nid_c: Country
-    nid_bg: GroupNumber
     nid_engine: Annotated[int, range(2**24)]
-    packets: List[Packet]
+    packets: List[Form]
+    nid_packet: Annotated[int, range(255)]
+    q_dir: UpToTwo
+    q_scale: UpToTwo
+    l_packet: Annotated[int, range(8192)]
+    body: str
+    nid_vbcmk: Annotated[int, range(64)]
+    links: Annotated[List[Form], 1, 32]
+    d_link: Distance
+    q_linkorientation: Bit
+    q_linkreaction: UpToTwo
+    q_locacc: Annotated[int, range(64)]
+    v_main: Speed
+    end_speed: Speed
+    end_timeout: Seconds
+    sections: Annotated[List[Form], 0, 31]
+    l_section: Distance
+    l_endsection: Distance
+    section_timer: Form
+    t_sectiontimer: Seconds
+    d_sectiontimerstoploc: Distance
+    end_timer: Form
+    t_endtimer: Seconds
+    d_endtimerstartloc: Distance
+    danger_point: Form
+    d_dp: Distance
+    v_releasedp: ReleaseSpeed
+    overlap: Form
+    d_startol: Distance
+    t_ol: Seconds
+    d_ol: Distance
+    v_releaseol: ReleaseSpeed
+    elements: Annotated[List[Form], 1, 32]
+    d_gradient: Distance
+    q_gdir: Bit
+    g_a: Byte
+    d_static: Distance
+    v_static: Annotated[int, range(121), 127]
+    q_front: Bit
+    differences: Annotated[List[Form], 0, 31]
+    q_diff: UpToTwo
+    nc: Annotated[int, range(16)]
+    v_diff: Speed
+    d_leveltr: Distance
+    transitions: Annotated[List[Form], 1, 32]
+    m_leveltr: Level
+    nid_ntc: Byte
+    l_ackleveltr: Distance
+    prv_nid_c: Country
+    prv_nid_bg: GroupNumber
+    d_lrbg: Distance
+    q_dirlrbg: UpToTwo
+    q_dlrbg: UpToTwo
+    l_doubtover: Distance
+    l_doubtunder: Distance
+    q_length: Annotated[int, range(4)]
+    l_trainint: Distance
+    v_train: Annotated[int, range(128)]
+    q_dirtrain: UpToTwo
+    m_mode: Annotated[int, range(16)]
+    m_level: Level
 
 
-Form = Union[Telegram, Message]
+KEYS: Dict[str, str] = {
+    "telegram": "user_bits m_version n_pig n_total m_dup m_mcount nid_c nid_bg q_link packets",
+    "message 3": "nid_message t_train m_ack nid_c nid_bg packets",
+    "message 136": "nid_message t_train nid_engine packets",
+    "links": "d_link nid_c? nid_bg q_linkorientation q_linkreaction q_locacc",
+    "sections": "l_section section_timer?",
+    "section_timer": "t_sectiontimer d_sectiontimerstoploc",
+    "end_timer": "t_endtimer d_endtimerstartloc",
+    "danger_point": "d_dp v_releasedp",
+    "overlap": "d_startol t_ol d_ol v_releaseol",
+    "elements of 21": "d_gradient q_gdir g_a",
+    "elements of 27": "d_static v_static q_front differences",
+    "differences": "q_diff nc v_diff",
+    "transitions": "m_leveltr nid_ntc? l_ackleveltr",
+}
+"""The keys of each kind of object but packets. A question mark follows a key that may be absent."""
 AUTHORITY = "end_speed end_timeout sections l_endsection section_timer? end_timer? danger_point? overlap?"
 REPORT = (
     "q_scale nid_c nid_bg d_lrbg q_dirlrbg q_dlrbg l_doubtover l_doubtunder q_length l_trainint? v_train q_dirtrain "
@@ -181,17 +134,9 @@ FROM_TRACK: Dict[int, str] = {
     27: "q_dir q_scale elements",
     41: "q_dir q_scale d_leveltr transitions",
 }
-"""The keys of each packet from track to train that is decoded. A question mark follows a key that may be absent."""
+"""The keys of each packet from track to train that is decoded, beside its number."""
 FROM_TRAIN: Dict[int, str] = {0: REPORT, 1: f"{REPORT} prv_nid_c prv_nid_bg"}
-"""The keys of each packet from train to track that is decoded."""
-KEYS: Dict[Any, str] = {
-    Section: "l_section section_timer?",
-    Link: "d_link nid_c? nid_bg q_linkorientation q_linkreaction q_locacc",
-    LevelOrder: "m_leveltr nid_ntc? l_ackleveltr",
-}
-"""The keys of objects some of whose keys may be absent."""
-ELEMENTS: Dict[int, str] = {21: "d_gradient q_gdir g_a", 27: "d_static v_static q_front differences"}
-"""The keys of the elements of each profile."""
+"""The same of packets from train to track."""
 ONLY_WITH: Dict[str, Tuple[Tuple[str, str], ...]] = {
     "nid_ntc": (("m_leveltr", "1"), ("m_level", "1")),
     "l_trainint": (("q_length", "[12]"),),
@@ -222,36 +167,39 @@ def _number(allowed: Union[int, range]) -> str:
     return (f"(?!(?:{least})(?![0-9]))" if least else "") + f"(?:{'|'.join(numbers)})"
 
 
-def _value(kind: Any) -> str:
-    """An expression for values of this type."""
+@lru_cache(maxsize=None)
+def _types() -> Dict[str, Any]:
+    return get_type_hints(Form, include_extras=True)
+
+
+def _value(key: str) -> str:
+    """An expression for the values of a key."""
+    kind = _types()[key]
     allowed: Tuple[Any, ...] = getattr(kind, "__metadata__", ())
-    if getattr(kind, "__origin__", None) is int:
-        return _number(allowed[0]) if len(allowed) == 1 else f"(?:{'|'.join(map(_number, allowed))})"
     if not allowed:
-        return _object(kind)
-    least, most = allowed
-    return _list(_object(kind.__args__[0].__args__[0]), least, most)
+        return _object(KEYS[key])
+    if kind.__origin__ is not int:
+        return _list(_object(KEYS[key]), *allowed)
+    return _number(allowed[0]) if len(allowed) == 1 else f"(?:{'|'.join(map(_number, allowed))})"
 
 
-def _list(item: str, least: int, most: Optional[int]) -> str:
+def _list(item: str, least: int, most: Optional[int] = None) -> str:
     """An expression for a list with at least and at most this many items."""
     items = f"{item}(?:,{item}){{{max(least - 1, 0)},{'' if most is None else most - 1}}}"
     return rf"\[{items}\]" if least else rf"\[(?:{items})?\]"
 
 
-def _object(kind: Any, keys: str = "", **values: str) -> str:
-    """An expression for an object of this type. Some values can be given by expressions of their own."""
-    hints = get_type_hints(kind, include_extras=True)
+def _object(keys: str, **values: str) -> str:
+    """An expression for an object with these keys. Some values can be given by expressions of their own."""
+    names = sorted(keys.split())
     parts, conditions = [], []
-    names = sorted((keys or KEYS.get(kind, "") or " ".join(hints)).split())
     for name in names:
         key = name.rstrip("?")
-        part = f'"{key}":{values.get(key) or _value(hints[key])}'
+        parts.append((name, f'"{key}":{values.get(key) or _value(key)}'))
         for other, value in ONLY_WITH.get(key, ()):
             if other in names:
                 there, holds = f'[^{{}}]*"{key}":', f'[^{{}}]*"{other}":{value}(?![0-9])'
                 conditions.append(f"(?:(?={there})(?={holds})|(?!{there})(?!{holds}))")
-        parts.append((name, part))
     return _joined(parts, "".join(conditions))
 
 
@@ -270,51 +218,37 @@ def _joined(parts: List[Tuple[str, str]], conditions: str) -> str:
 
 def _packets(from_track: bool, one_of: str = "") -> str:
     """An expression for the packets of a telegram or message, one of which has to have one of these numbers."""
-    decoded = FROM_TRACK if from_track else FROM_TRAIN
-    known = [
-        _object(
-            Packet,
-            f"nid_packet {keys}",
-            nid_packet=str(number),
-            elements=_list(_object(Element, ELEMENTS[number]), 1, 32) if number in ELEMENTS else "",
-        )
-        for number, keys in decoded.items()
-    ]
+    kinds = FROM_TRACK if from_track else FROM_TRAIN
+    packets = []
+    for number, keys in kinds.items():
+        own = {"nid_packet": str(number)}
+        if "elements" in keys:
+            own["elements"] = _list(_object(KEYS[f"elements of {number}"]), 1, 32)
+        packets.append(_object(f"nid_packet {keys}", **own))
     head, most = BODIES[from_track]
-    raw = _object(
-        Packet,
-        "nid_packet l_packet body" + " q_dir" * from_track,
-        nid_packet=f"(?!(?:{'|'.join(map(str, decoded))})(?![0-9])){_number(range(255))}",
-        l_packet=_number(range(head, 8192)),
-        body=f'"(?:[0-9A-Fa-f]{{2}}){{0,{most}}}"',
-    )
+    others = f"(?!(?:{'|'.join(map(str, kinds))})(?![0-9])){_number(range(255))}"
+    body = f'"(?:[0-9A-Fa-f]{{2}}){{0,{most}}}"'
+    raw = "nid_packet l_packet body" + " q_dir" * from_track
+    packets.append(_object(raw, nid_packet=others, l_packet=_number(range(head, 8192)), body=body))
     needed = f'(?=.*"nid_packet":{one_of}(?![0-9]))' if one_of else ""
-    return needed + _list(f"(?:{'|'.join([*known, raw])})", 0, None)
+    return needed + _list(f"(?:{'|'.join(packets)})", 0)
 
 
 @lru_cache(maxsize=None)
 def telegram_expression() -> Pattern[str]:
     """What a line with a telegram matches."""
-    return re.compile(_object(Telegram, packets=_packets(True)))
+    return re.compile(_object(KEYS["telegram"], packets=_packets(True)))
 
 
 @lru_cache(maxsize=None)
 def message_expression() -> Pattern[str]:
     """What a line with a radio message matches."""
-    authority = _object(
-        Message, "nid_message t_train m_ack nid_c nid_bg packets", nid_message="3", packets=_packets(True, "15")
-    )
-    report = _object(
-        Message, "nid_message t_train nid_engine packets", nid_message="136", packets=_packets(False, "[01]")
-    )
+    authority = _object(KEYS["message 3"], nid_message="3", packets=_packets(True, "15"))
+    report = _object(KEYS["message 136"], nid_message="136", packets=_packets(False, "[01]"))
     return re.compile(f"{authority}|{report}")
 
 
-def telegram(line: str) -> Telegram:
-    """The telegram of a line that matches."""
-    return cast(Telegram, json.loads(line))
-
-
-def message(line: str) -> Message:
-    """The radio message of a line that matches."""
-    return cast(Message, json.loads(line))
+def form_of(line: str) -> Form:
+    """The object of a line that matches one of these expressions."""
+    form: Form = json.loads(line)
+    return form

@@ -10,16 +10,21 @@ from decimal import Decimal
 from enum import Enum
 from functools import cached_property, lru_cache
 from itertools import accumulate
-from typing import Dict, FrozenSet, Iterator, List, Mapping, NamedTuple, Optional, Sequence, Tuple
+from typing import Dict, FrozenSet, Iterator, List, Literal, Mapping, NamedTuple, Optional, Sequence, Tuple
 
 from balisekit.etcs.variables import Form, unit_dm
 from balisekit.tables.model import Group
 
 NOMINAL, REVERSE = "nominal", "reverse"
+Part = Literal["danger_point", "overlap", "end_timer"]
+Key = Literal["d_dp", "d_ol", "d_startol", "d_endtimerstartloc"]
 INFILL = 136
 """The packet behind which distances count from another group."""
 DIRECTIONS = (NOMINAL, REVERSE)
-ELEMENT_KEYS: Mapping[int, Tuple[str, str, int]] = {21: ("d_gradient", "g_a", 255), 27: ("d_static", "v_static", 127)}
+ELEMENT_KEYS: Mapping[int, Tuple[Literal["d_gradient", "d_static"], Literal["g_a", "v_static"], int]] = {
+    21: ("d_gradient", "g_a", 255),
+    27: ("d_static", "v_static", 127),
+}
 """Of each profile: the keys of distance and value, and the value that is its end mark."""
 
 
@@ -179,7 +184,7 @@ def authority(site: Site, packet: Form) -> Authority:
         stops.append((at + packet["section_timer"]["d_sectiontimerstoploc"]) * unit)
     end = at + packet["l_endsection"]
 
-    def beyond(part: str, key: str, sign: int = 1) -> Optional[int]:
+    def beyond(part: Part, key: Key, sign: int = 1) -> Optional[int]:
         return (end + sign * packet[part][key]) * unit if part in packet else None
 
     return Authority(

@@ -9,9 +9,12 @@ from dataclasses import dataclass
 from functools import lru_cache
 from typing import Any, Callable, Dict, List, Mapping, NamedTuple, Optional, Sequence, Tuple, Union
 
+from balisekit.engine import records
 from balisekit.etcs.packets import MESSAGES, packet_name
 
-Form = Mapping[str, Any]
+Form = records.Form
+Values = Mapping[str, Any]
+"""An object of a record whose keys are not known in advance."""
 
 #: The unit of a packet's distances in decimetres, by Q_SCALE.
 UNIT_DM: Tuple[int, ...] = (1, 10, 100)
@@ -46,14 +49,14 @@ OTHER_CATEGORY = {
 END_OF_PROFILE = "end of the profile"
 
 
-NO_FORM: Form = {}
+NO_FORM: Values = {}
 
 
 class Around(NamedTuple):
     """Where a number stands: its packet, and the object that has its key."""
 
-    packet: Form = NO_FORM
-    parent: Form = NO_FORM
+    packet: Values = NO_FORM
+    parent: Values = NO_FORM
     from_track: bool = True
 
 
@@ -76,7 +79,7 @@ def metres(distance_dm: int) -> str:
     return f"{'-' if distance_dm < 0 else ''}{whole}{f'.{tenth}' if tenth else ''} m"
 
 
-def unit_dm(packet: Form) -> int:
+def unit_dm(packet: Values) -> int:
     """The unit of the packet's distances in decimetres."""
     return UNIT_DM[int(packet.get("q_scale", 0))]
 
@@ -131,7 +134,7 @@ def category(value: int, around: Around) -> str:
     return OTHER_CATEGORY.get(value, "spare")
 
 
-def category_name(parent: Form) -> str:
+def category_name(parent: Values) -> str:
     """The standard's name of the category, which Q_DIFF decides."""
     return "NC_CDDIFF" if parent.get("q_diff") == 0 else "NC_DIFF"
 
@@ -372,7 +375,7 @@ LABELS: Mapping[str, str] = {
 """The names of parts and of their items, by the keys of the JSON."""
 
 
-def variable_name(key: str, parent: Form) -> str:
+def variable_name(key: str, parent: Values) -> str:
     """The standard's name of the variable that this key of `parent` holds."""
     if key == "nc":
         return category_name(parent)
@@ -390,7 +393,7 @@ BESIDE: Mapping[str, str] = {"g_a": "q_gdir", "q_gdir": "g_a", "nc": "q_diff"}
 """The keys whose words need the value of another key beside them. `body` needs its packet."""
 
 
-def said(keys: Sequence[str], form: Form, around: Around) -> List[str]:
+def said(keys: Sequence[str], form: Values, around: Around) -> List[str]:
     """Values of an object with their names, as "Q_DIR nominal [1]". Most come again and again, so they are kept."""
     scale, from_track = around.packet.get("q_scale", 0), around.from_track
     return [

@@ -6,7 +6,7 @@ import io
 from typing import Iterable, Sequence
 
 FORMULAS = ("=", "+", "-", "@", "\t", "\r")
-"""With what a cell begins that a spreadsheet may take for a formula."""
+"""A spreadsheet may take a cell that begins with one of these for a formula."""
 
 
 def safe(cell: str) -> str:

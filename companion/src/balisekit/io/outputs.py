@@ -1,10 +1,10 @@
 """Files that a command writes: never over an input, over another file only by --force, and all of them or none."""
 from __future__ import annotations
 
-import errno
 import json
 import os
 import signal
+import stat
 import sys
 from contextlib import contextmanager
 from typing import Iterable, Iterator, List, Mapping, Optional, Sequence, Union
@@ -12,7 +12,7 @@ from typing import Iterable, Iterator, List, Mapping, Optional, Sequence, Union
 from balisekit.errors import NoAnswer, TableError
 
 INPUT = "it is an input: an output never replaces one"
-FOLDER = "no file can be written there: it is a folder, a device or a pipe"
+NO_FILE = "no file can be written there: it is a folder, a device, a pipe or a loop of links"
 
 
 class Output:
@@ -39,12 +39,12 @@ class Output:
             existing = os.stat(self.path) if os.path.exists(self.path) else None
         except ValueError as error:  # a NUL in the path
             raise NoAnswer(f"{self.path}: {error}") from error
-        if existing is None:
+        if existing is None and not os.path.islink(self.target):
             self._check_folder()
+        elif existing is None or not stat.S_ISREG(existing.st_mode):
+            raise NoAnswer(f"{self.path}: {NO_FILE}")
         elif _is_one_of(existing, inputs):
             raise TableError(f"{self.path}: {INPUT}")
-        elif not os.path.isfile(self.path):
-            raise NoAnswer(f"{self.path}: {FOLDER}")
         elif self.always_new:
             raise TableError(f"{self.path}: it exists already: name a new file, so that no entry is lost")
         elif not force:
@@ -67,6 +67,8 @@ class Output:
             raise NoAnswer(f"{self.path}: it is write-protected")
         if os.geteuid() and (existing.st_uid != os.geteuid() or existing.st_gid not in groups):
             raise NoAnswer(f"{self.path}: it belongs to another user or group")
+        if _is_mounted(self.target):
+            raise NoAnswer(f"{self.path}: it is a mount point, which cannot be replaced: name a new file")
 
     def write(self, pieces: Iterable[Union[str, bytes]]) -> None:
         """Writes the content. It is at its path once `place` is called."""
@@ -76,10 +78,10 @@ class Output:
             sys.stdout.buffer.writelines(encoded)
             sys.stdout.buffer.flush()
             return
-        name = os.path.join(os.path.dirname(self.target), f".balisekit-{os.urandom(6).hex()}")
+        self._temporary = os.path.join(os.path.dirname(self.target), f".balisekit-{os.urandom(6).hex()}")
+        mode = os.stat(self.target).st_mode & 0o777 if os.path.exists(self.target) else 0o666
         try:
-            self._temporary = name
-            with open(name, "xb") as file:
+            with open(self._temporary, "xb", opener=lambda name, flags: os.open(name, flags, mode)) as file:
                 file.writelines(encoded)
         except OSError as error:
             raise NoAnswer(f"{self.path}: {error.strerror or error}") from error
@@ -101,9 +103,7 @@ class Output:
         except FileExistsError as error:
             raise TableError(f"{self.path}: another command has just written it") from error
         except OSError as error:
-            mounted = "it is mounted by itself and cannot be replaced: name a new file"
-            why = mounted if error.errno == errno.EBUSY else error.strerror or str(error)
-            raise NoAnswer(f"{self.path}: {why}") from error
+            raise NoAnswer(f"{self.path}: {error.strerror or error}") from error
 
     def discard(self) -> None:
         """Removes the temporary file, and the new one if it was placed."""
@@ -113,6 +113,15 @@ class Output:
             except FileNotFoundError:
                 pass
         self._temporary = self._created = ""
+
+
+def _is_mounted(path: str) -> bool:
+    """Whether a file is a mount of its own, as of a container."""
+    try:
+        with open("/proc/self/mountinfo", encoding="utf-8", errors="surrogateescape") as mounts:
+            return path.replace(" ", "\\040") in (line.split(" ")[4] for line in mounts)
+    except OSError:
+        return False
 
 
 def _is_one_of(existing: os.stat_result, inputs: Sequence[str]) -> bool:
@@ -125,7 +134,7 @@ def check_outputs(outputs: Sequence[Output], inputs: Sequence[str], force: bool)
         standard_output: Optional[os.stat_result] = os.fstat(sys.stdout.fileno())
     except (OSError, ValueError):  # a caller in Python may have another stream
         standard_output = None
-    if standard_output and _is_one_of(standard_output, inputs):
+    if standard_output and stat.S_ISREG(standard_output.st_mode) and _is_one_of(standard_output, inputs):
         raise TableError(f"standard output: {INPUT}")
     targets: List[str] = []
     for output in outputs:
@@ -139,7 +148,7 @@ def check_outputs(outputs: Sequence[Output], inputs: Sequence[str], force: bool)
 
 @contextmanager
 def placing(outputs: Sequence[Output], force: bool) -> Iterator[None]:
-    """Moves all files to their paths at the end, or none if the block or a move fails."""
+    """Moves all files to their paths at the end. If the block fails none is moved; a failed move removes new files."""
     try:
         yield
         signals = signal.pthread_sigmask(signal.SIG_BLOCK, (signal.SIGINT, signal.SIGTERM, signal.SIGHUP))

@@ -14,7 +14,6 @@ from balisekit.rules.checking import Checked, LeftOut, Place, Refused, RefusedMe
 from balisekit.rules.remarks import remarks
 from balisekit.tables.model import Row
 
-
 ENCODE = json.JSONEncoder(ensure_ascii=False, separators=(",", ":")).encode
 
 

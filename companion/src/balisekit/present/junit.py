@@ -10,10 +10,10 @@ from typing import Dict, Iterator, List, NamedTuple, Optional, Sequence, Tuple
 
 from balisekit.present import NOT_PROVED
 from balisekit.present.accepted import accepted_words
-from balisekit.present.refusals import message_refused, telegram_refused
+from balisekit.present.refusals import message_refused, refused
 from balisekit.rules.accepted import Entry, Judged
 from balisekit.rules.checking import Checked, Place
-from balisekit.tables.names import clean, describe_balise, describe_message
+from balisekit.tables.names import clean, describe_message
 
 Findings = List[Tuple[str, Place, Optional[Entry]]]
 """Findings of one group or message: in words, and the entry that accepts each."""
@@ -52,12 +52,12 @@ def _groups_and_messages(checked: Checked, judged: Optional[Judged], words: Dict
     for number, (place, entry) in enumerate(zip(checked.findings, entries)):
         about = place.group.name if place.group else place.message.number if place.message else None
         findings.setdefault(about, []).append((words[number], place, entry))
-    refused = _refused(checked)
+    telegrams = _refused(checked)
     left_out = {skipped.group.name: skipped.why for skipped in checked.left_out}
     for group in checked.table.groups:
         if group.name in left_out:
             why = f"left out: {clean(left_out[group.name])}"
-            yield Case("group", clean(group.name), "error", why, refused.get(group.name, ""))
+            yield Case("group", clean(group.name), "error", why, telegrams.get(group.name, ""))
         else:
             yield _case("group", clean(group.name), findings.get(group.name, []))
     for accepted in checked.accepted_messages:
@@ -88,10 +88,7 @@ def _case(kind: str, name: str, findings: Findings) -> Case:
 
 def _refused(checked: Checked) -> Dict[str, str]:
     """The refused telegrams of each group, in words."""
-    groups = {row.number: group for group in checked.table.groups for row in group.rows()} if checked.refused else {}
     found: Dict[str, str] = {}
-    for bad in checked.refused:
-        where = describe_balise(groups.get(bad.row.number), bad.row)
-        words = f"{where}: {telegram_refused(bad.row.telegram, bad.refusal)}\n    program: {bad.refusal.text}\n"
-        found[bad.row.group] = found.get(bad.row.group, "") + words
+    for bad, item in zip(checked.refused, refused(checked)):
+        found[bad.row.group] = found.get(bad.row.group, "") + f"{item.sentence}\n    program: {item.program}\n"
     return found

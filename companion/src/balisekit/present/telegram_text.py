@@ -9,7 +9,7 @@ from functools import lru_cache
 from typing import List, Mapping, NamedTuple, Sequence, Tuple, Union
 
 from balisekit.etcs.places import Here, place_notes
-from balisekit.etcs.variables import LABELS, ORDER, VARIABLES, Around, Form, said
+from balisekit.etcs.variables import LABELS, ORDER, VARIABLES, Around, Form, Values, said
 
 WIDTH = 118
 LABEL_WIDTH = 22
@@ -39,7 +39,7 @@ class Line(NamedTuple):
     path: str
     """Where the JSON has the object of the values."""
     keys: Sequence[str]
-    form: Form
+    form: Values
     """The object."""
     texts: Sequence[str]
     note: str = ""
@@ -78,7 +78,7 @@ def _steps(keys: Tuple[str, ...]) -> List[Tuple[Tuple[str, ...], str]]:
 
 
 def _lines(
-    into: List[Line], label: str, depth: int, form: Form, path: str, around: Around, notes: Mapping[str, str]
+    into: List[Line], label: str, depth: int, form: Values, path: str, around: Around, notes: Mapping[str, str]
 ) -> None:
     """Adds the lines of an object: its values up to its first part, that part, and so on."""
     inner = Around(form if "nid_packet" in form else around.packet, form, around.from_track)
@@ -94,7 +94,7 @@ def _lines(
 
 
 def _part(
-    into: List[Line], depth: int, key: str, whole: Form, path: str, around: Around, notes: Mapping[str, str]
+    into: List[Line], depth: int, key: str, whole: Values, path: str, around: Around, notes: Mapping[str, str]
 ) -> None:
     """Adds the lines of a part: an object, a list with its items, or a value whose key is not known."""
     name, part = LABELS.get(key, key), whole[key]

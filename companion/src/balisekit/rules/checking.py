@@ -6,8 +6,8 @@ from dataclasses import dataclass
 from typing import Any, Dict, Iterable, Iterator, List, Mapping, NamedTuple, Optional, Sequence, Set, Tuple, TypeVar
 
 from balisekit.engine.grammar import Finding, Refusal, Verdict
-from balisekit.engine.program import MessageRecord, Program, Record, Report
-from balisekit.engine.records import Message as MessageForm, Telegram
+from balisekit.engine.program import Program, Record, Report
+from balisekit.engine.records import Form
 from balisekit.errors import NoAnswer
 from balisekit.rules.differing import differs
 from balisekit.tables.model import Aspect, Group, Message, Messages, Row, Table
@@ -28,7 +28,7 @@ class Accepted:
     record: Record
 
     @property
-    def form(self) -> Telegram:
+    def form(self) -> Form:
         """The program's JSON."""
         return self.record.form
 
@@ -82,10 +82,10 @@ class AcceptedMessage:
     """A message that the program has read."""
 
     message: Message
-    record: MessageRecord
+    record: Record
 
     @property
-    def form(self) -> MessageForm:
+    def form(self) -> Form:
         """The program's JSON."""
         return self.record.form
 
@@ -331,68 +331,63 @@ class _Names:
         findings: Sequence[Finding],
     ) -> None:
         self._program, self._kept, self._messages = program, kept, messages
-        needed: Set[int] = set()
-        for finding in findings:
-            if finding.rule in (1, 2, 3):
-                needed.update(row.number for row in self._group(finding).rows())
-            elif finding.packet is not None and finding.message is None:
-                needed.add(self._row(finding).number)
-        firsts = [group.aspects[0].rows[0].number for group in kept]
         identities = any(finding.rule == 14 for finding in findings)
-        needed.update(firsts if identities else ())
+        needed: Set[int] = set()
+        needed.update(group.aspects[0].rows[0].number for group in kept if identities)
+        for finding in findings:
+            if finding.message is None and (finding.rule < 4 or finding.packet is not None):
+                group, aspect, row = self._site(finding)
+                rows = [group.aspects[0].rows[0], *aspect.rows] if finding.rule < 4 else [row or aspect.rows[0]]
+                needed.update(row.number for row in rows)
         self._records = {telegram.row.number: telegram.record for telegram in accepted.decoded(sorted(needed))}
-        self._forms: Dict[int, Telegram] = {}
-        self._first: List[Group] = list(self._first_groups(firsts)) if identities else []
+        self._forms: Dict[int, Form] = {}
+        self._first: List[Group] = list(self._first_groups()) if identities else []
 
-    def _first_groups(self, firsts: Sequence[int]) -> Iterator[Group]:
+    def _first_groups(self) -> Iterator[Group]:
         """For each group the first group with the same identity."""
         first: Dict[Tuple[int, int], Group] = {}
-        for group, number in zip(self._kept, firsts):
-            form = self._records[number].form
+        for group in self._kept:
+            form = self._records[group.aspects[0].rows[0].number].form
             yield first.setdefault((form["nid_c"], form["nid_bg"]), group)
 
     def place(self, finding: Finding) -> Place:
         """What one finding is about."""
         if finding.message is not None:
             accepted = self._at(self._messages, finding.message, finding)
-            if finding.packet is not None:
-                self._at(accepted.form["packets"], finding.packet, finding)
+            self._look_at_packet(accepted.record, finding)
             return Place(finding, message=accepted.message)
-        group = self._group(finding)
-        several = len(group.aspects) > 1
-        aspect = None if several and finding.aspect is None else group.aspects[finding.aspect or 0].name
-        row = None if finding.balise is None else self._row(finding)
+        group, aspect, row = self._site(finding)
         if row is not None and finding.packet is not None:
-            self._at(range(self._records[row.number].line.count('"nid_packet":')), finding.packet, finding)
+            self._look_at_packet(self._records[row.number], finding)
+        name = None if finding.aspect is None and len(group.aspects) > 1 else aspect.name
         earlier = self._first[finding.group or 0] if finding.rule == 14 else None
         if earlier is group:
             raise self._no_answer(finding)
-        return Place(finding, group, aspect, row, earlier=earlier, differs=self._differs(finding, group))
+        return Place(finding, group, name, row, earlier=earlier, differs=self._differs(finding, group, aspect))
 
-    def _differs(self, finding: Finding, group: Group) -> str:
+    def _differs(self, finding: Finding, group: Group, aspect: Aspect) -> str:
         if finding.rule > 3:
             return ""
-        for row in group.rows():
+        for row in (group.aspects[0].rows[0], *aspect.rows):
             if row.number not in self._forms:
                 self._forms[row.number] = self._records[row.number].form
-        rows = group.aspects[finding.aspect or 0].rows
-        return differs(finding.rule, group, rows, finding.balise or 0, self._forms)
+        return differs(finding.rule, group, aspect.rows, finding.balise or 0, self._forms)
 
-    def _group(self, finding: Finding) -> Group:
-        """The group of a finding, which names an aspect if and only if it is about one of several."""
+    def _site(self, finding: Finding) -> Tuple[Group, Aspect, Optional[Row]]:
+        """The group, the aspect and the balise of a finding.
+
+        It names an aspect if and only if it is about one of several. F15 and F16 are about groups with several.
+        """
         group = self._at(self._kept, finding.group or 0, finding)
-        several = len(group.aspects) > 1
-        of_aspect = finding.aspect is not None
-        if several < (finding.rule in (15, 16)) or of_aspect != several and (of_aspect or finding.rule not in (14, 16)):
+        several, of_one = len(group.aspects) > 1, finding.aspect is not None
+        if several < (finding.rule in (15, 16)) or of_one != several and (of_one or finding.rule not in (14, 16)):
             raise self._no_answer(finding)
-        self._at(group.aspects, finding.aspect or 0, finding)
-        if finding.balise is not None:
-            self._row(finding, group)
-        return group
+        aspect = self._at(group.aspects, finding.aspect or 0, finding)
+        return group, aspect, None if finding.balise is None else self._at(aspect.rows, finding.balise, finding)
 
-    def _row(self, finding: Finding, group: Optional[Group] = None) -> Row:
-        aspect = (group or self._group(finding)).aspects[finding.aspect or 0]
-        return self._at(aspect.rows, finding.balise or 0, finding)
+    def _look_at_packet(self, record: Record, finding: Finding) -> None:
+        """Raises NoAnswer if the finding names a packet that the telegram or message does not have."""
+        self._at(range(record.line.count('"nid_packet":')), finding.packet or 0, finding)
 
     def _at(self, things: Sequence[Thing], index: int, finding: Finding) -> Thing:
         if index >= len(things):

@@ -6,7 +6,7 @@ from __future__ import annotations
 
 from typing import Mapping, Sequence
 
-from balisekit.etcs.variables import VARIABLES, Around, Form, value_words
+from balisekit.etcs.variables import VARIABLES, Around, Form, Values, value_words
 from balisekit.tables.model import Group, Row
 from balisekit.tables.names import quoted
 
@@ -37,7 +37,7 @@ def _total(wanted: int, rows: Sequence[Row], forms: Mapping[int, Form]) -> str:
     return f"N_TOTAL + 1 says {_balises(wanted)}, and the table has {len(rows)}{none}"
 
 
-def _unlike(form: Form, group: Group, forms: Mapping[int, Form]) -> str:
+def _unlike(form: Values, group: Group, forms: Mapping[int, Values]) -> str:
     """Each of the four values that is not that of balise 0 of the first aspect."""
     first = group.aspects[0]
     other = forms[first.rows[0].number]
@@ -50,7 +50,7 @@ def _unlike(form: Form, group: Group, forms: Mapping[int, Form]) -> str:
     return f"{'; '.join(said)} in balise 0{where}, row {first.rows[0].number}"
 
 
-def _value(key: str, form: Form) -> str:
+def _value(key: str, form: Values) -> str:
     """A value as it is sent, and its name where it has one."""
     words = value_words(key, form[key], Around())
     return f"{form[key]} ({words})" if words else str(form[key])

@@ -32,6 +32,8 @@ def read(path: str, sheet: Optional[str] = None, by_position: bool = False) -> T
     try:
         if file.content.startswith(xlsx_file.BEGINS):
             cells = xlsx_file.read(file.content, sheet)
+        elif sheet is not None:
+            raise TableError("--sheet is for an .xlsx, and this is none")
         else:
             cells = csv_file.read(file.content)
         places = _places(cells)

@@ -1,0 +1,56 @@
+"""Starts balisekit from its sources. ./balisekit runs this file, and its comment states which interpreter is taken."""
+import os
+import sys
+
+HERE = os.path.dirname(os.path.abspath(__file__))
+DEBIAN = "/usr/bin/python3"
+DEBIAN_PACKAGES = "/usr/lib/python3/dist-packages"
+
+
+def packages_of(words):
+    """The packages that a command with these options needs."""
+    needed = []
+    if "draw" in words or "report" in words or any(word.startswith("--html") for word in words):
+        needed.append("jinja2")
+    if any(word.lower().endswith(".xlsx") for word in words):
+        needed.append("openpyxl")
+    return needed
+
+
+def serves(packages):
+    """Whether this interpreter is new enough and finds the packages."""
+    if sys.version_info < (3, 9):
+        return False
+    if packages:
+        from importlib.util import find_spec
+
+        return all(find_spec(name) for name in packages)
+    return True
+
+
+def debian_serves(packages):
+    """Whether Debian's interpreter is new enough and finds the packages, by the names of files."""
+    version = os.path.realpath(DEBIAN).rpartition("python3.")[2]
+    found = all(os.path.isdir(os.path.join(DEBIAN_PACKAGES, name)) for name in packages)
+    return found and version.isdigit() and int(version) >= 9
+
+
+def start():
+    """Runs the command, by Debian's interpreter if only that one serves."""
+    packages = packages_of(sys.argv[1:])
+    if not os.environ.get("BALISEKIT_PYTHON") and not serves(packages) and debian_serves(packages):
+        os.environ["BALISEKIT_PYTHON"] = DEBIAN
+        os.execv(DEBIAN, [DEBIAN] + sys.argv)
+    if sys.version_info < (3, 9):
+        sys.stderr.write("balisekit: it needs Python 3.9 or later, and " + sys.executable + " is older\n")
+        return 3
+    sys.path.insert(0, os.path.join(HERE, "src"))
+    try:
+        from balisekit.cli.main import main
+    except KeyboardInterrupt:
+        sys.stderr.write("balisekit: interrupted\n")
+        return 3
+    return main()
+
+
+sys.exit(start())

@@ -1,0 +1,91 @@
+"""./balisekit takes an interpreter that serves the command, and says why if there is none."""
+from __future__ import annotations
+
+import os
+import subprocess
+from pathlib import Path
+from typing import Dict, Tuple
+
+import pytest
+from cases_of_program import TOP
+
+LINE = str(TOP / "examples" / "table" / "line.csv")
+DRAW = f"draw {LINE} --track --aspect green"
+DEBIAN = Path("/usr/bin/python3")
+BARE = f'#!/bin/sh\nexec {DEBIAN} -S "$@"\n'
+"""An interpreter without packages."""
+OLD = f"""#!/bin/sh
+exec {DEBIAN} -c '
+import runpy, sys
+sys.version_info = (3, 8, 20)
+del sys.argv[0]
+runpy.run_path(sys.argv[0], run_name="__main__")' "$@"
+"""
+"""An interpreter that is too old."""
+needs_debian = pytest.mark.skipif(
+    not Path("/usr/lib/python3/dist-packages/jinja2").is_dir(), reason="python3-jinja2 is not installed"
+)
+
+
+def start(words: str, folder: Path, stdin: str = "/dev/null", **settings: str) -> Tuple[int, str, str]:
+    """The answer of ./balisekit with this folder first in the path."""
+    known: Dict[str, str] = {**os.environ, "PATH": f"{folder}:/usr/bin:/bin", **settings}
+    if "BALISEKIT_PYTHON" not in settings:
+        known.pop("BALISEKIT_PYTHON", None)
+    descriptor = os.open(stdin, os.O_RDONLY)
+    try:
+        done = subprocess.run(
+            [str(TOP / "balisekit"), *words.split()], env=known, stdin=descriptor, capture_output=True, check=False
+        )
+    finally:
+        os.close(descriptor)
+    return done.returncode, done.stdout.decode(), done.stderr.decode()
+
+
+def python(folder: Path, text: str) -> str:
+    """Puts a python3 into a folder."""
+    path = folder / "python3"
+    path.write_text(text, "utf-8")
+    path.chmod(0o755)
+    return str(path)
+
+
+@pytest.mark.parametrize("words", ["show", "check --help", "--version"])
+def test_a_folder_as_standard_input_is_refused(words: str, tmp_path: Path) -> None:
+    assert start(words, tmp_path, str(tmp_path)) == (2, "", "balisekit: standard input is a folder\n")
+
+
+def test_an_interpreter_that_is_not_there(tmp_path: Path) -> None:
+    status, out, err = start("--version", tmp_path, BALISEKIT_PYTHON="/nowhere/python3")
+    assert (status, out) == (3, "") and err.startswith("balisekit: there is no /nowhere/python3: BALISEKIT_PYTHON ")
+
+
+def test_no_path(tmp_path: Path) -> None:
+    assert start("--version", tmp_path, PATH="")[:2] == (0, start("--version", tmp_path)[1])
+
+
+@needs_debian
+@pytest.mark.parametrize("text", [BARE, OLD], ids=["bare", "old"])
+def test_debian_serves_if_the_path_does_not(text: str, tmp_path: Path) -> None:
+    python(tmp_path, text)
+    status, out, err = start(DRAW, tmp_path)
+    assert status == 2 and out.startswith("<svg") and "balisekit: row 26  Signal F" in err
+
+
+@needs_debian
+@pytest.mark.parametrize("text, why", [(BARE, "jinja2"), (OLD, "it needs Python 3.9 or later")], ids=["bare", "old"])
+def test_the_interpreter_that_is_named_is_taken(text: str, why: str, tmp_path: Path) -> None:
+    status, out, err = start(DRAW, tmp_path, BALISEKIT_PYTHON=python(tmp_path, text))
+    assert (status, out) == (3, "") and err.splitlines()[-1].startswith("balisekit: ") and why in err
+
+
+@needs_debian
+def test_a_command_without_packages_stays_with_the_path(tmp_path: Path) -> None:
+    python(tmp_path, BARE.replace("exec", f"touch {tmp_path}/taken; exec"))
+    assert start(f"check {LINE}", tmp_path)[0] == 2 and (tmp_path / "taken").exists()
+
+
+def test_it_is_found_through_a_link(tmp_path: Path) -> None:
+    (tmp_path / "link").symlink_to(TOP / "balisekit")
+    done = subprocess.run([str(tmp_path / "link"), "--version"], cwd=tmp_path, stdout=subprocess.PIPE, check=False)
+    assert done.returncode == 0 and done.stdout.startswith(b"balisekit ")

@@ -1,0 +1,56 @@
+"""The public interface: what balisekit/__init__.py defines, and the page shows."""
+from __future__ import annotations
+
+import inspect
+import os
+import subprocess
+import sys
+from pathlib import Path
+
+import pytest
+from cases_of_program import TOP
+
+import balisekit
+from balisekit.engine.program import Program
+
+LINE = str(TOP / "examples" / "table" / "line.csv")
+PAGE = (TOP / "docs" / "BALISEKIT.md").read_text("utf-8").split("## As a Python module")[1].split("\n## ")[0]
+
+
+def test_the_page_has_each_name() -> None:
+    """And the interface has no other function."""
+    assert all(f"`{name}" in PAGE for name in balisekit.__all__)
+    functions = {name for name, _ in inspect.getmembers(balisekit, inspect.isfunction) if not name.startswith("_")}
+    assert functions | {"KitError", "Program"} == set(balisekit.__all__)
+
+
+def test_the_example_of_the_page() -> None:
+    """Its comments are what it prints."""
+    code = PAGE.split("```python\n")[1].split("```")[0]
+    known = {**os.environ, "PYTHONPATH": str(TOP / "companion" / "src")}
+    done = subprocess.run([sys.executable, "-c", code], cwd=TOP, env=known, stdout=subprocess.PIPE, check=True)
+    assert done.stdout.decode().splitlines() == [line.split("# ")[1] for line in code.splitlines() if "# " in line]
+
+
+def test_a_line_by_the_interface(program: Program, tmp_path: Path) -> None:
+    """As the commands answer."""
+    (tmp_path / "m.txt").write_text("0304\n", "utf-8")
+    table, messages = balisekit.read_table(LINE), balisekit.read_messages(str(tmp_path / "m.txt"))
+    checked = balisekit.check(program, table, messages)
+    assert (checked.status, len(checked.findings), len(checked.refused_messages)) == (2, 5, 1)
+    assert balisekit.diff(checked, checked).status == 2
+    assert balisekit.links(checked, 5) is not None
+    with pytest.raises(balisekit.KitError, match="No such file"):
+        balisekit.read_table("/nowhere")
+
+
+def test_another_name() -> None:
+    with pytest.raises(AttributeError, match="has no attribute 'nothing'"):
+        getattr(balisekit, "nothing")
+
+
+def test_types_are_stated() -> None:
+    """Each argument and each answer has one, which is there once types are looked at."""
+    for name in set(balisekit.__all__) - {"KitError", "Program"}:
+        annotations = getattr(balisekit, name).__annotations__
+        assert set(annotations) == {*inspect.signature(getattr(balisekit, name)).parameters, "return"}
