@@ -133,8 +133,9 @@ def fault(path: Path, **words: Any) -> str:
 
 H = "group,telegram"
 BAD: Sequence[Any] = [
-    ([], "row 1: it is empty"),
-    (["", H], "row 1: it is empty"),
+    ([], "the table is empty: its first row has to hold the headings"),
+    (["", ","], "the table is empty: its first row has to hold the headings"),
+    (["", H], "row 1: it is empty: delete it, as the first row has to hold the headings"),
     (
         [f"A,{ALONE}"],
         "row 1: there is no heading, as the first row has a telegram: put a row with the names of the "
@@ -173,8 +174,8 @@ BAD: Sequence[Any] = [
     ([H, *[f"A,{ALONE}"] * 9], 'row 10: group "A" has 9 balises, and at most 8 are possible'),
     (
         ["group,aspect,telegram", f"A,x,{ALONE}", f"A,y,{ALONE}", f"A,y,{ALONE}"],
-        'row 2: aspect "x" of group "A" has 1 balise (row 2), and aspect "y" has 2 (rows 3, 4): a row is missing, or one '
-        "too many; the column balise or name tells which",
+        'row 2: aspect "x" of group "A" has 1 balise (row 2), and aspect "y" has 2 (rows 3, 4): a row is missing, or '
+        "one too many; the column balise or name tells which",
     ),
     (
         ["group,aspect,balise,telegram", f"A,x,1,{ALONE}", f"A,x,2,{ALONE}", f"A,y,1,{ALONE}"],
@@ -312,7 +313,7 @@ def test_several_faults_have_a_line_each(table: Write) -> None:
         (b"group,telegram\nA\x81,00\n", "it is neither UTF-8 nor Windows-1252: byte 81 at 16: save it as UTF-8"),
         (b"\xff\xfea", "it begins as UTF-16, and is none"),
         (b"\xd0\xcf\x11\xe0more", "it is an .xls, or protected by a password: save it as .xlsx or CSV"),
-        (b"PK\x03\x04more", "it is an .xls, or protected by a password"),
+        (b"PK\x03\x04more", "it is cut short or damaged (File is not a zip file): copy it again, or save it as CSV"),
     ],
 )
 def test_contents_that_cannot_be_read(table: Write, content: bytes, said: str) -> None:
@@ -545,27 +546,25 @@ class TestWorkbooks:
         """What spreadsheets do to cells."""
         assert fault(self.book(tmp_path, [["group", "telegram"], row])).startswith(said)
 
-    def test_a_workbook_that_is_too_large(self, tmp_path: Path, monkeypatch: pytest.MonkeyPatch) -> None:
+    def test_a_workbook_that_is_too_large(self, tmp_path: Path) -> None:
         """Its size is looked at before it is unpacked: zeros take a thousandth of their size in the file."""
-        pytest.importorskip("openpyxl")
-        assert xlsx_file.GREATEST == 500_000_000
-        monkeypatch.setattr(xlsx_file, "GREATEST", 5_000_000)
+        assert (xlsx_file.GREATEST, xlsx_file.GREATEST_PART, xlsx_file.GREATEST_RATIO) == (2 * 10**8, 10**8, 100)
         path = tmp_path / "table.xlsx"
         with zipfile.ZipFile(path, "w", zipfile.ZIP_DEFLATED) as parts:
             parts.writestr("xl/worksheets/sheet1.xml", bytes(6_000_000))
         assert path.stat().st_size < 10_000
-        assert fault(path) == "the workbook has 6,000,000 bytes unpacked, more than 5,000,000"
+        assert fault(path).startswith(
+            "xl/worksheets/sheet1.xml in it has 6,000,000 bytes unpacked, more than 100 times"
+        )
 
     def test_without_openpyxl(self, run: Run, tmp_path: Path, monkeypatch: pytest.MonkeyPatch) -> None:
         """One line says which package is missing, and what to do without it. CSV needs none."""
         path = self.book(tmp_path, [["group", "telegram"], ["A", ALONE]])
         modules: Dict[str, Any] = sys.modules
         monkeypatch.setitem(modules, "openpyxl", None)
-        assert run("check", path) == (
-            2,
-            [],
-            [f"balisekit: {path}: reading .xlsx needs openpyxl (Debian: python3-openpyxl); or save it as CSV"],
-        )
+        status, out, err = run("check", path)
+        assert (status, out, len(err)) == (3, [], 1)
+        assert err[0].startswith("balisekit: reading .xlsx (CSV needs no package) needs openpyxl, which ")
 
 
 def test_tables_that_are_made() -> None:

@@ -2,7 +2,8 @@
 from __future__ import annotations
 
 import signal
-from typing import List, Optional, Sequence
+from contextlib import contextmanager
+from typing import Iterator, List, Optional, Sequence
 
 SHOWN = 20
 """So many faults of a table are shown, and the others are counted."""
@@ -25,7 +26,7 @@ class TableError(KitError):
 
     def __init__(self, why: str, row: Optional[int] = None, column: str = "", line: Optional[int] = None) -> None:
         self.why, self.row, self.column, self.line = why, row, column, line
-        self.path = ""
+        self.path, self.faults = "", [self]
         super().__init__(why)
 
     def __str__(self) -> str:
@@ -47,6 +48,17 @@ class TableErrors(KitError):
         """The first faults, and how many more there are."""
         more = len(self.faults) - SHOWN
         return [str(fault) for fault in self.faults[:SHOWN]] + ([f"and {more} more"] if more > 0 else [])
+
+
+@contextmanager
+def faults_of(path: str) -> Iterator[None]:
+    """The faults that are raised here are those of this file."""
+    try:
+        yield
+    except (TableError, TableErrors) as error:
+        for fault in error.faults:
+            fault.path = path
+        raise
 
 
 class NoAnswer(KitError):

@@ -14,6 +14,7 @@ from typing import Dict, FrozenSet, Iterator, List, Literal, Mapping, NamedTuple
 
 from balisekit.etcs.variables import Form, unit_dm
 from balisekit.tables.model import Group
+from balisekit.tables.names import kilometre as kilometre
 
 NOMINAL, REVERSE = "nominal", "reverse"
 Part = Literal["danger_point", "overlap", "end_timer"]
@@ -137,12 +138,6 @@ class Kilometres:
 
     def _along(self, direction: str) -> int:
         return (self.rising or 1) * (1 if direction == NOMINAL else -1)
-
-
-def kilometre(km: Decimal) -> str:
-    """A kilometre with three places behind the point, and more where it has more."""
-    places = -int(km.normalize().as_tuple().exponent)
-    return f"{km:.{max(3, places)}f}"
 
 
 @lru_cache(maxsize=1 << 14)

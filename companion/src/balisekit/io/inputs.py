@@ -13,6 +13,10 @@ class InputPath(str):
     """The name of a file that is read, which no output may replace."""
 
 
+GREATEST = 2_000_000_000
+"""So many bytes a file that is read may have."""
+
+
 @dataclass(frozen=True)
 class Input:
     """A file that was read."""
@@ -32,6 +36,8 @@ def read(path: str) -> Input:
         before = os.stat(path)
         if not stat.S_ISREG(before.st_mode):
             raise _fault(path, "it is a folder" if stat.S_ISDIR(before.st_mode) else "it is a device or pipe, no file")
+        if before.st_size > GREATEST:
+            raise _fault(path, f"it has {before.st_size:,} bytes, more than {GREATEST:,}: divide it into several files")
         with open(path, "rb") as file:
             content = file.read()
         after = os.stat(path)

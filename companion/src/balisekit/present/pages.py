@@ -8,7 +8,7 @@ from itertools import groupby
 from pathlib import Path
 from typing import Any, Iterator, List, Sequence, Tuple
 
-from balisekit.errors import NoAnswer
+from balisekit.io.packages import needed
 
 PIECES = 100
 """So many pieces of a page become one."""
@@ -17,13 +17,11 @@ TEMPLATES = Path(__file__).with_name("templates")
 
 def pieces(template: str, styles: Sequence[str], **values: Any) -> Iterator[str]:
     """The page in pieces, so that it never stands in memory whole. All values but its style sheets are escaped."""
-    try:
+    with needed("jinja2", "a picture or a page"):
         from jinja2 import Environment, FileSystemLoader, StrictUndefined
         from markupsafe import Markup
 
         from balisekit.drawing.svg import svg
-    except ImportError as error:
-        raise NoAnswer("pictures and reports need jinja2 (Debian: python3-jinja2)") from error
     environment = Environment(
         loader=FileSystemLoader(str(TEMPLATES)),
         autoescape=True,

@@ -2,8 +2,8 @@
 from __future__ import annotations
 
 import re
-from dataclasses import dataclass, field
-from typing import Dict, List, Tuple
+from dataclasses import dataclass
+from typing import List, Tuple
 
 COLUMNS = ("group", "telegram", "name", "km", "track", "aspect", "balise", "nominal")
 """The headings that are known."""
@@ -24,14 +24,23 @@ class Sheet:
     separator: str
     rows: List[List[str]]
     """The first one is row 1. A row may be shorter than the heading."""
-    kinds: Dict[Tuple[int, int], str] = field(default_factory=dict)
-    """What a cell of a workbook is if it is no text, by row and column from 0: `number` or `date`."""
     notes: Tuple[str, ...] = ()
 
 
 def headings(row: List[str]) -> List[str]:
     """The headings of a row as they are compared."""
     return [cell.strip().lower() for cell in row]
+
+
+def of_kind(kind: str, text: str) -> str:
+    """A cell of a workbook that is no text, but a `number`, a `date` or a `truth value`. No text has a NUL."""
+    return f"\0{kind}\0{text}"
+
+
+def kind_and_text(cell: str) -> Tuple[str, str]:
+    """What a cell is if it is no text, and its text."""
+    _, kind, text = cell.split("\0", 2) if cell.startswith("\0") else ("", "", cell)
+    return kind, text
 
 
 def digits(cell: str) -> str:

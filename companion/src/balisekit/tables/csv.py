@@ -3,13 +3,14 @@ from __future__ import annotations
 
 import csv
 import io
-from typing import Iterator, List, Sequence
+from typing import Iterable, Iterator, List, Sequence
 
 from balisekit.errors import TableError
 from balisekit.tables.cells import COLUMNS, NEEDED, Sheet, headings
 from balisekit.tables.encoding import text_of
 
 SEPARATORS = (";", "\t", ",")
+OTHER_ENDS = "\v\f\x1c\x1d\x1e\x85\u2028\u2029"
 GREATEST_CELL = 100_000
 """In characters."""
 
@@ -43,8 +44,7 @@ def _rows(text: str, separator: str) -> List[List[str]]:
     rows: List[List[str]] = []
     before = csv.field_size_limit(GREATEST_CELL)
     try:
-        for row in _reader(text, separator):
-            rows.append(row)
+        rows.extend(_reader(text, separator))
     except csv.Error as error:
         raise TableError(_why(str(error)), row=len(rows) + 1) from error
     finally:
@@ -53,7 +53,11 @@ def _rows(text: str, separator: str) -> List[List[str]]:
 
 
 def _reader(text: str, separator: str) -> Iterator[List[str]]:
-    return csv.reader(io.StringIO(text, newline=""), delimiter=separator, strict=True)
+    # (StringIO takes four bytes for each character, and splitlines ends lines at more characters than CSV does.)
+    lines: Iterable[str] = (
+        io.StringIO(text, newline="") if any(end in text for end in OTHER_ENDS) else text.splitlines(keepends=True)
+    )
+    return csv.reader(lines, delimiter=separator, strict=True)
 
 
 def _why(error: str) -> str:

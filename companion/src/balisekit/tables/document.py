@@ -5,7 +5,7 @@ import json
 from codecs import BOM_UTF8
 from typing import Any, List, Tuple
 
-from balisekit.errors import TableError
+from balisekit.errors import TableError, faults_of
 from balisekit.io.inputs import Input
 from balisekit.tables.encoding import text_of
 from balisekit.tables.grouping import GREATEST_COUNT
@@ -19,25 +19,22 @@ def is_document(content: bytes) -> bool:
 
 def read(file: Input) -> Tuple[Table, Messages]:
     """The groups and messages of a document. Its groups are named by their places, and so are their aspects."""
-    try:
-        text, encoding = text_of(file.content)
-        if encoding != "utf-8" or file.content.startswith(BOM_UTF8):
-            raise TableError(f"it is a document in {encoding} or with a byte order mark: save it as UTF-8 without one")
-        form = json.loads(text)
-        groups, rows = _groups(form)
-        messages = [
-            Message(place + 1, _text(text, f"/messages/{place}"), name=f"message {place}")
-            for place, text in enumerate(_list(form, "messages", ""))
-        ]
-        if sorted(form) != ["groups", "messages"]:
-            raise TableError(f"it has the keys {', '.join(form)[:100]}, and a document has groups and messages")
-    except (ValueError, RecursionError) as error:
-        fault = TableError(f"it is no document that can be read: {str(error)[:100]}")
-        fault.path = file.path
-        raise fault from error
-    except TableError as fault:
-        fault.path = file.path
-        raise
+    with faults_of(file.path):
+        try:
+            text, encoding = text_of(file.content)
+            if encoding != "utf-8" or file.content.startswith(BOM_UTF8):
+                why = f"it is a document in {encoding} or with a byte order mark: save it as UTF-8 without one"
+                raise TableError(why)
+            form = json.loads(text)
+            groups, rows = _groups(form)
+            messages = [
+                Message(place + 1, _text(text, f"/messages/{place}"), name=f"message {place}")
+                for place, text in enumerate(_list(form, "messages", ""))
+            ]
+            if sorted(form) != ["groups", "messages"]:
+                raise TableError(f"it has the keys {', '.join(form)[:100]}, and a document has groups and messages")
+        except (ValueError, RecursionError) as error:
+            raise TableError(f"it is no document that can be read: {str(error)[:100]}") from error
     table = Table(file.path, file.sha256, encoding, "", (), tuple(rows), tuple(groups))
     return table, Messages(file.path, file.sha256, encoding, tuple(messages))
 

@@ -5,14 +5,14 @@ from typing import Tuple
 
 from balisekit.errors import TableError
 
-ZIP = b"PK\x03\x04"
+ZIPS = (b"PK\x03\x04", b"PK\x05\x06")
 ZEROS_WITHIN = 100
 """UTF-16 without a mark is known by the zeros among so many bytes."""
 
 
 def text_of(content: bytes) -> Tuple[str, str]:
     """The text, and the name of its encoding."""
-    if content.startswith(ZIP):
+    if content.startswith(ZIPS):
         raise TableError("it is a workbook or another zip: save it as text, such as CSV")
     text, encoding = _decoded(content)
     if "\0" in text:

@@ -3,8 +3,10 @@ from __future__ import annotations
 
 import re
 from collections import Counter
-from itertools import groupby
-from typing import Dict, Iterable, List, Sequence, Tuple
+from functools import lru_cache
+from itertools import groupby, islice
+from operator import attrgetter
+from typing import Any, Dict, Iterable, List, Mapping, Optional, Sequence, Tuple
 
 from balisekit.errors import TableError, TableErrors
 from balisekit.tables.model import Aspect, Group, Row
@@ -14,8 +16,11 @@ EVERY = "*"
 GREATEST_COUNT = 8
 KEYS = {"balise": "balise {}", "name": 'balise "{}"', "km": "the balise at km {}"}
 """Columns that may tell which balise a row is of, and how it is called by them."""
+COLUMN = {name: place for place, name in enumerate(Row._fields)}
 UNKNOWN = {"", None}
 """What such a column has if it does not tell."""
+NAMED = 20
+"""So many rows or aspects of one kind are named."""
 
 
 def groups_of(rows: Sequence[Row], by_position: bool = False) -> Tuple[Tuple[Group, ...], Tuple[str, ...]]:
@@ -24,15 +29,26 @@ def groups_of(rows: Sequence[Row], by_position: bool = False) -> Tuple[Tuple[Gro
     groups, shared, notes = [], [], _alike(blocks)
     for name, block in blocks.items():
         try:
-            aspects, gaps = _aspects(name, block, by_position)
+            aspects = _plain_aspects(name, block)
+            if aspects is None:
+                aspects, gaps = _aspects(name, block, by_position)
+                notes += gaps
             groups.append(Group(name, aspects))
-            notes += gaps
         except (TableError, TableErrors) as fault:
-            faults += fault.faults if isinstance(fault, TableErrors) else [fault]
+            faults += fault.faults
             shared += [block] if _has_one_name(block) else []
     if faults:
         raise TableErrors([*_shared_names(shared), *faults])
     return tuple(groups), tuple(notes)
+
+
+def by_position(group: Group, positions: Mapping[int, int]) -> Group:
+    """The group with the balises of each aspect in the order of N_PIG, which is given by the rows' numbers."""
+    aspects = (
+        Aspect(aspect.name, tuple(sorted(aspect.rows, key=lambda row: positions[row.number])))
+        for aspect in group.aspects
+    )
+    return Group(group.name, tuple(aspects))
 
 
 def _has_one_name(block: Sequence[Row]) -> bool:
@@ -63,7 +79,7 @@ def _blocks(rows: Sequence[Row]) -> Tuple[Dict[str, List[Row]], List[TableError]
 
     A single row between rows of another group is the one at fault, unless the row before or after it is another such.
     """
-    runs = [list(run) for _, run in groupby(rows, key=lambda row: row.group)]
+    runs = [list(run) for _, run in groupby(rows, key=attrgetter("group"))]
     between = {
         place
         for place, (before, run, after) in enumerate(zip(runs, runs[1:], runs[2:]), 1)
@@ -73,25 +89,21 @@ def _blocks(rows: Sequence[Row]) -> Tuple[Dict[str, List[Row]], List[TableError]
     blocks: Dict[str, List[Row]] = {}
     torn, faults = set(), []
     for place, run in enumerate(runs):
-        name, first = run[0].group, run[0].number
+        name, why = run[0].group, ""
         if place in odd:
             around = runs[place - 1][-1], runs[place + 1][0]
             torn.add(around[0].group)
-            faults.append(
-                TableError(
-                    f'"{name}" stands between {_rows(around)} of group "{around[0].group}": is it '
-                    "mistyped? The rows of a group stand together",
-                    first,
-                    "group",
-                )
+            why = (
+                f'"{name}" stands between {_rows(around)} of group "{around[0].group}": is it mistyped? The rows of '
+                "a group stand together"
             )
-            continue
-        if name in blocks and place - 1 not in odd:
+        elif name in blocks and place - 1 not in odd:
             torn.add(name)
-            faults.append(
-                TableError(f'group "{name}" is in {_rows(blocks[name])} already: put its rows together', first, "group")
-            )
-        blocks.setdefault(name, []).extend(run)
+            why = f'group "{name}" is in {_rows(blocks[name])} already: put its rows together'
+        if why:
+            faults.append(TableError(why, run[0].number, "group"))
+        if place not in odd:
+            blocks.setdefault(name, []).extend(run)
     return {name: block for name, block in blocks.items() if name not in torn}, faults
 
 
@@ -107,44 +119,84 @@ def _alike(names: Iterable[str]) -> List[str]:
     return notes
 
 
+def _plain_aspects(name: str, block: List[Row]) -> Optional[Tuple[Aspect, ...]]:
+    """The aspects of a group like most, in which nothing is to be refused or noted. None is inconclusive."""
+    columns: List[Tuple[Any, ...]] = list(zip(*block))
+    layout = _layout(columns[COLUMN["aspect"]], columns[COLUMN["balise"]])
+    if layout is None or len(set(columns[COLUMN["track"]])) > 1 or len(set(columns[COLUMN["nominal"]])) > 1:
+        return None
+    for column in ("name", "km"):
+        values = columns[COLUMN[column]]
+        if len(set(values)) == 1 and (len(layout[1]) == 1 or values[0] in ("", name, None)):
+            continue
+        known = [values[rows[0]] for rows in layout[1]]
+        if any(values[row] != value for value, rows in zip(known, layout[1]) for row in rows):
+            return None
+        if UNKNOWN & set(known) or (len(set(known)) < len(known) if column == "name" else not _rise_or_fall(known)):
+            return None
+    return tuple([Aspect(aspect, tuple([block[row] for row in rows])) for aspect, rows in layout[0]])
+
+
+@lru_cache(maxsize=1 << 10)
+def _layout(
+    names: Tuple[str, ...], balises: Tuple[Optional[int], ...]
+) -> Optional[Tuple[List[Tuple[str, List[int]]], List[List[int]]]]:
+    """Of a group with these columns: each aspect with its rows, counted from 0, and the rows of each balise."""
+    rows = [Row(row, "", "", aspect=name, balise=balise) for row, (name, balise) in enumerate(zip(names, balises))]
+    try:
+        aspects, notes = _aspects("", rows, False)
+    except (TableError, TableErrors):
+        return None
+    members = [(aspect.name, [row.number for row in aspect.rows]) for aspect in aspects]
+    return None if notes else (members, [sorted(set(places)) for places in zip(*(rows for _, rows in members))])
+
+
 def _aspects(name: str, block: List[Row], by_position: bool) -> Tuple[Tuple[Aspect, ...], List[str]]:
-    names = list(dict.fromkeys(row.aspect for row in block if row.aspect != EVERY))
-    if len(names) > 1 and "" in names or names == [""] and any(row.aspect == EVERY for row in block):
-        empty = next(row for row in block if not row.aspect)
-        raise TableError(
-            "empty beside named aspects: write * for a telegram that is sent in every aspect",
-            row=empty.number,
-            column="aspect",
-        )
-    members = [[row for row in block if row.aspect in (aspect, EVERY)] for aspect in names or [""]]
+    members = _members(block)
     named = any(row.name != name for row in block)  # (else the column has the group's name, and tells no balise)
-    repeated = _repeated(members, "balise") or (_repeated(members, "name") if named else [])
+    repeated = _repeated(members.values(), "balise") or (_repeated(members.values(), "name") if named else [])
     if repeated:
         raise TableErrors(repeated)
-    aspects, notes = [], []
-    for aspect, some in zip(names or [""], members):
-        rows, gaps = _order(some)
-        aspects.append(Aspect(aspect, rows))
-        notes += gaps
+    notes: List[str] = []
+    aspects = [Aspect(aspect, _order(rows, notes)) for aspect, rows in members.items()]
     _look_at_counts(name, aspects)
-    notes += _numbered_otherwise(name, aspects)
-    _look_at_places(aspects)
-    _look_at_alike(block, "nominal")
-    _look_at_alike(block, "track")
+    if len(aspects) > 1:
+        notes += _numbered_otherwise(name, aspects)
+        _look_at_places(aspects)
+    for column in ("nominal", "track"):
+        _look_at_values(block, column, of_group=True)
     if not by_position:
-        _look_at_same(aspects, "name")
-        _look_at_same(aspects, "km")
-        _look_at_kilometres(aspects)
-    return tuple(aspects), notes
+        for column in ("name", "km") if len(aspects) > 1 else ():
+            for rows in zip(*(aspect.rows for aspect in aspects)):
+                _look_at_values(rows, column)
+        _look_at_kilometres(aspects[0].rows)
+    return tuple(aspects), list(dict.fromkeys(notes))
 
 
-def _repeated(members: Sequence[Sequence[Row]], column: str) -> List[TableError]:
+def _members(block: List[Row]) -> Dict[str, List[Row]]:
+    """The rows of each aspect, those of every aspect among them, in the order of the table."""
+    members: Dict[str, List[Row]] = {}
+    for row in block:
+        members.setdefault(row.aspect, []).append(row)
+    if "" in members and len(members) > 1:
+        why = f"empty beside named aspects: write {EVERY} for a telegram that is sent in every aspect"
+        raise TableError(why, members[""][0].number, "aspect")
+    every = members.pop(EVERY, [])
+    if not every:
+        return members
+    names = list(members or [""])[: 1 if len(every) > GREATEST_COUNT else None]  # (too many are refused by the first)
+    return {name: sorted([*every, *members.get(name, [])]) for name in names}
+
+
+def _repeated(members: Iterable[Sequence[Row]], column: str) -> List[TableError]:
     """A fault for each row of an aspect that is of the same balise as an earlier one by this column."""
     faults: Dict[int, TableError] = {}
     for rows in members:
+        keys = [row[COLUMN[column]] for row in rows]
+        if len(set(keys)) == len(keys):
+            continue
         firsts: Dict[object, Row] = {}
-        for row in rows:
-            key = getattr(row, column)
+        for key, row in zip(keys, rows):
             first = row if key in UNKNOWN else firsts.setdefault(key, row)
             if first is not row:
                 faults[row.number] = _repeated_by(column, first, row)
@@ -163,18 +215,17 @@ def _repeated_by(column: str, first: Row, row: Row) -> TableError:
     return TableError(said, row.number, "aspect" if row.aspect and not apart else column)
 
 
-def _order(rows: List[Row]) -> Tuple[Tuple[Row, ...], List[str]]:
-    """The balises of an aspect by the column `balise`, else by row."""
-    unnumbered = [row for row in rows if row.balise is None]
-    if unnumbered and len(unnumbered) < len(rows):
-        raise TableError("empty beside numbered balises", row=unnumbered[0].number, column="balise")
-    if unnumbered:
-        return tuple(rows), []
-    ordered = sorted(rows, key=lambda row: row.balise or 0)
-    numbers = [row.balise or 0 for row in ordered]
-    gap = numbers[-1] - numbers[0] + 1 != len(numbers)
-    shown = ", ".join(map(str, numbers))
-    return tuple(ordered), [f'group "{rows[0].group}": the balises are numbered {shown}'] if gap else []
+def _order(rows: List[Row], notes: List[str]) -> Tuple[Row, ...]:
+    """The balises of an aspect by the column `balise`, else by row. A gap in the numbers is noted."""
+    numbers = sorted(row.balise for row in rows if row.balise is not None)
+    if not numbers:
+        return tuple(rows)
+    if len(numbers) < len(rows):
+        empty = next(row for row in rows if row.balise is None)
+        raise TableError("empty beside numbered balises", empty.number, "balise")
+    if numbers[-1] - numbers[0] + 1 != len(numbers):
+        notes.append(f'group "{rows[0].group}": the balises are numbered {", ".join(map(str, numbers))}')
+    return tuple(sorted(rows, key=attrgetter("balise")))
 
 
 def _look_at_counts(name: str, aspects: List[Aspect]) -> None:
@@ -195,50 +246,47 @@ def _look_at_counts(name: str, aspects: List[Aspect]) -> None:
 def _lacking(name: str, aspects: List[Aspect]) -> List[TableError]:
     """A fault for each balise that lacks aspects, if the balises of the aspects can be told by a column."""
     for column, words in KEYS.items():
-        keys = [[getattr(row, column) for row in aspect.rows] for aspect in aspects]
-        if any(UNKNOWN & set(some) or len(set(some)) < len(some) for some in keys):
+        keys = [{row[COLUMN[column]]: row for row in aspect.rows} for aspect in aspects]
+        if any(UNKNOWN & known.keys() or len(known) < len(aspect.rows) for known, aspect in zip(keys, aspects)):
             continue
-        first = {
-            key: row for aspect, some in zip(reversed(aspects), reversed(keys)) for key, row in zip(some, aspect.rows)
-        }
+        counts = Counter(key for known in keys for key in known)
+        first = {key: row for known in reversed(keys) for key, row in known.items()}
         return [
             TableError(
-                f'{words.format(key)} of group "{name}" has no telegram for {_listed(lacks)}: add the row, '
-                f"or write {EVERY} as the aspect of a telegram that is sent in every aspect",
-                row=row.number,
+                f'{words.format(key)} of group "{name}" has no telegram for '
+                f"{_listed((one for one, known in zip(aspects, keys) if key not in known), len(aspects) - count)}: "
+                f"add the row, or write {EVERY} as the aspect of a telegram that is sent in every aspect",
+                row=first[key].number,
             )
-            for key, row in first.items()
-            for lacks in [[aspect for aspect, some in zip(aspects, keys) if key not in some]]
-            if lacks
+            for key, count in counts.items()
+            if count < len(aspects)
         ]
     return []
 
 
-def _balises(aspect: Aspect) -> str:
-    return f"{len(aspect.rows)} balise{'s' if len(aspect.rows) > 1 else ''}"
-
-
-def _listed(aspects: List[Aspect]) -> str:
-    """Aspects with their rows."""
-    shown = [f'"{aspect.name}" ({_rows(aspect.rows)})' for aspect in aspects]
-    return ("aspects " if len(shown) > 1 else "aspect ") + ", ".join(shown)
+def _listed(aspects: Iterable[Aspect], count: int) -> str:
+    """So many aspects with their rows, of which the first are named."""
+    shown = ", ".join(f'"{aspect.name}" ({_rows(sorted(aspect.rows))})' for aspect in islice(aspects, NAMED))
+    more = f" and {count - NAMED} more" if count > NAMED else ""
+    return f"aspect{'s' if count > 1 else ''} {shown}{more}"
 
 
 def _rows(rows: Sequence[Row]) -> str:
-    """The numbers of these rows, which may be many."""
-    numbers = sorted(row.number for row in rows)
-    if len(numbers) > 2 and numbers[-1] - numbers[0] + 1 == len(numbers):
-        return f"rows {numbers[0]} to {numbers[-1]}"
-    return f"row{'s' if len(numbers) > 1 else ''} {', '.join(map(str, numbers))}"
+    """The numbers of these rows, which rise. Of many that have others between them the first are named."""
+    first, last, count = rows[0].number, rows[-1].number, len(rows)
+    if count > 2 and last - first + 1 == count:
+        return f"rows {first} to {last}"
+    numbers = ", ".join(str(row.number) for row in rows[:NAMED])
+    return f"row{'s' if count > 1 else ''} {numbers}{f' and {count - NAMED} more' if count > NAMED else ''}"
 
 
 def _numbered_otherwise(name: str, aspects: List[Aspect]) -> List[str]:
-    """A note where aspects have other numbers in the column `balise`: their order alone counts."""
-    numbers = [[row.balise for row in aspect.rows] for aspect in aspects]
-    other = next((aspect for aspect, some in zip(aspects, numbers) if some != numbers[0]), None)
-    if other is None:
-        return []
-    return [f'group "{name}": aspects "{aspects[0].name}" and "{other.name}" number their balises differently']
+    """A note where aspects have other numbers in the column `balise`: only their order counts."""
+    numbers = [row.balise for row in aspects[0].rows]
+    for other in aspects:
+        if [row.balise for row in other.rows] != numbers:
+            return [f'group "{name}": aspects "{aspects[0].name}" and "{other.name}" number their balises differently']
+    return []
 
 
 def _uneven(name: str, aspects: List[Aspect]) -> List[TableError]:
@@ -247,13 +295,13 @@ def _uneven(name: str, aspects: List[Aspect]) -> List[TableError]:
     usual = max(aspects, key=lambda aspect: (sizes[len(aspect.rows)], len(aspect.rows)))
     return [
         TableError(
-            f'aspect "{one.name}" of group "{name}" has {_balises(one)} ({_rows(one.rows)}), and aspect '
-            f'"{usual.name}" has {len(usual.rows)} ({_rows(usual.rows)}): a row is missing, or one too '
-            "many; the column balise or name tells which",
-            row=next(row.number for row in one.rows if row.aspect == one.name),
+            f'aspect "{aspect.name}" of group "{name}" has {len(aspect.rows)} balise{"s" * (len(aspect.rows) > 1)} '
+            f'({_rows(sorted(aspect.rows))}), and aspect "{usual.name}" has {len(usual.rows)} '
+            f"({_rows(sorted(usual.rows))}): a row is missing, or one too many; the column balise or name tells which",
+            row=next(row.number for row in aspect.rows if row.aspect == aspect.name),
         )
-        for one in aspects
-        if len(one.rows) != len(usual.rows)
+        for aspect in aspects
+        if len(aspect.rows) != len(usual.rows)
     ]
 
 
@@ -262,41 +310,30 @@ def _look_at_places(aspects: List[Aspect]) -> None:
     places: Dict[int, int] = {}
     for aspect in aspects:
         for place, row in enumerate(aspect.rows):
-            if places.setdefault(row.number, place) != place:
-                raise TableError(
-                    "its place differs between aspects: number the balises in the column balise", row=row.number
-                )
+            if row.aspect == EVERY and places.setdefault(row.number, place) != place:
+                why = "its place differs between aspects: number the balises in the column balise"
+                raise TableError(why, row.number)
 
 
-def _look_at_alike(block: List[Row], column: str) -> None:
-    """The rows of a group that have something in this column have the same."""
-    said = [row for row in block if getattr(row, column)]
-    for row in said:
-        here, there = getattr(row, column), getattr(said[0], column)
-        if here != there:
-            raise TableError(
-                f"{here}, and row {said[0].number} of the group says {there}", row=row.number, column=column
-            )
+def _look_at_values(rows: Sequence[Row], column: str, of_group: bool = False) -> None:
+    """The rows of a balise in all aspects, or of a group, that have something in this column have the same."""
+    values = [row[COLUMN[column]] for row in rows]
+    if len(set(values)) == 1:
+        return
+    known = [(row, value) for row, value in zip(rows, values) if value not in UNKNOWN]
+    for row, value in known:
+        first, other = known[0]
+        if value != other:
+            why = "the order of the rows" if row.balise is None else "the column balise"
+            says = " of the group says" if of_group else f", the same balise by {why}, has"
+            raise TableError(f"{value}, and row {first.number}{says} {other}", row.number, column)
 
 
-def _look_at_same(aspects: List[Aspect], column: str) -> None:
-    """A balise has one name and one kilometre in all aspects."""
-    for place in range(len(aspects[0].rows)):
-        rows = [aspect.rows[place] for aspect in aspects if getattr(aspect.rows[place], column) not in UNKNOWN]
-        for row in rows:
-            here, there = getattr(row, column), getattr(rows[0], column)
-            if here != there:
-                why = "the order of the rows" if row.balise is None else "the column balise"
-                raise TableError(
-                    f"{here}, and row {rows[0].number}, the same balise by {why}, has {there}",
-                    row=row.number,
-                    column=column,
-                )
+def _look_at_kilometres(rows: Sequence[Row]) -> None:
+    known = [row for row in rows if row.km is not None]
+    if not _rise_or_fall([row.km for row in known]):
+        raise TableError("the kilometres of the group rise and fall", known[-1].number, "km")
 
 
-def _look_at_kilometres(aspects: List[Aspect]) -> None:
-    """The kilometres of a group rise or fall."""
-    known = [row for row in aspects[0].rows if row.km is not None]
-    steps = [(after.km or 0) - (before.km or 0) for before, after in zip(known, known[1:])]
-    if any(step > 0 for step in steps) and any(step < 0 for step in steps):
-        raise TableError("the kilometres of the group rise and fall", row=known[-1].number, column="km")
+def _rise_or_fall(values: List[Any]) -> bool:
+    return len(values) < 3 or values in (sorted(values), sorted(values, reverse=True))

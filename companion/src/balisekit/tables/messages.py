@@ -4,7 +4,7 @@ from __future__ import annotations
 import re
 from typing import List
 
-from balisekit.errors import TableError, TableErrors
+from balisekit.errors import TableError, TableErrors, faults_of
 from balisekit.io import inputs
 from balisekit.tables.cells import digits
 from balisekit.tables.encoding import text_of
@@ -14,13 +14,9 @@ from balisekit.tables.model import Message, Messages
 def read(path: str) -> Messages:
     """The messages of this file. TableError or TableErrors is raised if it cannot be read."""
     file = inputs.read(path)
-    try:
+    with faults_of(path):
         text, encoding = text_of(file.content)
         messages = _messages(text)
-    except (TableError, TableErrors) as error:
-        for fault in error.faults if isinstance(error, TableErrors) else [error]:
-            fault.path = path
-        raise
     return Messages(path, file.sha256, encoding, tuple(messages))
 
 
@@ -36,4 +32,6 @@ def _messages(text: str) -> List[Message]:
             faults.append(TableError("no message before the semicolon", line=number))
     if faults:
         raise TableErrors(faults)
+    if not messages:
+        raise TableError("the file has no message: hexadecimal digits in a line, and a name behind ;")
     return messages

@@ -3,11 +3,11 @@ from __future__ import annotations
 
 from dataclasses import dataclass
 from decimal import Decimal
-from typing import Iterator, Optional, Tuple
+from functools import cached_property
+from typing import Dict, Iterator, NamedTuple, Optional, Tuple
 
 
-@dataclass(frozen=True)
-class Row:
+class Row(NamedTuple):
     """One telegram of the table."""
 
     number: int
@@ -48,6 +48,11 @@ class Group:
         """All rows of the group. A row that stands in every aspect comes once for each."""
         for aspect in self.aspects:
             yield from aspect.rows
+
+    @cached_property
+    def places(self) -> Dict[int, int]:
+        """The place of each row's balise in nominal order, by the number of the row."""
+        return {row.number: place for aspect in reversed(self.aspects) for place, row in enumerate(aspect.rows)}
 
 
 @dataclass(frozen=True)

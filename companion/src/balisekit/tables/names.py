@@ -2,20 +2,29 @@
 from __future__ import annotations
 
 import re
+from decimal import Decimal
 from typing import List, Optional, Sequence, Tuple
+from unicodedata import category
 
 from balisekit.tables.model import Group, Message, Row, Table
 
-UNSAFE = re.compile(
-    "[\x00-\x1f\x7f-\x9f\u200e\u200f\u2028\u2029\u202a-\u202e\u2066-\u2069\ufeff\ufffe\uffff\ud800-\udfff]"
-)
+NAMED = 20
+"""So many columns that are passed over are named."""
+BLANK = re.compile("[\u034f\u115f\u1160\u17b4\u17b5\u180b-\u180f\u2800\u3164\ufe00-\ufe0f\uffa0\U000e0100-\U000e01ef]")
+"""Letters and marks that show nothing."""
 
 
 def clean(text: str) -> str:
-    """The text without characters that move a cursor, turn the direction of writing, or are no text."""
-    if text.isascii() and text.isprintable():
+    """The text with escapes for characters that show nothing, move a cursor or turn the direction of writing."""
+    if text.isprintable() and (text.isascii() or not BLANK.search(text)):
         return text
-    return UNSAFE.sub(lambda found: ascii(found[0])[1:-1], text)
+    return "".join(map(_shown, text))
+
+
+def _shown(character: str) -> str:
+    """The character, or an escape for it. A blank of any width is shown as it is."""
+    visible = character.isprintable() or category(character) == "Zs"
+    return character if visible and not BLANK.match(character) else ascii(character)[1:-1]
 
 
 def quoted(text: str) -> str:
@@ -27,22 +36,19 @@ def passed_over(table: Table) -> List[str]:
     """A line on the columns that say nothing here, if there are any."""
     names = [
         clean(name) + (f" (did you mean {quoted(meant)}?)" if meant else "")
-        for name, meant in zip(table.passed_over, table.meant)
+        for name, meant in zip(table.passed_over[:NAMED], table.meant)
     ]
-    return [f"columns passed over: {', '.join(names)}"] if names else []
+    return [f"columns passed over: {listed(names, NAMED, len(table.passed_over))}"] if names else []
+
+
+def kilometre(km: Decimal) -> str:
+    """A kilometre with three places behind the point, and more if it has more."""
+    return f"{km:.{max(3, -int(km.normalize().as_tuple().exponent))}f}"
 
 
 def describe_balise(group: Optional[Group], row: Row) -> str:
     """Where a row's balise is: row, group, kilometre, aspect, index and name."""
-    place = next(
-        (
-            place
-            for aspect in (group.aspects if group else ())
-            for place, one in enumerate(aspect.rows)
-            if one.number == row.number
-        ),
-        None,
-    )
+    place = group.places.get(row.number) if group else None
     parts = [f"row {row.number}", clean(row.group), *_where(row)]
     parts += ["every aspect"] if row.aspect == "*" else [f"aspect {quoted(row.aspect)}"] if row.aspect else []
     if place is not None:
@@ -85,5 +91,5 @@ def describe_message(message: Message) -> str:
 
 
 def _where(row: Row) -> List[str]:
-    parts = [] if row.km is None else [f"km {row.km:.3f}"]
+    parts = [] if row.km is None else [f"km {kilometre(row.km)}"]
     return parts + ([f"track {clean(row.track)}"] if row.track else [])

@@ -4,17 +4,16 @@ from __future__ import annotations
 import re
 from decimal import Decimal
 from difflib import get_close_matches
-from typing import Callable, Dict, List, Mapping, Optional, Sequence, Tuple, TypeVar
+from typing import Any, Callable, Dict, Iterator, List, Mapping, Optional, Sequence, Tuple
 
-from balisekit.errors import TableError, TableErrors
+from balisekit.errors import TableError, TableErrors, faults_of
 from balisekit.io import inputs
 from balisekit.tables import csv as csv_file, xlsx as xlsx_file
-from balisekit.tables.cells import COLUMNS, ERROR, NEEDED, Sheet, digits, headings
+from balisekit.tables.cells import COLUMNS, DIGITS, ERROR, NEEDED, Sheet, digits, headings, kind_and_text
 from balisekit.tables.grouping import groups_of
 from balisekit.tables.model import Row, Table
 
-KM = re.compile(r"(?P<whole>-?[0-9]{1,4})(?:[.,](?P<part>[0-9]{1,6}))?")
-KM_PLUS = re.compile(r"(?P<whole>[0-9]{1,4})\+(?P<part>[0-9]{3})(?:[.,](?P<more>[0-9]{1,3}))?")
+KM = re.compile(r"(?!-[0-9]+\+)(-?[0-9]{1,4})(?:[.,]([0-9]{1,6})|\+([0-9]{3})(?:[.,]([0-9]{1,3}))?)?")
 SCIENTIFIC = re.compile(r"[0-9]+[.,][0-9]+[eE]\+?[0-9]+|[0-9][eE]\+[0-9]+")
 TELEGRAM = re.compile("[0-9A-Fa-f]{20,}")
 ALIKE = 0.75
@@ -22,35 +21,33 @@ ALIKE = 0.75
 BY_POSITION = "balises are ordered by N_PIG, as --by-position says, which hides a wrong N_PIG"
 GREATEST_NAME = 1000
 """So many characters a cell may have that is no telegram, and are shown of a heading."""
-Read = TypeVar("Read")
+ABSENT = -1
+"""The place of a column that the table has not: each row that is read ends with an empty cell."""
+PLAIN = re.compile(r"[^\0\r\n#]{0,1000}")
+"""A cell of text in which nothing has to be looked for."""
 
 
 def read(path: str, sheet: Optional[str] = None, by_position: bool = False) -> Table:
     """The table of this file. TableError or TableErrors is raised if it cannot be read."""
     file = inputs.read(path)
-    hints: List[TableError] = []
-    try:
-        if file.content.startswith(xlsx_file.BEGINS):
-            cells = xlsx_file.read(file.content, sheet)
-        elif sheet is not None:
+    is_workbook = file.content.startswith(xlsx_file.BEGINS)
+    with faults_of(path):
+        if sheet is not None and not is_workbook:
             raise TableError("--sheet is for an .xlsx, and this is none")
-        else:
-            cells = csv_file.read(file.content)
+        cells = xlsx_file.read(file.content, sheet) if is_workbook else csv_file.read(file.content)
         places = _places(cells)
         passed_over = _passed_over(cells)
         meant = tuple(_meant(name, places) for name in passed_over)
-        hints += [
-            TableError(f'the column {name} is passed over: did you mean "{known}"?', row=1)
-            for name, known in zip(passed_over, meant)
-            if known
-        ]
-        rows = _rows(cells, places)
-        groups, notes = groups_of(rows, by_position)
-    except (TableError, TableErrors) as error:
-        faults = [*hints, *(error.faults if isinstance(error, TableErrors) else [error])]
-        for fault in faults:
-            fault.path = path
-        raise TableErrors(faults) from error
+        try:
+            rows = _rows(cells, places)
+            groups, notes = groups_of(rows, by_position)
+        except (TableError, TableErrors) as error:
+            hints = [
+                TableError(f'the column {name} is passed over: did you mean "{known}"?', row=1)
+                for name, known in zip(passed_over, meant)
+                if known
+            ]
+            raise TableErrors([*hints, *error.faults]) from error
     return Table(
         path,
         file.sha256,
@@ -66,9 +63,11 @@ def read(path: str, sheet: Optional[str] = None, by_position: bool = False) -> T
 
 def _places(sheet: Sheet) -> Dict[str, int]:
     """Where each known column is."""
-    heading = headings(sheet.rows[0]) if sheet.rows else []
+    if not any(any(map(str.strip, row)) for row in sheet.rows):
+        raise TableError("the table is empty: its first row has to hold the headings")
+    heading = headings(sheet.rows[0])
     if not any(heading):
-        raise TableError("it is empty: it has to hold the headings", row=1)
+        raise TableError("it is empty: delete it, as the first row has to hold the headings", row=1)
     for name in COLUMNS:
         if heading.count(name) > 1:
             first = heading.index(name) + 1
@@ -111,13 +110,17 @@ def _passed_over(sheet: Sheet) -> Tuple[str, ...]:
 
 def _rows(sheet: Sheet, places: Dict[str, int]) -> Tuple[Row, ...]:
     """The rows behind the heading that have a cell with something in it."""
-    rows: List[Row] = []
-    faults: List[TableError] = []
-    for index, cells in enumerate(sheet.rows[1:], 1):
-        if any(cell.strip() for cell in cells):
-            fields = _Fields(sheet, places, index)
-            rows.append(fields.row())
-            faults += fields.faults
+    columns = [_Column(name, places.get(name, ABSENT), meaning) for name, meaning in MEANINGS.items()]
+    reading = [(column, column.place) for column in columns if column.name != "telegram"]
+    telegrams, at, is_plain = columns[0], places["telegram"], DIGITS.fullmatch
+    width, rows, wide = len(sheet.rows[0]), [], False
+    for number, cells in _filled(sheet, width):
+        cell = cells[at]
+        telegram = cell if is_plain(cell) else telegrams[cell]
+        group, *others = [column[cells[place]] for column, place in reading]
+        rows.append(Row(number, group, telegram, cell.strip(), *others))
+        wide = wide or len(cells) > width + 1
+    faults = list(_faults(sheet, columns, width)) if wide or any(column.faults for column in columns) else []
     if faults:
         raise TableErrors(faults)
     if not rows:
@@ -125,56 +128,49 @@ def _rows(sheet: Sheet, places: Dict[str, int]) -> Tuple[Row, ...]:
     return tuple(rows)
 
 
-class _Fields:
-    """The cells of one row, and the faults that are found in them."""
+def _filled(sheet: Sheet, width: int) -> Iterator[Tuple[int, List[str]]]:
+    """The numbers and cells of these rows. The last cell of each is an empty one, for columns that are absent."""
+    pad = [""] * (width + 1)
+    for number, row in enumerate(sheet.rows[1:], 2):
+        if any(map(str.strip, row)):
+            yield number, row + pad[min(len(row), width) :]
 
-    def __init__(self, sheet: Sheet, places: Dict[str, int], index: int) -> None:
-        self.sheet, self.places, self.index = sheet, places, index
-        self.faults: List[TableError] = []
 
-    def row(self) -> Row:
-        """The row. If there are faults it says nothing."""
-        self.look_at_width()
-        cell = self.take("telegram", _telegram, "")
-        return Row(
-            self.index + 1,
-            self.take("group", _group, ""),
-            digits(cell),
-            cell,
-            self.take("aspect", _name, ""),
-            self.take("balise", _balise, None),
-            self.take("name", _name, ""),
-            self.take("km", _km, None),
-            self.take("track", _name, ""),
-            self.take("nominal", _nominal, ""),
-        )
+class _Column(Dict[str, Any]):
+    """What the cells of a column mean. Most cells of a table have the text of another one."""
 
-    def take(self, column: str, reader: Callable[[str, str], Read], empty: Read) -> Read:
-        """What the reader makes of the cell in this column."""
-        if column not in self.places:
-            return empty
-        place, cells = self.places[column], self.sheet.rows[self.index]
+    def __init__(self, name: str, place: int, meaning: Callable[[str, str], object]) -> None:
+        super().__init__()
+        self.name, self.place, self.meaning = name, place, meaning
+        self.faults: Dict[str, str] = {}
+
+    def __missing__(self, cell: str) -> object:
         try:
-            cell = cells[place] if place < len(cells) else ""
-            if "\n" in cell or "\r" in cell:
-                raise TableError("a line end stands in the cell")
-            if ERROR.fullmatch(cell.strip()):
-                raise TableError(f"{cell.strip()} is an error of the spreadsheet: its formula failed")
-            if column != "telegram" and len(cell) > GREATEST_NAME:
-                raise TableError(f"it has more than {GREATEST_NAME:,} characters")
-            return reader(cell.strip(), self.sheet.kinds.get((self.index, place), ""))
+            meaning = self.meaning(cell.strip(), "") if PLAIN.fullmatch(cell) else self._read(*kind_and_text(cell))
         except TableError as fault:
-            fault.row, fault.column = self.index + 1, column
-            self.faults.append(fault)
-            return empty
+            meaning, self.faults[cell] = None, fault.why
+        self[cell] = meaning
+        return meaning
 
-    def look_at_width(self) -> None:
-        """A row with more cells than the heading, be they not empty, is a fault."""
-        width, cells = len(self.sheet.rows[0]), self.sheet.rows[self.index]
-        if any(cell.strip() for cell in cells[width:]):
-            hint = ": is a decimal comma not quoted?" if self.sheet.separator == "," else ""
-            why = f"it has {len(cells)} cells, and the heading {width}{hint}"
-            self.faults.append(TableError(why, row=self.index + 1))
+    def _read(self, kind: str, text: str) -> object:
+        if "\n" in text or "\r" in text:
+            raise TableError("a line end stands in the cell")
+        if ERROR.fullmatch(text.strip()):
+            raise TableError(f"{text.strip()} is an error of the spreadsheet: its formula failed")
+        if self.name != "telegram" and len(text) > GREATEST_NAME:
+            raise TableError(f"it has more than {GREATEST_NAME:,} characters")
+        return self.meaning(text.strip(), kind)
+
+
+def _faults(sheet: Sheet, columns: Sequence[_Column], width: int) -> Iterator[TableError]:
+    """What is wrong with each row, its width first."""
+    for number, cells in _filled(sheet, width):
+        if any(map(str.strip, cells[width:])):
+            hint = ": is a decimal comma not quoted?" if sheet.separator == "," else ""
+            yield TableError(f"it has {len(cells) - 1} cells, and the heading {width}{hint}", number)
+        for column in columns:
+            if cells[column.place] in column.faults:
+                yield TableError(column.faults[cells[column.place]], number, column.name)
 
 
 def _telegram(cell: str, kind: str) -> str:
@@ -185,7 +181,7 @@ def _telegram(cell: str, kind: str) -> str:
         )
     if not digits(cell):
         raise TableError("empty, or a formula whose value is not stored")
-    return cell
+    return digits(cell)
 
 
 def _name(cell: str, kind: str) -> str:
@@ -207,16 +203,29 @@ def _balise(cell: str, _: str) -> Optional[int]:
 
 
 def _km(cell: str, kind: str) -> Optional[Decimal]:
-    text = cell.replace("\u2212", "-")
-    plain, plus = KM.fullmatch(text), KM_PLUS.fullmatch(text)
-    if kind == "date" or cell and not plain and not plus:
+    found = KM.fullmatch(cell.replace("\u2212", "-"))
+    if found and kind != "date":
+        whole, part, metres, more = found.groups(default="")
+        return Decimal(f"{whole}.{part or metres or '0'}{more}")
+    if cell:
         raise TableError(f"{cell[:40]} is no kilometre: one is written like 13.850, 13,850 or 13+850")
-    if plus:
-        return Decimal(f"{plus['whole']}.{plus['part']}{plus['more'] or ''}")
-    return Decimal(f"{plain['whole']}.{plain['part'] or '0'}") if plain else None
+    return None
 
 
 def _nominal(cell: str, _: str) -> str:
     if cell.lower() not in ("", "rising", "falling"):
         raise TableError(f"{cell[:40]} is neither rising nor falling")
     return cell.lower()
+
+
+MEANINGS: Dict[str, Callable[[str, str], object]] = {
+    "telegram": _telegram,
+    "group": _group,
+    "aspect": _name,
+    "balise": _balise,
+    "name": _name,
+    "km": _km,
+    "track": _name,
+    "nominal": _nominal,
+}
+"""How the cells of each column are read: from their text, and what a workbook has instead of text."""

@@ -1,22 +1,40 @@
-"""Cells of a workbook. It needs openpyxl."""
+"""Cells of a workbook, by openpyxl. What would take it too long is refused before it sees the workbook."""
 from __future__ import annotations
 
 import datetime
 import io
+import math
+import re
 import warnings
 import zipfile
 from decimal import Decimal
-from typing import Any, Dict, List, Optional, Tuple
+from typing import Any, Dict, Iterator, List, Optional, Pattern, Tuple
 
-from balisekit.errors import TableError
-from balisekit.tables.cells import NEEDED, Sheet, headings
+from balisekit.errors import KitError, TableError
+from balisekit.io.packages import needed
+from balisekit.tables.cells import NEEDED, Sheet, headings, kind_and_text, of_kind
+from balisekit.tables.encoding import ZIPS
 
-BEGINS = (b"PK\x03\x04", b"\xd0\xcf\x11\xe0")
+OLD = b"\xd0\xcf\x11\xe0"
+BEGINS = (*ZIPS, OLD)
 """A zip, which a workbook is, and what an .xls or a workbook with a password begins with."""
 CONTENTS = "[Content_Types].xml"
 """A part that each workbook has."""
-GREATEST = 500_000_000
-"""So many bytes may be in a workbook when it is unpacked."""
+GREATEST, GREATEST_PART = 200_000_000, 100_000_000
+"""So many bytes a workbook, and a part of it, may have when it is unpacked. 100,000 rows have up to 55,000,000."""
+GREATEST_RATIO, SMALL_PART = 100, 1_000_000
+"""So many times its packed size a part may have, unless it is small."""
+GREATEST_ROW, GREATEST_CELLS, GREATEST_STRINGS = 1_048_576, 16_384, 1_048_576
+"""The last row of a sheet, so many cells in a row, and so many strings: no spreadsheet writes more."""
+GREATEST_COLUMNS = 200
+"""So many columns the sheet may have that is read."""
+SHORT_WAY_OUT = "save the table as CSV, or in a workbook of its own"
+
+NUMBER = re.compile(rb"""[^<]*?\sr\s*=\s*["']\s*([^"']*?)\s*["']""")
+REFERENCE = rb"""[^<]*?\s%b\s*=\s*["']([^"']*)"""
+COLUMN = re.compile(rb"""r(?<=\sr)\s*=\s*["']([A-Za-z]{1,3})[0-9]""")
+NO_VALUE = rb"[^<]*(?:</[^<]*)?(?:<[^\s<>/]*v\s*/>\s*|<[^\s<>/]*v\s*>\s*</[^<]*)?</[^<]*c\s*>"
+"""What follows a formula whose value is not stored, up to the end of its cell."""
 PLACES = 6
 """A number is rounded to so many places, as many as a kilometre may have: sums have wrong ones further on."""
 DATES = (datetime.date, datetime.time, datetime.timedelta)
@@ -24,79 +42,178 @@ DATES = (datetime.date, datetime.time, datetime.timedelta)
 
 def read(content: bytes, name: Optional[str]) -> Sheet:
     """The cells of the sheet of this name, else of the one that has the needed headings."""
-    _look_at_parts(content)
-    try:
+    faults = _look_at_parts(content)
+    with needed("openpyxl", "reading .xlsx (CSV needs no package)"):
         import openpyxl
-    except ImportError as error:
-        raise TableError("reading .xlsx needs openpyxl (Debian: python3-openpyxl); or save it as CSV") from error
-    try:
-        with warnings.catch_warnings():
-            warnings.simplefilter("ignore")  # (openpyxl warns of what it would not write again)
+    with warnings.catch_warnings():
+        warnings.simplefilter("ignore")  # (openpyxl warns of what it would not write again)
+        try:
             book = openpyxl.load_workbook(io.BytesIO(content), read_only=True, data_only=True, keep_links=False)
-            return _sheet(book, name)
-    except TableError:
-        raise
-    except Exception as error:  # openpyxl raises whatever its parsers raise
-        raise TableError(f"it is no workbook that can be read: {type(error).__name__}: {error}") from error
+        except Exception as error:
+            raise _unreadable(error) from error
+        sheet, note = _chosen(book, name)
+        if sheet._worksheet_path in faults:
+            raise faults[sheet._worksheet_path]
+        return _cells(sheet, note)
 
 
-def _look_at_parts(content: bytes) -> None:
-    """TableError is raised for what is no workbook by the names of its parts, or is too large."""
+def _unreadable(error: Exception, row: Optional[int] = None) -> Exception:
+    """The fault of a workbook in which openpyxl, or a reader of zips, has raised something."""
+    if isinstance(error, (KitError, MemoryError)):
+        return error
+    return TableError(f"openpyxl cannot read it ({type(error).__name__}: {error}): {SHORT_WAY_OUT}", row)
+
+
+def _look_at_parts(content: bytes) -> Dict[str, TableError]:
+    """Sheets with a fault, by their parts. TableError is raised for what is no workbook, or takes too long to read."""
+    if content.startswith(OLD):
+        raise TableError("it is an .xls, or protected by a password: save it as .xlsx or CSV")
     try:
         with zipfile.ZipFile(io.BytesIO(content)) as parts:
-            size = sum(part.file_size for part in parts.infolist())
-            names = parts.namelist()
+            members = parts.infolist()
+            for part in members:
+                _look_at_size(part)
+            size = sum(part.file_size for part in members)
+            if size > GREATEST:
+                raise TableError(f"it has {size:,} bytes unpacked, more than {GREATEST:,}: {SHORT_WAY_OUT}")
+            if CONTENTS not in parts.namelist():
+                raise TableError("it is no .xlsx, but an .ods or another zip: save it as .xlsx or CSV")
+            faults = {part.filename: _look_at_elements(part.filename, parts.read(part)) for part in members}
+            return {name: fault for name, fault in faults.items() if fault}
     except zipfile.BadZipFile as error:
-        raise TableError("it is an .xls, or protected by a password: save it as .xlsx or CSV") from error
-    if size > GREATEST:
-        raise TableError(f"the workbook has {size:,} bytes unpacked, more than {GREATEST:,}")
-    if CONTENTS not in names:
-        raise TableError("it is no .xlsx, but an .ods or another zip: save it as .xlsx or CSV")
+        raise TableError(f"it is cut short or damaged ({error}): copy it again, or save it as CSV") from error
+    except Exception as error:  # zipfile raises whatever its decompressors raise
+        raise _unreadable(error) from error
 
 
-def _sheet(book: Any, name: Optional[str]) -> Sheet:
+def _look_at_size(part: zipfile.ZipInfo) -> None:
+    """A part is refused by its header alone, before it is unpacked."""
+    if part.flag_bits & 1:
+        raise TableError(f"{part.filename} in it is encrypted: save it without a password, or as CSV")
+    if part.file_size > GREATEST_PART:
+        what = f"{part.file_size:,} bytes unpacked, more than {GREATEST_PART:,}"
+    elif part.file_size > max(SMALL_PART, GREATEST_RATIO * part.compress_size):
+        what = f"{part.file_size:,} bytes unpacked, more than {GREATEST_RATIO} times its {part.compress_size:,} packed"
+    else:
+        return
+    raise TableError(f"{part.filename} in it has {what}: {SHORT_WAY_OUT}")
+
+
+def _look_at_elements(name: str, xml: bytes) -> Optional[TableError]:
+    """The fault of rows in disorder. TableError is raised for a part with more than a spreadsheet writes."""
+    if name.endswith((".xml", ".rels")) and (b"\0" in xml[:4] or xml[:2] in (b"\xff\xfe", b"\xfe\xff")):
+        raise TableError(f"{name} in it is not UTF-8: {SHORT_WAY_OUT}")
+    if b"<!DOCTYPE" in xml:
+        raise TableError(f"{name} in it has a document type definition: {SHORT_WAY_OUT}")
+    if sum(1 for _ in _tag(b"si", xml).finditer(xml)) > GREATEST_STRINGS:
+        raise TableError(f"{name} in it has more than {GREATEST_STRINGS:,} strings: {SHORT_WAY_OUT}")
+    number, fault, cells = 0, None, _tag(b"c", xml)
+    for row in _tag(b"row", xml).split(xml)[1:]:
+        given = NUMBER.match(row)
+        before, number = number, _number(given[1]) if given else number + 1
+        if number > GREATEST_ROW:
+            raise TableError(f"{name} in it has a row {number:,}, and the last possible row is {GREATEST_ROW:,}")
+        if row.count(b"<") > GREATEST_CELLS and sum(1 for _ in cells.finditer(row)) > GREATEST_CELLS:
+            raise TableError(f"row {number} of {name} in it has more than {GREATEST_CELLS:,} cells: {SHORT_WAY_OUT}")
+        if number <= before and fault is None:  # (openpyxl would drop it)
+            fault = TableError(f"it follows row {before} in the workbook, which is damaged: save it again", row=number)
+        letters = COLUMN.findall(row)
+        if letters != sorted(letters, key=lambda column: (len(column), column)) and fault is None:  # (as well)
+            fault = TableError("its cells are not in the order of their columns: save the workbook again", row=number)
+    return fault
+
+
+def _number(text: bytes) -> int:
+    """The number of a row. What is no number is no row of a sheet, and the same as 0."""
+    return int(text) if re.fullmatch(rb"-?[0-9]{1,20}", text) else 0
+
+
+def _tag(name: bytes, xml: bytes) -> Pattern[bytes]:
+    """Finds where elements of this name begin, whatever their prefix."""
+    prefix = rb"(?:[^\s<>/:]+:)?" if b":" + name in xml else b""  # (which takes long to look for)
+    return re.compile(b"<" + prefix + name + rb"(?=[\s/>])")
+
+
+def _chosen(book: Any, name: Optional[str]) -> Tuple[Any, str]:
+    """The sheet that is meant, and a note that names it."""
     if name is not None and name not in book.sheetnames:
         raise TableError(f"there is no sheet {name}: the sheets are {', '.join(book.sheetnames)}")
     sheets = [sheet for sheet in book.worksheets if name is None or sheet.title == name]
+    if not sheets:
+        raise TableError("the workbook has no sheet with cells")
     fits = [sheet for sheet in sheets if set(NEEDED) <= set(headings(_heading(sheet)))]
     if len(fits) > 1:
         names = ", ".join(sheet.title for sheet in fits)
         raise TableError(f"several sheets have the headings: name one by --sheet: {names}")
-    if not sheets:
-        raise TableError("the workbook has no sheet with cells")
-    return _cells((fits or sheets)[0])
+    sheet = (fits or sheets)[0]
+    hidden = sheet.sheet_state != "visible"
+    if fits and hidden and name is None:
+        raise TableError(f"only the hidden sheet {sheet.title} has the headings: name it by --sheet, or show it")
+    return sheet, f"the sheet is {sheet.title}{', which is hidden' * hidden}; hidden and filtered rows are read as well"
 
 
 def _heading(sheet: Any) -> List[str]:
-    sheet.reset_dimensions()
-    return [str(value) for value in next(sheet.iter_rows(values_only=True), ()) if value is not None]
+    return [str(value) for value in next(_values(sheet), ()) if value is not None]
 
 
-def _cells(sheet: Any) -> Sheet:
-    sheet.reset_dimensions()
+def _values(sheet: Any) -> Iterator[Tuple[Any, ...]]:
+    """The rows of a sheet as openpyxl reads them. TableError is raised for what it raises."""
+    number = 0
+    try:
+        sheet.reset_dimensions()
+        sheet._shared_strings = _Strings(sheet._shared_strings)
+        for number, values in enumerate(sheet.iter_rows(values_only=True), 1):
+            yield values
+    except Exception as error:
+        raise _unreadable(error, number + 1) from error
+
+
+class _Strings(List[str]):
+    """Shared strings, of which none is counted from the end."""
+
+    def __getitem__(self, index: Any) -> Any:
+        if index < 0:
+            raise IndexError(f"shared string {index}")
+        return super().__getitem__(index)
+
+
+def _cells(sheet: Any, note: str) -> Sheet:
     rows: List[List[str]] = []
-    kinds: Dict[Tuple[int, int], str] = {}
-    for number, values in enumerate(sheet.iter_rows(values_only=True)):
-        row = []
-        for column, value in enumerate(values):
-            text, kind = _text(value)
-            row.append(text)
-            if kind:
-                kinds[number, column] = kind
-        rows.append(row)
-    return Sheet("xlsx", "", rows, kinds, (f"the sheet is {sheet.title}; hidden and filtered rows are read as well",))
+    for number, values in enumerate(_values(sheet), 1):
+        if len(values) > GREATEST_COLUMNS:
+            raise TableError(f"it has more than {GREATEST_COLUMNS} columns: {SHORT_WAY_OUT}", row=number)
+        rows.append([value if type(value) is str else _text(value) for value in values])
+    rows[:1] = [[kind_and_text(cell)[1] for cell in row] for row in rows[:1]]
+    return Sheet("xlsx", "", rows, (note, *_read_as_empty(sheet)))
 
 
-def _text(value: Any) -> Tuple[str, str]:
-    """The text of a cell, and what it is if it is no text."""
+def _read_as_empty(sheet: Any) -> Iterator[str]:
+    """Notes on cells that are read as empty, although a spreadsheet shows something in them."""
+    with sheet._get_source() as part:
+        xml = part.read()
+    cell, formula, merged = (_tag(name, xml).pattern for name in (b"c", b"f", b"mergeCell"))
+    no_value = cell + REFERENCE % b"r" + b"[^<]*" + formula + NO_VALUE
+    for places, what in (
+        (
+            re.findall(no_value, xml) if re.search(formula, xml) else [],
+            "formulas without a stored value, read as empty",
+        ),
+        (re.findall(merged + REFERENCE % b"ref", xml), "merged ranges, of which only the first cell is not empty"),
+    ):
+        if places:
+            yield f"{what}: {len(places)}, the first {places[0].decode('utf-8', 'replace')[:40]}"
+
+
+def _text(value: Any) -> str:
+    """A cell that is no text."""
     if value is None:
-        return "", ""
+        return ""
     if isinstance(value, bool):
-        return str(value).upper(), "truth value"
-    if isinstance(value, (int, float)):
+        return of_kind("truth value", str(value).upper())
+    if isinstance(value, float) and math.isfinite(value):
         exact = Decimal(repr(value))
         whole = exact == exact.to_integral_value()
-        return (str(int(exact)) if whole else f"{round(exact, PLACES).normalize():f}"), "number"
-    if isinstance(value, DATES):
-        return str(value), "date"
-    return str(value), ""
+        return of_kind("number", str(int(exact)) if whole else f"{round(exact, PLACES).normalize():f}")
+    if isinstance(value, (int, float)):
+        return of_kind("number", str(value))
+    return of_kind("date", str(value)) if isinstance(value, DATES) else str(value)

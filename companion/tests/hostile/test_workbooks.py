@@ -1,0 +1,249 @@
+"""Workbooks that would stop the machine, lose rows, or show something else than what is read."""
+
+from __future__ import annotations
+
+import random
+import sys
+import time
+import tracemalloc
+from pathlib import Path
+from typing import Any, Callable, Dict, Iterator, List
+
+import pytest
+from conftest import Run
+from telegrams import ALONE, OTHER
+
+from balisekit.errors import KitError
+from balisekit.tables import reader as tables
+
+pytest.importorskip("openpyxl")
+sys.path.insert(0, str(Path(__file__).parent))
+from workbooks import HEADING, MAIN, row, sheet, text, workbook  # noqa: E402  (the path comes first)
+
+Write = Callable[..., Path]
+GOOD = row("A", ALONE)
+SAVE = "save the table as CSV, or in a workbook of its own"
+
+
+def strings(*texts: str) -> List[Any]:
+    """The part of the shared strings."""
+    body = "".join(f"<si><t>{one}</t></si>" for one in texts)
+    return [("xl/sharedStrings.xml", "sharedStrings", f"<sst xmlns='{MAIN}'>{body}</sst>")]
+
+
+def noise(length: int) -> str:
+    """A comment that cannot be packed, so that no part is packed to a hundredth."""
+    return f"<!--{random.Random(1).getrandbits(length * 4):x}-->"
+
+
+LARGE: Dict[str, Any] = {
+    "row 50,000,000": (
+        lambda: workbook(sheet(HEADING, GOOD, row("B", OTHER, number="50000000"))),
+        "xl/worksheets/sheet1.xml in it has a row 50,000,000, and the last possible row is 1,048,576",
+    ),
+    "row 2,000,000,000 of another prefix": (
+        lambda: workbook(sheet(HEADING, GOOD, f"<x:row xmlns:x='{MAIN}' r = '2000000000'/>")),
+        "xl/worksheets/sheet1.xml in it has a row 2,000,000,000, and the last possible row is 1,048,576",
+    ),
+    "120 MB of rows": (
+        lambda: workbook(sheet(HEADING, "<row><c><v>1</v></c></row>" * 4_600_000)),
+        "xl/worksheets/sheet1.xml in it has 119,600,210 bytes unpacked, more than 100,000,000: " + SAVE,
+    ),
+    "102 MB of shared strings": (
+        lambda: workbook(sheet(HEADING, GOOD), more=strings(*["x"] * 6_000_000)),
+        "xl/sharedStrings.xml in it has 102,000,077 bytes unpacked, more than 100,000,000: " + SAVE,
+    ),
+    "10 MB of empty rows": (lambda: workbook(sheet(HEADING, GOOD, "<row/>" * 1_700_000)), "more than 100 times its"),
+    "10 MB of empty cells": (
+        lambda: workbook(sheet(HEADING, GOOD, f"<row>{'<c/>' * 2_500_000}</row>")),
+        "more than 100 times its",
+    ),
+    "empty rows beside noise": (
+        lambda: workbook(sheet(HEADING, GOOD, noise(200_000), "<row/>" * 1_700_000)),
+        "xl/worksheets/sheet1.xml in it has a row 1,048,577, and the last possible row is 1,048,576",
+    ),
+    "empty cells beside noise": (
+        lambda: workbook(sheet(HEADING, GOOD, noise(200_000), f"<row>{'<c/>' * 2_500_000}</row>")),
+        f"row 3 of xl/worksheets/sheet1.xml in it has more than 16,384 cells: {SAVE}",
+    ),
+    "shared strings beside noise": (
+        lambda: workbook(sheet(HEADING, GOOD), more=strings(noise(400_000), *["x"] * 1_100_000)),
+        f"xl/sharedStrings.xml in it has more than 1,048,576 strings: {SAVE}",
+    ),
+    "a cell XFD in each row": (
+        lambda: workbook(sheet(HEADING, GOOD, *[f"<row>{text(f'{n:x}', 'XFD1')}</row>" for n in range(20_000)])),
+        f"row 3: it has more than 200 columns: {SAVE}",
+    ),
+    "300 cells in a row": (
+        lambda: workbook(sheet(HEADING, row("A", ALONE, *["x"] * 300))),
+        f"row 2: it has more than 200 columns: {SAVE}",
+    ),
+    "a document type definition": (
+        lambda: workbook(f"<!DOCTYPE x [<!ENTITY a '{'<row/>' * 9}'>]>" + sheet(HEADING, GOOD, "&a;")),
+        f"xl/worksheets/sheet1.xml in it has a document type definition: {SAVE}",
+    ),
+}
+
+
+def refusal(path: Path) -> str:
+    """The one line that a table is refused with."""
+    with pytest.raises(KitError) as raised:
+        tables.read(str(path))
+    lines = raised.value.lines()
+    assert raised.value.status == 2 and len(lines) == 1 and "\n" not in lines[0]
+    return lines[0].replace(f"{path}: ", "")
+
+
+@pytest.mark.parametrize("name", LARGE)
+def test_workbooks_that_are_too_large(table: Write, name: str) -> None:
+    """Each is refused before it takes time or memory."""
+    make, wanted = LARGE[name]
+    path = table(content=make())
+    begin = time.process_time()
+    assert wanted in refusal(path)
+    assert time.process_time() - begin < 3
+
+
+def test_a_row_number_takes_no_memory(table: Write) -> None:
+    """Nor does openpyxl see it."""
+    path = table(content=workbook(sheet(HEADING, GOOD, row("B", OTHER, number="90000000"))))
+    tracemalloc.start()
+    refusal(path)
+    assert tracemalloc.get_traced_memory()[1] < 20_000_000
+    tracemalloc.stop()
+
+
+DISORDER = "in the workbook, which is damaged: save it again"
+
+
+@pytest.mark.parametrize(
+    "rows, wanted",
+    [
+        ([row("B", OTHER, number="1")], f"row 1: it follows row 2 {DISORDER}"),
+        ([row("B", OTHER, number="2")], f"row 2: it follows row 2 {DISORDER}"),
+        ([row("B", OTHER, number="-5")], f"row -5: it follows row 2 {DISORDER}"),
+        ([row("B", OTHER, number="x")], f"row 0: it follows row 2 {DISORDER}"),
+        ([row("B", OTHER, number="7"), row("C", OTHER, number="6")], f"row 6: it follows row 7 {DISORDER}"),
+        (
+            [f"<row>{text(OTHER, 'B3')}{text('B', 'A3')}</row>"],
+            "row 3: its cells are not in the order of their columns",
+        ),
+        (["<row><c t='s'><v>-1</v></c></row>"], "row 3: openpyxl cannot read it (IndexError: shared string -1): "),
+    ],
+)
+def test_rows_that_would_be_lost(table: Write, rows: List[str], wanted: str) -> None:
+    """openpyxl passes over rows whose numbers do not rise, and counts strings from the end."""
+    assert refusal(table(content=workbook(sheet(HEADING, GOOD, *rows), more=strings("S")))).startswith(wanted)
+
+
+def test_disorder_in_another_sheet(table: Write) -> None:
+    """Only the sheet that is read has to be in order, and narrow."""
+    other = sheet(row("x", number="2"), row("y", number="1"), row(*"x" * 300))
+    assert len(tables.read(str(table(content=workbook(other, sheet(HEADING, GOOD))))).rows) == 1
+
+
+KM = "<row>" + "".join(map(text, ["group", "telegram", "km"])) + "</row>"
+
+
+def cell(body: str, place: str = "C2") -> str:
+    """A row whose third cell has this body."""
+    return f"<row>{text('A')}{text(ALONE)}<c r='{place}'>{body}</c></row>"
+
+
+@pytest.mark.parametrize(
+    "rows, behind, notes",
+    [
+        ([cell("<f>A1</f>")], "", ["formulas without a stored value, read as empty: 1, the first C2"]),
+        ([cell("<f>A1</f><v/>")], "", ["formulas without a stored value, read as empty: 1, the first C2"]),
+        (
+            [cell("<f t='x'/><v></v>"), cell("<f>1</f>", "C3")],
+            "",
+            ["formulas without a stored value, read as empty: 2, the first C2"],
+        ),
+        ([cell("<f>A1</f><v>7</v>")], "", []),
+        ([cell("<v>7</v>"), cell("<f>C2</f><v>7</v>", "C3")], "", []),
+        (
+            [cell("<v>7</v>"), cell("", "C3")],
+            "<mergeCells count='2'><mergeCell ref='C2:C3'/><mergeCell ref='D1:E1'/></mergeCells>",
+            ["merged ranges, of which only the first cell is not empty: 2, the first C2:C3"],
+        ),
+    ],
+)
+def test_cells_that_are_read_as_empty(table: Write, rows: List[str], behind: str, notes: List[str]) -> None:
+    """Formulas that nobody has worked out, as pandas writes them, and merged cells."""
+    read = tables.read(str(table(content=workbook(sheet(KM, *rows, behind=behind)))))
+    assert read.notes == ("the sheet is S1; hidden and filtered rows are read as well", *notes)
+
+
+@pytest.mark.parametrize("state", ["hidden", "veryHidden"])
+def test_hidden_sheets(table: Write, state: str) -> None:
+    """A sheet that nobody sees is read only if it is named, and a note says that it is hidden."""
+    path = table(content=workbook(sheet(row("x")), sheet(HEADING, GOOD), states=["visible", state]))
+    assert refusal(path) == "only the hidden sheet S2 has the headings: name it by --sheet, or show it"
+    assert tables.read(str(path), "S2").notes == (
+        "the sheet is S2, which is hidden; hidden and filtered rows are read as well",
+    )
+
+
+def encrypted(content: bytes) -> bytes:
+    """The workbook with a flag in all headers that says that its parts have a password."""
+    out = bytearray(content)
+    for begin, flag in ((b"PK\x03\x04", 6), (b"PK\x01\x02", 8)):
+        at = content.find(begin)
+        while at >= 0:
+            out[at + flag] |= 1
+            at = content.find(begin, at + 1)
+    return bytes(out)
+
+
+def texts() -> Iterator[Any]:
+    """Workbooks that cannot be read, and the cause that is named."""
+    good = workbook(sheet(HEADING, GOOD))
+    yield good[:700], "it is cut short or damaged (File is not a zip file): copy it again, or save it as CSV"
+    yield good[:600] + b"x" * 9 + good[609:], "it is cut short or damaged ("
+    yield b"PK\x05\x06" + bytes(18), "it is no .xlsx, but an .ods or another zip: save it as .xlsx or CSV"
+    yield encrypted(good), "[Content_Types].xml in it is encrypted: save it without a password, or as CSV"
+    yield workbook(), "the workbook has no sheet with cells"
+    yield workbook(sheet(KM, cell("<v>1e309</v>"))), "row 2, column km: inf is no kilometre: "
+    yield workbook(sheet(KM, cell("<v>x</v>"))), "row 2: openpyxl cannot read it (ValueError: invalid literal for int()"
+    yield workbook(sheet(KM, "<row><c r='A'><v>x</v>")), "openpyxl cannot read it (ParseError: "
+    yield workbook(
+        sheet(HEADING, GOOD).replace("<sheetData>", "<sheetData>\0")
+    ), "openpyxl cannot read it (ParseError: "
+    yield workbook(sheet(HEADING, GOOD).encode("utf-16")), f"xl/worksheets/sheet1.xml in it is not UTF-8: {SAVE}"
+
+
+TEXTS = [*texts()]
+
+
+@pytest.mark.parametrize("content, wanted", TEXTS, ids=[wanted for _, wanted in TEXTS])
+def test_texts(table: Write, content: bytes, wanted: str) -> None:
+    """The cause is named, with row and column if they are known."""
+    assert refusal(table(content=content)).startswith(wanted)
+
+
+@pytest.mark.parametrize(
+    "name, words",
+    [("openpyxl", ["check"]), ("jinja2", ["report", "--html", "-"]), ("jinja2", ["draw", "--group", "A"])],
+)
+def test_broken_packages(
+    name: str, words: List[str], run: Run, table: Write, tmp_path: Path, monkeypatch: pytest.MonkeyPatch
+) -> None:
+    """A package that fails to load is named with the interpreter, and a command that installs it."""
+    book, csv = table(content=workbook(sheet(HEADING, GOOD))), table("group,telegram", f"A,{ALONE}", name="t.csv")
+    (tmp_path / f"{name}.py").write_text("def (")
+    for module in [module for module in sys.modules if module.split(".")[0] == name]:
+        monkeypatch.delitem(sys.modules, module)
+    monkeypatch.syspath_prepend(tmp_path)
+    status, out, err = run(words[0], book if name == "openpyxl" else csv, *words[1:])
+    assert (status, out, len(err)) == (3, [], 1)
+    assert f"needs {name}, which {sys.executable} cannot import (SyntaxError: invalid syntax" in err[0]
+    assert f"apt install python3-{name}" in err[0] and f"{sys.executable} -m pip install {name}" in err[0]
+
+
+def test_mistakes_of_balisekit_are_not_blamed_on_the_workbook(table: Write, monkeypatch: pytest.MonkeyPatch) -> None:
+    """What balisekit itself does wrong stays an error of its own."""
+    path = table(content=workbook(sheet(KM, cell("<v>7</v>"))))
+    monkeypatch.setattr("balisekit.tables.xlsx._text", lambda value: 1 / 0)
+    with pytest.raises(ZeroDivisionError):
+        tables.read(str(path))
