@@ -5,7 +5,6 @@ import html
 import json
 import os
 import subprocess
-import sys
 from importlib.util import find_spec
 from pathlib import Path
 from typing import Callable, List

@@ -5,7 +5,6 @@ import json
 import os
 import signal
 import subprocess
-import sys
 import time
 from dataclasses import replace
 from pathlib import Path
@@ -230,7 +229,7 @@ def impatient(monkeypatch: pytest.MonkeyPatch) -> None:
     """Limits of a second in place of those of a minute."""
     monkeypatch.setattr("balisekit.engine.program.HANDSHAKE_LIMIT", Limit(1, process.HANDSHAKE_LIMIT.size))
     monkeypatch.setattr(process, "LEAST_SECONDS", 1)
-    monkeypatch.setattr(process, "AFTER_END", 0.3)
+    monkeypatch.setattr(process, "PAUSE", 0.3)
 
 
 @pytest.mark.parametrize("command", ["check {t}", "show {t}", "check {t} --messages {m}", "show --messages {m}"])
@@ -276,7 +275,7 @@ def test_a_signal_ends_the_program(number: signal.Signals, command: str, tmp_pat
     path = table("group,telegram", f"A,{ALONE}")
     words = [word.format(t=path, out=tmp_path / "out") for word in command.split()]
     run = subprocess.Popen(
-        [sys.executable, str(TOP / "balisekit"), *words, "--program", str(program)],
+        [str(TOP / "balisekit"), *words, "--program", str(program)],
         stderr=subprocess.PIPE,
         preexec_fn=lambda: signal.signal(signal.SIGINT, signal.SIG_DFL) and None,
     )
@@ -330,6 +329,14 @@ def test_only_waiting_counts(program: Program) -> None:
         if lines % 1000 == 0:
             time.sleep(0.3)
     assert lines == 3000
+
+
+def test_a_stopped_balisekit_does_not_count(tmp_path: Path) -> None:
+    """A terminal may stop balisekit for an hour, and the program goes on."""
+    path = fake(tmp_path / "fake", "")
+    with open(path, "rb") as nothing, process.Run(str(path), ["check"], nothing, Limit(10)) as run:
+        run._count(time.monotonic() - 3600)
+        assert list(run.lines()) == [] and run.status == 0
 
 
 def test_a_program_that_trickles(tmp_path: Path) -> None:

@@ -17,8 +17,8 @@ BYTES_A_SECOND = 100_000
 GREATEST_LINE = 4 * 1024 * 1024
 GREATEST_ERRORS = 64 * 1024
 """How many bytes of standard error are read."""
-AFTER_END = 1.0
-"""For how many seconds the output stays open after the program has ended, if another process holds it."""
+PAUSE = 1.0
+"""balisekit waits for so many seconds at a time. A process that has ended may leave its output open for as long."""
 DEFAULT_SIGNALS = (signal.SIGPIPE, signal.SIGXFSZ)
 """Signals that Python ignores, and its children must not."""
 
@@ -128,7 +128,7 @@ class Run:
     def _ready(self, poll: select.poll) -> List[int]:
         """The pipes that have something, or have ended."""
         begin = time.monotonic()
-        events = poll.poll(1000 * min(AFTER_END, max(self._limit.seconds - self._waited, 0)))
+        events = poll.poll(1000 * min(PAUSE, max(self._limit.seconds - self._waited, 0)))
         if not events and os.waitid(os.P_PID, self._pid, os.WEXITED | os.WNOHANG | os.WNOWAIT):
             raise self.no_answer("it has ended, and another process keeps its output open")
         self._count(begin)
@@ -148,7 +148,7 @@ class Run:
     def _count(self, begin: float) -> float:
         """Counts the time since then as time in which balisekit waited. The answer is the time now."""
         now = time.monotonic()
-        self._waited += now - begin
+        self._waited += min(now - begin, PAUSE)  # (more, if balisekit itself was stopped)
         if self._waited >= self._limit.seconds:
             raise self.no_answer(f"it has not ended within {self._limit.seconds:g} s{self._limit.hint}")
         if self._limit.stop.is_set():

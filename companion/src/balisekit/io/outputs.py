@@ -163,6 +163,10 @@ def placing(outputs: Sequence[Output], force: bool) -> Iterator[None]:
         raise
 
 
+encode = json.JSONEncoder(ensure_ascii=False, separators=(",", ":")).encode
+"""The JSON of a value, by Python's encoder in C, which serves only without `indent`."""
+
+
 class Json(str):
     """A text that is JSON already. `write_json` copies it."""
 
@@ -173,22 +177,20 @@ def write_json(output: Output, members: Mapping[str, object]) -> None:
 
 
 def _json_pieces(members: Mapping[str, object]) -> Iterator[str]:
-    # Python's encoder in C serves only without `indent`.
-    encoder = json.JSONEncoder(ensure_ascii=False, separators=(",", ":"))
-
-    def encoded(value: object) -> str:
-        return value if isinstance(value, Json) else encoder.encode(value)
-
     opening = "{"
     for name, value in members.items():
-        yield f"{opening}\n{encoder.encode(name)}: "
+        yield f"{opening}\n{encode(name)}: "
         opening = ","
         if not isinstance(value, (list, tuple, Iterator)):
-            yield encoded(value)
+            yield _copied(value)
             continue
         start = "["
         for element in value:
-            yield f"{start}\n{encoded(element)}"
+            yield f"{start}\n{_copied(element)}"
             start = ","
         yield "[]" if start == "[" else "\n]"
     yield "\n}\n"
+
+
+def _copied(value: object) -> str:
+    return value if isinstance(value, Json) else encode(value)
