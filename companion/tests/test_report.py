@@ -263,7 +263,8 @@ def test_without_jinja2(
     assert cli.main(["draw", str(LINE), "--group", "Signal A", "--svg", str(tmp_path / "a.svg")]) == 3
     assert cli.main(["report", str(LINE), "--html", str(tmp_path / "r.html")]) == 3
     lines = capsys.readouterr().err.splitlines()
-    assert len(lines) == 2 and all(line.startswith("balisekit: a picture or a page needs jinja2, which ") for line in lines)
+    said = "balisekit: a picture or a page needs jinja2, which "
+    assert len(lines) == 2 and all(line.startswith(said) for line in lines)
     assert all(f"{sys.executable} -m pip install jinja2" in line for line in lines)
     assert not os.listdir(tmp_path)
 
