@@ -80,7 +80,7 @@ def test_a_case_for_each_group_and_message(run: Run, table: Write, tmp_path: Pat
     assert whole["D"].message == "left out: refused: row 5" and "M_DUP is 3" in whole["D"].text
     assert whole["row 3"].message == "unused: no finding is as it says"
     said = (tmp_path / "out.xml").read_text("utf-8")
-    assert "presented by balisekit, which is not proved" in said and "INCOMPLETE: " in said
+    assert "balisekit is not proved; the program's own lines" in said and "INCOMPLETE: " in said
 
 
 def test_a_yes(run: Run, table: Write, tmp_path: Path) -> None:

@@ -113,7 +113,7 @@ def test_the_last_line_counts_by_rules(run: Run, table: Write) -> None:
 def test_the_line_without_fault_is_silent(run: Run) -> None:
     status, out, _ = run("links", FOLDER / "line.csv")
     assert status == 0 and out[1:] == [
-        "L1 to L9 are rules of balisekit, which is not proved: they compare what the program has decoded",
+        "L1 to L9 are rules of balisekit; balisekit is not proved; the program's own lines are quoted in full",
         f"links: none found of L1 to L9 in 4 groups; compared: {COMPARED}",
     ]
     assert run("check", FOLDER / "line.csv")[1][-1] == "program: yes: groups 4, messages 0"

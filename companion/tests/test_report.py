@@ -85,7 +85,7 @@ def test_the_page_has_all_that_was_said(tmp_path: Path, capsys: pytest.CaptureFi
     for line in said[1:]:
         assert line.strip().replace("program: ", "").replace("left out: ", "") in text, line
     assert hashlib.sha256(LINE.read_bytes()).hexdigest() in text
-    assert text.count("presented by balisekit, which is not proved; the program's own lines are quoted in full") == 1
+    assert text.count("balisekit is not proved; the program's own lines are quoted in full") == 1
     ids = [attributes["id"] for _, attributes in seen.tags if "id" in attributes]
     links = {(attributes["href"] or "")[1:] for tag, attributes in seen.tags if tag == "a"}
     assert len(ids) == len(set(ids)) and links <= set(ids) and len(links) > 3
@@ -138,8 +138,8 @@ def _between(page: str, begin: str, end: str) -> str:
     return page[page.index(f"<h2>{begin}</h2>") : page.index(f"<h2>{end}</h2>")]
 
 
-def _entries() -> Tuple[List[Dict[str, str]], Dict[str, str]]:
-    """Entries for four findings of the example, and for its last one."""
+def _entries_of_the_line() -> List[Dict[str, str]]:
+    """Entries for all findings of the example table."""
     stop, infill = {"nid_bg": "103", "aspect": "red", "direction": "nominal"}, {"nid_bg": "201", "rule": "F9"}
     texts = [line.rsplit(",", 1)[1] for line in LINE.read_text("utf-8").splitlines()]
     red, green = digest(texts[9:11]), digest([texts[19], texts[22]])
@@ -150,7 +150,7 @@ def _entries() -> Tuple[List[Dict[str, str]], Dict[str, str]]:
         {**infill, "aspect": "*", "balise": "0", "packet": "0", "until": "2999-01-01", "sha256": both},
     ]
     last = {"nid_bg": "105", "rule": "F11", "aspect": "*", "balise": "1", "packet": "1", "direction": "nominal"}
-    return rows, {**last, "sha256": green}
+    return [*rows, {**last, "sha256": green}]
 
 
 def test_accepted_findings_stand_apart(tmp_path: Path, capsys: pytest.CaptureFixture[str]) -> None:
@@ -158,7 +158,7 @@ def test_accepted_findings_stand_apart(tmp_path: Path, capsys: pytest.CaptureFix
     table = tmp_path / "line.csv"
     with open(LINE, encoding="utf-8") as file:
         table.write_text("".join(line for line in file if not line.startswith("Signal F")), "utf-8")
-    rows, last = _entries()
+    *rows, last = _entries_of_the_line()
     for some, counts, status in (
         (rows, "accepted 4 (2 by *), open 1", 1),
         ([*rows, last], "accepted 5 (3 by *), open 0", 0),
@@ -263,9 +263,8 @@ def test_without_jinja2(
     assert cli.main(["draw", str(LINE), "--group", "Signal A", "--svg", str(tmp_path / "a.svg")]) == 3
     assert cli.main(["report", str(LINE), "--html", str(tmp_path / "r.html")]) == 3
     lines = capsys.readouterr().err.splitlines()
-    assert len(lines) == 2 and all(
-        line.startswith("balisekit: a picture or a page needs jinja2, which ") for line in lines
-    )
+    said = "balisekit: a picture or a page needs jinja2, which "
+    assert len(lines) == 2 and all(line.startswith(said) for line in lines)
     assert all(f"{sys.executable} -m pip install jinja2" in line for line in lines)
     assert not os.listdir(tmp_path)
 

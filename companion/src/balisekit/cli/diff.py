@@ -14,7 +14,7 @@ from balisekit.io import clock, inputs
 from balisekit.io.inputs import Input
 from balisekit.io.outputs import Output, write_json
 from balisekit.present.check_text import finding_words
-from balisekit.present.diff_text import NOT_PROVED, as_json, last_line, lines, not_compared, verdict, where
+from balisekit.present.diff_text import ABOUT, as_json, last_line, lines, not_compared, verdict, where
 from balisekit.present.pages import pieces
 from balisekit.rules import checking
 from balisekit.rules.checking import Checked
@@ -107,7 +107,7 @@ def _page(output: Output, found: Difference, now: datetime) -> None:
         refused=refused,
         last_line=last_line(found),
         where=where,
-        not_proved=NOT_PROVED,
+        not_proved=ABOUT,
         program=found.new.checked.program,
     )
     output.write(page)

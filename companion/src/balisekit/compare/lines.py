@@ -30,7 +30,7 @@ from balisekit.etcs.variables import Form
 from balisekit.rules.checking import Checked, Place, findings_of
 from balisekit.tables.grouping import EVERY
 from balisekit.tables.model import Group, Message, Row, Table
-from balisekit.tables.names import clean, quoted
+from balisekit.tables.names import clean, describe_identity, quoted
 
 Thing = TypeVar("Thing")
 Pairs = List[Tuple[Thing, Thing]]
@@ -77,7 +77,7 @@ class Side:
     def describe(self, group: Group, aspect: str = "", row: Optional[Row] = None) -> str:
         """A group, an aspect or a balise by its names."""
         identity = self.identity(group)
-        named = f"  (group {identity[0]} of country or region {identity[1]})" if identity else ""
+        named = f"  ({describe_identity((identity[1], identity[0]))})" if identity else ""
         parts = [clean(group.name) + named]
         parts += ["every aspect"] if aspect == EVERY else [f"aspect {quoted(aspect)}"] if aspect else []
         parts += [f"position {self.head(row)[0]}" + (f" {quoted(row.name)}" if row.name else "")] if row else []

@@ -4,12 +4,13 @@ from __future__ import annotations
 from typing import Any, Dict, Iterator, List
 
 from balisekit.compare.lines import Changed, Difference
+from balisekit.present import NOT_PROVED
 from balisekit.present.check_text import finding_words
 from balisekit.present.refusals import not_looked_at, refused_lines
 from balisekit.rules.checking import Checked
 from balisekit.tables.names import clean
 
-NOT_PROVED = "pairs and differences are found by balisekit, which is not proved; the program's own lines are quoted"
+ABOUT = f"pairs and differences are found by balisekit; {NOT_PROVED}"
 
 
 def lines(found: Difference) -> Iterator[str]:
@@ -17,7 +18,7 @@ def lines(found: Difference) -> Iterator[str]:
     for word, side in (("old", found.old), ("new", found.new)):
         table = side.checked.table
         yield f"{word}: {clean(table.path)}: {len(table.rows)} telegrams of {len(table.groups)} groups"
-    yield NOT_PROVED
+    yield ABOUT
     yield from (f"note: {note}" for note in found.notes)
     yield from not_compared(found)
     for word, some in (("removed", found.groups_removed), ("added", found.groups_added)):
@@ -64,7 +65,7 @@ def as_json(found: Difference) -> Dict[str, Any]:
     return {
         "status": found.status,
         "last_line": last_line(found),
-        "not_proved": NOT_PROVED,
+        "not_proved": ABOUT,
         **{
             word: {
                 "path": side.checked.table.path,

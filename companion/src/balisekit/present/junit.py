@@ -8,13 +8,13 @@ import xml.etree.ElementTree as ElementTree
 from collections import Counter
 from typing import Dict, Iterator, List, NamedTuple, Optional, Sequence, Tuple
 
+from balisekit.present import NOT_PROVED
 from balisekit.present.accepted import accepted_words
 from balisekit.present.refusals import message_refused, refused
 from balisekit.rules.accepted import Entry, Judged
 from balisekit.rules.checking import Checked, Place
 from balisekit.tables.names import clean, describe_message
 
-NOT_PROVED = "presented by balisekit, which is not proved; the program's own lines are quoted in full"
 Findings = List[Tuple[str, Place, Optional[Entry]]]
 """Findings of one group or message: in words, and the entry that accepts each."""
 

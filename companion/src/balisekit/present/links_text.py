@@ -3,14 +3,14 @@ from __future__ import annotations
 
 from typing import Any, Dict, Iterator
 
-from balisekit.present import explanations as explain
+from balisekit.present import NOT_PROVED, explanations as explain
 from balisekit.present.refusals import not_looked_at, refused_lines
 from balisekit.rules.checking import Checked
 from balisekit.rules.links import Links
 from balisekit.rules.rule import Remark, Result, Rule
 from balisekit.tables.names import clean, passed_over
 
-NOT_PROVED = "L1 to L9 are rules of balisekit, which is not proved: they compare what the program has decoded"
+ABOUT = f"L1 to L9 are rules of balisekit; {NOT_PROVED}"
 
 
 def status_of(checked: Checked, links: Links) -> int:
@@ -25,7 +25,7 @@ def lines(checked: Checked, links: Links, explained: bool = False) -> Iterator[s
     table = checked.table
     yield f"{clean(table.path)}: {len(table.rows)} telegrams of {len(table.groups)} groups"
     yield from passed_over(table)
-    yield NOT_PROVED
+    yield ABOUT
     yield from (f"note: {clean(note)}" for note in (*table.notes, *links.notes))
     yield from refused_lines(checked)
     yield from map(_words, links.remarks)
@@ -79,7 +79,7 @@ def as_json(checked: Checked, links: Links, status: int) -> Dict[str, Any]:
     return {
         "status": status,
         "last_line": last_line(checked, links),
-        "not_proved": NOT_PROVED,
+        "not_proved": ABOUT,
         "program": {"path": checked.program.path, "sha256": checked.program.sha256},
         "table": {"path": table.path, "sha256": table.sha256, "passed_over": list(table.passed_over)},
         "counts": {

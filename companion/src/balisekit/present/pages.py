@@ -10,7 +10,6 @@ from typing import Any, Iterator, List, Sequence, Tuple
 
 from balisekit.io.packages import needed
 
-NEEDS = "a picture or a page"
 PIECES = 100
 """So many pieces of a page become one."""
 TEMPLATES = Path(__file__).with_name("templates")
@@ -18,7 +17,7 @@ TEMPLATES = Path(__file__).with_name("templates")
 
 def pieces(template: str, styles: Sequence[str], **values: Any) -> Iterator[str]:
     """The page in pieces, so that it never stands in memory whole. All values but its style sheets are escaped."""
-    with needed("jinja2", NEEDS):
+    with needed("jinja2", "a picture or a page"):
         from jinja2 import Environment, FileSystemLoader, StrictUndefined
         from markupsafe import Markup
 

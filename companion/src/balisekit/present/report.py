@@ -13,6 +13,7 @@ from balisekit.etcs.geometry import kilometre
 from balisekit.etcs.places import Identities, places_of_rows
 from balisekit.etcs.variables import Form
 from balisekit.io import clock
+from balisekit.present import NOT_PROVED
 from balisekit.present.accepted import accepted_words, fault_lines, verdict_lines
 from balisekit.present.check_text import finding_words, last_line
 from balisekit.present.headings import headings
@@ -78,6 +79,7 @@ def cover(checked: Checked, judged: Optional[Judged], now: datetime) -> Dict[str
         "inputs": list(_inputs(checked, judged)),
         "program": about,
         "version": __version__,
+        "not_proved": NOT_PROVED,
         "verdict": list(verdict_lines(judged, verdict)) if judged else [verdict],
         "at_fault": list(fault_lines(judged)) if judged else [],
         "refused": list(refused(checked)),

@@ -76,11 +76,6 @@ class Location(NamedTuple):
         return "  ".join([*parts, *([] if self.link is None else [f"link {self.link}"])])
 
 
-def identity_words(identity: Identity) -> str:
-    """An identity in words."""
-    return f"group {identity[1]} of country or region {identity[0]}"
-
-
 def incomparable(one: Optional[BaliseGroup], other: Optional[BaliseGroup]) -> str:
     """Why the kilometres of two groups cannot be compared, or nothing."""
     if one is None or other is None:

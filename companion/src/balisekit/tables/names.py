@@ -38,8 +38,7 @@ def passed_over(table: Table) -> List[str]:
         clean(name) + (f" (did you mean {quoted(meant)}?)" if meant else "")
         for name, meant in zip(table.passed_over[:NAMED], table.meant)
     ]
-    more = len(table.passed_over) - NAMED
-    return [f"columns passed over: {', '.join(names)}{f' and {more} more' if more > 0 else ''}"] if names else []
+    return [f"columns passed over: {listed(names, NAMED, len(table.passed_over))}"] if names else []
 
 
 def kilometre(km: Decimal) -> str:

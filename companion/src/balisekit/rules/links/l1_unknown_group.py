@@ -20,8 +20,8 @@ Example. The reverse link of group B names group 5, and the table has no group 5
 from __future__ import annotations
 
 from balisekit.rules.line import Line
-from balisekit.rules.location import identity_words
 from balisekit.rules.rule import Options, Remark, Result, Rule
+from balisekit.tables.names import describe_identity
 
 
 def find(line: Line, options: Options) -> Result:
@@ -31,7 +31,7 @@ def find(line: Line, options: Options) -> Result:
         Remark(
             "L1",
             chain.at(link),
-            f"{identity_words(link.identity)} is linked, and no group of the table has that identity",
+            f"{describe_identity(link.identity)} is linked, and no group of the table has that identity",
         )
         for chain, link in links
         if link.target is None

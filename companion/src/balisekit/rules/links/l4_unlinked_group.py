@@ -23,7 +23,7 @@ from balisekit.rules.line import AFTER_INFILL, Line
 from balisekit.rules.location import BaliseGroup, Location
 from balisekit.rules.passages import Chain
 from balisekit.rules.rule import Options, Remark, Result, Rule
-from balisekit.tables.names import clean, describe_message
+from balisekit.tables.names import clean, describe_message, listed
 
 NAMED = 3
 
@@ -43,8 +43,7 @@ def find(line: Line, options: Options) -> Result:
 
 
 def _remark(group: BaliseGroup, names: List[str]) -> Remark:
-    more = f" and {len(names) - NAMED} more" if len(names) > NAMED else ""
-    sentence = f"its Q_LINK is 0, and it is linked by {', '.join(names[:NAMED])}{more}"
+    sentence = f"its Q_LINK is 0, and it is linked by {listed(names, NAMED)}"
     return Remark("L4", Location(group), sentence, group)
 
 

@@ -27,6 +27,7 @@ from typing import Counter as Counted
 from balisekit.rules.line import Line
 from balisekit.rules.location import incomparable
 from balisekit.rules.rule import Options, Remark, Result, Rule
+from balisekit.tables.names import listed
 
 
 def find(line: Line, options: Options) -> Result:
@@ -43,10 +44,10 @@ def find(line: Line, options: Options) -> Result:
             looked_at += 1
             groups, count = line.linked[before.track].between(before, after, chain)
             if groups:
-                more = f" and {count - len(groups)} more" if count > len(groups) else ""
                 words = ("has", "stands", "is", "it") if count == 1 else ("have", "stand", "are", "them")
+                names = listed(list(map(str, groups)), len(groups), count)
                 sentence = (
-                    f"{', '.join(map(str, groups))}{more} {words[0]} Q_LINK 1 and {words[1]} between {before} and "
+                    f"{names} {words[0]} Q_LINK 1 and {words[1]} between {before} and "
                     f"{after}, and {words[2]} not linked: a train that uses linking passes {words[3]} over"
                 )
                 found.append(Remark("L9", chain.location, sentence, groups[0]))
