@@ -249,6 +249,10 @@ FLOODS = [
     ("yes >&2", ""),
     ("", "yes 'F6 group 0 balise 0: counter 254'"),
     ("", "echo 'no: findings 999999999999'; yes 'F6 group 0 balise 0: counter 254'"),
+    (
+        "",
+        'echo "no: findings 999999999999"; i=0; while :; do echo "F14 group $i: identity used before"; i=$((i + 1)); done',
+    ),
     ("", "yes garbage"),
     ("", "yes '{}'"),
     ("", "cat /dev/zero"),
