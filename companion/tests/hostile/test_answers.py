@@ -251,7 +251,8 @@ FLOODS = [
     ("", "echo 'no: findings 999999999999'; yes 'F6 group 0 balise 0: counter 254'"),
     (
         "",
-        'echo "no: findings 999999999999"; i=0; while :; do echo "F14 group $i: identity used before"; i=$((i + 1)); done',
+        "echo 'no: findings 999999999999'; i=0; "
+        ' while :; do echo "F14 group $i: identity used before"; i=$((i + 1)); done',
     ),
     ("", "yes garbage"),
     ("", "yes '{}'"),
