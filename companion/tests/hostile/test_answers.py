@@ -249,6 +249,11 @@ FLOODS = [
     ("yes >&2", ""),
     ("", "yes 'F6 group 0 balise 0: counter 254'"),
     ("", "echo 'no: findings 999999999999'; yes 'F6 group 0 balise 0: counter 254'"),
+    (
+        "",
+        "echo 'no: findings 999999999999'; i=0; "
+        ' while :; do echo "F14 group $i: identity used before"; i=$((i + 1)); done',
+    ),
     ("", "yes garbage"),
     ("", "yes '{}'"),
     ("", "cat /dev/zero"),
@@ -285,7 +290,11 @@ def test_a_signal_ends_the_program(number: signal.Signals, command: str, tmp_pat
     run.send_signal(number)
     _, errors = run.communicate(timeout=60)
     assert errors.startswith(b"balisekit: ") and errors.count(b"\n") == 1 and run.returncode > 2
-    assert not any(map(is_running, (tmp_path / "pids").read_text().split())) and not (tmp_path / "out").exists()
+    pids = (tmp_path / "pids").read_text().split()
+    until = time.monotonic() + 10  # (those that are killed need a moment, and "sleep" takes a minute)
+    while any(map(is_running, pids)) and time.monotonic() < until:
+        time.sleep(0.01)
+    assert not any(map(is_running, pids)) and not (tmp_path / "out").exists()
 
 
 def is_running(pid: str) -> bool:

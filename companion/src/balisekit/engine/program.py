@@ -247,6 +247,8 @@ class Program:
             first = next(lines, "")
             verdict, refusal = grammar.verdict(first), grammar.refusal("check", first)
             count = verdict.findings if verdict else 0
+            if count > size:  # (a packet has 14 bits at least, and a telegram more digits than findings)
+                raise run.no_answer(f"more findings than the document has bytes: {first}")
             findings: Dict[str, Finding] = {}
             for line in lines:
                 finding = grammar.finding(line)
