@@ -6,15 +6,19 @@ that grew shows its new item, and not all that moved.
 from __future__ import annotations
 
 from dataclasses import dataclass
-from typing import Any, Callable, Dict, Iterator, List, Optional, Sequence, Tuple, TypeVar
+from typing import Any, Callable, Dict, Iterator, List, Optional, Sequence, Tuple
 
 from balisekit.etcs.packets import packet_name
-from balisekit.etcs.variables import DIRECTIONS, LABELS, ORDER, Around, Values, said, value_words, variable_name
+from balisekit.etcs.variables import DIRECTIONS, LABELS, Around, Form, in_order, value_texts, value_words, variable_name
 
-Item = TypeVar("Item")
 Pair = Tuple[Optional[int], Optional[int]]
 """Places in the old list and in the new one. One of them may be None."""
 CHANGED, ADDED, REMOVED, MOVED = "changed", "added", "removed", "moved"
+PACKET_KEYS: Sequence[Callable[[Form], object]] = (
+    lambda packet: (packet["nid_packet"], packet.get("q_dir")),
+    lambda packet: packet["nid_packet"],
+)
+"""By what packets are paired, and then those that are left."""
 
 
 @dataclass(frozen=True)
@@ -40,65 +44,48 @@ class Change:
 
 def differences(old: Values, new: Values) -> List[Change]:
     """All that differs between two forms."""
-    track = (old.get("nid_message") != 136, new.get("nid_message") != 136)
-    found = list(_object("", old, new, Around(from_track=track[0]), Around(from_track=track[1])))
+    before, after = (Around(from_track=form.get("nid_message") != 136) for form in (old, new))
+    changes = list(_object("", old, new, before, after))
     pairs = _packet_pairs(old["packets"], new["packets"])
-    for before, after in pairs:
-        found += _packet(old["packets"], new["packets"], before, after, track)
-    both = [
-        after
-        for before, after in sorted(pairs, key=lambda one: -1 if one[0] is None else one[0])
-        if before is not None and after is not None
-    ]
-    if both != sorted(both):
-        found.append(Change(MOVED, ""))
-    return found
+    for one, other in pairs:
+        if one is None and other is not None:
+            changes.append(_packet_alone(ADDED, f"packet {other}", new["packets"][other], after))
+        elif other is None and one is not None:
+            changes.append(_packet_alone(REMOVED, f"packet {one} of the old one", old["packets"][one], before))
+        elif one is not None and other is not None:
+            packet = new["packets"][other]
+            names = [packet_name(packet["nid_packet"], after.from_track), DIRECTIONS.get(packet.get("q_dir", -1), "")]
+            label = f"packet {other} ({', '.join(filter(None, names))})"
+            changes += _object(label, old["packets"][one], packet, before, after)
+    both = [other for _, other in sorted((one, other) for one, other in pairs if one is not None and other is not None)]
+    return [*changes, Change(MOVED, "")] if both != sorted(both) else changes
+
+
+def _packet_alone(kind: str, place: str, packet: Form, around: Around) -> Change:
+    return _part(f"{place} ({packet_name(packet['nid_packet'], around.from_track)})", kind, packet, around)
 
 
 def _packet_pairs(old: Sequence[Values], new: Sequence[Values]) -> List[Pair]:
     """Packets of one number and direction in their order, and then those that are left by their number alone."""
     pairs: List[Pair] = []
-    keys: Sequence[Callable[[Values], Any]] = (
-        lambda one: (one["nid_packet"], one.get("q_dir")),
-        lambda one: one["nid_packet"],
-    )
-    left: Tuple[List[int], List[int]] = (list(range(len(old))), list(range(len(new))))
-    for key in keys:
-        for value in dict.fromkeys([*(key(old[one]) for one in left[0]), *(key(new[one]) for one in left[1])]):
-            some = (
-                [one for one in left[0] if key(old[one]) == value],
-                [one for one in left[1] if key(new[one]) == value],
-            )
-            for before, after in align([old[one] for one in some[0]], [new[one] for one in some[1]]):
-                if before is not None and after is not None:
-                    pairs.append((some[0][before], some[1][after]))
-        left = (
-            [one for one in left[0] if one not in {pair[0] for pair in pairs}],
-            [one for one in left[1] if one not in {pair[1] for pair in pairs}],
-        )
-    rest: List[Pair] = [*((one, None) for one in left[0]), *((None, one) for one in left[1])]
-    return sorted([*pairs, *rest], key=lambda one: (one[1] is None, one[1] or 0, one[0] or 0))
-
-
-def _packet(
-    old: Sequence[Values], new: Sequence[Values], before: Optional[int], after: Optional[int], track: Tuple[bool, bool]
-) -> Iterator[Change]:
-    if before is None or after is None:
-        alone, from_track = (new[after or 0], track[1]) if before is None else (old[before], track[0])
-        place = f"packet {after}" if before is None else f"packet {before} of the old one"
-        name = f"{place} ({packet_name(alone['nid_packet'], from_track)})"
-        yield _part(name, ADDED if before is None else REMOVED, alone, Around(from_track=from_track))
-        return
-    one, other = old[before], new[after]
-    way = DIRECTIONS.get(other.get("q_dir", -1), "")
-    label = f"packet {after} ({packet_name(other['nid_packet'], track[1])}{', ' if way else ''}{way})"
-    yield from _object(label, one, other, Around(from_track=track[0]), Around(from_track=track[1]))
+    gone, come = list(range(len(old))), list(range(len(new)))
+    for key in PACKET_KEYS:
+        for value in dict.fromkeys([*(key(old[one]) for one in gone), *(key(new[other]) for other in come)]):
+            ones, others = [one for one in gone if key(old[one]) == value], [
+                one for one in come if key(new[one]) == value
+            ]
+            for one, other in align([old[place] for place in ones], [new[place] for place in others]):
+                if one is not None and other is not None:
+                    pairs.append((ones[one], others[other]))
+        gone, come = sorted({*gone} - {one for one, _ in pairs}), sorted({*come} - {other for _, other in pairs})
+    pairs += [*((one, None) for one in gone), *((None, other) for other in come)]
+    return sorted(pairs, key=lambda pair: (pair[1] is None, pair[1] or 0, pair[0] or 0))
 
 
 def _object(where: str, old: Values, new: Values, before: Around, after: Around) -> Iterator[Change]:
     """The fields of an object that differ, and what differs in its parts."""
-    before, after = _inner(old, before), _inner(new, after)
-    for key in sorted({*old, *new} - {"packets"}, key=lambda one: (ORDER.get(one, len(ORDER)), one)):
+    before, after = before.inside(old), after.inside(new)
+    for key in in_order({*old, *new} - {"packets"}):
         one, other = old.get(key), new.get(key)
         label = "  ".join(filter(None, [where, LABELS.get(key, key)]))
         if isinstance(one, list) or isinstance(other, list):
@@ -108,26 +95,21 @@ def _object(where: str, old: Values, new: Values, before: Around, after: Around)
         elif isinstance(one, dict) or isinstance(other, dict):
             yield _part(label, ADDED, other, after) if one is None else _part(label, REMOVED, one, before)
         else:
-            values = _value(key, one, old, before), _value(key, other, new, after)
+            values = _value(key, one, before), _value(key, other, after)
             if values[0] != values[1]:
                 yield Change(CHANGED, where, variable_name(key, new if key in new else old), *values)
 
 
-def _inner(form: Values, around: Around) -> Around:
-    return Around(form if "nid_packet" in form else around.packet, form, around.from_track)
-
-
-def _value(key: str, value: Any, form: Values, around: Around) -> str:
-    if value is None:
-        return "none"
-    words = value_words(key, value, around)
-    return f"{words} [{value}]" if words else str(value)
+def _value(key: str, value: Any, around: Around) -> str:
+    words = "" if value is None else value_words(key, value, around)
+    return "none" if value is None else f"{words} [{value}]" if words else str(value)
 
 
 def _list(
     label: str, key: str, old: Sequence[Any], new: Sequence[Any], before: Around, after: Around
 ) -> Iterator[Change]:
-    ones, others = [_as_object(key, one) for one in old], [_as_object(key, one) for one in new]
+    """What differs in a list. An item that is no object counts as one with the key of the list."""
+    ones, others = ([item if isinstance(item, dict) else {key: item} for item in items] for items in (old, new))
     for one, other in align(ones, others):
         if one is not None and other is not None:
             yield from _object(f"{label} {other}", ones[one], others[other], before, after)
@@ -137,62 +119,44 @@ def _list(
             yield _part(f"{label} {one} of the old one", REMOVED, ones[one], before)
 
 
-def _as_object(key: str, item: Any) -> Values:
-    return item if isinstance(item, dict) else {key: item}
-
-
 def _part(where: str, kind: str, form: Any, around: Around) -> Change:
     """All values of a part that is in one of both alone."""
-    text = "  ".join(_shown(form, around))
+    text = "  ".join(_texts(form, around))
     return Change(kind, where, "", *((text, "") if kind == REMOVED else ("", text)))
 
 
-def _shown(form: Values, around: Around) -> Iterator[str]:
-    inner = _inner(form, around)
-    for key in sorted(form, key=lambda one: (ORDER.get(one, len(ORDER)), one)):
-        value = form[key]
-        for item in value if isinstance(value, list) else [value]:
-            if isinstance(item, dict):
-                yield from _shown(item, inner)
-            else:
-                yield from said((key,), {**form, key: item}, inner)
+def _texts(form: Form, around: Around) -> Iterator[str]:
+    inner = around.inside(form)
+    for key in in_order(form):
+        for item in form[key] if isinstance(form[key], list) else [form[key]]:
+            yield from _texts(item, inner) if isinstance(item, dict) else value_texts(
+                (key,), {**form, key: item}, inner
+            )
 
 
 def align(old: Sequence[Values], new: Sequence[Values]) -> List[Pair]:
     """Pairs the items of two lists in their order, so that the fewest fields differ."""
     first = next((place for place, (one, other) in enumerate(zip(old, new)) if one != other), min(len(old), len(new)))
-    pairs: List[Pair] = [(place, place) for place in range(first)]
-    ones, others = [_leaves(one) for one in old[first:]], [_leaves(one) for one in new[first:]]
-    costs = _costs(ones, others)
-    one, other = 0, 0
-    while one < len(ones) or other < len(others):
-        here, both = costs[one][other], one < len(ones) and other < len(others)
-        if both and here == costs[one + 1][other + 1] + _apart(ones[one], others[other]):
-            pairs.append((first + one, first + other))
-            one, other = one + 1, other + 1
-        elif other < len(others) and here == costs[one][other + 1] + len(others[other]) + 1:
-            pairs.append((None, first + other))
-            other += 1
-        else:
-            pairs.append((first + one, None))
-            one += 1
-    return pairs
-
-
-def _costs(ones: Sequence[Dict[str, Any]], others: Sequence[Dict[str, Any]]) -> List[List[int]]:
-    """For each two places how much differs from there on, at least, in half fields."""
-    costs = [[0] * (len(others) + 1) for _ in range(len(ones) + 1)]
+    ones, others = [_leaves(item) for item in old[first:]], [_leaves(item) for item in new[first:]]
+    costs: Dict[Tuple[int, int], int] = {}
+    steps: Dict[Tuple[int, int], Tuple[int, int]] = {}
     for one in range(len(ones), -1, -1):
         for other in range(len(others), -1, -1):
             ways = []
             if one < len(ones) and other < len(others):
-                ways.append(costs[one + 1][other + 1] + _apart(ones[one], others[other]))
+                ways.append((costs[one + 1, other + 1] + _apart(ones[one], others[other]), 0, (1, 1)))
             if other < len(others):
-                ways.append(costs[one][other + 1] + len(others[other]) + 1)
+                ways.append((costs[one, other + 1] + len(others[other]) + 1, 1, (0, 1)))
             if one < len(ones):
-                ways.append(costs[one + 1][other] + len(ones[one]) + 1)
-            costs[one][other] = min(ways, default=0)
-    return costs
+                ways.append((costs[one + 1, other] + len(ones[one]) + 1, 2, (1, 0)))
+            costs[one, other], _, steps[one, other] = min(ways, default=(0, 0, (0, 0)))
+    pairs: List[Pair] = [(place, place) for place in range(first)]
+    one, other = 0, 0
+    while (one, other) != (len(ones), len(others)):
+        old_step, new_step = steps[one, other]
+        pairs.append((first + one if old_step else None, first + other if new_step else None))
+        one, other = one + old_step, other + new_step
+    return pairs
 
 
 def _apart(one: Dict[str, Any], other: Dict[str, Any]) -> int:
@@ -202,10 +166,6 @@ def _apart(one: Dict[str, Any], other: Dict[str, Any]) -> int:
 
 def _leaves(form: Any, path: str = "") -> Dict[str, Any]:
     """All values of an object by their paths."""
-    if isinstance(form, dict):
-        return {key: value for name in form for key, value in _leaves(form[name], f"{path}/{name}").items()}
-    if isinstance(form, list):
-        return {
-            key: value for place, item in enumerate(form) for key, value in _leaves(item, f"{path}/{place}").items()
-        }
-    return {path: form}
+    items = form.items() if isinstance(form, dict) else enumerate(form) if isinstance(form, list) else ()
+    leaves = {key: value for name, item in items for key, value in _leaves(item, f"{path}/{name}").items()}
+    return leaves if isinstance(form, (dict, list)) else {path: form}

@@ -9,7 +9,7 @@ from functools import lru_cache
 from typing import List, Mapping, NamedTuple, Sequence, Tuple, Union
 
 from balisekit.etcs.places import Here, place_notes
-from balisekit.etcs.variables import LABELS, ORDER, VARIABLES, Around, Form, Values, said
+from balisekit.etcs.variables import LABELS, VARIABLES, Around, Form, in_order, value_texts
 
 WIDTH = 118
 LABEL_WIDTH = 22
@@ -67,7 +67,7 @@ def _steps(keys: Tuple[str, ...]) -> List[Tuple[Tuple[str, ...], str]]:
     Objects have few sets of keys. One that is not known may have anything, so it is taken for a part.
     """
     steps: List[Tuple[Tuple[str, ...], str]] = []
-    for key in sorted(keys, key=lambda one: (ORDER.get(one, len(ORDER)), one)):
+    for key in in_order(keys):
         if key not in VARIABLES:
             steps.append(((), key))
         elif key == END_SECTION or not steps or steps[-1][1]:
@@ -81,7 +81,7 @@ def _lines(
     into: List[Line], label: str, depth: int, form: Values, path: str, around: Around, notes: Mapping[str, str]
 ) -> None:
     """Adds the lines of an object: its values up to its first part, that part, and so on."""
-    inner = Around(form if "nid_packet" in form else around.packet, form, around.from_track)
+    inner = around.inside(form)
     anchor = path
     for keys, part in _steps(tuple(form)):
         if part:
@@ -89,7 +89,7 @@ def _lines(
             continue
         if keys[0] == END_SECTION:
             label, anchor, depth = "end section", f"{path}/{END_SECTION}", depth + 1
-        into.append(Line(depth, label, path, keys, form, said(keys, form, inner), notes.get(anchor, "")))
+        into.append(Line(depth, label, path, keys, form, value_texts(keys, form, inner), notes.get(anchor, "")))
         label, anchor = "", ""
 
 
@@ -105,7 +105,7 @@ def _part(
     elif isinstance(part, dict):
         _lines(into, name, depth, part, path, around, notes)
     else:
-        into.append(Line(depth, "", path[: -len(key) - 1], (key,), whole, said((key,), whole, around)))
+        into.append(Line(depth, "", path[: -len(key) - 1], (key,), whole, value_texts((key,), whole, around)))
 
 
 def text_of(line: Line) -> str:
