@@ -155,7 +155,8 @@ def _authority_notes(packet: Form, place: Place) -> Notes:
         yield "/danger_point", f"at {place(found.danger_point)}"
     if found.overlap is not None and found.overlap_timer is not None:
         yield "/overlap", f"ends at {place(found.overlap)}; timer starts at {place(found.overlap_timer)}"
-    yield "/l_endsection", f"end of the authority at {place(found.end)}; supervised location at {place(found.supervised)}"
+    supervised = f"supervised location at {place(found.supervised)}"
+    yield "/l_endsection", f"end of the authority at {place(found.end)}; {supervised}"
 
 
 def _profile_notes(packet: Form, place: Place) -> Notes:
@@ -208,7 +209,7 @@ def places_of_rows(group: Group, forms: Mapping[int, Form]) -> Dict[int, Here]:
 def _passages(
     aspects: Sequence[Tuple[str, Sequence[Tuple[int, Optional[Form]]]]]
 ) -> Dict[int, Dict[int, Sequence[Passage]]]:
-    """The passages of packets that do not always count from the group, by numbers of telegrams and places of packets."""
+    """The passages of packets that do not always count from the group, by telegram and place."""
     found: Dict[int, Dict[int, List[Passage]]] = {}
     for name, telegrams in aspects:
         for direction in DIRECTIONS:
