@@ -2,12 +2,10 @@
 from __future__ import annotations
 
 import argparse
-import codecs
-import io
-import sys
 import textwrap
-from collections import deque
-from typing import Deque, Dict, Generator, Iterable, Iterator, List, Optional, Tuple, Union, cast
+from collections import Counter, deque
+from functools import partial
+from typing import Callable, Deque, Dict, Generator, Iterable, Iterator, List, Optional, Tuple, Union
 
 from balisekit.cli.options import TABLE, add_input_options, inputs, refuse_unused
 from balisekit.engine.grammar import Refusal
@@ -19,20 +17,13 @@ from balisekit.present.bit_table import bit_lines
 from balisekit.present.refusals import message_refused, telegram_refused
 from balisekit.present.telegram_text import LEGEND, WIDTH, text
 from balisekit.rules.checking import ALL_HELP, greatest_refused, until_too_many
-from balisekit.tables import messages as messages_file
-from balisekit.tables.cells import digits
+from balisekit.tables import messages as messages_file, standard_input
 from balisekit.tables.grouping import by_position
-from balisekit.tables.model import Messages, Table
+from balisekit.tables.model import Group, Messages, Table
 from balisekit.tables.names import describe_balise, describe_message
 from balisekit.tables.reader import BY_POSITION
 
 Answer = Union[Record, Refusal]
-Line = Tuple[int, str]
-"""A line of standard input that has something in it, after its number."""
-CHUNK = 1 << 20
-GREATEST_LINE = 100_000
-"""In characters."""
-EMPTY = "standard input has no telegram: it holds one a line; or name a TABLE, or --messages"
 
 
 def add_options(parser: argparse.ArgumentParser) -> None:
@@ -53,24 +44,33 @@ def run(options: argparse.Namespace) -> int:
     for count in shown.not_looked_at:
         print(f"and {count}: --all goes on\n")
     print(textwrap.fill(LEGEND, WIDTH))
-    if shown.refused:
-        refused = [f"{count} of {shown.tried[what]} {what} refused" for what, count in shown.refused.items()]
+    refused = [f"{count} of {shown.total[what]} {what} refused" for what, count in shown.refused.items() if count]
+    if refused:
         last_line = f"INCOMPLETE: {', '.join([*refused, *shown.not_looked_at])}"
         print(last_line)
         raise TableError(last_line)
     return 0
 
 
+def _given(here: Here, form: Form) -> Here:
+    return here
+
+
 class _Shown:
-    """What is shown, and what is found out on the way."""
+    """What is shown, and what is counted on the way by `telegrams` and `messages`."""
 
     def __init__(self, options: argparse.Namespace) -> None:
         self.options = options
-        self.refused: Dict[str, int] = {}
-        """How many telegrams and messages are refused."""
-        self.tried: Dict[str, int] = {}
-        """How many there are."""
-        self.not_looked_at: List[str] = []
+        self.total: "Counter[str]" = Counter()
+        self.tried: "Counter[str]" = Counter()
+        self.refused: "Counter[str]" = Counter()
+
+    @property
+    def not_looked_at(self) -> List[str]:
+        """How many were not tried, after too many refused ones."""
+        places = {"telegrams": "rows" if self.options.table else "lines", "messages": "messages"}
+        left = self.total - self.tried
+        return [f"{left[what]} {place} not looked at" for what, place in places.items() if left[what]]
 
     def blocks(self) -> Iterator[List[str]]:
         """The lines of each telegram and message."""
@@ -87,107 +87,72 @@ class _Shown:
 
     def _standard_input(self, program: Program) -> Iterator[List[str]]:
         """The telegrams of standard input, which are decoded as they come."""
-        batches = _batches()
-        waiting: Deque[Line] = deque()
+        batches = standard_input.batches()
+        waiting: Deque[Tuple[int, str]] = deque()
 
         def answers() -> Iterator[Answer]:
             for batch in batches:
+                self.total["telegrams"] += len(batch)
                 waiting.extend(batch)
                 yield from program.decode([telegram for _, telegram in batch])
 
-        shown = 0
-        for shown, answer in enumerate(self._tried("telegrams", answers()), 1):
+        for answer in self._tried("telegrams", answers()):
             number, telegram = waiting.popleft()
-            here = here_alone(answer.form) if isinstance(answer, Record) else Here()
-            yield self._telegram(f"line {number}", telegram, answer, here)
-        self._count("telegrams", shown, len(waiting) + sum(map(len, batches)), "lines")
+            yield self._block(f"line {number}", telegram, answer, telegram_refused, here_alone)
+        self.total["telegrams"] += sum(map(len, batches))
 
     def _table(self, program: Program, table: Table) -> Generator[List[str], None, Dict[int, Form]]:
         """The telegrams of the table. The answer has the first telegram of each group that could be read."""
         if self.options.by_position:
             yield [f"note: {BY_POSITION}"]
+        self.total["telegrams"] = len(table.rows)
         decoded = self._tried("telegrams", program.decode([row.telegram for row in table.rows]))
-        answers = dict(zip((row.number for row in table.rows), decoded))
+        answers = {row.number: answer for answer, row in zip(decoded, table.rows)}
         firsts: Dict[int, Form] = {}
         for group in table.groups:
-            read = [(row.number, answers.get(row.number)) for row in group.rows()]
-            forms = {number: answer.form for number, answer in read if isinstance(answer, Record)}
-            if self.options.by_position and len(forms) == len(dict(read)):
+            read = {row.number: answers.get(row.number) for row in group.rows()}
+            forms = {number: answer.form for number, answer in read.items() if isinstance(answer, Record)}
+            if self.options.by_position and len(forms) == len(read):
                 group = by_position(group, {number: form["n_pig"] for number, form in forms.items()})
             first = group.aspects[0].rows[0].number
             firsts.update({first: forms[first]} if first in forms else {})
-            rows = {row.number: row for row in group.rows()}
-            for number, here in places_of_rows(group, forms).items():
-                if number in answers:
-                    heading = describe_balise(group, rows[number])
-                    yield self._telegram(heading, rows[number].telegram, answers[number], here)
-        self._count("telegrams", len(answers), len(table.rows) - len(answers), "rows")
+            yield from self._group(group, forms, answers)
         return firsts
 
-    def _telegram(self, heading: str, digits: str, answer: Answer, here: Here) -> List[str]:
-        """The lines of one telegram. Those of a refused one end with the program's words."""
-        if isinstance(answer, Refusal):
-            return [f"{heading}: {telegram_refused(digits, answer)}", f"    program: {answer.text}"]
-        return [heading, *self._body(digits, answer.form, here)]
+    def _group(self, group: Group, forms: Dict[int, Form], answers: Dict[int, Answer]) -> Iterator[List[str]]:
+        """The telegrams of a group in the order of the table."""
+        rows = {row.number: row for row in group.rows()}
+        for number, here in places_of_rows(group, forms).items():
+            if number in answers:
+                row, of_row = rows[number], partial(_given, here)
+                yield self._block(describe_balise(group, row), row.telegram, answers[number], telegram_refused, of_row)
 
     def _messages(self, program: Program, messages: Optional[Messages], groups: Identities) -> Iterator[List[str]]:
         read = messages.messages if messages else ()
+        self.total["messages"] = len(read)
         answers = program.messages([message.text for message in read], greatest_refused(self.options.all))
-        shown = 0
-        for shown, (message, answer) in enumerate(zip(read, self._tried("messages", answers)), 1):
+        for answer, message in zip(self._tried("messages", answers), read):
             heading = f"message of {describe_message(message)}"
-            if isinstance(answer, Refusal):
-                yield [f"{heading}: {message_refused(message.text, answer)}", f"    program: {answer.text}"]
-            else:
-                yield [heading, *self._body(message.text, answer.form, groups.here(answer.form))]
-        self._count("messages", shown, len(read) - shown, "messages")
+            yield self._block(heading, message.text, answer, message_refused, groups.here)
 
-    def _body(self, digits: str, form: Form, here: Here) -> List[str]:
-        return list(bit_lines(digits, form)) if self.options.bits else text(form, here).split("\n")
+    def _block(
+        self,
+        heading: str,
+        digits: str,
+        answer: Answer,
+        sentence: Callable[[str, Refusal], str],
+        here: Callable[[Form], Here],
+    ) -> List[str]:
+        """The lines of a telegram or message. Those of a refused one end with the program's words."""
+        if isinstance(answer, Refusal):
+            return [f"{heading}: {sentence(digits, answer)}", f"    program: {answer.text}"]
+        form = answer.form
+        lines = bit_lines(digits, form) if self.options.bits else text(form, here(form)).split("\n")
+        return [heading, *lines]
 
     def _tried(self, what: str, answers: Iterable[Answer]) -> Iterator[Answer]:
         """The answers up to too many refusals."""
         for answer in until_too_many(answers, self.options.all):
-            if isinstance(answer, Refusal):
-                self.refused[what] = self.refused.get(what, 0) + 1
+            self.tried[what] += 1
+            self.refused[what] += isinstance(answer, Refusal)
             yield answer
-
-    def _count(self, what: str, shown: int, left: int, places: str) -> None:
-        """Keeps how many telegrams or messages there are, and how many are left."""
-        self.tried[what] = shown + left
-        self.not_looked_at += [f"{left} {places} not looked at"] if left else []
-
-
-def _batches() -> Iterator[List[Line]]:
-    """The lines of standard input, as many at a time as are there. It may begin as other text of Windows does."""
-    if sys.stdin is None:
-        raise TableError("standard input is closed: name a TABLE, or --messages")
-    number, empty = 0, True
-    for lines in _pieces(cast(io.BufferedReader, sys.stdin.buffer)):
-        batch = []
-        for number, line in enumerate(lines, number + 1):
-            if len(line) > GREATEST_LINE:
-                raise TableError(f"standard input: line {number}: it has more than {GREATEST_LINE:,} characters")
-            if line.strip():
-                batch.append((number, digits(line) or line.strip()))
-        if batch:
-            empty = False
-            yield batch
-    if empty:
-        raise TableError(EMPTY)
-
-
-def _pieces(stream: io.BufferedReader) -> Iterator[List[str]]:
-    """The lines of a stream as they come. A line that is too long may lack its end."""
-    piece = head = stream.read1(CHUNK)
-    while piece and len(head) < 2:
-        piece = stream.read1(CHUNK)
-        head += piece
-    encoding = "utf-16" if head.startswith((codecs.BOM_UTF16_LE, codecs.BOM_UTF16_BE)) else "utf-8-sig"
-    decoder = io.IncrementalNewlineDecoder(codecs.getincrementaldecoder(encoding)("backslashreplace"), True)
-    rest, piece = "", head
-    while piece:
-        *lines, rest = (rest + decoder.decode(piece)).split("\n")
-        yield [*lines, rest] if len(rest) > GREATEST_LINE else lines
-        piece = stream.read1(CHUNK)
-    yield (rest + decoder.decode(b"", True)).split("\n")
