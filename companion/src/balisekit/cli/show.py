@@ -5,7 +5,7 @@ import argparse
 import textwrap
 from collections import Counter, deque
 from functools import partial
-from typing import Callable, Deque, Dict, Generator, Iterable, Iterator, List, Optional, Tuple, Union
+from typing import Callable, Deque, Dict, Generator, Iterable, Iterator, List, Mapping, Optional, Tuple, Union
 
 from balisekit.cli.options import TABLE, add_input_options, inputs, refuse_unused
 from balisekit.engine.grammar import Refusal
@@ -119,7 +119,7 @@ class _Shown:
             yield from self._group(group, forms, answers)
         return firsts
 
-    def _group(self, group: Group, forms: Dict[int, Form], answers: Dict[int, Answer]) -> Iterator[List[str]]:
+    def _group(self, group: Group, forms: Mapping[int, Form], answers: Mapping[int, Answer]) -> Iterator[List[str]]:
         """The telegrams of a group in the order of the table."""
         rows = {row.number: row for row in group.rows()}
         for number, here in places_of_rows(group, forms).items():
