@@ -26,6 +26,7 @@ from typing import (
 )
 
 from balisekit.compare.forms import Change, differences
+from balisekit.engine.program import Record
 from balisekit.etcs.variables import Form
 from balisekit.rules.checking import Checked, Place, findings_of
 from balisekit.tables.grouping import EVERY
@@ -49,29 +50,36 @@ OTHER_ORDER = (
 
 @dataclass(frozen=True)
 class Side:
-    """One of the two releases. Its telegrams stay lines of the program until one is compared field by field."""
+    """One of the two releases. The program decodes only the telegrams that are needed, many at a time."""
 
     checked: Checked
-    forms: Dict[int, Form] = field(default_factory=dict)
-    """Those telegrams whose fields have been needed, by their rows."""
+    records: Dict[int, Record] = field(default_factory=dict)
+    """The telegrams that have been needed, by their rows."""
+
+    def decode(self, rows: Iterable[Row]) -> None:
+        """Has the program decode those of these telegrams that can be read."""
+        accepted = self.checked.accepted
+        numbers = {row.number for row in rows if row.number in accepted and row.number not in self.records}
+        self.records.update((telegram.row.number, telegram.record) for telegram in accepted.decoded(sorted(numbers)))
 
     def form(self, row: Row) -> Form:
         """The fields of a telegram."""
-        if row.number not in self.forms:
-            self.forms[row.number] = self.checked.accepted[row.number].form
-        return self.forms[row.number]
+        return self.records[row.number].form
 
-    def head(self, row: Row) -> Tuple[int, int, int]:
+    def head(self, row: Row) -> Tuple[int, ...]:
         """N_PIG, NID_BG and NID_C of a telegram."""
-        head = HEAD.match(self.checked.accepted[row.number].record.line)
-        if head:
-            return int(head[1]), int(head[2]), int(head[3])
-        form = self.form(row)
-        return form["n_pig"], form["nid_bg"], form["nid_c"]
+        head = HEAD.match(self.records[row.number].line)
+        if head is None:
+            raise self.checked.program.no_answer("decode", f"no record of a telegram: row {row.number}")
+        return tuple(map(int, head.groups()))
 
-    def identity(self, group: Group) -> Optional[Tuple[int, int]]:
+    def first(self, group: Group) -> Optional[Row]:
+        """The first telegram of a group that could be read."""
+        return next((row for row in group.rows() if row.number in self.checked.accepted), None)
+
+    def identity(self, group: Group) -> Optional[Tuple[int, ...]]:
         """NID_BG and NID_C of a group, if a telegram of it could be read."""
-        row = next((row for row in group.rows() if row.number in self.checked.accepted), None)
+        row = self.first(group)
         return self.head(row)[1:] if row else None
 
     def describe(self, group: Group, aspect: str = "", row: Optional[Row] = None) -> str:
@@ -162,13 +170,23 @@ def by_place(table: Table) -> Table:
 
 def compare(old: Checked, new: Checked, named: bool = True) -> Difference:
     """What differs between two releases. There are notes on names and kilometres if both have some of their own."""
-    answer = Difference(Side(old), Side(new))
+    answer, differing = Difference(Side(old), Side(new)), []
+    for side in (answer.old, answer.new):
+        side.decode(filter(None, map(side.first, side.checked.table.groups)))
     pairs, removed, added = _paired_groups(answer.old, answer.new, named)
-    for before, after in pairs:
-        answer.notes += _renamed(answer.new, before, after) if named else []
-        _compare_group(answer, before, after)
     answer.groups_removed += map(answer.old.describe, removed)
     answer.groups_added += map(answer.new.describe, added)
+    for before, after in pairs:
+        answer.notes += _renamed(answer.new, before, after) if named else []
+        content = _content(answer.old, before)
+        if content is not None and content == _content(answer.new, after):
+            answer.same += {row.number: row.telegram.lower() for row in after.rows()}.values()
+        else:
+            differing.append((before, after))
+    for which, side in enumerate((answer.old, answer.new)):
+        side.decode(row for pair in differing for row in pair[which].rows())
+    for before, after in differing:
+        _compare_group(answer, before, after)
     _compare_messages(answer)
     _compare_findings(answer, pairs)
     return answer
@@ -242,10 +260,6 @@ def _content(side: Side, group: Group) -> Optional[Sequence[object]]:
 def _compare_group(answer: Difference, before: Group, after: Group) -> None:
     """Compares the telegrams of two groups by aspect and position; those that are left by aspect and place."""
     old, new = answer.old, answer.new
-    content = _content(old, before)
-    if content is not None and content == _content(new, after):
-        answer.same += {row.number: row.telegram.lower() for row in after.rows()}.values()
-        return
     pairs, gone, come = _paired(
         _placed(old, before),
         _placed(new, after),
@@ -331,9 +345,10 @@ def _in_order(group: Group, before: Optional[Group]) -> Group:
 Keyed = List[Tuple[Hashable, Place]]
 
 
-def _keyed(side: Side, findings: Iterable[Place], numbers: Mapping[str, int]) -> Keyed:
+def _keyed(side: Side, findings: Sequence[Place], numbers: Mapping[str, int]) -> Keyed:
     """Each finding with what it is about."""
     messages = {accepted.message.number: accepted for accepted in side.checked.accepted_messages}
+    side.decode(place.row for place in findings if place.row and place.finding.packet is not None)
     keyed: Keyed = []
     for place in findings:
         finding = place.finding
