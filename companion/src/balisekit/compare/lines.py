@@ -39,7 +39,7 @@ Known = Tuple[Hashable, Group]
 HEAD = re.compile(
     r'\{"m_dup":\d,"m_mcount":\d+,"m_version":\d+,"n_pig":(\d),"n_total":\d,"nid_bg":(\d+),"nid_c":(\d+),'
 )
-"""How the program begins the line of a telegram."""
+"""How each record of a telegram begins."""
 BY_ORDER = (3, 14, 15, 16)
 """The rules whose findings depend on the order of groups or aspects: one is compared with an earlier one."""
 OTHER_ORDER = (
@@ -68,24 +68,22 @@ class Side:
 
     def head(self, row: Row) -> Tuple[int, ...]:
         """N_PIG, NID_BG and NID_C of a telegram."""
-        head = HEAD.match(self.records[row.number].line)
-        if head is None:
-            raise self.checked.program.no_answer("decode", f"no record of a telegram: row {row.number}")
-        return tuple(map(int, head.groups()))
+        return tuple(map(int, HEAD.findall(self.records[row.number].line)[0]))
 
     def first(self, group: Group) -> Optional[Row]:
-        """The first telegram of a group that could be read."""
+        """The first telegram of a group that could be read. It has the identity of the group."""
         return next((row for row in group.rows() if row.number in self.checked.accepted), None)
 
-    def identity(self, group: Group) -> Optional[Tuple[int, ...]]:
-        """NID_BG and NID_C of a group, if a telegram of it could be read."""
-        row = self.first(group)
-        return self.head(row)[1:] if row else None
+    def known(self) -> List[Known]:
+        """The groups whose identity is known, behind NID_BG and NID_C."""
+        groups = [(self.first(group), group) for group in self.checked.table.groups]
+        self.decode(row for row, _ in groups if row)
+        return [(self.head(row)[1:], group) for row, group in groups if row]
 
     def describe(self, group: Group, aspect: str = "", row: Optional[Row] = None) -> str:
         """A group, an aspect or a balise by its names."""
-        identity = self.identity(group)
-        named = f"  (group {identity[0]} of country or region {identity[1]})" if identity else ""
+        first = self.first(group)
+        named = "  (group {1} of country or region {2})".format(*self.head(first)) if first else ""
         parts = [clean(group.name) + named]
         parts += ["every aspect"] if aspect == EVERY else [f"aspect {quoted(aspect)}"] if aspect else []
         parts += [f"position {self.head(row)[0]}" + (f" {quoted(row.name)}" if row.name else "")] if row else []
@@ -171,8 +169,6 @@ def by_place(table: Table) -> Table:
 def compare(old: Checked, new: Checked, named: bool = True) -> Difference:
     """What differs between two releases. There are notes on names and kilometres if both have some of their own."""
     answer, differing = Difference(Side(old), Side(new)), []
-    for side in (answer.old, answer.new):
-        side.decode(filter(None, map(side.first, side.checked.table.groups)))
     pairs, removed, added = _paired_groups(answer.old, answer.new, named)
     answer.groups_removed += map(answer.old.describe, removed)
     answer.groups_added += map(answer.new.describe, added)
@@ -221,17 +217,9 @@ def _paired_groups(old: Side, new: Side, named: bool) -> Tuple[Pairs[Group], Lis
         lambda known: (known[0], tuple(row.telegram for row in known[1].rows())),
         lambda known: known[0],
     ]
-    pairs, gone, come = _paired(_known(old), _known(new), *keys[not named :])
+    pairs, gone, come = _paired(old.known(), new.known(), *keys[not named :])
     groups = [(before, after) for (_, before), (_, after) in pairs]
     return groups, [group for _, group in gone], [group for _, group in come]
-
-
-def _known(side: Side) -> Iterator[Known]:
-    """The groups that have an identity, after it."""
-    for group in side.checked.table.groups:
-        identity = side.identity(group)
-        if identity is not None:
-            yield identity, group
 
 
 class Placed(NamedTuple):
