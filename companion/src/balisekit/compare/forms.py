@@ -47,17 +47,17 @@ def differences(old: Values, new: Values) -> List[Change]:
     before, after = (Around(from_track=form.get("nid_message") != 136) for form in (old, new))
     changes = list(_object("", old, new, before, after))
     pairs = _packet_pairs(old["packets"], new["packets"])
-    for one, other in pairs:
-        if one is None and other is not None:
-            changes.append(_packet_alone(ADDED, f"packet {other}", new["packets"][other], after))
-        elif other is None and one is not None:
-            changes.append(_packet_alone(REMOVED, f"packet {one} of the old one", old["packets"][one], before))
-        elif one is not None and other is not None:
-            packet = new["packets"][other]
+    for was, now in pairs:
+        if was is None and now is not None:
+            changes.append(_packet_alone(ADDED, f"packet {now}", new["packets"][now], after))
+        elif now is None and was is not None:
+            changes.append(_packet_alone(REMOVED, f"packet {was} of the old one", old["packets"][was], before))
+        elif was is not None and now is not None:
+            packet = new["packets"][now]
             names = [packet_name(packet["nid_packet"], after.from_track), DIRECTIONS.get(packet.get("q_dir", -1), "")]
-            label = f"packet {other} ({', '.join(filter(None, names))})"
-            changes += _object(label, old["packets"][one], packet, before, after)
-    both = [other for _, other in sorted((one, other) for one, other in pairs if one is not None and other is not None)]
+            label = f"packet {now} ({', '.join(filter(None, names))})"
+            changes += _object(label, old["packets"][was], packet, before, after)
+    both = [now for _, now in sorted((was, now) for was, now in pairs if was is not None and now is not None)]
     return [*changes, Change(MOVED, "")] if both != sorted(both) else changes
 
 
@@ -70,15 +70,15 @@ def _packet_pairs(old: Sequence[Values], new: Sequence[Values]) -> List[Pair]:
     pairs: List[Pair] = []
     gone, come = list(range(len(old))), list(range(len(new)))
     for key in PACKET_KEYS:
-        for value in dict.fromkeys([*(key(old[one]) for one in gone), *(key(new[other]) for other in come)]):
-            ones, others = [one for one in gone if key(old[one]) == value], [
-                one for one in come if key(new[one]) == value
+        for value in dict.fromkeys([*(key(old[was]) for was in gone), *(key(new[now]) for now in come)]):
+            was_items, now_items = [was for was in gone if key(old[was]) == value], [
+                was for was in come if key(new[was]) == value
             ]
-            for one, other in align([old[place] for place in ones], [new[place] for place in others]):
-                if one is not None and other is not None:
-                    pairs.append((ones[one], others[other]))
-        gone, come = sorted({*gone} - {one for one, _ in pairs}), sorted({*come} - {other for _, other in pairs})
-    pairs += [*((one, None) for one in gone), *((None, other) for other in come)]
+            for was, now in align([old[place] for place in was_items], [new[place] for place in now_items]):
+                if was is not None and now is not None:
+                    pairs.append((was_items[was], now_items[now]))
+        gone, come = sorted({*gone} - {was for was, _ in pairs}), sorted({*come} - {now for _, now in pairs})
+    pairs += [*((was, None) for was in gone), *((None, now) for now in come)]
     return sorted(pairs, key=lambda pair: (pair[1] is None, pair[1] or 0, pair[0] or 0))
 
 
@@ -86,16 +86,16 @@ def _object(where: str, old: Values, new: Values, before: Around, after: Around)
     """The fields of an object that differ, and what differs in its parts."""
     before, after = before.inside(old), after.inside(new)
     for key in in_order({*old, *new} - {"packets"}):
-        one, other = old.get(key), new.get(key)
+        was, now = old.get(key), new.get(key)
         label = "  ".join(filter(None, [where, LABELS.get(key, key)]))
-        if isinstance(one, list) or isinstance(other, list):
-            yield from _list(label, key, one or [], other or [], before, after)
-        elif isinstance(one, dict) and isinstance(other, dict):
-            yield from _object(label, one, other, before, after)
-        elif isinstance(one, dict) or isinstance(other, dict):
-            yield _part(label, ADDED, other, after) if one is None else _part(label, REMOVED, one, before)
+        if isinstance(was, list) or isinstance(now, list):
+            yield from _list(label, key, was or [], now or [], before, after)
+        elif isinstance(was, dict) and isinstance(now, dict):
+            yield from _object(label, was, now, before, after)
+        elif isinstance(was, dict) or isinstance(now, dict):
+            yield _part(label, ADDED, now, after) if was is None else _part(label, REMOVED, was, before)
         else:
-            values = _value(key, one, before), _value(key, other, after)
+            values = _value(key, was, before), _value(key, now, after)
             if values[0] != values[1]:
                 yield Change(CHANGED, where, variable_name(key, new if key in new else old), *values)
 
@@ -109,14 +109,14 @@ def _list(
     label: str, key: str, old: Sequence[Any], new: Sequence[Any], before: Around, after: Around
 ) -> Iterator[Change]:
     """What differs in a list. An item that is no object counts as one with the key of the list."""
-    ones, others = ([item if isinstance(item, dict) else {key: item} for item in items] for items in (old, new))
-    for one, other in align(ones, others):
-        if one is not None and other is not None:
-            yield from _object(f"{label} {other}", ones[one], others[other], before, after)
-        elif other is not None:
-            yield _part(f"{label} {other}", ADDED, others[other], after)
-        elif one is not None:
-            yield _part(f"{label} {one} of the old one", REMOVED, ones[one], before)
+    was_items, now_items = ([item if isinstance(item, dict) else {key: item} for item in items] for items in (old, new))
+    for was, now in align(was_items, now_items):
+        if was is not None and now is not None:
+            yield from _object(f"{label} {now}", was_items[was], now_items[now], before, after)
+        elif now is not None:
+            yield _part(f"{label} {now}", ADDED, now_items[now], after)
+        elif was is not None:
+            yield _part(f"{label} {was} of the old one", REMOVED, was_items[was], before)
 
 
 def _part(where: str, kind: str, form: Any, around: Around) -> Change:
@@ -136,32 +136,32 @@ def _texts(form: Form, around: Around) -> Iterator[str]:
 
 def align(old: Sequence[Values], new: Sequence[Values]) -> List[Pair]:
     """Pairs the items of two lists in their order, so that the fewest fields differ."""
-    first = next((place for place, (one, other) in enumerate(zip(old, new)) if one != other), min(len(old), len(new)))
-    ones, others = [_leaves(item) for item in old[first:]], [_leaves(item) for item in new[first:]]
+    first = next((place for place, (was, now) in enumerate(zip(old, new)) if was != now), min(len(old), len(new)))
+    was_items, now_items = [_leaves(item) for item in old[first:]], [_leaves(item) for item in new[first:]]
     costs: Dict[Tuple[int, int], int] = {}
     steps: Dict[Tuple[int, int], Tuple[int, int]] = {}
-    for one in range(len(ones), -1, -1):
-        for other in range(len(others), -1, -1):
+    for was in range(len(was_items), -1, -1):
+        for now in range(len(now_items), -1, -1):
             ways = []
-            if one < len(ones) and other < len(others):
-                ways.append((costs[one + 1, other + 1] + _apart(ones[one], others[other]), 0, (1, 1)))
-            if other < len(others):
-                ways.append((costs[one, other + 1] + len(others[other]) + 1, 1, (0, 1)))
-            if one < len(ones):
-                ways.append((costs[one + 1, other] + len(ones[one]) + 1, 2, (1, 0)))
-            costs[one, other], _, steps[one, other] = min(ways, default=(0, 0, (0, 0)))
+            if was < len(was_items) and now < len(now_items):
+                ways.append((costs[was + 1, now + 1] + _apart(was_items[was], now_items[now]), 0, (1, 1)))
+            if now < len(now_items):
+                ways.append((costs[was, now + 1] + len(now_items[now]) + 1, 1, (0, 1)))
+            if was < len(was_items):
+                ways.append((costs[was + 1, now] + len(was_items[was]) + 1, 2, (1, 0)))
+            costs[was, now], _, steps[was, now] = min(ways, default=(0, 0, (0, 0)))
     pairs: List[Pair] = [(place, place) for place in range(first)]
-    one, other = 0, 0
-    while (one, other) != (len(ones), len(others)):
-        old_step, new_step = steps[one, other]
-        pairs.append((first + one if old_step else None, first + other if new_step else None))
-        one, other = one + old_step, other + new_step
+    was, now = 0, 0
+    while (was, now) != (len(was_items), len(now_items)):
+        old_step, new_step = steps[was, now]
+        pairs.append((first + was if old_step else None, first + now if new_step else None))
+        was, now = was + old_step, now + new_step
     return pairs
 
 
-def _apart(one: Dict[str, Any], other: Dict[str, Any]) -> int:
+def _apart(was: Dict[str, Any], now: Dict[str, Any]) -> int:
     """Twice the number of the fields that differ."""
-    return 2 * len([key for key in {*one, *other} if one.get(key) != other.get(key)])
+    return 2 * len([key for key in {*was, *now} if was.get(key) != now.get(key)])
 
 
 def _leaves(form: Any, path: str = "") -> Dict[str, Any]:

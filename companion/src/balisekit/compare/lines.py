@@ -259,9 +259,9 @@ def _compare_group(answer: Difference, before: Group, after: Group) -> None:
         subject = new.describe(after, now.aspect, now)
         forms = partial(lambda one, other: (old.form(one), new.form(other)), was, now)
         answer.compare(subject, numbers, (was.telegram, now.telegram), forms)
-    for side, group, some, which, into in ((new, after, come, 1, answer.added), (old, before, gone, 0, answer.removed)):
+    for side, group, left, which, into in ((new, after, come, 1, answer.added), (old, before, gone, 0, answer.removed)):
         paired = {numbers[which] for numbers in known}
-        rows = {placed.row.number: placed.row for placed in some if placed.row.number not in paired}
+        rows = {placed.row.number: placed.row for placed in left if placed.row.number not in paired}
         into += [f"{side.describe(group, row.aspect, row)}  row {row.number}" for row in rows.values()]
 
 
@@ -361,10 +361,10 @@ def _packet(form: Optional[Form], place: Optional[int]) -> Hashable:
     return heads[-1], heads.count(heads[-1])
 
 
-def _without(some: Keyed, others: Keyed) -> Iterator[Place]:
+def _without(keyed: Keyed, others: Keyed) -> Iterator[Place]:
     """The findings of one release that the other one has not."""
     counted = Counter(key for key, _ in others)
-    for key, place in some:
+    for key, place in keyed:
         if counted[key]:
             counted[key] -= 1
         else:

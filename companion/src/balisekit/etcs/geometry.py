@@ -104,7 +104,7 @@ class Way:
     @property
     def supervised(self) -> Optional[int]:
         """The greatest supervised location of all its authorities."""
-        return max((one.supervised for one in self.authorities), default=None)
+        return max((authority.supervised for authority in self.authorities), default=None)
 
     def __bool__(self) -> bool:
         return bool(self.authorities or self.gradients or self.speeds)
@@ -147,8 +147,8 @@ def kilometres(group: Group) -> Kilometres:
             if row.km is not None:
                 known.setdefault(place, row.km)
     along = [known[place] for place in sorted(known)]
-    rises = all(one <= other for one, other in zip(along, along[1:]))
-    falls = all(one >= other for one, other in zip(along, along[1:]))
+    rises = all(before <= after for before, after in zip(along, along[1:]))
+    falls = all(before >= after for before, after in zip(along, along[1:]))
     if rises != falls:
         return Kilometres(known.get(0), 1 if rises else -1)
     words = {row.nominal for row in group.rows()} - {""}

@@ -111,7 +111,7 @@ class _Walk:
         self.packet: Optional[int] = None
         self.number: Optional[int] = None
 
-    def take(self, name: str, width: int, *parts: Tuple[str, int]) -> int:
+    def read(self, name: str, width: int, *parts: Tuple[str, int]) -> int:
         """The number in the next field. `parts` are the paths that its bits have in the JSON."""
         digits = self.bits[self.at : self.at + width]
         field = Field(name, self.at, width, digits, parts, self.packet, self.number)
@@ -123,7 +123,7 @@ class _Walk:
 
     def value(self, name: str, width: int, path: str) -> int:
         """The number in the next field, which the JSON has at `path` under its key."""
-        return self.take(name, width, (f"{path}/{KEYS.get(name, name.lower())}", width))
+        return self.read(name, width, (f"{path}/{KEYS.get(name, name.lower())}", width))
 
     def layout(self, layout: Layout, path: str) -> None:
         """The fields of an object, which the JSON has at this path."""
@@ -136,11 +136,11 @@ class _Walk:
             if kind == "items":
                 for place in range(third):
                     self.layout(inner, f"{path}/{name}/{place}")
-                for place in range(third, third + self.take("N_ITER", 5)):
+                for place in range(third, third + self.read("N_ITER", 5)):
                     self.layout(inner, f"{path}/{name}/{place}")
             elif kind == "group":
-                self.take(name, 24, (f"{path}/{third}nid_c", 10), (f"{path}/{third}nid_bg", 14))
-            elif kind == "optional" and self.take(name, 1):
+                self.read(name, 24, (f"{path}/{third}nid_c", 10), (f"{path}/{third}nid_bg", 14))
+            elif kind == "optional" and self.read(name, 1):
                 self.layout(inner, f"{path}{third}")
             elif kind == "when":
                 self.layout((third.get(self.value(*_variables(name)[0], path), ""),), path)
@@ -152,14 +152,14 @@ class _Walk:
             self.packet, self.number = index, int(self.bits[self.at : self.at + 8], 2)
             if self.number == 255:
                 self.packet = None
-                self.take("NID_PACKET", 8)
+                self.read("NID_PACKET", 8)
                 break
             self.value("NID_PACKET", 8, f"/packets/{index}")
             self.body(f"/packets/{index}", self.number, from_track)
             index += 1
         self.packet = self.number = None
         if self.at < len(self.bits):
-            self.take("fill", len(self.bits) - self.at)
+            self.read("fill", len(self.bits) - self.at)
 
     def body(self, path: str, number: int, from_track: bool) -> None:
         """What a packet has after its number."""
@@ -170,14 +170,14 @@ class _Walk:
             self.value("Q_DIR", 2, path)
         known = (TRACK if from_track else TRAIN).get(number)
         if known is not None:
-            self.take("L_PACKET", 13)
+            self.read("L_PACKET", 13)
             self.value("Q_SCALE", 2, path)
             self.layout(known, path)
             return
         width = self.value("L_PACKET", 13, path) - (23 if from_track else 21)
         if width < 0:
             raise _End
-        self.take("body", width, (f"{path}/body", width))
+        self.read("body", width, (f"{path}/body", width))
 
 
 def telegram_fields(bits: str) -> List[Field]:
@@ -185,7 +185,7 @@ def telegram_fields(bits: str) -> List[Field]:
     walk = _Walk(bits)
     with suppress(_End):
         for name, width in _variables(HEADER):
-            walk.take(name, width, *([] if name in NOT_WRITTEN else [(f"/{name.lower()}", width)]))
+            walk.read(name, width, *([] if name in NOT_WRITTEN else [(f"/{name.lower()}", width)]))
         walk.packets(True)
     return walk.fields
 
@@ -195,7 +195,7 @@ def message_fields(bits: str) -> List[Field]:
     walk = _Walk(bits)
     with suppress(_End):
         number = walk.value("NID_MESSAGE", 8, "")
-        walk.take("L_MESSAGE", 10)
+        walk.read("L_MESSAGE", 10)
         walk.value("T_TRAIN", 32, "")
         walk.layout(("NID_ENGINE 24",) if number == 136 else ("M_ACK 1", ("group", "NID_LRBG", "")), "")
         walk.packets(number != 136)

@@ -124,8 +124,8 @@ def text_of(line: Line) -> str:
 @lru_cache(maxsize=1024)
 def _label(depth: int, label: str) -> str:
     """What stands before the values of a line."""
-    said = f"{'  ' * depth}{label}"
-    return f"{said:<{LABEL_WIDTH}}" if len(said) < LABEL_WIDTH else f"{said} "
+    text = f"{'  ' * depth}{label}"
+    return f"{text:<{LABEL_WIDTH}}" if len(text) < LABEL_WIDTH else f"{text} "
 
 
 def _broken(last: str, values: Sequence[str]) -> List[str]:
