@@ -8,7 +8,6 @@ import hashlib
 import re
 from collections import Counter, deque
 from dataclasses import dataclass, field, replace
-from functools import partial
 from typing import (
     Callable,
     Deque,
@@ -23,10 +22,11 @@ from typing import (
     Sequence,
     Tuple,
     TypeVar,
+    Union,
 )
 
 from balisekit.compare.forms import Change, differences
-from balisekit.engine.program import Record
+from balisekit.engine.program import MessageRecord, Record
 from balisekit.etcs.variables import Form
 from balisekit.rules.checking import Checked, Place, findings_of
 from balisekit.tables.grouping import EVERY
@@ -36,6 +36,8 @@ from balisekit.tables.names import clean, quoted
 Thing = TypeVar("Thing")
 Pairs = List[Tuple[Thing, Thing]]
 Known = Tuple[Hashable, Group]
+Sent = Tuple[int, str, Union[Record, MessageRecord]]
+"""A telegram or message: its row or line, its digits, and what the program has decoded."""
 HEAD = re.compile(
     r'\{"m_dup":\d,"m_mcount":\d+,"m_version":\d+,"n_pig":(\d),"n_total":\d,"nid_bg":(\d+),"nid_c":(\d+),'
 )
@@ -62,9 +64,9 @@ class Side:
         numbers = {row.number for row in rows if row.number in accepted and row.number not in self.records}
         self.records.update((telegram.row.number, telegram.record) for telegram in accepted.decoded(sorted(numbers)))
 
-    def form(self, row: Row) -> Form:
-        """The fields of a telegram."""
-        return self.records[row.number].form
+    def sent(self, row: Row) -> Sent:
+        """A telegram that has been decoded."""
+        return row.number, row.telegram, self.records[row.number]
 
     def head(self, row: Row) -> Tuple[int, ...]:
         """N_PIG, NID_BG and NID_C of a telegram."""
@@ -142,18 +144,14 @@ class Difference:
         differs = self.groups_added or self.groups_removed or self.added or self.removed or self.changed
         return 2 if not self.whole else int(bool(differs or self.respelled or self.findings_new or self.findings_gone))
 
-    def compare(
-        self, words: str, numbers: Tuple[int, int], texts: Tuple[str, str], forms: Callable[[], Tuple[Form, Form]]
-    ) -> None:
-        """Compares two telegrams or messages: their numbers, their texts, and their fields where the texts differ."""
-        if texts[0] == texts[1]:
-            self.same.append(texts[1].lower())
+    def compare(self, words: str, old: Sent, new: Sent) -> None:
+        """Compares two telegrams or messages: their texts, and their fields if the texts differ."""
+        if old[1] == new[1]:
+            self.same.append(new[1].lower())
             return
-        old, new = forms()
-        if old == new:
-            self.respelled.append(Changed(words, *numbers))
-        else:
-            self.changed.append(Changed(words, *numbers, tuple(differences(old, new))))
+        before, after = old[2].form, new[2].form
+        into = self.respelled if before == after else self.changed
+        into.append(Changed(words, old[0], new[0], tuple(differences(before, after))))
 
 
 def by_place(table: Table) -> Table:
@@ -255,10 +253,8 @@ def _compare_group(answer: Difference, before: Group, after: Group) -> None:
         lambda placed: (placed.aspect, placed.place),
     )
     known = {(was.row.number, now.row.number): (was.row, now.row) for was, now in pairs}
-    for numbers, (was, now) in sorted(known.items(), key=lambda item: item[0]):
-        subject = new.describe(after, now.aspect, now)
-        forms = partial(lambda one, other: (old.form(one), new.form(other)), was, now)
-        answer.compare(subject, numbers, (was.telegram, now.telegram), forms)
+    for _, (was, now) in sorted(known.items(), key=lambda item: item[0]):
+        answer.compare(new.describe(after, now.aspect, now), old.sent(was), new.sent(now))
     for side, group, left, which, into in ((new, after, come, 1, answer.added), (old, before, gone, 0, answer.removed)):
         paired = {numbers[which] for numbers in known}
         rows = {placed.row.number: placed.row for placed in left if placed.row.number not in paired}
@@ -279,11 +275,9 @@ def _compare_messages(answer: Difference) -> None:
     """Compares the messages by their names, and those without one by their order."""
     old, new = (side.checked.accepted_messages for side in (answer.old, answer.new))
     pairs, gone, come = _paired(old, new, lambda accepted: accepted.message.name)
-    for was, now in pairs:
-        numbers, texts = (was.message.number, now.message.number), (was.message.text, now.message.text)
-        answer.compare(
-            _message(now.message), numbers, texts, partial(lambda one, other: (one.form, other.form), was, now)
-        )
+    for pair in pairs:
+        was, now = ((accepted.message.number, accepted.message.text, accepted.record) for accepted in pair)
+        answer.compare(_message(pair[1].message), was, now)
     answer.added += [_message(accepted.message) for accepted in come]
     answer.removed += [_message(accepted.message) for accepted in gone]
 
@@ -335,28 +329,25 @@ Keyed = List[Tuple[Hashable, Place]]
 
 def _keyed(side: Side, findings: Sequence[Place], numbers: Mapping[str, int]) -> Keyed:
     """Each finding with what it is about."""
-    messages = {accepted.message.number: accepted for accepted in side.checked.accepted_messages}
+    records: Dict[Optional[Message], Union[Record, MessageRecord]]
+    records = {accepted.message: accepted.record for accepted in side.checked.accepted_messages}
     side.decode(place.row for place in findings if place.row and place.finding.packet is not None)
     keyed: Keyed = []
     for place in findings:
-        finding = place.finding
-        subject: Hashable = None
-        form: Optional[Form] = None
-        if place.message is not None:
-            subject = "message", place.message.name
-        elif place.group is not None:
-            subject = numbers.get(place.group.name, place.group.name)
+        finding, packet = place.finding, None
+        subject = (
+            numbers.get(place.group.name, place.group.name) if place.group else place.message and place.message.name
+        )
         if finding.packet is not None:
-            form = side.form(place.row) if place.row else messages[place.message.number].form if place.message else None
-        key = (finding.rule, subject, place.aspect, finding.balise, _packet(form, finding.packet), finding.direction)
-        keyed.append((key, place))
+            record = side.records[place.row.number] if place.row else records[place.message]
+            packet = _packet(record.form, finding.packet)
+        about = (place.group is None, subject, place.aspect, finding.balise, packet, finding.direction)
+        keyed.append(((finding.rule, *about), place))
     return keyed
 
 
-def _packet(form: Optional[Form], place: Optional[int]) -> Hashable:
+def _packet(form: Form, place: int) -> Hashable:
     """A packet by its number, direction and order."""
-    if form is None or place is None:
-        return None
     heads = [(packet["nid_packet"], packet.get("q_dir")) for packet in form["packets"][: place + 1]]
     return heads[-1], heads.count(heads[-1])
 
