@@ -208,19 +208,15 @@ def is_silent(forms: Sequence[Optional[Form]], balise: int, direction: str) -> b
     return bool(flag == 1 and balise + 1 < len(forms))
 
 
-HOLDING = {NOMINAL: (2, 1), REVERSE: (2, 0)}
-"""The Q_DIR of the packets that hold in each direction."""
-
-
 def holds(packet: Form, direction: str) -> bool:
     """Whether a packet from track to train is for this direction. Packet 0, which has no Q_DIR, is for both."""
-    return packet.get("q_dir", 2) in HOLDING[direction]
+    return packet.get("q_dir", 2) in (2, int(direction == NOMINAL))
 
 
 def passed(forms: Sequence[Form], direction: str) -> List[Tuple[Site, Form]]:
     """The packets of a group for one direction in passing order, without those of silent balises."""
     order = range(len(forms)) if direction == NOMINAL else range(len(forms) - 1, -1, -1)
-    holding = HOLDING[direction]
+    holding = (2, int(direction == NOMINAL))
     return [
         (Site(balise, place), packet)
         for balise in order
