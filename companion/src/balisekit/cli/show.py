@@ -9,7 +9,7 @@ from typing import Callable, Deque, Dict, Generator, Iterable, Iterator, List, M
 
 from balisekit.cli.options import TABLE, add_input_options, inputs, refuse_unused
 from balisekit.engine.grammar import Refusal
-from balisekit.engine.program import MessageRecord, Program, Record
+from balisekit.engine.program import Program, Record
 from balisekit.errors import TableError
 from balisekit.etcs.places import Here, Identities, here_alone, places_of_rows
 from balisekit.etcs.variables import Form
@@ -23,7 +23,7 @@ from balisekit.tables.model import Group, Messages, Table
 from balisekit.tables.names import describe_balise, describe_message
 from balisekit.tables.reader import BY_POSITION
 
-Answer = Union[Record, MessageRecord, Refusal]
+Answer = Union[Record, Refusal]
 
 
 def add_options(parser: argparse.ArgumentParser) -> None:

@@ -9,12 +9,21 @@ from dataclasses import dataclass
 from typing import Any, Callable, Dict, Iterator, List, Optional, Sequence, Tuple
 
 from balisekit.etcs.packets import packet_name
-from balisekit.etcs.variables import DIRECTIONS, LABELS, Around, Form, in_order, value_texts, value_words, variable_name
+from balisekit.etcs.variables import (
+    DIRECTIONS,
+    LABELS,
+    Around,
+    Values,
+    in_order,
+    value_texts,
+    value_words,
+    variable_name,
+)
 
 Pair = Tuple[Optional[int], Optional[int]]
 """Places in the old list and in the new one. One of them may be None."""
 CHANGED, ADDED, REMOVED, MOVED = "changed", "added", "removed", "moved"
-PACKET_KEYS: Sequence[Callable[[Form], object]] = (
+PACKET_KEYS: Sequence[Callable[[Values], object]] = (
     lambda packet: (packet["nid_packet"], packet.get("q_dir")),
     lambda packet: packet["nid_packet"],
 )
@@ -61,7 +70,7 @@ def differences(old: Values, new: Values) -> List[Change]:
     return [*changes, Change(MOVED, "")] if both != sorted(both) else changes
 
 
-def _packet_alone(kind: str, place: str, packet: Form, around: Around) -> Change:
+def _packet_alone(kind: str, place: str, packet: Values, around: Around) -> Change:
     return _part(f"{place} ({packet_name(packet['nid_packet'], around.from_track)})", kind, packet, around)
 
 
@@ -125,7 +134,7 @@ def _part(where: str, kind: str, form: Any, around: Around) -> Change:
     return Change(kind, where, "", *((text, "") if kind == REMOVED else ("", text)))
 
 
-def _texts(form: Form, around: Around) -> Iterator[str]:
+def _texts(form: Values, around: Around) -> Iterator[str]:
     inner = around.inside(form)
     for key in in_order(form):
         for item in form[key] if isinstance(form[key], list) else [form[key]]:

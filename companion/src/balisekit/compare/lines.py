@@ -22,11 +22,10 @@ from typing import (
     Sequence,
     Tuple,
     TypeVar,
-    Union,
 )
 
 from balisekit.compare.forms import Change, differences
-from balisekit.engine.program import MessageRecord, Record
+from balisekit.engine.program import Record
 from balisekit.etcs.variables import Form
 from balisekit.rules.checking import Checked, Place, findings_of
 from balisekit.tables.grouping import EVERY
@@ -36,7 +35,7 @@ from balisekit.tables.names import clean, quoted
 Thing = TypeVar("Thing")
 Pairs = List[Tuple[Thing, Thing]]
 Known = Tuple[Hashable, Group]
-Sent = Tuple[int, str, Union[Record, MessageRecord]]
+Sent = Tuple[int, str, Record]
 """A telegram or message: its row or line, its digits, and what the program has decoded."""
 HEAD = re.compile(
     r'\{"m_dup":\d,"m_mcount":\d+,"m_version":\d+,"n_pig":(\d),"n_total":\d,"nid_bg":(\d+),"nid_c":(\d+),'
@@ -329,8 +328,9 @@ Keyed = List[Tuple[Hashable, Place]]
 
 def _keyed(side: Side, findings: Sequence[Place], numbers: Mapping[str, int]) -> Keyed:
     """Each finding with what it is about."""
-    records: Dict[Optional[Message], Union[Record, MessageRecord]]
-    records = {accepted.message: accepted.record for accepted in side.checked.accepted_messages}
+    records: Dict[Optional[Message], Record] = {
+        accepted.message: accepted.record for accepted in side.checked.accepted_messages
+    }
     side.decode(place.row for place in findings if place.row and place.finding.packet is not None)
     keyed: Keyed = []
     for place in findings:

@@ -11,8 +11,10 @@ from typing import Any, Callable, Dict, Iterable, List, Mapping, NamedTuple, Opt
 from balisekit.engine import records
 from balisekit.etcs.packets import MESSAGES, packet_name
 
-Form = Mapping[str, Any]
-NO_FORM: Form = {}
+Form = records.Form
+Values = Mapping[str, Any]
+"""An object of a record whose keys are not known in advance."""
+NO_FORM: Values = {}
 
 
 class Around(NamedTuple):
@@ -22,7 +24,7 @@ class Around(NamedTuple):
     parent: Values = NO_FORM
     from_track: bool = True
 
-    def inside(self, form: Form) -> Around:
+    def inside(self, form: Values) -> Around:
         """Where the numbers of an object within this one stand."""
         return Around(form if "nid_packet" in form else self.packet, form, self.from_track)
 
@@ -30,7 +32,7 @@ class Around(NamedTuple):
 Words = Callable[[int, Around], str]
 
 
-def unit_dm(packet: Form) -> int:
+def unit_dm(packet: Values) -> int:
     """The unit of the packet's distances in decimetres, by Q_SCALE."""
     return (1, 10, 100)[int(packet.get("q_scale", 0))]
 
@@ -222,7 +224,7 @@ BESIDE: Mapping[str, str] = {"g_a": "q_gdir", "q_gdir": "g_a", "nc": "q_diff"}
 """The keys whose words need the value of another key beside them. `body` needs its packet."""
 
 
-def value_texts(keys: Sequence[str], form: Form, around: Around) -> List[str]:
+def value_texts(keys: Sequence[str], form: Values, around: Around) -> List[str]:
     """Values of an object with their names, as "Q_DIR nominal [1]". Most come again and again, so they are kept."""
     scale, from_track = around.packet.get("q_scale", 0), around.from_track
     return [

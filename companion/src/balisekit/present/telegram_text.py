@@ -9,7 +9,7 @@ from functools import lru_cache
 from typing import Iterator, List, Mapping, NamedTuple, Sequence, Tuple, Union
 
 from balisekit.etcs.places import Here, place_notes
-from balisekit.etcs.variables import LABELS, VARIABLES, Around, Form, in_order, value_texts
+from balisekit.etcs.variables import LABELS, VARIABLES, Around, Form, Values, in_order, value_texts
 
 WIDTH = 118
 LABEL_WIDTH = 22
@@ -74,7 +74,7 @@ def _steps(keys: Tuple[str, ...]) -> List[Tuple[Tuple[str, ...], str]]:
     return steps
 
 
-def _lines(label: str, depth: int, form: Form, path: str, around: Around, notes: Mapping[str, str]) -> Iterator[Line]:
+def _lines(label: str, depth: int, form: Values, path: str, around: Around, notes: Mapping[str, str]) -> Iterator[Line]:
     """The lines of an object: its values up to its first part, that part, and so on."""
     inner, anchor = around.inside(form), path
     for keys, part in _steps(tuple(form)):

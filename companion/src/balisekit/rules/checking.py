@@ -11,7 +11,7 @@ from balisekit.engine.records import Form
 from balisekit.errors import NoAnswer
 from balisekit.rules.differing import differs
 from balisekit.tables.grouping import by_position
-from balisekit.tables.model import Group, Message, Messages, Row, Table
+from balisekit.tables.model import Aspect, Group, Message, Messages, Row, Table
 
 GREATEST_REFUSED = 10_000
 """After so many refused telegrams the others are not tried."""

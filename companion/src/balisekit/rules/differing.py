@@ -6,7 +6,7 @@ from __future__ import annotations
 
 from typing import Mapping, Sequence
 
-from balisekit.etcs.variables import Around, Form, value_words, variable_name
+from balisekit.etcs.variables import Around, Form, Values, value_words, variable_name
 from balisekit.tables.model import Group, Row
 from balisekit.tables.names import quoted
 
