@@ -94,6 +94,9 @@ def _packet_pairs(old: Sequence[Values], new: Sequence[Values]) -> List[Pair]:
 def _object(where: str, old: Values, new: Values, before: Around, after: Around) -> Iterator[Change]:
     """The fields of an object that differ, and what differs in its parts."""
     before, after = before.inside(old), after.inside(new)
+    units = [(around.packet.get("q_scale"), around.from_track) for around in (before, after)]
+    if old == new and units[0] == units[1]:
+        return
     for key in in_order({*old, *new} - {"packets"}):
         was, now = old.get(key), new.get(key)
         label = "  ".join(filter(None, [where, LABELS.get(key, key)]))
