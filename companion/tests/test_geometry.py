@@ -165,6 +165,6 @@ def test_kilometres_of_places() -> None:
         (-1, NOMINAL, "1.9995"),
         (-1, REVERSE, "2.0005"),
     ):
-        assert Kilometres(Decimal("2"), rising).at(5, direction) == Decimal(wanted)
-    assert Kilometres(Decimal("2")).at(5, NOMINAL) is None
+        assert Kilometres(Decimal("2"), rising).words(5, direction) == wanted
+    assert Kilometres(Decimal("2")).words(5, NOMINAL) == ""
     assert [kilometre(Decimal(one)) for one in ("2", "2.0005", "13.85")] == ["2.000", "2.0005", "13.850"]

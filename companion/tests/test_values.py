@@ -7,8 +7,9 @@ from typing import Any, Dict, Iterator, Tuple
 import pytest
 from cases_of_program import TOP
 
-from balisekit.etcs.packets import READ_FROM_TRACK, packet_name
-from balisekit.etcs.variables import ORDER, VARIABLES, Around, metres, said, value_words, variable_name
+from balisekit.etcs.layout import TRACK
+from balisekit.etcs.packets import packet_name
+from balisekit.etcs.variables import KEYS as ROWS, VARIABLES, Around, metres, value_texts, value_words, variable_name
 
 SCHEMAS = [json.loads((TOP / "schemas" / f"{name}.json").read_text()) for name in ("telegram", "message")]
 #: Numbers that name something by themselves, and have no words.
@@ -39,7 +40,7 @@ KEYS = sorted({key for whole in SCHEMAS for key, schema in _properties(whole) if
 def test_each_key_has_a_row() -> None:
     """No key of the schemas is without a name, and no row without a key."""
     assert set(KEYS) - {"body"} == set(VARIABLES)
-    assert set(ORDER) >= {key for whole in SCHEMAS for key, _ in _properties(whole)}
+    assert set(ROWS) >= {key for whole in SCHEMAS for key, _ in _properties(whole)}
 
 
 def _numbers(schema: Any, whole: Any) -> Iterator[int]:
@@ -128,7 +129,7 @@ def test_category_depends_on_the_kind() -> None:
 
 def test_packet_names() -> None:
     """A packet that is read has a name in each direction, and one that is not listed is not called unassigned."""
-    assert all(packet_name(number) != "not named here" for number in READ_FROM_TRACK)
+    assert all(packet_name(number) != "not named here" for number in (0, *TRACK))
     assert (packet_name(1), packet_name(1, False)) == ("not named here", "position report based on two balise groups")
 
 
@@ -145,5 +146,5 @@ def test_words_that_are_kept_are_those_of_the_place(beside: int, from_track: boo
                     continue
                 words, raw = value_words(key, value, around), f"[{value}]" if value_words(key, value, around) else value
                 wanted = " ".join(filter(None, [variable_name(key, packet), words, str(raw)]))
-                assert said([key], {**packet, key: value}, around) == [wanted]
-        assert value_words("body", "00", around) in said(["body"], {"body": "00"}, around)[0]
+                assert value_texts([key], {**packet, key: value}, around) == [wanted]
+        assert value_words("body", "00", around) in value_texts(["body"], {"body": "00"}, around)[0]

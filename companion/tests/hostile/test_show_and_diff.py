@@ -34,6 +34,11 @@ def packets(position: int, counter: int, *forms: Form) -> Form:
     return {**link_tables.telegram(1, position, 1, 1, *forms, size=830), "m_mcount": counter}
 
 
+def duplicate(position: int, *forms: Form) -> Form:
+    """One of two balises that are duplicates of each other."""
+    return {**packets(position, 255, *forms), "m_dup": position + 1}
+
+
 def written(program: Program, table: Write, rows: List[Tuple[str, Any]]) -> Path:
     """A table of a group at km 10.000, whose kilometres rise. A text stands for itself."""
     texts = iter(
@@ -93,6 +98,16 @@ PLACES: List[Tuple[str, List[Tuple[str, Any]], List[str]]] = [
         [f'aspect "red": {UNREAD}; aspect "green": {ELSEWHERE}', "from 0 m"],
     ),
     (
+        "duplicates that both have packet 136 before their gradients",
+        [("*,0", duplicate(0, INFILL, GRADIENTS)), ("*,1", duplicate(1, INFILL, GRADIENTS))],
+        [f"{ELSEWHERE} (twice)"],
+    ),
+    (
+        "duplicates that both have packet 136 behind their gradients",
+        [("*,0", duplicate(0, GRADIENTS, INFILL)), ("*,1", duplicate(1, GRADIENTS, INFILL))],
+        [f"{OWN} (twice)"],
+    ),
+    (
         "a refused telegram that is passed behind it",
         [("*,0", packets(0, 255, GRADIENTS)), ("red,1", FAULTY)],
         [OWN, "from 0 m, km 10.000"],
@@ -106,10 +121,15 @@ def test_places(run: Run, table: Write, program: Program, rows: List[Tuple[str, 
     path = written(program, table, rows)
     _, out, _ = run("show", path)
     shown = re.sub(r"\s+", " ", " ".join(out))
-    assert all(f" = {note} " in shown for note in wanted), shown
+    assert all(is_noted(note, shown) for note in wanted), shown
     _, out, _ = run("report", path, "--html", "-")
     page = re.sub(r"\s+", " ", " ".join(out)).replace("&#34;", '"')
-    assert all(f" = {note}" in page for note in wanted)
+    assert all(is_noted(note, page) for note in wanted)
+
+
+def is_noted(note: str, text: str) -> bool:
+    """Whether a text has this note, or has it twice."""
+    return text.count(f" = {note.removesuffix(' (twice)')}") == 1 + note.endswith(" (twice)")
 
 
 def test_places_of_standard_input(run: Run, monkeypatch: pytest.MonkeyPatch, program: Program) -> None:

@@ -2,11 +2,10 @@
 from __future__ import annotations
 
 import argparse
-import codecs
-import re
-import sys
 import textwrap
-from typing import Dict, Generator, Iterator, List, Mapping, Optional, Sequence, Union
+from collections import Counter, deque
+from functools import partial
+from typing import Callable, Deque, Dict, Generator, Iterable, Iterator, List, Mapping, Optional, Tuple, Union
 
 from balisekit.cli.options import TABLE, add_input_options, inputs, refuse_unused
 from balisekit.engine.grammar import Refusal
@@ -18,10 +17,11 @@ from balisekit.present.bit_table import bit_lines
 from balisekit.present.refusals import message_refused, telegram_refused
 from balisekit.present.telegram_text import LEGEND, WIDTH, text
 from balisekit.rules.checking import ALL_HELP, greatest_refused, until_too_many
-from balisekit.tables import messages as messages_file
-from balisekit.tables.cells import digits as digits_of
-from balisekit.tables.model import Messages, Table
+from balisekit.tables import messages as messages_file, standard_input
+from balisekit.tables.grouping import by_position
+from balisekit.tables.model import Group, Messages, Table
 from balisekit.tables.names import describe_balise, describe_message
+from balisekit.tables.reader import BY_POSITION
 
 Answer = Union[Record, Refusal]
 
@@ -40,22 +40,37 @@ def run(options: argparse.Namespace) -> int:
         refuse_unused(options, "without TABLE", "sheet", "by_position")
     shown = _Shown(options)
     for lines in shown.blocks():
-        print("\n".join(lines))
-        print()
-    for what, count in shown.not_looked_at.items():
-        if count:
-            print(f"and {count} {what} not looked at: --all goes on\n")
+        print("\n".join(lines), end="\n\n", flush=options.table is None)
+    for count in shown.not_looked_at:
+        print(f"and {count}: --all goes on\n")
     print(textwrap.fill(LEGEND, WIDTH))
-    return 2 if shown.refused else 0
+    refused = [f"{count} of {shown.total[what]} {what} refused" for what, count in shown.refused.items() if count]
+    if refused:
+        last_line = f"INCOMPLETE: {', '.join([*refused, *shown.not_looked_at])}"
+        print(last_line)
+        raise TableError(last_line)
+    return 0
+
+
+def _given(here: Here, form: Form) -> Here:
+    return here
 
 
 class _Shown:
-    """What is shown, and what is found out on the way."""
+    """What is shown, and what is counted on the way by `telegrams` and `messages`."""
 
     def __init__(self, options: argparse.Namespace) -> None:
         self.options = options
-        self.refused = False
-        self.not_looked_at: Dict[str, int] = {}
+        self.total: "Counter[str]" = Counter()
+        self.tried: "Counter[str]" = Counter()
+        self.refused: "Counter[str]" = Counter()
+
+    @property
+    def not_looked_at(self) -> List[str]:
+        """How many were not tried, after too many refused ones."""
+        places = {"telegrams": "rows" if self.options.table else "lines", "messages": "messages"}
+        left = self.total - self.tried
+        return [f"{left[what]} {place} not looked at" for what, place in places.items() if left[what]]
 
     def blocks(self) -> Iterator[List[str]]:
         """The lines of each telegram and message."""
@@ -66,67 +81,78 @@ class _Shown:
             messages = messages_file.read(options.messages)
             yield from self._messages(Program.find(options.program, options.timeout), messages, Identities((), {}))
         else:
-            program, table, messages_beside = inputs(options)
-            forms = yield from self._telegrams(program, table)
-            yield from self._messages(program, messages_beside, Identities(table.groups, forms))
+            program, table, beside = inputs(options)
+            firsts = yield from self._table(program, table)
+            yield from self._messages(program, beside, Identities(table.groups, firsts))
 
     def _standard_input(self, program: Program) -> Iterator[List[str]]:
-        """The telegrams of standard input, one a line. It may begin as other text of Windows does."""
-        if sys.stdin is None:
-            raise TableError("standard input is closed: name a TABLE, or --messages")
-        content = sys.stdin.buffer.read()
-        wide = content.startswith((codecs.BOM_UTF16_LE, codecs.BOM_UTF16_BE))
-        said = content.decode("utf-16" if wide else "utf-8-sig", "backslashreplace")
-        lines = enumerate(re.split("\r\n|\r|\n", said), 1)
-        texts = [(number, digits_of(line) or line.strip()) for number, line in lines if line.strip()]
-        tried = 0
-        for (number, text_of_line), answer in zip(texts, self._answers(program, [one for _, one in texts])):
-            tried += 1
-            here = here_alone(answer.form) if isinstance(answer, Record) else Here()
-            yield telegram(f"line {number}", text_of_line, answer, here, self.options.bits)
-        self.not_looked_at["lines"] = len(texts) - tried
+        """The telegrams of standard input, which are decoded as they come."""
+        batches = standard_input.batches()
+        waiting: Deque[Tuple[int, str]] = deque()
 
-    def _telegrams(self, program: Program, table: Table) -> Generator[List[str], None, Mapping[int, Form]]:
-        """The telegrams of the table. The answer has the forms of those that can be read."""
-        answers: Dict[int, Answer] = {}
-        for row, answer in zip(table.rows, self._answers(program, [row.telegram for row in table.rows])):
-            answers[row.number] = answer
-        self.not_looked_at["rows"] = len(table.rows) - len(answers)
-        forms = {number: answer.form for number, answer in answers.items() if isinstance(answer, Record)}
+        def answers() -> Iterator[Answer]:
+            for batch in batches:
+                self.total["telegrams"] += len(batch)
+                waiting.extend(batch)
+                yield from program.decode([telegram for _, telegram in batch])
+
+        for answer in self._tried("telegrams", answers()):
+            number, telegram = waiting.popleft()
+            yield self._block(f"line {number}", telegram, answer, telegram_refused, here_alone)
+        self.total["telegrams"] += sum(map(len, batches))
+
+    def _table(self, program: Program, table: Table) -> Generator[List[str], None, Dict[int, Form]]:
+        """The telegrams of the table. The answer has the first telegram of each group that could be read."""
+        if self.options.by_position:
+            yield [f"note: {BY_POSITION}"]
+        self.total["telegrams"] = len(table.rows)
+        decoded = self._tried("telegrams", program.decode([row.telegram for row in table.rows]))
+        answers = {row.number: answer for answer, row in zip(decoded, table.rows)}
+        firsts: Dict[int, Form] = {}
         for group in table.groups:
-            rows = {row.number: row for row in group.rows()}
-            for number, here in places_of_rows(group, forms).items():
-                if number in answers:
-                    row = rows[number]
-                    yield telegram(describe_balise(group, row), row.telegram, answers[number], here, self.options.bits)
-        return forms
+            read = {row.number: answers.get(row.number) for row in group.rows()}
+            forms = {number: answer.form for number, answer in read.items() if isinstance(answer, Record)}
+            if self.options.by_position and len(forms) == len(read):
+                group = by_position(group, {number: form["n_pig"] for number, form in forms.items()})
+            first = group.aspects[0].rows[0].number
+            firsts.update({first: forms[first]} if first in forms else {})
+            yield from self._group(group, forms, answers)
+        return firsts
 
-    def _answers(self, program: Program, texts: Sequence[str]) -> Iterator[Answer]:
-        for answer in until_too_many(program.decode(texts), self.options.all):
-            self.refused = self.refused or isinstance(answer, Refusal)
-            yield answer
+    def _group(self, group: Group, forms: Mapping[int, Form], answers: Mapping[int, Answer]) -> Iterator[List[str]]:
+        """The telegrams of a group in the order of the table."""
+        rows = {row.number: row for row in group.rows()}
+        for number, here in places_of_rows(group, forms).items():
+            if number in answers:
+                row, of_row = rows[number], partial(_given, here)
+                yield self._block(describe_balise(group, row), row.telegram, answers[number], telegram_refused, of_row)
 
     def _messages(self, program: Program, messages: Optional[Messages], groups: Identities) -> Iterator[List[str]]:
         read = messages.messages if messages else ()
-        self.not_looked_at["messages"] = len(read)
-        answers = program.messages([one.text for one in read], greatest_refused(self.options.all))
-        for message, answer in zip(read, answers):
-            self.not_looked_at["messages"] -= 1
+        self.total["messages"] = len(read)
+        answers = program.messages([message.text for message in read], greatest_refused(self.options.all))
+        for answer, message in zip(self._tried("messages", answers), read):
             heading = f"message of {describe_message(message)}"
-            if isinstance(answer, Refusal):
-                self.refused = True
-                yield [f"{heading}: {message_refused(message.text, answer)}", f"    program: {answer.text}"]
-            else:
-                form = answer.form
-                yield [heading, *_body(message.text, form, groups.here(form), self.options.bits)]
+            yield self._block(heading, message.text, answer, message_refused, groups.here)
 
+    def _block(
+        self,
+        heading: str,
+        digits: str,
+        answer: Answer,
+        sentence: Callable[[str, Refusal], str],
+        here: Callable[[Form], Here],
+    ) -> List[str]:
+        """The lines of a telegram or message. Those of a refused one end with the program's words."""
+        if isinstance(answer, Refusal):
+            return [f"{heading}: {sentence(digits, answer)}", f"    program: {answer.text}"]
+        form = answer.form
+        lines = bit_lines(digits, form) if self.options.bits else text(form, here(form)).split("\n")
+        return [heading, *lines]
 
-def telegram(heading: str, digits: str, answer: Answer, here: Here, bits: bool) -> List[str]:
-    """The lines of one telegram. Those of a refused one end with the program's words."""
-    if isinstance(answer, Refusal):
-        return [f"{heading}: {telegram_refused(digits, answer)}", f"    program: {answer.text}"]
-    return [heading, *_body(digits, answer.form, here, bits)]
-
-
-def _body(digits: str, form: Form, here: Here, bits: bool) -> List[str]:
-    return list(bit_lines(digits, form)) if bits else text(form, here).split("\n")
+    def _tried(self, what: str, answers: Iterable[Answer]) -> Iterator[Answer]:
+        """The answers up to too many refusals."""
+        for answer in until_too_many(answers, self.options.all):
+            self.tried[what] += 1
+            self.refused[what] += isinstance(answer, Refusal)
+            yield answer

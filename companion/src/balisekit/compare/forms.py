@@ -6,15 +6,28 @@ that grew shows its new item, and not all that moved.
 from __future__ import annotations
 
 from dataclasses import dataclass
-from typing import Any, Callable, Dict, Iterator, List, Optional, Sequence, Tuple, TypeVar
+from typing import Any, Callable, Dict, Iterator, List, Optional, Sequence, Tuple
 
 from balisekit.etcs.packets import packet_name
-from balisekit.etcs.variables import DIRECTIONS, LABELS, ORDER, Around, Values, said, value_words, variable_name
+from balisekit.etcs.variables import (
+    DIRECTIONS,
+    LABELS,
+    Around,
+    Values,
+    in_order,
+    value_texts,
+    value_words,
+    variable_name,
+)
 
-Item = TypeVar("Item")
 Pair = Tuple[Optional[int], Optional[int]]
 """Places in the old list and in the new one. One of them may be None."""
 CHANGED, ADDED, REMOVED, MOVED = "changed", "added", "removed", "moved"
+PACKET_KEYS: Sequence[Callable[[Values], object]] = (
+    lambda packet: (packet["nid_packet"], packet.get("q_dir")),
+    lambda packet: packet["nid_packet"],
+)
+"""By what packets are paired, and then those that are left."""
 
 
 @dataclass(frozen=True)
@@ -40,172 +53,131 @@ class Change:
 
 def differences(old: Values, new: Values) -> List[Change]:
     """All that differs between two forms."""
-    track = (old.get("nid_message") != 136, new.get("nid_message") != 136)
-    found = list(_object("", old, new, Around(from_track=track[0]), Around(from_track=track[1])))
+    before, after = (Around(from_track=form.get("nid_message") != 136) for form in (old, new))
+    changes = list(_object("", old, new, before, after))
     pairs = _packet_pairs(old["packets"], new["packets"])
-    for before, after in pairs:
-        found += _packet(old["packets"], new["packets"], before, after, track)
-    both = [
-        after
-        for before, after in sorted(pairs, key=lambda one: -1 if one[0] is None else one[0])
-        if before is not None and after is not None
-    ]
-    if both != sorted(both):
-        found.append(Change(MOVED, ""))
-    return found
+    for was, now in pairs:
+        if was is None and now is not None:
+            changes.append(_packet_alone(ADDED, f"packet {now}", new["packets"][now], after))
+        elif now is None and was is not None:
+            changes.append(_packet_alone(REMOVED, f"packet {was} of the old one", old["packets"][was], before))
+        elif was is not None and now is not None:
+            packet = new["packets"][now]
+            names = [packet_name(packet["nid_packet"], after.from_track), DIRECTIONS.get(packet.get("q_dir", -1), "")]
+            label = f"packet {now} ({', '.join(filter(None, names))})"
+            changes += _object(label, old["packets"][was], packet, before, after)
+    both = [now for _, now in sorted((was, now) for was, now in pairs if was is not None and now is not None)]
+    return [*changes, Change(MOVED, "")] if both != sorted(both) else changes
+
+
+def _packet_alone(kind: str, place: str, packet: Values, around: Around) -> Change:
+    return _part(f"{place} ({packet_name(packet['nid_packet'], around.from_track)})", kind, packet, around)
 
 
 def _packet_pairs(old: Sequence[Values], new: Sequence[Values]) -> List[Pair]:
     """Packets of one number and direction in their order, and then those that are left by their number alone."""
     pairs: List[Pair] = []
-    keys: Sequence[Callable[[Values], Any]] = (
-        lambda one: (one["nid_packet"], one.get("q_dir")),
-        lambda one: one["nid_packet"],
-    )
-    left: Tuple[List[int], List[int]] = (list(range(len(old))), list(range(len(new))))
-    for key in keys:
-        for value in dict.fromkeys([*(key(old[one]) for one in left[0]), *(key(new[one]) for one in left[1])]):
-            some = (
-                [one for one in left[0] if key(old[one]) == value],
-                [one for one in left[1] if key(new[one]) == value],
-            )
-            for before, after in align([old[one] for one in some[0]], [new[one] for one in some[1]]):
-                if before is not None and after is not None:
-                    pairs.append((some[0][before], some[1][after]))
-        left = (
-            [one for one in left[0] if one not in {pair[0] for pair in pairs}],
-            [one for one in left[1] if one not in {pair[1] for pair in pairs}],
-        )
-    rest: List[Pair] = [*((one, None) for one in left[0]), *((None, one) for one in left[1])]
-    return sorted([*pairs, *rest], key=lambda one: (one[1] is None, one[1] or 0, one[0] or 0))
-
-
-def _packet(
-    old: Sequence[Values], new: Sequence[Values], before: Optional[int], after: Optional[int], track: Tuple[bool, bool]
-) -> Iterator[Change]:
-    if before is None or after is None:
-        alone, from_track = (new[after or 0], track[1]) if before is None else (old[before], track[0])
-        place = f"packet {after}" if before is None else f"packet {before} of the old one"
-        name = f"{place} ({packet_name(alone['nid_packet'], from_track)})"
-        yield _part(name, ADDED if before is None else REMOVED, alone, Around(from_track=from_track))
-        return
-    one, other = old[before], new[after]
-    way = DIRECTIONS.get(other.get("q_dir", -1), "")
-    label = f"packet {after} ({packet_name(other['nid_packet'], track[1])}{', ' if way else ''}{way})"
-    yield from _object(label, one, other, Around(from_track=track[0]), Around(from_track=track[1]))
+    gone, come = list(range(len(old))), list(range(len(new)))
+    for key in PACKET_KEYS:
+        for value in dict.fromkeys([*(key(old[was]) for was in gone), *(key(new[now]) for now in come)]):
+            was_items, now_items = [was for was in gone if key(old[was]) == value], [
+                was for was in come if key(new[was]) == value
+            ]
+            for was, now in align([old[place] for place in was_items], [new[place] for place in now_items]):
+                if was is not None and now is not None:
+                    pairs.append((was_items[was], now_items[now]))
+        gone, come = sorted({*gone} - {was for was, _ in pairs}), sorted({*come} - {now for _, now in pairs})
+    pairs += [*((was, None) for was in gone), *((None, now) for now in come)]
+    return sorted(pairs, key=lambda pair: (pair[1] is None, pair[1] or 0, pair[0] or 0))
 
 
 def _object(where: str, old: Values, new: Values, before: Around, after: Around) -> Iterator[Change]:
     """The fields of an object that differ, and what differs in its parts."""
-    before, after = _inner(old, before), _inner(new, after)
-    for key in sorted({*old, *new} - {"packets"}, key=lambda one: (ORDER.get(one, len(ORDER)), one)):
-        one, other = old.get(key), new.get(key)
+    before, after = before.inside(old), after.inside(new)
+    units = [(around.packet.get("q_scale"), around.from_track) for around in (before, after)]
+    if old == new and units[0] == units[1]:
+        return
+    for key in in_order({*old, *new} - {"packets"}):
+        was, now = old.get(key), new.get(key)
         label = "  ".join(filter(None, [where, LABELS.get(key, key)]))
-        if isinstance(one, list) or isinstance(other, list):
-            yield from _list(label, key, one or [], other or [], before, after)
-        elif isinstance(one, dict) and isinstance(other, dict):
-            yield from _object(label, one, other, before, after)
-        elif isinstance(one, dict) or isinstance(other, dict):
-            yield _part(label, ADDED, other, after) if one is None else _part(label, REMOVED, one, before)
+        if isinstance(was, list) or isinstance(now, list):
+            yield from _list(label, key, was or [], now or [], before, after)
+        elif isinstance(was, dict) and isinstance(now, dict):
+            yield from _object(label, was, now, before, after)
+        elif isinstance(was, dict) or isinstance(now, dict):
+            yield _part(label, ADDED, now, after) if was is None else _part(label, REMOVED, was, before)
         else:
-            values = _value(key, one, old, before), _value(key, other, new, after)
+            values = _value(key, was, before), _value(key, now, after)
             if values[0] != values[1]:
                 yield Change(CHANGED, where, variable_name(key, new if key in new else old), *values)
 
 
-def _inner(form: Values, around: Around) -> Around:
-    return Around(form if "nid_packet" in form else around.packet, form, around.from_track)
-
-
-def _value(key: str, value: Any, form: Values, around: Around) -> str:
-    if value is None:
-        return "none"
-    words = value_words(key, value, around)
-    return f"{words} [{value}]" if words else str(value)
+def _value(key: str, value: Any, around: Around) -> str:
+    words = "" if value is None else value_words(key, value, around)
+    return "none" if value is None else f"{words} [{value}]" if words else str(value)
 
 
 def _list(
     label: str, key: str, old: Sequence[Any], new: Sequence[Any], before: Around, after: Around
 ) -> Iterator[Change]:
-    ones, others = [_as_object(key, one) for one in old], [_as_object(key, one) for one in new]
-    for one, other in align(ones, others):
-        if one is not None and other is not None:
-            yield from _object(f"{label} {other}", ones[one], others[other], before, after)
-        elif other is not None:
-            yield _part(f"{label} {other}", ADDED, others[other], after)
-        elif one is not None:
-            yield _part(f"{label} {one} of the old one", REMOVED, ones[one], before)
-
-
-def _as_object(key: str, item: Any) -> Values:
-    return item if isinstance(item, dict) else {key: item}
+    """What differs in a list. An item that is no object counts as one with the key of the list."""
+    was_items, now_items = ([item if isinstance(item, dict) else {key: item} for item in items] for items in (old, new))
+    for was, now in align(was_items, now_items):
+        if was is not None and now is not None:
+            yield from _object(f"{label} {now}", was_items[was], now_items[now], before, after)
+        elif now is not None:
+            yield _part(f"{label} {now}", ADDED, now_items[now], after)
+        elif was is not None:
+            yield _part(f"{label} {was} of the old one", REMOVED, was_items[was], before)
 
 
 def _part(where: str, kind: str, form: Any, around: Around) -> Change:
     """All values of a part that is in one of both alone."""
-    text = "  ".join(_shown(form, around))
+    text = "  ".join(_texts(form, around))
     return Change(kind, where, "", *((text, "") if kind == REMOVED else ("", text)))
 
 
-def _shown(form: Values, around: Around) -> Iterator[str]:
-    inner = _inner(form, around)
-    for key in sorted(form, key=lambda one: (ORDER.get(one, len(ORDER)), one)):
-        value = form[key]
-        for item in value if isinstance(value, list) else [value]:
-            if isinstance(item, dict):
-                yield from _shown(item, inner)
-            else:
-                yield from said((key,), {**form, key: item}, inner)
+def _texts(form: Values, around: Around) -> Iterator[str]:
+    inner = around.inside(form)
+    for key in in_order(form):
+        for item in form[key] if isinstance(form[key], list) else [form[key]]:
+            yield from _texts(item, inner) if isinstance(item, dict) else value_texts(
+                (key,), {**form, key: item}, inner
+            )
 
 
 def align(old: Sequence[Values], new: Sequence[Values]) -> List[Pair]:
     """Pairs the items of two lists in their order, so that the fewest fields differ."""
-    first = next((place for place, (one, other) in enumerate(zip(old, new)) if one != other), min(len(old), len(new)))
+    first = next((place for place, (was, now) in enumerate(zip(old, new)) if was != now), min(len(old), len(new)))
+    was_items, now_items = [_leaves(item) for item in old[first:]], [_leaves(item) for item in new[first:]]
+    costs: Dict[Tuple[int, int], int] = {}
+    steps: Dict[Tuple[int, int], Tuple[int, int]] = {}
+    for was in range(len(was_items), -1, -1):
+        for now in range(len(now_items), -1, -1):
+            ways = []
+            if was < len(was_items) and now < len(now_items):
+                ways.append((costs[was + 1, now + 1] + _apart(was_items[was], now_items[now]), 0, (1, 1)))
+            if now < len(now_items):
+                ways.append((costs[was, now + 1] + len(now_items[now]) + 1, 1, (0, 1)))
+            if was < len(was_items):
+                ways.append((costs[was + 1, now] + len(was_items[was]) + 1, 2, (1, 0)))
+            costs[was, now], _, steps[was, now] = min(ways, default=(0, 0, (0, 0)))
     pairs: List[Pair] = [(place, place) for place in range(first)]
-    ones, others = [_leaves(one) for one in old[first:]], [_leaves(one) for one in new[first:]]
-    costs = _costs(ones, others)
-    one, other = 0, 0
-    while one < len(ones) or other < len(others):
-        here, both = costs[one][other], one < len(ones) and other < len(others)
-        if both and here == costs[one + 1][other + 1] + _apart(ones[one], others[other]):
-            pairs.append((first + one, first + other))
-            one, other = one + 1, other + 1
-        elif other < len(others) and here == costs[one][other + 1] + len(others[other]) + 1:
-            pairs.append((None, first + other))
-            other += 1
-        else:
-            pairs.append((first + one, None))
-            one += 1
+    was, now = 0, 0
+    while (was, now) != (len(was_items), len(now_items)):
+        old_step, new_step = steps[was, now]
+        pairs.append((first + was if old_step else None, first + now if new_step else None))
+        was, now = was + old_step, now + new_step
     return pairs
 
 
-def _costs(ones: Sequence[Dict[str, Any]], others: Sequence[Dict[str, Any]]) -> List[List[int]]:
-    """For each two places how much differs from there on, at least, in half fields."""
-    costs = [[0] * (len(others) + 1) for _ in range(len(ones) + 1)]
-    for one in range(len(ones), -1, -1):
-        for other in range(len(others), -1, -1):
-            ways = []
-            if one < len(ones) and other < len(others):
-                ways.append(costs[one + 1][other + 1] + _apart(ones[one], others[other]))
-            if other < len(others):
-                ways.append(costs[one][other + 1] + len(others[other]) + 1)
-            if one < len(ones):
-                ways.append(costs[one + 1][other] + len(ones[one]) + 1)
-            costs[one][other] = min(ways, default=0)
-    return costs
-
-
-def _apart(one: Dict[str, Any], other: Dict[str, Any]) -> int:
+def _apart(was: Dict[str, Any], now: Dict[str, Any]) -> int:
     """Twice the number of the fields that differ."""
-    return 2 * len([key for key in {*one, *other} if one.get(key) != other.get(key)])
+    return 2 * len([key for key in {*was, *now} if was.get(key) != now.get(key)])
 
 
 def _leaves(form: Any, path: str = "") -> Dict[str, Any]:
     """All values of an object by their paths."""
-    if isinstance(form, dict):
-        return {key: value for name in form for key, value in _leaves(form[name], f"{path}/{name}").items()}
-    if isinstance(form, list):
-        return {
-            key: value for place, item in enumerate(form) for key, value in _leaves(item, f"{path}/{place}").items()
-        }
-    return {path: form}
+    items = form.items() if isinstance(form, dict) else enumerate(form) if isinstance(form, list) else ()
+    leaves = {key: value for name, item in items for key, value in _leaves(item, f"{path}/{name}").items()}
+    return leaves if isinstance(form, (dict, list)) else {path: form}

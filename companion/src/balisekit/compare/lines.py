@@ -8,7 +8,6 @@ import hashlib
 import re
 from collections import Counter, deque
 from dataclasses import dataclass, field, replace
-from functools import partial
 from typing import (
     Callable,
     Deque,
@@ -26,6 +25,7 @@ from typing import (
 )
 
 from balisekit.compare.forms import Change, differences
+from balisekit.engine.program import Record
 from balisekit.etcs.variables import Form
 from balisekit.rules.checking import Checked, Place, findings_of
 from balisekit.tables.grouping import EVERY
@@ -35,10 +35,12 @@ from balisekit.tables.names import clean, describe_identity, quoted
 Thing = TypeVar("Thing")
 Pairs = List[Tuple[Thing, Thing]]
 Known = Tuple[Hashable, Group]
+Sent = Tuple[int, str, Record]
+"""A telegram or message: its row or line, its digits, and what the program has decoded."""
 HEAD = re.compile(
     r'\{"m_dup":\d,"m_mcount":\d+,"m_version":\d+,"n_pig":(\d),"n_total":\d,"nid_bg":(\d+),"nid_c":(\d+),'
 )
-"""How the program begins the line of a telegram."""
+"""How each record of a telegram begins."""
 BY_ORDER = (3, 14, 15, 16)
 """The rules whose findings depend on the order of groups or aspects: one is compared with an earlier one."""
 OTHER_ORDER = (
@@ -49,35 +51,40 @@ OTHER_ORDER = (
 
 @dataclass(frozen=True)
 class Side:
-    """One of the two releases. Its telegrams stay lines of the program until one is compared field by field."""
+    """One of the two releases. The program decodes only the telegrams that are needed, many at a time."""
 
     checked: Checked
-    forms: Dict[int, Form] = field(default_factory=dict)
-    """Those telegrams whose fields have been needed, by their rows."""
+    records: Dict[int, Record] = field(default_factory=dict)
+    """The telegrams that have been needed, by their rows."""
 
-    def form(self, row: Row) -> Form:
-        """The fields of a telegram."""
-        if row.number not in self.forms:
-            self.forms[row.number] = self.checked.accepted[row.number].form
-        return self.forms[row.number]
+    def decode(self, rows: Iterable[Row]) -> None:
+        """Has the program decode those of these telegrams that can be read."""
+        accepted = self.checked.accepted
+        numbers = {row.number for row in rows if row.number in accepted and row.number not in self.records}
+        self.records.update((telegram.row.number, telegram.record) for telegram in accepted.decoded(sorted(numbers)))
 
-    def head(self, row: Row) -> Tuple[int, int, int]:
+    def sent(self, row: Row) -> Sent:
+        """A telegram that has been decoded."""
+        return row.number, row.telegram, self.records[row.number]
+
+    def head(self, row: Row) -> Tuple[int, ...]:
         """N_PIG, NID_BG and NID_C of a telegram."""
-        head = HEAD.match(self.checked.accepted[row.number].record.line)
-        if head:
-            return int(head[1]), int(head[2]), int(head[3])
-        form = self.form(row)
-        return form["n_pig"], form["nid_bg"], form["nid_c"]
+        return tuple(map(int, HEAD.findall(self.records[row.number].line)[0]))
 
-    def identity(self, group: Group) -> Optional[Tuple[int, int]]:
-        """NID_BG and NID_C of a group, if a telegram of it could be read."""
-        row = next((row for row in group.rows() if row.number in self.checked.accepted), None)
-        return self.head(row)[1:] if row else None
+    def first(self, group: Group) -> Optional[Row]:
+        """The first telegram of a group that could be read. It has the identity of the group."""
+        return next((row for row in group.rows() if row.number in self.checked.accepted), None)
+
+    def known(self) -> List[Known]:
+        """The groups whose identity is known, behind NID_BG and NID_C."""
+        groups = [(self.first(group), group) for group in self.checked.table.groups]
+        self.decode(row for row, _ in groups if row)
+        return [(self.head(row)[1:], group) for row, group in groups if row]
 
     def describe(self, group: Group, aspect: str = "", row: Optional[Row] = None) -> str:
         """A group, an aspect or a balise by its names."""
-        identity = self.identity(group)
-        named = f"  ({describe_identity((identity[1], identity[0]))})" if identity else ""
+        first = self.first(group)
+        named = f"  ({describe_identity((self.head(first)[2], self.head(first)[1]))})" if first else ""
         parts = [clean(group.name) + named]
         parts += ["every aspect"] if aspect == EVERY else [f"aspect {quoted(aspect)}"] if aspect else []
         parts += [f"position {self.head(row)[0]}" + (f" {quoted(row.name)}" if row.name else "")] if row else []
@@ -136,18 +143,14 @@ class Difference:
         differs = self.groups_added or self.groups_removed or self.added or self.removed or self.changed
         return 2 if not self.whole else int(bool(differs or self.respelled or self.findings_new or self.findings_gone))
 
-    def compare(
-        self, words: str, numbers: Tuple[int, int], texts: Tuple[str, str], forms: Callable[[], Tuple[Form, Form]]
-    ) -> None:
-        """Compares two telegrams or messages: their numbers, their texts, and their fields where the texts differ."""
-        if texts[0] == texts[1]:
-            self.same.append(texts[1].lower())
+    def compare(self, words: str, old: Sent, new: Sent) -> None:
+        """Compares two telegrams or messages: their texts, and their fields if the texts differ."""
+        if old[1] == new[1]:
+            self.same.append(new[1].lower())
             return
-        old, new = forms()
-        if old == new:
-            self.respelled.append(Changed(words, *numbers))
-        else:
-            self.changed.append(Changed(words, *numbers, tuple(differences(old, new))))
+        before, after = old[2].form, new[2].form
+        into = self.respelled if before == after else self.changed
+        into.append(Changed(words, old[0], new[0], tuple(differences(before, after))))
 
 
 def by_place(table: Table) -> Table:
@@ -162,13 +165,21 @@ def by_place(table: Table) -> Table:
 
 def compare(old: Checked, new: Checked, named: bool = True) -> Difference:
     """What differs between two releases. There are notes on names and kilometres if both have some of their own."""
-    answer = Difference(Side(old), Side(new))
+    answer, differing = Difference(Side(old), Side(new)), []
     pairs, removed, added = _paired_groups(answer.old, answer.new, named)
-    for before, after in pairs:
-        answer.notes += _renamed(answer.new, before, after) if named else []
-        _compare_group(answer, before, after)
     answer.groups_removed += map(answer.old.describe, removed)
     answer.groups_added += map(answer.new.describe, added)
+    for before, after in pairs:
+        answer.notes += _renamed(answer.new, before, after) if named else []
+        content = _content(answer.old, before)
+        if content is not None and content == _content(answer.new, after):
+            answer.same += {row.number: row.telegram.lower() for row in after.rows()}.values()
+        else:
+            differing.append((before, after))
+    for which, side in enumerate((answer.old, answer.new)):
+        side.decode(row for pair in differing for row in pair[which].rows())
+    for before, after in differing:
+        _compare_group(answer, before, after)
     _compare_messages(answer)
     _compare_findings(answer, pairs)
     return answer
@@ -203,17 +214,9 @@ def _paired_groups(old: Side, new: Side, named: bool) -> Tuple[Pairs[Group], Lis
         lambda known: (known[0], tuple(row.telegram for row in known[1].rows())),
         lambda known: known[0],
     ]
-    pairs, gone, come = _paired(_known(old), _known(new), *keys[not named :])
+    pairs, gone, come = _paired(old.known(), new.known(), *keys[not named :])
     groups = [(before, after) for (_, before), (_, after) in pairs]
     return groups, [group for _, group in gone], [group for _, group in come]
-
-
-def _known(side: Side) -> Iterator[Known]:
-    """The groups that have an identity, after it."""
-    for group in side.checked.table.groups:
-        identity = side.identity(group)
-        if identity is not None:
-            yield identity, group
 
 
 class Placed(NamedTuple):
@@ -242,10 +245,6 @@ def _content(side: Side, group: Group) -> Optional[Sequence[object]]:
 def _compare_group(answer: Difference, before: Group, after: Group) -> None:
     """Compares the telegrams of two groups by aspect and position; those that are left by aspect and place."""
     old, new = answer.old, answer.new
-    content = _content(old, before)
-    if content is not None and content == _content(new, after):
-        answer.same += {row.number: row.telegram.lower() for row in after.rows()}.values()
-        return
     pairs, gone, come = _paired(
         _placed(old, before),
         _placed(new, after),
@@ -253,13 +252,11 @@ def _compare_group(answer: Difference, before: Group, after: Group) -> None:
         lambda placed: (placed.aspect, placed.place),
     )
     known = {(was.row.number, now.row.number): (was.row, now.row) for was, now in pairs}
-    for numbers, (was, now) in sorted(known.items(), key=lambda item: item[0]):
-        subject = new.describe(after, now.aspect, now)
-        forms = partial(lambda one, other: (old.form(one), new.form(other)), was, now)
-        answer.compare(subject, numbers, (was.telegram, now.telegram), forms)
-    for side, group, some, which, into in ((new, after, come, 1, answer.added), (old, before, gone, 0, answer.removed)):
+    for _, (was, now) in sorted(known.items(), key=lambda item: item[0]):
+        answer.compare(new.describe(after, now.aspect, now), old.sent(was), new.sent(now))
+    for side, group, left, which, into in ((new, after, come, 1, answer.added), (old, before, gone, 0, answer.removed)):
         paired = {numbers[which] for numbers in known}
-        rows = {placed.row.number: placed.row for placed in some if placed.row.number not in paired}
+        rows = {placed.row.number: placed.row for placed in left if placed.row.number not in paired}
         into += [f"{side.describe(group, row.aspect, row)}  row {row.number}" for row in rows.values()]
 
 
@@ -277,11 +274,9 @@ def _compare_messages(answer: Difference) -> None:
     """Compares the messages by their names, and those without one by their order."""
     old, new = (side.checked.accepted_messages for side in (answer.old, answer.new))
     pairs, gone, come = _paired(old, new, lambda accepted: accepted.message.name)
-    for was, now in pairs:
-        numbers, texts = (was.message.number, now.message.number), (was.message.text, now.message.text)
-        answer.compare(
-            _message(now.message), numbers, texts, partial(lambda one, other: (one.form, other.form), was, now)
-        )
+    for pair in pairs:
+        was, now = ((accepted.message.number, accepted.message.text, accepted.record) for accepted in pair)
+        answer.compare(_message(pair[1].message), was, now)
     answer.added += [_message(accepted.message) for accepted in come]
     answer.removed += [_message(accepted.message) for accepted in gone]
 
@@ -331,37 +326,36 @@ def _in_order(group: Group, before: Optional[Group]) -> Group:
 Keyed = List[Tuple[Hashable, Place]]
 
 
-def _keyed(side: Side, findings: Iterable[Place], numbers: Mapping[str, int]) -> Keyed:
+def _keyed(side: Side, findings: Sequence[Place], numbers: Mapping[str, int]) -> Keyed:
     """Each finding with what it is about."""
-    messages = {accepted.message.number: accepted for accepted in side.checked.accepted_messages}
+    records: Dict[Optional[Message], Record] = {
+        accepted.message: accepted.record for accepted in side.checked.accepted_messages
+    }
+    side.decode(place.row for place in findings if place.row and place.finding.packet is not None)
     keyed: Keyed = []
     for place in findings:
-        finding = place.finding
-        subject: Hashable = None
-        form: Optional[Form] = None
-        if place.message is not None:
-            subject = "message", place.message.name
-        elif place.group is not None:
-            subject = numbers.get(place.group.name, place.group.name)
+        finding, packet = place.finding, None
+        subject = (
+            numbers.get(place.group.name, place.group.name) if place.group else place.message and place.message.name
+        )
         if finding.packet is not None:
-            form = side.form(place.row) if place.row else messages[place.message.number].form if place.message else None
-        key = (finding.rule, subject, place.aspect, finding.balise, _packet(form, finding.packet), finding.direction)
-        keyed.append((key, place))
+            record = side.records[place.row.number] if place.row else records[place.message]
+            packet = _packet(record.form, finding.packet)
+        about = (place.group is None, subject, place.aspect, finding.balise, packet, finding.direction)
+        keyed.append(((finding.rule, *about), place))
     return keyed
 
 
-def _packet(form: Optional[Form], place: Optional[int]) -> Hashable:
+def _packet(form: Form, place: int) -> Hashable:
     """A packet by its number, direction and order."""
-    if form is None or place is None:
-        return None
     heads = [(packet["nid_packet"], packet.get("q_dir")) for packet in form["packets"][: place + 1]]
     return heads[-1], heads.count(heads[-1])
 
 
-def _without(some: Keyed, others: Keyed) -> Iterator[Place]:
+def _without(keyed: Keyed, others: Keyed) -> Iterator[Place]:
     """The findings of one release that the other one has not."""
     counted = Counter(key for key, _ in others)
-    for key, place in some:
+    for key, place in keyed:
         if counted[key]:
             counted[key] -= 1
         else:

@@ -104,7 +104,7 @@ class Way:
     @property
     def supervised(self) -> Optional[int]:
         """The greatest supervised location of all its authorities."""
-        return max((one.supervised for one in self.authorities), default=None)
+        return max((authority.supervised for authority in self.authorities), default=None)
 
     def __bool__(self) -> bool:
         return bool(self.authorities or self.gradients or self.speeds)
@@ -116,12 +116,6 @@ class Kilometres:
 
     group: Optional[Decimal] = None
     rising: Optional[int] = None
-
-    def at(self, place_dm: int, direction: str) -> Optional[Decimal]:
-        """The kilometre of a place, or None if it is not known."""
-        if self.group is None or (self.rising is None and place_dm != 0):
-            return None
-        return self.group + Decimal(self._along(direction) * place_dm).scaleb(-4)
 
     @cached_property
     def _whole(self) -> Optional[int]:
@@ -135,9 +129,6 @@ class Kilometres:
             return ""
         whole, along = self._whole, place_dm if (self.rising != -1) == (direction == NOMINAL) else -place_dm
         return kilometre(self.group + Decimal(along).scaleb(-4)) if whole is None else kilometre_of(whole + along)
-
-    def _along(self, direction: str) -> int:
-        return (self.rising or 1) * (1 if direction == NOMINAL else -1)
 
 
 @lru_cache(maxsize=1 << 14)
@@ -156,8 +147,8 @@ def kilometres(group: Group) -> Kilometres:
             if row.km is not None:
                 known.setdefault(place, row.km)
     along = [known[place] for place in sorted(known)]
-    rises = all(one <= other for one, other in zip(along, along[1:]))
-    falls = all(one >= other for one, other in zip(along, along[1:]))
+    rises = all(before <= after for before, after in zip(along, along[1:]))
+    falls = all(before >= after for before, after in zip(along, along[1:]))
     if rises != falls:
         return Kilometres(known.get(0), 1 if rises else -1)
     words = {row.nominal for row in group.rows()} - {""}
@@ -219,18 +210,13 @@ def is_silent(forms: Sequence[Optional[Form]], balise: int, direction: str) -> b
 
 def holds(packet: Form, direction: str) -> bool:
     """Whether a packet from track to train is for this direction. Packet 0, which has no Q_DIR, is for both."""
-    return packet.get("q_dir", 2) in _holding(direction)
-
-
-def _holding(direction: str) -> Tuple[int, int]:
-    """The Q_DIR of the packets that hold in this direction."""
-    return 2, 1 if direction == NOMINAL else 0
+    return packet.get("q_dir", 2) in (2, int(direction == NOMINAL))
 
 
 def passed(forms: Sequence[Form], direction: str) -> List[Tuple[Site, Form]]:
     """The packets of a group for one direction in passing order, without those of silent balises."""
     order = range(len(forms)) if direction == NOMINAL else range(len(forms) - 1, -1, -1)
-    holding = _holding(direction)
+    holding = (2, int(direction == NOMINAL))
     return [
         (Site(balise, place), packet)
         for balise in order
@@ -238,26 +224,6 @@ def passed(forms: Sequence[Form], direction: str) -> List[Tuple[Site, Form]]:
         for place, packet in enumerate(forms[balise]["packets"])
         if packet.get("q_dir", 2) in holding
     ]
-
-
-def infill(forms: Sequence[Form], direction: str) -> FrozenSet[Site]:
-    """The packets that are passed behind a packet 136: their distances count from another group."""
-    return _behind_infill(passed(forms, direction)) if has_infill(forms) else NONE
-
-
-def has_infill(forms: Sequence[Form]) -> bool:
-    """Whether there is a packet 136 at all, as most groups have none."""
-    return any(packet["nid_packet"] == INFILL for form in forms for packet in form["packets"])
-
-
-def _behind_infill(packets: Sequence[Tuple[Site, Form]]) -> FrozenSet[Site]:
-    """Those of the passed packets that come behind a packet 136."""
-    behind, sites = False, set()
-    for site, packet in packets:
-        if behind:
-            sites.add(site)
-        behind = behind or packet["nid_packet"] == INFILL
-    return frozenset(sites) if sites else NONE
 
 
 class Origin(Enum):
@@ -289,15 +255,27 @@ def origins(forms: Sequence[Optional[Form]], direction: str) -> Iterator[Tuple[S
         origin = origin if silent else here
 
 
+def infill(forms: Sequence[Form], direction: str) -> FrozenSet[Site]:
+    """The packets that are passed behind a packet 136: their distances count from another group."""
+    if not has_infill(forms):
+        return NONE
+    known = {site for site, origin in origins(forms, direction) if origin is Origin.INFILL}
+    return frozenset(site for site in known if not is_silent(forms, site.balise, direction))
+
+
+def has_infill(forms: Sequence[Form]) -> bool:
+    """Whether there is a packet 136 at all. Most groups have none."""
+    return any(packet["nid_packet"] == INFILL for form in forms for packet in form["packets"])
+
+
 def way(forms: Sequence[Form], direction: str, of_infill: bool = False) -> Way:
     """What the telegrams of a group say in one direction: of the group's own places, or of the infill's."""
-    known = passed(forms, direction)
-    elsewhere = _behind_infill(known)
-    packets = [one for one in known if (one[0] in elsewhere) == of_infill] if elsewhere or of_infill else known
+    elsewhere = infill(forms, direction)
+    packets = [packet for packet in passed(forms, direction) if (packet[0] in elsewhere) == of_infill]
     profiles = [profile(site, packet) for site, packet in packets if packet["nid_packet"] in ELEMENT_KEYS]
     return Way(
         direction,
         tuple(authority(site, packet) for site, packet in packets if packet["nid_packet"] in (12, 15)),
-        tuple(one for one in profiles if one.number == 21),
-        tuple(one for one in profiles if one.number == 27),
+        tuple(profile for profile in profiles if profile.number == 21),
+        tuple(profile for profile in profiles if profile.number == 27),
     )

@@ -5,22 +5,67 @@ field at which the program says that a telegram is wrong. Which telegram is wron
 """
 from __future__ import annotations
 
+from contextlib import suppress
 from dataclasses import dataclass
-from typing import Callable, Dict, List, Mapping, Optional, Tuple
+from functools import lru_cache
+from typing import Any, List, Mapping, Optional, Sequence, Tuple
 
-#: The variables of a telegram's header, their bits and the keys in the JSON.
-HEADER: Tuple[Tuple[str, int, str], ...] = (
-    ("Q_UPDOWN", 1, ""),
-    ("M_VERSION", 7, "m_version"),
-    ("Q_MEDIA", 1, ""),
-    ("N_PIG", 3, "n_pig"),
-    ("N_TOTAL", 3, "n_total"),
-    ("M_DUP", 2, "m_dup"),
-    ("M_MCOUNT", 8, "m_mcount"),
-    ("NID_C", 10, "nid_c"),
-    ("NID_BG", 14, "nid_bg"),
-    ("Q_LINK", 1, "q_link"),
+KEYS = {"V_LOA": "end_speed", "T_LOA": "end_timeout", "NC_DIFF": "nc", "NC_CDDIFF": "nc"}
+"""The keys of variables in the JSON that are not their names in small letters."""
+Layout = Sequence[Any]
+"""Texts of variables with their bits, and tuples in which other layouts follow a kind, a name and a third value:
+
+- "optional", a flag of one bit, which the JSON does not write: if it is set, a part under the third value.
+- "when", a variable with its bits: the third value has what follows it by its number.
+- "items", the key of a list: as many items as the third value says, N_ITER, and as many as that says.
+- "group", a variable of NID_C and NID_BG, whose keys begin with the third value.
+"""
+SECTION_TIMER = ("optional", "Q_SECTIONTIMER", "/section_timer", "T_SECTIONTIMER 10 D_SECTIONTIMERSTOPLOC 15")
+AUTHORITY: Layout = (
+    "V_LOA 7 T_LOA 10",
+    ("items", "sections", 0, "L_SECTION 15", SECTION_TIMER),
+    "L_ENDSECTION 15",
+    SECTION_TIMER,
+    ("optional", "Q_ENDTIMER", "/end_timer", "T_ENDTIMER 10 D_ENDTIMERSTARTLOC 15"),
+    ("optional", "Q_DANGERPOINT", "/danger_point", "D_DP 15 V_RELEASEDP 7"),
+    ("optional", "Q_OVERLAP", "/overlap", "D_STARTOL 15 T_OL 10 D_OL 15 V_RELEASEOL 7"),
 )
+POSITION: Layout = (
+    "D_LRBG 15 Q_DIRLRBG 2 Q_DLRBG 2 L_DOUBTOVER 15 L_DOUBTUNDER 15",
+    ("when", "Q_LENGTH 2", {1: "L_TRAININT 15", 2: "L_TRAININT 15"}),
+    "V_TRAIN 7 Q_DIRTRAIN 2 M_MODE 4",
+    ("when", "M_LEVEL 3", {1: "NID_NTC 8"}),
+)
+LINK: Layout = (
+    "D_LINK 15",
+    ("optional", "Q_NEWCOUNTRY", "", "NID_C 10"),
+    "NID_BG 14 Q_LINKORIENTATION 1 Q_LINKREACTION 2 Q_LOCACC 6",
+)
+DIFFERENCE: Layout = (
+    ("when", "Q_DIFF 2", {0: "NC_CDDIFF 4", 1: "NC_DIFF 4", 2: "NC_DIFF 4", 3: "NC_DIFF 4"}),
+    "V_DIFF 7",
+)
+TRACK: Mapping[int, Layout] = {
+    5: (("items", "links", 1, *LINK),),
+    12: ("V_MAIN 7", *AUTHORITY),
+    15: AUTHORITY,
+    21: (("items", "elements", 1, "D_GRADIENT 15 Q_GDIR 1 G_A 8"),),
+    27: (("items", "elements", 1, "D_STATIC 15 V_STATIC 7 Q_FRONT 1", ("items", "differences", 0, *DIFFERENCE)),),
+    41: ("D_LEVELTR 15", ("items", "transitions", 1, ("when", "M_LEVELTR 3", {1: "NID_NTC 8"}), "L_ACKLEVELTR 15")),
+}
+TRAIN: Mapping[int, Layout] = {
+    0: (("group", "NID_LRBG", ""), *POSITION),
+    1: (("group", "NID_LRBG", ""), ("group", "NID_PRVLRBG", "prv_"), *POSITION),
+}
+HEADER = "Q_UPDOWN 1 M_VERSION 7 Q_MEDIA 1 N_PIG 3 N_TOTAL 3 M_DUP 2 M_MCOUNT 8 NID_C 10 NID_BG 14 Q_LINK 1"
+NOT_WRITTEN = ("Q_UPDOWN", "Q_MEDIA")
+"""The variables of a telegram's header that the JSON does not write."""
+
+
+@lru_cache(maxsize=None)
+def _variables(text: str) -> Sequence[Tuple[str, int]]:
+    words = text.split()
+    return list(zip(words[::2], map(int, words[1::2])))
 
 
 @dataclass(frozen=True)
@@ -66,12 +111,7 @@ class _Walk:
         self.packet: Optional[int] = None
         self.number: Optional[int] = None
 
-    @property
-    def left(self) -> int:
-        """How many bits are left."""
-        return len(self.bits) - self.at
-
-    def take(self, name: str, width: int, *parts: Tuple[str, int]) -> int:
+    def read(self, name: str, width: int, *parts: Tuple[str, int]) -> int:
         """The number in the next field. `parts` are the paths that its bits have in the JSON."""
         digits = self.bits[self.at : self.at + width]
         field = Field(name, self.at, width, digits, parts, self.packet, self.number)
@@ -81,183 +121,84 @@ class _Walk:
             raise _End
         return field.value
 
-    def one(self, name: str, width: int, path: str, key: str = "") -> int:
+    def value(self, name: str, width: int, path: str) -> int:
         """The number in the next field, which the JSON has at `path` under its key."""
-        return self.take(name, width, (f"{path}/{key or name.lower()}", width))
+        return self.read(name, width, (f"{path}/{KEYS.get(name, name.lower())}", width))
 
-    def group(self, name: str, path: str, before: str = "") -> None:
-        """A country or region with a group's number, which the standard takes for one variable."""
-        self.take(name, 24, (f"{path}/{before}nid_c", 10), (f"{path}/{before}nid_bg", 14))
+    def layout(self, layout: Layout, path: str) -> None:
+        """The fields of an object, which the JSON has at this path."""
+        for item in layout:
+            if isinstance(item, str):
+                for name, width in _variables(item):
+                    self.value(name, width, path)
+                continue
+            kind, name, third, *inner = item
+            if kind == "items":
+                for place in range(third):
+                    self.layout(inner, f"{path}/{name}/{place}")
+                for place in range(third, third + self.read("N_ITER", 5)):
+                    self.layout(inner, f"{path}/{name}/{place}")
+            elif kind == "group":
+                self.read(name, 24, (f"{path}/{third}nid_c", 10), (f"{path}/{third}nid_bg", 14))
+            elif kind == "optional" and self.read(name, 1):
+                self.layout(inner, f"{path}{third}")
+            elif kind == "when":
+                self.layout((third.get(self.value(*_variables(name)[0], path), ""),), path)
 
     def packets(self, from_track: bool) -> None:
         """Packets up to the end mark, or as far as there is room for one."""
         index = 0
-        while self.left >= 8:
-            path = f"/packets/{index}"
+        while len(self.bits) - self.at >= 8:
             self.packet, self.number = index, int(self.bits[self.at : self.at + 8], 2)
             if self.number == 255:
                 self.packet = None
-                self.take("NID_PACKET", 8)
+                self.read("NID_PACKET", 8)
                 break
-            self.one("NID_PACKET", 8, path)
-            self.body(path, from_track)
+            self.value("NID_PACKET", 8, f"/packets/{index}")
+            self.body(f"/packets/{index}", self.number, from_track)
             index += 1
         self.packet = self.number = None
-        if self.left:
-            self.take("fill", self.left)
+        if self.at < len(self.bits):
+            self.read("fill", len(self.bits) - self.at)
 
-    def body(self, path: str, from_track: bool) -> None:
-        """What stands in a packet behind its number."""
-        if from_track and self.number == 0:
-            self.one("NID_VBCMK", 6, path)
+    def body(self, path: str, number: int, from_track: bool) -> None:
+        """What a packet has after its number."""
+        if from_track and number == 0:
+            self.value("NID_VBCMK", 6, path)
             return
         if from_track:
-            self.one("Q_DIR", 2, path)
-        known = (TRACK if from_track else TRAIN).get(self.number or 0)
+            self.value("Q_DIR", 2, path)
+        known = (TRACK if from_track else TRAIN).get(number)
         if known is not None:
-            self.take("L_PACKET", 13)
-            self.one("Q_SCALE", 2, path)
-            known(self, path)
+            self.read("L_PACKET", 13)
+            self.value("Q_SCALE", 2, path)
+            self.layout(known, path)
             return
-        width = self.one("L_PACKET", 13, path) - (23 if from_track else 21)
+        width = self.value("L_PACKET", 13, path) - (23 if from_track else 21)
         if width < 0:
             raise _End
-        self.take("body", width, (f"{path}/body", width))
-
-
-def _linking(walk: _Walk, path: str) -> None:
-    def link(path: str) -> None:
-        walk.one("D_LINK", 15, path)
-        if walk.take("Q_NEWCOUNTRY", 1):
-            walk.one("NID_C", 10, path)
-        walk.one("NID_BG", 14, path)
-        walk.one("Q_LINKORIENTATION", 1, path)
-        walk.one("Q_LINKREACTION", 2, path)
-        walk.one("Q_LOCACC", 6, path)
-
-    link(f"{path}/links/0")
-    for place in range(walk.take("N_ITER", 5)):
-        link(f"{path}/links/{place + 1}")
-
-
-def _section_timer(walk: _Walk, path: str) -> None:
-    if walk.take("Q_SECTIONTIMER", 1):
-        walk.one("T_SECTIONTIMER", 10, f"{path}/section_timer")
-        walk.one("D_SECTIONTIMERSTOPLOC", 15, f"{path}/section_timer")
-
-
-def _authority(walk: _Walk, path: str) -> None:
-    if walk.number == 12:
-        walk.one("V_MAIN", 7, path)
-    walk.one("V_LOA", 7, path, "end_speed")
-    walk.one("T_LOA", 10, path, "end_timeout")
-    for place in range(walk.take("N_ITER", 5)):
-        walk.one("L_SECTION", 15, f"{path}/sections/{place}")
-        _section_timer(walk, f"{path}/sections/{place}")
-    walk.one("L_ENDSECTION", 15, path)
-    _section_timer(walk, path)
-    if walk.take("Q_ENDTIMER", 1):
-        walk.one("T_ENDTIMER", 10, f"{path}/end_timer")
-        walk.one("D_ENDTIMERSTARTLOC", 15, f"{path}/end_timer")
-    if walk.take("Q_DANGERPOINT", 1):
-        walk.one("D_DP", 15, f"{path}/danger_point")
-        walk.one("V_RELEASEDP", 7, f"{path}/danger_point")
-    if walk.take("Q_OVERLAP", 1):
-        walk.one("D_STARTOL", 15, f"{path}/overlap")
-        walk.one("T_OL", 10, f"{path}/overlap")
-        walk.one("D_OL", 15, f"{path}/overlap")
-        walk.one("V_RELEASEOL", 7, f"{path}/overlap")
-
-
-def _gradients(walk: _Walk, path: str) -> None:
-    def element(path: str) -> None:
-        walk.one("D_GRADIENT", 15, path)
-        walk.one("Q_GDIR", 1, path)
-        walk.one("G_A", 8, path)
-
-    element(f"{path}/elements/0")
-    for place in range(walk.take("N_ITER", 5)):
-        element(f"{path}/elements/{place + 1}")
-
-
-def _speeds(walk: _Walk, path: str) -> None:
-    def element(path: str) -> None:
-        walk.one("D_STATIC", 15, path)
-        walk.one("V_STATIC", 7, path)
-        walk.one("Q_FRONT", 1, path)
-        for place in range(walk.take("N_ITER", 5)):
-            below = f"{path}/differences/{place}"
-            kind = walk.one("Q_DIFF", 2, below)
-            walk.one("NC_DIFF" if kind else "NC_CDDIFF", 4, below, "nc")
-            walk.one("V_DIFF", 7, below)
-
-    element(f"{path}/elements/0")
-    for place in range(walk.take("N_ITER", 5)):
-        element(f"{path}/elements/{place + 1}")
-
-
-def _levels(walk: _Walk, path: str) -> None:
-    def level(path: str) -> None:
-        if walk.one("M_LEVELTR", 3, path) == 1:
-            walk.one("NID_NTC", 8, path)
-        walk.one("L_ACKLEVELTR", 15, path)
-
-    walk.one("D_LEVELTR", 15, path)
-    level(f"{path}/transitions/0")
-    for place in range(walk.take("N_ITER", 5)):
-        level(f"{path}/transitions/{place + 1}")
-
-
-def _position(walk: _Walk, path: str) -> None:
-    walk.group("NID_LRBG", path)
-    if walk.number == 1:
-        walk.group("NID_PRVLRBG", path, "prv_")
-    walk.one("D_LRBG", 15, path)
-    walk.one("Q_DIRLRBG", 2, path)
-    walk.one("Q_DLRBG", 2, path)
-    walk.one("L_DOUBTOVER", 15, path)
-    walk.one("L_DOUBTUNDER", 15, path)
-    if walk.one("Q_LENGTH", 2, path) in (1, 2):
-        walk.one("L_TRAININT", 15, path)
-    walk.one("V_TRAIN", 7, path)
-    walk.one("Q_DIRTRAIN", 2, path)
-    walk.one("M_MODE", 4, path)
-    if walk.one("M_LEVEL", 3, path) == 1:
-        walk.one("NID_NTC", 8, path)
-
-
-Fields = Callable[[_Walk, str], None]
-TRACK: Mapping[int, Fields] = {5: _linking, 12: _authority, 15: _authority, 21: _gradients, 27: _speeds, 41: _levels}
-TRAIN: Mapping[int, Fields] = {0: _position, 1: _position}
+        self.read("body", width, (f"{path}/body", width))
 
 
 def telegram_fields(bits: str) -> List[Field]:
     """The fields of a telegram's user bits, a text of 0 and 1."""
     walk = _Walk(bits)
-    try:
-        for name, width, key in HEADER:
-            walk.take(name, width, *([(f"/{key}", width)] if key else []))
+    with suppress(_End):
+        for name, width in _variables(HEADER):
+            walk.read(name, width, *([] if name in NOT_WRITTEN else [(f"/{name.lower()}", width)]))
         walk.packets(True)
-    except _End:
-        pass
     return walk.fields
 
 
 def message_fields(bits: str) -> List[Field]:
     """The fields of a radio message's bits, a text of 0 and 1."""
     walk = _Walk(bits)
-    try:
-        number = walk.one("NID_MESSAGE", 8, "")
-        walk.take("L_MESSAGE", 10)
-        walk.one("T_TRAIN", 32, "")
-        if number == 136:
-            walk.one("NID_ENGINE", 24, "")
-        else:
-            walk.one("M_ACK", 1, "")
-            walk.group("NID_LRBG", "")
+    with suppress(_End):
+        number = walk.value("NID_MESSAGE", 8, "")
+        walk.read("L_MESSAGE", 10)
+        walk.value("T_TRAIN", 32, "")
+        walk.layout(("NID_ENGINE 24",) if number == 136 else ("M_ACK 1", ("group", "NID_LRBG", "")), "")
         walk.packets(number != 136)
-    except _End:
-        pass
     return walk.fields
 
 
@@ -268,5 +209,4 @@ def bits_of(digits: str, count: Optional[int] = None) -> str:
 
 def user_bits(digits: str) -> str:
     """The user bits of a telegram's text: 210 of 54 digits, 830 of 208; all of another text."""
-    sizes: Dict[int, int] = {54: 210, 208: 830}
-    return bits_of(digits, sizes.get(len(digits)))
+    return bits_of(digits, {54: 210, 208: 830}.get(len(digits)))

@@ -78,16 +78,7 @@ TRAIN: Dict[int, str] = {
 
 MESSAGES: Dict[int, str] = {3: "movement authority", 136: "train position report"}
 
-#: Packets whose fields are read. All others are kept as bits.
-READ_FROM_TRACK = frozenset((0, 5, 12, 15, 21, 27, 41))
-READ_FROM_TRAIN = frozenset((0, 1))
-
 
 def packet_name(number: int, from_track: bool = True) -> str:
     """What the packet of this number is called."""
     return (TRACK if from_track else TRAIN).get(number, "not named here")
-
-
-def is_kept_as_bits(number: int, from_track: bool = True) -> bool:
-    """Whether the program keeps the body of the packet as bits."""
-    return number not in (READ_FROM_TRACK if from_track else READ_FROM_TRAIN)

@@ -141,21 +141,22 @@ def _notes(packet: Form, origin: Origin, place: Place) -> Dict[str, str]:
 
 def _authority_notes(packet: Form, place: Place) -> Notes:
     """Where sections end and timers stop, and where the authority ends."""
-    found = authority(Site(0, 0), packet)
-    stops = list(found.timer_stops)
-    for index, (section, cut) in enumerate(zip(packet["sections"], found.cuts)):
+    extent = authority(Site(0, 0), packet)
+    stops = list(extent.timer_stops)
+    for index, (section, cut) in enumerate(zip(packet["sections"], extent.cuts)):
         yield f"/sections/{index}", f"to {place(cut)}"
         if "section_timer" in section:
             yield f"/sections/{index}/section_timer", f"stops at {place(stops.pop(0))}"
     if stops:
         yield "/section_timer", f"stops at {place(stops[0])}"
-    if found.end_timer is not None:
-        yield "/end_timer", f"starts at {place(found.end_timer)}"
-    if found.danger_point is not None:
-        yield "/danger_point", f"at {place(found.danger_point)}"
-    if found.overlap is not None and found.overlap_timer is not None:
-        yield "/overlap", f"ends at {place(found.overlap)}; timer starts at {place(found.overlap_timer)}"
-    yield "/l_endsection", f"end of the authority at {place(found.end)}; supervised location at {place(found.supervised)}"
+    if extent.end_timer is not None:
+        yield "/end_timer", f"starts at {place(extent.end_timer)}"
+    if extent.danger_point is not None:
+        yield "/danger_point", f"at {place(extent.danger_point)}"
+    if extent.overlap is not None and extent.overlap_timer is not None:
+        yield "/overlap", f"ends at {place(extent.overlap)}; timer starts at {place(extent.overlap_timer)}"
+    supervised = f"supervised location at {place(extent.supervised)}"
+    yield "/l_endsection", f"end of the authority at {place(extent.end)}; {supervised}"
 
 
 def _profile_notes(packet: Form, place: Place) -> Notes:
@@ -208,12 +209,12 @@ def places_of_rows(group: Group, forms: Mapping[int, Form]) -> Dict[int, Here]:
 def _passages(
     aspects: Sequence[Tuple[str, Sequence[Tuple[int, Optional[Form]]]]]
 ) -> Dict[int, Dict[int, Sequence[Passage]]]:
-    """The passages of packets that do not always count from the group, by numbers of telegrams and places of packets."""
-    found: Dict[int, Dict[int, List[Passage]]] = {}
+    """The passages of packets that do not always count from the group, by telegram and place."""
+    passages_of: Dict[int, Dict[int, List[Passage]]] = {}
     for name, telegrams in aspects:
         for direction in DIRECTIONS:
             for site, origin in origins([form for _, form in telegrams], direction):
-                packets = found.setdefault(telegrams[site.balise][0], {})
+                packets = passages_of.setdefault(telegrams[site.balise][0], {})
                 packets.setdefault(site.packet, []).append(Passage(name, direction, origin))
     return {
         number: {
@@ -221,5 +222,5 @@ def _passages(
             for place, passages in packets.items()
             if any(passage.origin is not Origin.OWN for passage in passages)
         }
-        for number, packets in found.items()
+        for number, packets in passages_of.items()
     }

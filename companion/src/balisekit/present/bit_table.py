@@ -42,16 +42,16 @@ def _words(field: Field, known: Mapping[str, Shown]) -> str:
 
 def _compare(fields: List[Field], wanted: Dict[str, Union[int, str]]) -> None:
     """Each value of the JSON is that of its field, and no field has a value that the JSON lacks."""
-    found: Dict[str, Union[int, str]] = {}
+    values: Dict[str, Union[int, str]] = {}
     for field in fields:
         rest = field.digits
         for path, width in field.parts:
-            found[path], rest = _value(path, rest[:width]), rest[width:]
-    for path in {**found, **wanted}:
-        if found.get(path) != wanted.get(path):
+            values[path], rest = _value(path, rest[:width]), rest[width:]
+    for path in {**values, **wanted}:
+        if values.get(path) != wanted.get(path):
             raise NoAnswer(
                 f"balisekit's tables and the program disagree about {path}: "
-                f"{found.get(path)} and {wanted.get(path)}"
+                f"{values.get(path)} and {wanted.get(path)}"
             )
 
 

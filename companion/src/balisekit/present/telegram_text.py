@@ -6,10 +6,10 @@ from __future__ import annotations
 
 import textwrap
 from functools import lru_cache
-from typing import List, Mapping, NamedTuple, Sequence, Tuple, Union
+from typing import Iterator, List, Mapping, NamedTuple, Sequence, Tuple, Union
 
 from balisekit.etcs.places import Here, place_notes
-from balisekit.etcs.variables import LABELS, ORDER, VARIABLES, Around, Form, Values, said
+from balisekit.etcs.variables import LABELS, VARIABLES, Around, Form, Values, in_order, value_texts
 
 WIDTH = 118
 LABEL_WIDTH = 22
@@ -52,12 +52,9 @@ class Line(NamedTuple):
 
 def form_lines(form: Form, here: Here = Here()) -> List[Line]:
     """The lines of a telegram, or of a radio message."""
-    is_message = "nid_message" in form
     around = Around(from_track=form.get("nid_message") != 136)
     notes = place_notes(form, here) if around.from_track else {}
-    lines: List[Line] = []
-    _lines(lines, "message" if is_message else "header", 0, form, "", around, notes)
-    return lines
+    return list(_lines("message" if "nid_message" in form else "header", 0, form, "", around, notes))
 
 
 @lru_cache(maxsize=1024)
@@ -67,7 +64,7 @@ def _steps(keys: Tuple[str, ...]) -> List[Tuple[Tuple[str, ...], str]]:
     Objects have few sets of keys. One that is not known may have anything, so it is taken for a part.
     """
     steps: List[Tuple[Tuple[str, ...], str]] = []
-    for key in sorted(keys, key=lambda one: (ORDER.get(one, len(ORDER)), one)):
+    for key in in_order(keys):
         if key not in VARIABLES:
             steps.append(((), key))
         elif key == END_SECTION or not steps or steps[-1][1]:
@@ -77,55 +74,49 @@ def _steps(keys: Tuple[str, ...]) -> List[Tuple[Tuple[str, ...], str]]:
     return steps
 
 
-def _lines(
-    into: List[Line], label: str, depth: int, form: Values, path: str, around: Around, notes: Mapping[str, str]
-) -> None:
-    """Adds the lines of an object: its values up to its first part, that part, and so on."""
-    inner = Around(form if "nid_packet" in form else around.packet, form, around.from_track)
-    anchor = path
+def _lines(label: str, depth: int, form: Values, path: str, around: Around, notes: Mapping[str, str]) -> Iterator[Line]:
+    """The lines of an object: its values up to its first part, that part, and so on."""
+    inner, anchor = around.inside(form), path
     for keys, part in _steps(tuple(form)):
-        if part:
-            _part(into, depth + 1, part, form, f"{path}/{part}", inner, notes)
+        if keys:
+            if keys[0] == END_SECTION:
+                label, anchor, depth = "end section", f"{path}/{END_SECTION}", depth + 1
+            yield Line(depth, label, path, keys, form, value_texts(keys, form, inner), notes.get(anchor, ""))
+            label, anchor = "", ""
             continue
-        if keys[0] == END_SECTION:
-            label, anchor, depth = "end section", f"{path}/{END_SECTION}", depth + 1
-        into.append(Line(depth, label, path, keys, form, said(keys, form, inner), notes.get(anchor, "")))
-        label, anchor = "", ""
-
-
-def _part(
-    into: List[Line], depth: int, key: str, whole: Values, path: str, around: Around, notes: Mapping[str, str]
-) -> None:
-    """Adds the lines of a part: an object, a list with its items, or a value whose key is not known."""
-    name, part = LABELS.get(key, key), whole[key]
-    if isinstance(part, list):
-        for place, item in enumerate(part):
-            form = item if isinstance(item, dict) else {name: item}
-            _lines(into, f"{name} {place}", depth, form, f"{path}/{place}", around, notes)
-    elif isinstance(part, dict):
-        _lines(into, name, depth, part, path, around, notes)
-    else:
-        into.append(Line(depth, "", path[: -len(key) - 1], (key,), whole, said((key,), whole, around)))
+        name, value = LABELS.get(part, part), form[part]
+        if isinstance(value, list):
+            for place, item in enumerate(value):
+                item = item if isinstance(item, dict) else {name: item}
+                yield from _lines(f"{name} {place}", depth + 1, item, f"{path}/{part}/{place}", inner, notes)
+        elif isinstance(value, dict):
+            yield from _lines(name, depth + 1, value, f"{path}/{part}", inner, notes)
+        else:
+            yield Line(depth + 1, "", path, (part,), form, value_texts((part,), form, inner))
 
 
 def text_of(line: Line) -> str:
     """The line as text, broken where it is too long. A break never parts a name from its raw value."""
     first, values = _label(line.depth, line.label), "  ".join(line.texts)
     lines = [first + values] if len(first) + len(values) <= WIDTH else _broken(first, line.texts)
-    if not line.note:
-        return "\n".join(lines)
-    if len(lines[-1]) + 4 + len(line.note) <= WIDTH:
-        lines[-1] += f"  = {line.note}"
-    else:
-        lines += _wrapped(f"= {line.note}")
+    note, indent = f"= {line.note}", " " * LABEL_WIDTH
+    if line.note and len(lines[-1]) + 2 + len(note) <= WIDTH:
+        lines[-1] += f"  {note}"
+    elif line.note:  # (textwrap is slow, and most notes need one line)
+        short = LABEL_WIDTH + len(note) <= WIDTH
+        lines += (
+            [indent + note]
+            if short
+            else textwrap.wrap(note, WIDTH, initial_indent=indent, subsequent_indent=indent + "  ")
+        )
     return "\n".join(lines)
 
 
 @lru_cache(maxsize=1024)
 def _label(depth: int, label: str) -> str:
     """What stands before the values of a line."""
-    said = f"{'  ' * depth}{label}"
-    return f"{said:<{LABEL_WIDTH}}" if len(said) < LABEL_WIDTH else f"{said} "
+    text = f"{'  ' * depth}{label}"
+    return f"{text:<{LABEL_WIDTH}}" if len(text) < LABEL_WIDTH else f"{text} "
 
 
 def _broken(last: str, values: Sequence[str]) -> List[str]:
@@ -139,13 +130,6 @@ def _broken(last: str, values: Sequence[str]) -> List[str]:
         last += value if fresh else f"  {value}"
         fresh = False
     return [*lines, last]
-
-
-def _wrapped(note: str) -> List[str]:
-    """A note on lines of its own. Most of them need one alone."""
-    if LABEL_WIDTH + len(note) <= WIDTH:
-        return [" " * LABEL_WIDTH + note]
-    return textwrap.wrap(note, WIDTH, initial_indent=" " * LABEL_WIDTH, subsequent_indent=" " * (LABEL_WIDTH + 2))
 
 
 def text(form: Form, here: Here = Here()) -> str:

@@ -10,6 +10,7 @@ from balisekit.engine.program import Program, Record, Report
 from balisekit.engine.records import Form
 from balisekit.errors import NoAnswer
 from balisekit.rules.differing import differs
+from balisekit.tables.grouping import by_position
 from balisekit.tables.model import Aspect, Group, Message, Messages, Row, Table
 
 GREATEST_REFUSED = 10_000
@@ -312,11 +313,7 @@ def _sort_out(
 def _by_position(groups: Sequence[Group], accepted: Telegrams) -> Tuple[Group, ...]:
     """The groups with the balises of each aspect in the order of N_PIG."""
     positions = {telegram.row.number: telegram.form["n_pig"] for telegram in accepted.decoded()}
-
-    def ordered(aspect: Aspect) -> Aspect:
-        return Aspect(aspect.name, tuple(sorted(aspect.rows, key=lambda row: positions[row.number])))
-
-    return tuple(Group(group.name, tuple(map(ordered, group.aspects))) for group in groups)
+    return tuple(by_position(group, positions) for group in groups)
 
 
 class _Names:

@@ -6,7 +6,7 @@ from __future__ import annotations
 
 from typing import Mapping, Sequence
 
-from balisekit.etcs.variables import VARIABLES, Around, Form, Values, value_words
+from balisekit.etcs.variables import Around, Form, Values, value_words, variable_name
 from balisekit.tables.model import Group, Row
 from balisekit.tables.names import quoted
 
@@ -42,7 +42,7 @@ def _unlike(form: Values, group: Group, forms: Mapping[int, Values]) -> str:
     first = group.aspects[0]
     other = forms[first.rows[0].number]
     said = [
-        f"{VARIABLES[key].name} is {_value(key, form)}, and {_value(key, other)}"
+        f"{variable_name(key, form)} is {_value(key, form)}, and {_value(key, other)}"
         for key in SAME
         if form[key] != other[key]
     ]
