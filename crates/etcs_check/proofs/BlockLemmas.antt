@@ -163,7 +163,7 @@ module _ (site : Site) (used : Bool) (aspects : Aspects) where
       under order_of (at_site site) 16 16 refl (subst (λ wide. IsBlock order_of (at_rule site rules.NotToldApart) 0 (0 + length (enumerate_from 0 aspects)) (wide ++ for_each aspects (aspect_facts site aspects rules.NotToldApart))) (sym none) (aspects_block rules.NotToldApart 0 (from_0 few)))
   few_block few rule = under order_of (at_site site) (rule_number rule) (rule_number rule) refl (aspects_block rule 0 (from_0 few))
 
-  rule_block : (rule : Rule) → IsBlock order_of (at_site site) (rule_number rule) (suc (rule_number rule)) (rule_facts site used aspects rule)
+  pub rule_block : (rule : Rule) → IsBlock order_of (at_site site) (rule_number rule) (suc (rule_number rule)) (rule_facts site used aspects rule)
   rule_block rule = elim (cases_lt 1 (length aspects)) [
     | inl many ↦
         under order_of (at_site site) (rule_number rule) (rule_number rule) refl
@@ -174,7 +174,7 @@ module _ (site : Site) (used : Bool) (aspects : Aspects) where
 -- ---- sites
 
 -- the findings of all rules, in the order of their numbers
-rules_block : (site : Site) (g : Rule → List Finding) → ((rule : Rule) → IsBlock order_of (at_site site) (rule_number rule) (suc (rule_number rule)) (g rule)) → IsBlock order_of (site_order site ∷ []) (site_place site) (suc (site_place site)) (flat_map g all_rules)
+pub rules_block : (site : Site) (g : Rule → List Finding) → ((rule : Rule) → IsBlock order_of (at_site site) (rule_number rule) (suc (rule_number rule)) (g rule)) → IsBlock order_of (site_order site ∷ []) (site_place site) (suc (site_place site)) (flat_map g all_rules)
 rules_block site g each =
     under order_of (site_order site ∷ []) (site_place site) (site_place site) refl (blocks order_of (at_site site) g all_rules 1 (λ i n rule e at.
     subst (λ m. IsBlock order_of (at_site site) m (suc m) (g rule)) (rising rule_number all_rules 1 refl i rule at ∙ sym e) (each rule)))

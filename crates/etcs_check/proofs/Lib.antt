@@ -19,8 +19,14 @@ pub mod NamedLemmas
 pub mod CompareLemmas
 pub mod NoteLemmas
 pub mod GreatestLemmas
-pub mod SummaryLemmas
 pub mod IdentityLemmas
 pub mod QuietLemmas
 pub mod SayingLemmas
 pub mod CheckerLemmas
+pub mod FactLemmas
+pub mod SaidLemmas
+pub mod SortLemmas
+pub mod WalkLemmas
+pub mod CellLemmas
+pub mod PlaceLemmas
+pub mod GroupLemmas

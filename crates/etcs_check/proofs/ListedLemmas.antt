@@ -32,19 +32,19 @@ IsListed f found = (i : ℕ) × At found i f
 
 -- ---- the lists that findings are made of
 
-noted-listed : (fact : Bool) (f : Finding) → fact ≡ true → IsListed f (noted fact f)
+pub noted-listed : (fact : Bool) (f : Finding) → fact ≡ true → IsListed f (noted fact f)
 noted-listed fact f e = rw e (0, refl)
 
-each-listed : {X : Type 0} (g : ℕ → X → List Finding) (xs : List X) (b : ℕ) (x : X) (f : Finding) → At xs b x → IsListed f (g b x) → IsListed f (for_each xs g)
+pub each-listed : {X : Type 0} (g : ℕ → X → List Finding) (xs : List X) (b : ℕ) (x : X) (f : Finding) → At xs b x → IsListed f (g b x) → IsListed f (for_each xs g)
 each-listed {X} g xs b x f at h =
     let z : b ≡ 0 + b = omega arith in
     at-flat_map (λ (e : ℕ × X). g e.0 e.1) (enumerate_from 0 xs) b (0 + b, x) h.0 f (at-enumerate 0 xs b x at) (subst (λ m. At (g m x) h.0 f) z h.1)
 
-directions-listed : (g : Run → List Finding) (run : Run) (f : Finding) → IsListed f (g run) → IsListed f (for_directions g)
+pub directions-listed : (g : Run → List Finding) (run : Run) (f : Finding) → IsListed f (g run) → IsListed f (for_directions g)
 directions-listed g runs.Nominal f h = (h.0, At-append_left (g runs.Nominal) (g runs.Reverse) h.0 f h.1)
 directions-listed g runs.Reverse f h = At-append_right (g runs.Nominal) (g runs.Reverse) h.0 f h.1
 
-rules-listed : (g : Rule → List Finding) (r : Rule) (f : Finding) → IsListed f (g r) → IsListed f (flat_map g all_rules)
+pub rules-listed : (g : Rule → List Finding) (r : Rule) (f : Finding) → IsListed f (g r) → IsListed f (flat_map g all_rules)
 rules-listed g r f h = let p = rule_place r in at-flat_map g all_rules p.0 r h.0 f p.1 h.1
 
 -- ---- groups
@@ -107,7 +107,7 @@ whole_listed site used aspects rules.NotToldApart None (Some b) None h =
 whole_listed site used aspects rule run b k h = first_of (search, cc)
 
 -- a finding is made of its parts
-made_of : (f : Finding) (spot : Spot) → f.site ≡ spot.site → f.aspect ≡ spot.aspect → finding_of f.rule spot f.dir f.balise f.packet ≡ f
+pub made_of : (f : Finding) (spot : Spot) → f.site ≡ spot.site → f.aspect ≡ spot.aspect → finding_of f.rule spot f.dir f.balise f.packet ≡ f
 made_of f spot e g = ap (λ z. finding_of f.rule (record { site = z; aspect = spot.aspect }) f.dir f.balise f.packet) (sym e)
     ∙ ap (λ z. finding_of f.rule (record { site = f.site; aspect = z }) f.dir f.balise f.packet) (sym g)
 

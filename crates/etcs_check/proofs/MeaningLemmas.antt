@@ -39,7 +39,7 @@ noted-at true n zero f h = (refl, same_Some n f h)
 noted-at true n (suc i) f h = absurd (none-some f h)
 noted-at false n i f h = absurd (none-some f h)
 
-each-at : {X : Type 0} (g : ℕ → X → List Finding) (xs : List X) (i : ℕ) (f : Finding) → At (for_each xs g) i f → (b : ℕ) × (x : X) × (k : ℕ) × At xs b x × At (g b x) k f
+pub each-at : {X : Type 0} (g : ℕ → X → List Finding) (xs : List X) (i : ℕ) (f : Finding) → At (for_each xs g) i f → (b : ℕ) × (x : X) × (k : ℕ) × At xs b x × At (g b x) k f
 each-at {X} g xs i f h =
     let r = flat_map-at (λ (e : ℕ × X). g e.0 e.1) (enumerate_from 0 xs) i f h in
     let e = enumerate-at 0 xs r.0 r.1 r.3 in

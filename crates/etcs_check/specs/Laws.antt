@@ -17,6 +17,8 @@ use Rattle.etcs_check.specs.Profiles.{gradient_reach, speed_reach}
 use Rattle.etcs_check.specs.Soundness.{IsSoundGroup, IsSoundControlled, IsSoundMessage, IsSoundLine, group_identity}
 use Rattle.etcs_check.specs.Aspects.{is_used}
 use Rattle.etcs_check.specs.Line.{findings}
+use Rattle.etcs_check.specs.Cells.{findings as of_cells}
+use Rattle.etcs_check.specs.Facts.{is_fact}
 use Rattle.etcs_check.specs.Meaning.{GroupFact, States}
 use Rattle.etcs_check.specs.Order.{IsListOf}
 use Rattle.etcs_check.specs.Harm.{HasParts, Hurts, IsNew}
@@ -113,3 +115,13 @@ SoundGroupsAreDecided = (group : Telegrams) (run : Run) (missed : ℕ → Bool)
 abbrev pub SoundMixturesAreDecided : Type 0
 SoundMixturesAreDecided = (run : Run) (aspects : Aspects) (shown : ℕ → Option ℕ)
     → IsControlled aspects → IsSoundControlled aspects → Fits aspects shown → IsMixtureDecided run aspects shown
+
+-- A finding states its fact exactly where the one test says so.
+abbrev pub FactsAreTests : Type 0
+FactsAreTests = (groups : List Aspects) (messages : List Message) (f : Finding)
+    → IsTrue (is_fact groups messages f) ↔ States groups messages f
+
+-- At each place every rule is asked; the facts of each site, sorted by rule, are a line's findings.
+abbrev pub CellsAreTheFindings : Type 0
+CellsAreTheFindings = (groups : List Aspects) (messages : List Message)
+    → of_cells groups messages ≡ findings groups messages

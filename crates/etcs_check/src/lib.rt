@@ -10,7 +10,6 @@
 
 mod aspects;
 mod balise_rules;
-mod checking;
 mod duplicates;
 mod finding;
 mod identities;
@@ -18,7 +17,7 @@ pub mod laws;
 mod line;
 mod line_checker;
 mod profile_rules;
-mod summary;
+mod walk;
 
 pub use duplicates::same_packets;
 pub use finding::{Finding, Rule, Site};

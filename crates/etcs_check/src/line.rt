@@ -20,9 +20,9 @@ ghost use Rattle.etcs_check.specs.Soundness.{IsSoundControlled, IsSoundGroup, Is
 ghost use Rattle.etcs_check.specs.declared.finding.Finding.{Finding};
 ghost use Rattle.etcs_check.specs.declared.finding.Site.TheVariants as sites;
 
-use crate::checking::{note_group, note_message};
-use crate::finding::{Finding, Site};
+use crate::finding::{Finding, Site, append};
 use crate::identities::{has_repeat, identity_number, keep};
+use crate::walk::{group_findings, message_findings};
 use etcs_bits::Memory;
 use etcs_group::{Controlled, Group};
 use etcs_radio::Message;
@@ -42,6 +42,7 @@ pub struct Line {
 // Appends the findings about the group at this place, and keeps its identity, which was used if it was kept before.
 // Where no identity is used again, none is kept, and memory is asked for only if there is a finding.
 fn note_next(
+    alloc: Global,
     found: &mut Vec<Finding>,
     kept: &mut BTreeSet<u32>,
     again: bool,
@@ -58,7 +59,8 @@ fn note_next(
 {
     let identity = identity_number(aspects);
     let used = again && kept.contains(&identity);
-    note_group(found, Site::Group(place), used, aspects)?;
+    let more = group_findings(alloc, place, used, aspects)?;
+    append(found, more)?;
     if again { keep(kept, identity) } else { Ok(()) }
 }
 
@@ -71,18 +73,30 @@ fn note_groups(alloc: Global, found: &mut Vec<Finding>, groups: &[Controlled]) -
     let again = has_repeat(groups);
     let mut kept = BTreeSet::new(alloc);
     'places: for place in 0..groups.len() {
-        note_next(found, &mut kept, again, place, groups[place].aspects())?;
+        note_next(
+            alloc,
+            found,
+            &mut kept,
+            again,
+            place,
+            groups[place].aspects(),
+        )?;
     }
     Ok(())
 }
 
 // Appends the findings about the messages.
-fn note_messages(found: &mut Vec<Finding>, messages: &[Message]) -> Result<(), Memory>
+fn note_messages(
+    alloc: Global,
+    found: &mut Vec<Finding>,
+    messages: &[Message],
+) -> Result<(), Memory>
     ensures ok { OnOk result (found.new.items ≡ found.old.items ++ message_list messages.now) }
     ensures memory { OnErr result (message_list messages.now ≢ []) }
 {
     'places: for place in 0..messages.len() {
-        note_message(found, Site::Message(place), &messages[place])?;
+        let more = message_findings(alloc, Site::Message(place), &messages[place])?;
+        append(found, more)?;
     }
     Ok(())
 }
@@ -141,6 +155,6 @@ pub fn check(alloc: Global, line: &Line) -> Result<Vec<Finding>, Memory>
 {
     let mut found = Vec::new(alloc);
     note_groups(alloc, &mut found, &line.groups)?;
-    note_messages(&mut found, &line.messages)?;
+    note_messages(alloc, &mut found, &line.messages)?;
     Ok(found)
 }

@@ -1,0 +1,57 @@
+-- The findings of a line: at each place every rule is asked, and the facts of a group or a message are sorted by rule.
+-- A place is an aspect or none, a running direction or none, a balise or none, and a packet or none.
+use Rattle.std.specs.Prelude.{ℕ, nat_lt, if◌then◌else◌, Bool, take, List, [], ◌∷◌, ◌++◌, length, map, filter, flat_map, Option, Some, None}
+use Rattle.std.specs.List.{range_with_len}
+use Rattle.etcs_packet.specs.declared.run.Run.{Run}
+use Rattle.etcs_packet.specs.declared.run.Run.TheVariants as runs
+use Rattle.etcs_packet.specs.declared.track.TrackPacket.{TrackPacket}
+use Rattle.etcs_radio.specs.declared.message.Message.{Message}
+use Rattle.etcs_radio.specs.declared.message.Message.TheVariants as messages
+use Rattle.etcs_group.specs.Group.{Telegrams, Aspects}
+use Rattle.etcs_check.specs.Aspects.{is_used, site_spot}
+use Rattle.etcs_check.specs.Facts.{group_fact, message_fact, packets_alone, packets_at}
+use Rattle.etcs_check.specs.Findings.{all_rules, finding_of, for_each}
+use Rattle.etcs_check.specs.Soundness.{first_aspect}
+use Rattle.etcs_check.specs.Walk.{by_rule}
+use Rattle.etcs_check.specs.declared.finding.Finding.{Finding}
+use Rattle.etcs_check.specs.declared.finding.Site.{Site}
+use Rattle.etcs_check.specs.declared.finding.Site.TheVariants as sites
+use Rattle.etcs_check.specs.declared.finding.Spot.{Spot}
+
+-- none, and then each of the first n numbers
+abbrev pub none_and : ℕ → List (Option ℕ)
+none_and n = None ∷ map (λ i. Some i) (range_with_len 0 n)
+
+abbrev pub directions : List (Option Run)
+directions = None ∷ Some runs.Nominal ∷ Some runs.Reverse ∷ []
+
+-- each rule at each place of a spot that has so many balises, and these packets at a balise or at none
+abbrev pub cells_at : Spot → ℕ → (Option ℕ → List TrackPacket) → List Finding
+cells_at spot count packets = flat_map (λ run. flat_map (λ b. flat_map
+    (λ k. map (λ rule. finding_of rule spot run b k) all_rules) (none_and (length (packets b)))) (none_and count)) directions
+
+-- of an aspect
+abbrev pub cells_of : Spot → Telegrams → List Finding
+cells_of spot group = cells_at spot (length group) (packets_at group)
+
+-- Of a group: with no aspect named, and with each of them named if there are two or more.
+abbrev pub group_cells : Site → Aspects → List Finding
+group_cells site aspects = cells_of (site_spot site) (first_aspect aspects)
+    ++ for_each (if nat_lt 1 (length aspects) then aspects else []) (λ a group. cells_of (record { site = site; aspect = Some a }) group)
+
+abbrev pub message_cells : Site → Message → List Finding
+message_cells site (messages.Movement m) = cells_at (site_spot site) 0 (packets_alone m.packets)
+message_cells site (messages.Position m) = []
+
+abbrev pub group_findings : Site → Bool → Aspects → List Finding
+group_findings site used aspects =
+    by_rule (filter (λ f. group_fact used aspects f.rule f.aspect f.dir f.balise f.packet) (group_cells site aspects))
+
+abbrev pub message_findings : Site → Message → List Finding
+message_findings site m =
+    by_rule (filter (λ f. message_fact m f.rule f.aspect f.dir f.balise f.packet) (message_cells site m))
+
+abbrev pub findings : List Aspects → List Message → List Finding
+findings groups messages =
+    for_each groups (λ g aspects. group_findings (sites.Group g) (is_used (take g groups) aspects) aspects)
+    ++ for_each messages (λ i m. message_findings (sites.Message i) m)
