@@ -1,11 +1,11 @@
--- The cells of a site stand in order, each fact is at one of them, and facts sorted by rule are the findings.
+-- The findings of a line stand in order, each states a fact, and each fact has its finding.
 use Rattle.std.proofs.Common.{◌≡◌, ℕ, zero, suc, ◌+◌, ◌<◌, Bool, true, false, not, ltb, List, [], ◌∷◌, length, map, slice_get, take, if◌then◌else◌, Option, Some, None, refl, sym, ap, subst, ◌∙◌, arith}
 use Rattle.std.specs.List.{filter, flat_map, enumerate_from, range_with_len}
 use Rattle.std.specs.Prelude.{⊤}
 use Rattle.std.specs.Ordering.{nat_cmp}
 use Rattle.std.specs.Cmp.Lexicographic.{slice_cmp}
 use Rattle.std.specs.declared.cmp.Ordering.TheVariants.{Less, Equal}
-use Rattle.std.proofs.lemmas.Bool.{both_ways, and_parts, or_cases, eqb-true, eq-eqb}
+use Rattle.std.proofs.lemmas.Bool.{both_ways, and_parts, or_cases, eqb-true, eq-eqb, false_from_ne_true}
 use Rattle.std.proofs.lemmas.Cmp.{nat_cmp_total, tied_itself}
 use Rattle.std.proofs.lemmas.Option.{none-some, same_Some, slice_get_within}
 use mathlib.Core.Logic.{inl, inr}
@@ -17,26 +17,26 @@ use Rattle.etcs_radio.specs.declared.message.Message.TheVariants as messages
 use Rattle.etcs_group.specs.Group.{Telegrams, Aspects}
 use Rattle.etcs_group.specs.Places.{At}
 use Rattle.etcs_check.specs.Aspects.{is_ambiguous, is_used, site_spot}
-use Rattle.etcs_check.specs.Cells.{none_and, directions, cells_at, cells_of, group_cells, message_cells, group_findings, message_findings, findings}
-use Rattle.etcs_check.specs.Facts.{passes_at, packets_alone, packets_at, speech_of, speech_in, is_short_profile, packet_fact, aspect_fact, whole_fact, group_fact, message_fact, fact_at, is_fact}
+use Rattle.etcs_check.specs.Line.{none_and, directions, cells_at, cells_of, group_cells, message_cells, group_findings, message_findings, group_at, group_list, message_at, message_list, findings}
+use Rattle.etcs_check.specs.Facts.{passes_at, packets_alone, packets_at, speech_of, speech_in, is_short_profile, packet_fact, aspect_fact, whole_fact, group_fact, message_fact, fact_at, States}
 use Rattle.etcs_check.specs.Findings.{all_rules, balise_fact, finding_of, for_each, is_unmodelled, pair_differs}
-use Rattle.etcs_check.specs.Laws.{CellsAreTheFindings}
-use Rattle.etcs_check.specs.Order.{site_order, site_place, rule_number, direction_order, none_first, order_of}
+use Rattle.etcs_check.specs.Laws.{FindingsAreTheFactsInOrder}
+use Rattle.etcs_check.specs.Order.{site_order, site_place, rule_number, direction_order, none_first, order_of, is_of, by_rule, IsListOf}
 use Rattle.etcs_check.specs.Profiles.{gradient_reach, speed_reach}
 use Rattle.etcs_check.specs.Soundness.{first_aspect}
-use Rattle.etcs_check.specs.Walk.{is_of, by_rule}
 use Rattle.etcs_check.specs.declared.finding.Finding.{Finding}
 use Rattle.etcs_check.specs.declared.finding.Rule.{Rule}
 use Rattle.etcs_check.specs.declared.finding.Rule.TheVariants as rules
 use Rattle.etcs_check.specs.declared.finding.Site.{Site}
 use Rattle.etcs_check.specs.declared.finding.Site.TheVariants as sites
 use Rattle.etcs_check.specs.declared.finding.Spot.{Spot}
-use Rattle.etcs_check.proofs.BlockLemmas.{findings_are_the_facts_in_order}
-use Rattle.etcs_check.proofs.FactLemmas.{passed, passing, packet_stands, facts_are_tests}
-use Rattle.etcs_check.proofs.ListedLemmas.{IsListed, each-listed, rules-listed, made_of}
-use Rattle.etcs_check.proofs.MeaningLemmas.{each-at}
-use Rattle.etcs_check.proofs.MemberLemmas.{At-append_cases, filter-at, at-filter, flat_map-at, at-flat_map, At-append_left, At-append_right}
-use Rattle.etcs_check.proofs.OrderLemmas.{AreOrdered, AreOrdered-filter, IsBlock, no_block, fact_block, joined, under, blocks, each_block, rising}
+use Rattle.etcs_check.proofs.FactLemmas.{passed, passes_as, packet_stands}
+use Rattle.etcs_check.proofs.MemberLemmas.{IsListed, each-at, each-listed, rules-listed, made_of, At-append_cases, filter-at, at-filter, flat_map-at, at-flat_map, At-append_left, At-append_right}
+use Rattle.etcs_check.proofs.OrderLemmas.{AreOrdered, AreOrdered-filter, IsBlock, no_block, fact_block, joined, under, blocks, each_block, rising, one_list}
+
+-- no fact stands against a group
+abbrev pub HasNoGroupFact : Bool → Aspects → Type 0
+HasNoGroupFact used aspects = (rule : Rule) (aspect : Option ℕ) (run : Option Run) (b k : Option ℕ) → group_fact used aspects rule aspect run b k ≡ false
 
 -- ---- the order of cells: the rule comes last
 
@@ -83,7 +83,7 @@ module _ (spot : Spot) (count : ℕ) (packets : Option ℕ → List TrackPacket)
       let f = none_rising count i b at in
       under cell_order (to_balise run) n (none_first b) (f ∙ sym e) (packets_block run b))
 
-  pub spot_block : IsBlock cell_order to_aspect (none_first spot.aspect) (suc (none_first spot.aspect)) (cells_at spot count packets)
+  spot_block : IsBlock cell_order to_aspect (none_first spot.aspect) (suc (none_first spot.aspect)) (cells_at spot count packets)
   spot_block = under cell_order to_aspect (none_first spot.aspect) (none_first spot.aspect) refl
       (blocks cell_order to_direction (λ run. flat_map (λ b. flat_map (λ k. map (λ rule. finding_of rule spot run b k) all_rules) (none_and (length (packets b)))) (none_and count)) directions 0 (λ i n run e at.
       under cell_order to_direction n (direction_order run) (rising direction_order directions 0 refl i run at ∙ sym e) (balises_block run)))
@@ -99,18 +99,36 @@ rule_first f g here place same less =
     let r : nat_cmp (rule_number f.rule) (rule_number g.rule) ≡ Equal = ap (nat_cmp (rule_number f.rule)) (sym same) ∙ tied_itself nat_cmp_total (rule_number f.rule) in
     rw (e, p, r) (rw (e, p, r) at less)
 
-module _ (so sp : ℕ) {low high : ℕ} {xs : List Finding} (block : IsBlock cell_order (so ∷ sp ∷ []) low high xs) (test : Finding → Bool) where
-  pub in_site : (f : Finding) (i : ℕ) → At xs i f → (site_order f.site ≡ so) × (site_place f.site ≡ sp)
+-- what is sorted by rule has the members that it had
+by_rule-at : (xs : List Finding) (i : ℕ) (f : Finding) → At (by_rule xs) i f → (j : ℕ) × At xs j f
+by_rule-at xs i f at =
+    let r = flat_map-at (λ rule. filter (is_of rule) xs) all_rules i f at in
+    let q = filter-at (is_of r.1) xs r.2 f r.4 in
+    (q.0, q.1)
+
+at-by_rule : (xs : List Finding) (j : ℕ) (f : Finding) → At xs j f → IsListed f (by_rule xs)
+at-by_rule xs j f at = rules-listed (λ rule. filter (is_of rule) xs) f.rule f (at-filter (is_of f.rule) xs j f at (eq-eqb (rule_number f.rule) (rule_number f.rule) refl))
+
+-- one site has these numbers
+site_is : (s t : Site) → site_order s ≡ site_order t → site_place s ≡ site_place t → s ≡ t
+site_is (sites.Group m) (sites.Group n) e h = ap sites.Group h
+site_is (sites.Message m) (sites.Message n) e h = ap sites.Message h
+site_is (sites.Group m) (sites.Message n) e h = absurd (omega (arith, e))
+site_is (sites.Message m) (sites.Group n) e h = absurd (omega (arith, e))
+
+-- the cells of a site, and those of them that are facts
+module _ (site : Site) {low high : ℕ} {cells : List Finding} (block : IsBlock cell_order (site_order site ∷ site_place site ∷ []) low high cells) (test : Finding → Bool) where
+  in_site : (f : Finding) (i : ℕ) → At cells i f → (site_order f.site ≡ site_order site) × (site_place f.site ≡ site_place site)
   in_site f i at = let b = (block.begins i f at).4 in (cc b, cc b)
 
-  of_rule : (rule : Rule) (f : Finding) (i : ℕ) → At (filter (is_of rule) (filter test xs)) i f → (site_order f.site ≡ so) × (site_place f.site ≡ sp) × (rule_number f.rule ≡ rule_number rule)
+  of_rule : (rule : Rule) (f : Finding) (i : ℕ) → At (filter (is_of rule) (filter test cells)) i f → (site_order f.site ≡ site_order site) × (site_place f.site ≡ site_place site) × (rule_number f.rule ≡ rule_number rule)
   of_rule rule f i at =
-      let r = filter-at (is_of rule) (filter test xs) i f at in
-      let q = filter-at test xs r.0 f r.1 in
+      let r = filter-at (is_of rule) (filter test cells) i f at in
+      let q = filter-at test cells r.0 f r.1 in
       let s = in_site f q.0 q.1 in
       (s.0, s.1, eqb-true (rule_number f.rule) (rule_number rule) r.2)
 
-  class_block : (rule : Rule) → IsBlock order_of (so ∷ sp ∷ []) (rule_number rule) (suc (rule_number rule)) (filter (is_of rule) (filter test xs))
+  class_block : (rule : Rule) → IsBlock order_of (site_order site ∷ site_place site ∷ []) (rule_number rule) (suc (rule_number rule)) (filter (is_of rule) (filter test cells))
   class_block rule = record {
     begins = λ i f at.
         let o = of_rule rule f i at in (
@@ -124,51 +142,23 @@ module _ (so sp : ℕ) {low high : ℕ} {xs : List Finding} (block : IsBlock cel
         let o = of_rule rule f i at in
         let q = of_rule rule g j at' in
         rule_first f g (o.0 ∙ sym q.0) (o.1 ∙ sym q.1) (o.2 ∙ sym q.2)
-        (AreOrdered-filter cell_order (is_of rule) (filter test xs) (AreOrdered-filter cell_order test xs block.ordered) i j f g lt at at');
+        (AreOrdered-filter cell_order (is_of rule) (filter test cells) (AreOrdered-filter cell_order test cells block.ordered) i j f g lt at at');
   }
 
   -- the facts among cells, sorted by rule
-  pub sorted_block : IsBlock order_of (so ∷ []) sp (suc sp) (by_rule (filter test xs))
-  sorted_block = under order_of (so ∷ []) sp sp refl (blocks order_of (so ∷ sp ∷ []) (λ rule. filter (is_of rule) (filter test xs)) all_rules 1 (λ i n rule e at.
-      subst (λ m. IsBlock order_of (so ∷ sp ∷ []) m (suc m) (filter (is_of rule) (filter test xs))) (rising rule_number all_rules 1 refl i rule at ∙ sym e) (class_block rule)))
+  sorted_block : IsBlock order_of (site_order site ∷ []) (site_place site) (suc (site_place site)) (by_rule (filter test cells))
+  sorted_block = under order_of (site_order site ∷ []) (site_place site) (site_place site) refl (blocks order_of (site_order site ∷ site_place site ∷ []) (λ rule. filter (is_of rule) (filter test cells)) all_rules 1 (λ i n rule e at.
+      subst (λ m. IsBlock order_of (site_order site ∷ site_place site ∷ []) m (suc m) (filter (is_of rule) (filter test cells))) (rising rule_number all_rules 1 refl i rule at ∙ sym e) (class_block rule)))
 
--- what is sorted by rule has the members that it had
-pub by_rule-at : (xs : List Finding) (i : ℕ) (f : Finding) → At (by_rule xs) i f → (j : ℕ) × At xs j f
-by_rule-at xs i f at =
-    let r = flat_map-at (λ rule. filter (is_of rule) xs) all_rules i f at in
-    let q = filter-at (is_of r.1) xs r.2 f r.4 in
-    (q.0, q.1)
+  sorted_states : (i : ℕ) (f : Finding) → At (by_rule (filter test cells)) i f → (f.site ≡ site) × (test f ≡ true)
+  sorted_states i f at =
+      let b = by_rule-at (filter test cells) i f at in
+      let q = filter-at test cells b.0 f b.1 in
+      let s = in_site f q.0 q.1 in
+      (site_is f.site site s.0 s.1, q.2)
 
-pub at-by_rule : (xs : List Finding) (j : ℕ) (f : Finding) → At xs j f → IsListed f (by_rule xs)
-at-by_rule xs j f at = rules-listed (λ rule. filter (is_of rule) xs) f.rule f (at-filter (is_of f.rule) xs j f at (eq-eqb (rule_number f.rule) (rule_number f.rule) refl))
-
--- ---- a line is in order
-
-pub group_block : (g : ℕ) (aspects : Aspects) → IsBlock cell_order (0 ∷ g ∷ []) 0 (1 + length (enumerate_from 0 (if ltb 1 (length aspects) then aspects else []))) (group_cells (sites.Group g) aspects)
-group_block g aspects =
-    let named = if ltb 1 (length aspects) then aspects else [] in
-    joined cell_order (0 ∷ g ∷ []) (omega arith) (omega arith)
-    (spot_block (site_spot (sites.Group g)) (length (first_aspect aspects)) (packets_at (first_aspect aspects)))
-    (each_block cell_order (0 ∷ g ∷ []) (λ a group. cells_of (record { site = sites.Group g; aspect = Some a }) group) named 1 (λ a n group e at.
-    let f : suc a ≡ n = omega arith in
-    subst (λ m. IsBlock cell_order (0 ∷ g ∷ []) m (suc m) (cells_of (record { site = sites.Group g; aspect = Some a }) group)) f
-    (spot_block (record { site = sites.Group g; aspect = Some a }) (length group) (packets_at group))))
-
-message_block : (i : ℕ) (m : Message) → IsBlock cell_order (1 ∷ i ∷ []) 0 1 (message_cells (sites.Message i) m)
-message_block i (messages.Movement m) = spot_block (site_spot (sites.Message i)) 0 (packets_alone m.packets)
-message_block i (messages.Position m) = no_block cell_order (1 ∷ i ∷ []) 0 1
-
-pub cells_ordered : (groups : List Aspects) (messages : List Message) → AreOrdered order_of (findings groups messages)
-cells_ordered groups messages =
-    let first = under order_of [] 0 0 refl (each_block order_of (0 ∷ []) (λ g aspects. group_findings (sites.Group g) (is_used (take g groups) aspects) aspects) groups 0 (λ g n aspects e at.
-    let f : g ≡ n = omega arith in
-    subst (λ m. IsBlock order_of (0 ∷ []) m (suc m) (group_findings (sites.Group g) (is_used (take g groups) aspects) aspects)) f
-    (sorted_block 0 g (group_block g aspects) (λ f. group_fact (is_used (take g groups) aspects) aspects f.rule f.aspect f.dir f.balise f.packet)))) in
-    let second = under order_of [] 1 1 refl (each_block order_of (1 ∷ []) (λ i m. message_findings (sites.Message i) m) messages 0 (λ i n m e at.
-    let f : i ≡ n = omega arith in
-    subst (λ k. IsBlock order_of (1 ∷ []) k (suc k) (message_findings (sites.Message i) m)) f
-    (sorted_block 1 i (message_block i m) (λ f. message_fact m f.rule f.aspect f.dir f.balise f.packet)))) in
-    (joined order_of [] {low = 0} {mid = 1} {high = 2} (omega arith) (omega arith) first second).ordered
+sorted_listed : (cells : List Finding) (test : Finding → Bool) (f : Finding) → IsListed f cells → test f ≡ true → IsListed f (by_rule (filter test cells))
+sorted_listed cells test f l e = let k = at-filter test cells l.0 f l.1 e in at-by_rule (filter test cells) k.0 f k.1
 
 -- ---- each fact is at a cell
 
@@ -241,7 +231,7 @@ module _ (used : Bool) (aspects : Aspects) (site : Site) where
   named : Aspects
   named = if ltb 1 (length aspects) then aspects else []
 
-  pub group_celled : (rule : Rule) (aspect : Option ℕ) (run : Option Run) (b k : Option ℕ) → group_fact used aspects rule aspect run b k ≡ true
+  group_celled : (rule : Rule) (aspect : Option ℕ) (run : Option Run) (b k : Option ℕ) → group_fact used aspects rule aspect run b k ≡ true
       → IsListed (finding_of rule (record { site = site; aspect = aspect }) run b k) (group_cells site aspects)
   unfolding named
   group_celled rule None run b k h =
@@ -284,72 +274,110 @@ message_celled site (messages.Movement m) rule None run b k h =
     cell_listed (site_spot site) 0 (packets_alone m.packets) rule run b k range.0 range.1
 message_celled site m rule aspect run b k h = absurd (both_ways false refl h)
 
--- ---- the members of the list
+-- ---- the findings of a group, and of a message
 
-module _ (groups : List Aspects) (messages : List Message) (f : Finding) where
-  abbrev of_group : ℕ → Aspects → List Finding
-  of_group g aspects = group_findings (sites.Group g) (is_used (take g groups) aspects) aspects
+group_block : (site : Site) (aspects : Aspects) → IsBlock cell_order (site_order site ∷ site_place site ∷ []) 0 (1 + length (enumerate_from 0 (if ltb 1 (length aspects) then aspects else []))) (group_cells site aspects)
+group_block site aspects =
+    let named = if ltb 1 (length aspects) then aspects else [] in
+    joined cell_order (site_order site ∷ site_place site ∷ []) (omega arith) (omega arith)
+    (spot_block (site_spot site) (length (first_aspect aspects)) (packets_at (first_aspect aspects)))
+    (each_block cell_order (site_order site ∷ site_place site ∷ []) (λ a group. cells_of (record { site = site; aspect = Some a }) group) named 1 (λ a n group e at.
+    let f : suc a ≡ n = omega arith in
+    subst (λ m. IsBlock cell_order (site_order site ∷ site_place site ∷ []) m (suc m) (cells_of (record { site = site; aspect = Some a }) group)) f
+    (spot_block (record { site = site; aspect = Some a }) (length group) (packets_at group))))
 
-  abbrev of_message : ℕ → Message → List Finding
-  of_message i m = message_findings (sites.Message i) m
+message_block : (site : Site) (m : Message) → IsBlock cell_order (site_order site ∷ site_place site ∷ []) 0 1 (message_cells site m)
+message_block site (messages.Movement m) = spot_block (site_spot site) 0 (packets_alone m.packets)
+message_block site (messages.Position m) = no_block cell_order (site_order site ∷ site_place site ∷ []) 0 1
 
-  site_found : (s : Site) → f.site ≡ s → fact_at groups messages s f ≡ true → IsListed f (findings groups messages)
-  site_found (sites.Group g) e h =
-      let test = λ (aspects : Aspects). group_fact (is_used (take g groups) aspects) aspects f.rule f.aspect f.dir f.balise f.packet in
-      let r = passed groups g test h in
-      let spot : Spot = record { site = sites.Group g; aspect = f.aspect } in
-      let l = group_celled (is_used (take g groups) r.0) r.0 (sites.Group g) f.rule f.aspect f.dir f.balise f.packet r.2 in
-      let c = subst (λ n. IsListed n (group_cells (sites.Group g) r.0)) (made_of f spot e refl) l in
-      let kept = λ (n : Finding). group_fact (is_used (take g groups) r.0) r.0 n.rule n.aspect n.dir n.balise n.packet in
-      let k = at-filter kept (group_cells (sites.Group g) r.0) c.0 f c.1 r.2 in
-      let b = at-by_rule (filter kept (group_cells (sites.Group g) r.0)) k.0 f k.1 in
-      let d = each-listed of_group groups g r.0 f r.1 b in
-      (d.0, At-append_left (for_each groups of_group) (for_each messages of_message) d.0 f d.1)
-  site_found (sites.Message i) e h =
-      let test = λ (m : Message). message_fact m f.rule f.aspect f.dir f.balise f.packet in
-      let r = passed messages i test h in
-      let spot : Spot = record { site = sites.Message i; aspect = f.aspect } in
-      let l = message_celled (sites.Message i) r.0 f.rule f.aspect f.dir f.balise f.packet r.2 in
-      let c = subst (λ n. IsListed n (message_cells (sites.Message i) r.0)) (made_of f spot e refl) l in
-      let kept = λ (n : Finding). message_fact r.0 n.rule n.aspect n.dir n.balise n.packet in
-      let k = at-filter kept (message_cells (sites.Message i) r.0) c.0 f c.1 r.2 in
-      let b = at-by_rule (filter kept (message_cells (sites.Message i) r.0)) k.0 f k.1 in
-      let d = each-listed of_message messages i r.0 f r.1 b in
-      At-append_right (for_each groups of_group) (for_each messages of_message) d.0 f d.1
+module _ (site : Site) (used : Bool) (aspects : Aspects) where
+  abbrev of_group : Finding → Bool
+  of_group f = group_fact used aspects f.rule f.aspect f.dir f.balise f.packet
 
-  pub group_is : (s : Site) (g : ℕ) → site_order s ≡ 0 → site_place s ≡ g → s ≡ sites.Group g
-  group_is (sites.Group n) g e h = ap sites.Group h
-  group_is (sites.Message n) g e h = absurd (omega (arith, e))
+  group_states : (i : ℕ) (f : Finding) → At (group_findings site used aspects) i f → (f.site ≡ site) × (of_group f ≡ true)
+  unfolding group_findings
+  group_states = sorted_states site (group_block site aspects) of_group
 
-  message_is : (s : Site) (i : ℕ) → site_order s ≡ 1 → site_place s ≡ i → s ≡ sites.Message i
-  message_is (sites.Message n) i e h = ap sites.Message h
-  message_is (sites.Group n) i e h = absurd (omega (arith, e))
+  group_listed : (f : Finding) → f.site ≡ site → of_group f ≡ true → IsListed f (group_findings site used aspects)
+  unfolding group_findings
+  group_listed f e h =
+      let l = group_celled used aspects site f.rule f.aspect f.dir f.balise f.packet h in
+      sorted_listed (group_cells site aspects) of_group f (subst (λ n. IsListed n (group_cells site aspects)) (made_of f (record { site = site; aspect = f.aspect }) e refl) l) h
 
-  found_stands : (i : ℕ) → At (findings groups messages) i f → is_fact groups messages f ≡ true
-  found_stands i h = elim (At-append_cases (for_each groups of_group) (for_each messages of_message) i f h) [
+  -- there is no finding exactly where there is no fact
+  pub group_silent : group_findings site used aspects ≡ [] → HasNoGroupFact used aspects
+  group_silent none rule aspect run b k = false_from_ne_true _ (λ h.
+      let f : Finding = record { rule = rule; site = site; aspect = aspect; dir = run; balise = b; packet = k } in
+      let l = group_listed f refl h in
+      none-some f (subst (λ found. At found l.0 f) none l.1))
+
+module _ (site : Site) (m : Message) where
+  abbrev of_message : Finding → Bool
+  of_message f = message_fact m f.rule f.aspect f.dir f.balise f.packet
+
+  pub message_states : (i : ℕ) (f : Finding) → At (message_findings site m) i f → (f.site ≡ site) × (of_message f ≡ true)
+  unfolding message_findings
+  message_states = sorted_states site (message_block site m) of_message
+
+  message_listed : (f : Finding) → f.site ≡ site → of_message f ≡ true → IsListed f (message_findings site m)
+  unfolding message_findings
+  message_listed f e h =
+      let l = message_celled site m f.rule f.aspect f.dir f.balise f.packet h in
+      sorted_listed (message_cells site m) of_message f (subst (λ n. IsListed n (message_cells site m)) (made_of f (record { site = site; aspect = f.aspect }) e refl) l) h
+
+-- ---- the findings of a line
+
+module _ (groups : List Aspects) (messages : List Message) where
+  findings_ordered : AreOrdered order_of (findings groups messages)
+  unfolding group_findings message_findings
+  findings_ordered =
+      let first = under order_of [] 0 0 refl (each_block order_of (0 ∷ []) (group_at groups) groups 0 (λ g n aspects e at.
+      let f : g ≡ n = omega arith in
+      subst (λ m. IsBlock order_of (0 ∷ []) m (suc m) (group_at groups g aspects)) f
+      (sorted_block (sites.Group g) (group_block (sites.Group g) aspects) (of_group (sites.Group g) (is_used (take g groups) aspects) aspects)))) in
+      let second = under order_of [] 1 1 refl (each_block order_of (1 ∷ []) message_at messages 0 (λ i n m e at.
+      let f : i ≡ n = omega arith in
+      subst (λ k. IsBlock order_of (1 ∷ []) k (suc k) (message_at i m)) f
+      (sorted_block (sites.Message i) (message_block (sites.Message i) m) (of_message (sites.Message i) m)))) in
+      (joined order_of [] {low = 0} {mid = 1} {high = 2} (omega arith) (omega arith) first second).ordered
+
+  pub each_fact_is_listed : (f : Finding) → States groups messages f → IsListed f (findings groups messages)
+  each_fact_is_listed f h = at f.site refl h
+    where
+      at : (s : Site) → f.site ≡ s → fact_at groups messages s f ≡ true → IsListed f (findings groups messages)
+      at (sites.Group g) e h =
+          let r = passed groups g (λ aspects. group_fact (is_used (take g groups) aspects) aspects f.rule f.aspect f.dir f.balise f.packet) h in
+          let l = each-listed (group_at groups) groups g r.0 f r.1 (group_listed (sites.Group g) (is_used (take g groups) r.0) r.0 f e r.2) in
+          (l.0, At-append_left (group_list groups) (message_list messages) l.0 f l.1)
+      at (sites.Message i) e h =
+          let r = passed messages i (λ m. message_fact m f.rule f.aspect f.dir f.balise f.packet) h in
+          let l = each-listed message_at messages i r.0 f r.1 (message_listed (sites.Message i) r.0 f e r.2) in
+          At-append_right (group_list groups) (message_list messages) l.0 f l.1
+
+  pub findings_state : (i : ℕ) (f : Finding) → At (findings groups messages) i f → States groups messages f
+  findings_state i f h = elim (At-append_cases (group_list groups) (message_list messages) i f h) [
     | inl p ↦
-        let r = each-at of_group groups i f p in
-        let kept = λ (n : Finding). group_fact (is_used (take r.0 groups) r.1) r.1 n.rule n.aspect n.dir n.balise n.packet in
-        let b = by_rule-at (filter kept (group_cells (sites.Group r.0) r.1)) r.2 f r.4 in
-        let q = filter-at kept (group_cells (sites.Group r.0) r.1) b.0 f b.1 in
-        let s = in_site 0 r.0 (group_block r.0 r.1) kept f q.0 q.1 in
-        subst (λ s. fact_at groups messages s f ≡ true) (sym (group_is f.site r.0 s.0 s.1))
-        (passing groups r.0 (λ aspects. group_fact (is_used (take r.0 groups) aspects) aspects f.rule f.aspect f.dir f.balise f.packet) r.1 r.3 q.2)
-    | inr p ↦
-        let r = each-at of_message messages p.0 f p.1 in
-        let kept = λ (n : Finding). message_fact r.1 n.rule n.aspect n.dir n.balise n.packet in
-        let b = by_rule-at (filter kept (message_cells (sites.Message r.0) r.1)) r.2 f r.4 in
-        let q = filter-at kept (message_cells (sites.Message r.0) r.1) b.0 f b.1 in
-        let s = in_site 1 r.0 (message_block r.0 r.1) kept f q.0 q.1 in
-        subst (λ s. fact_at groups messages s f ≡ true) (sym (message_is f.site r.0 s.0 s.1))
-        (passing messages r.0 (λ m. message_fact m f.rule f.aspect f.dir f.balise f.packet) r.1 r.3 q.2)
+        let r = each-at (group_at groups) groups i f p in
+        let s = group_states (sites.Group r.0) (is_used (take r.0 groups) r.1) r.1 r.2 f r.4 in
+        subst (λ s. fact_at groups messages s f ≡ true) (sym s.0)
+        (passes_as groups r.0 (λ aspects. group_fact (is_used (take r.0 groups) aspects) aspects f.rule f.aspect f.dir f.balise f.packet) r.1 r.3 ∙ s.1)
+    | inr q ↦
+        let r = each-at message_at messages q.0 f q.1 in
+        let s = message_states (sites.Message r.0) r.1 r.2 f r.4 in
+        subst (λ s. fact_at groups messages s f ≡ true) (sym s.0)
+        (passes_as messages r.0 (λ m. message_fact m f.rule f.aspect f.dir f.balise f.packet) r.1 r.3 ∙ s.1)
   ]
 
 -- ---- the law
 
-pub cells_are_the_findings : CellsAreTheFindings
-cells_are_the_findings groups messages = (findings_are_the_facts_in_order groups messages (findings groups messages)).1 (record {
-  facts = λ i f at. (facts_are_tests groups messages f).0 (found_stands groups messages f i at);
-  all = λ f h. site_found groups messages f f.site refl ((facts_are_tests groups messages f).1 h);
-  ordered = cells_ordered groups messages;
-})
+pub findings_are_the_facts_in_order : FindingsAreTheFactsInOrder
+findings_are_the_facts_in_order groups messages found = (
+  λ is. subst (IsListOf groups messages) (sym is) (record {
+    facts = findings_state groups messages;
+    all = each_fact_is_listed groups messages;
+    ordered = findings_ordered groups messages;
+  }),
+  λ list. one_list order_of found (findings groups messages) list.ordered (findings_ordered groups messages)
+      (λ i f at. each_fact_is_listed groups messages f (list.facts i f at))
+      (λ i f at. list.all f (findings_state groups messages i f at)),
+)

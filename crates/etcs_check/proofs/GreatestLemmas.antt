@@ -1,27 +1,21 @@
 -- The greatest supervised location, and what it says of the packets.
-use Rattle.std.proofs.Common.{◌≡◌, ℕ, ◌+◌, ◌≤◌, Bool, true, false, ◌||◌, ◌&&◌, max, ltb, List, [], ◌∷◌, ◌++◌, length, drop, filter, not, Option, Some, None, is_some, refl, sym, ap, ap₂, ◌∙◌, arith}
+use Rattle.std.proofs.Common.{◌≡◌, ℕ, ◌+◌, ◌≤◌, Bool, true, false, ◌||◌, ◌&&◌, max, ltb, List, [], ◌∷◌, ◌++◌, length, drop, not, Option, Some, None, is_some, refl, sym, ap, ap₂, ◌∙◌, arith}
 use Rattle.std.specs.List.{list_any, flat_map, enumerate_from}
 use Rattle.std.specs.Option.{option_map_or}
-use Rattle.std.proofs.lemmas.Bool.{lt-ltb, le-ltb, cases_lt, and_left, not_from_true}
+use Rattle.std.proofs.lemmas.Bool.{lt-ltb, le-ltb, cases_lt}
 use Rattle.std.proofs.lemmas.Option.{slice_get_within, get_or_from_slice_get}
 use Rattle.std.proofs.lemmas.List.{drop_more, drop_all}
 use mathlib.Core.Logic.{inl, inr}
 use Rattle.etcs_group.specs.Places.{At}
-use Rattle.etcs_packet.specs.Track.{holds}
 use Rattle.etcs_packet.specs.declared.run.Run.{Run}
 use Rattle.etcs_packet.specs.declared.track.TrackPacket.{TrackPacket}
 use Rattle.etcs_profile.specs.declared.reach.Reach.{Reach}
 use Rattle.etcs_profile.specs.declared.reach.Reach.TheVariants.{Ends, Open}
 use Rattle.etcs_telegram.specs.Record.{Telegram}
-use Rattle.etcs_group.specs.Packets.{is_silent, said_at, said_by}
+use Rattle.etcs_group.specs.Packets.{said_at}
 use Rattle.etcs_check.specs.Profiles.{limit_of}
-use Rattle.etcs_check.specs.Findings.{lies_past, goes_past, is_short, lacks, noted, finding_of, for_each, short_at, short_by}
+use Rattle.etcs_check.specs.Findings.{lies_past, goes_past, is_short, lacks}
 use Rattle.etcs_check.specs.Greatest.{greater, greatest, is_before}
-use Rattle.etcs_check.specs.Line.{message_short}
-use Rattle.etcs_check.specs.declared.finding.Finding.{Finding}
-use Rattle.etcs_check.specs.declared.finding.Rule.{Rule}
-use Rattle.etcs_check.specs.declared.finding.Spot.{Spot}
-use Rattle.etcs_check.proofs.FindingLemmas.{for_each-empty, noted-empty}
 
 pub greater-none : (o : Option ℕ) → greater o None ≡ o
 greater-none None = refl
@@ -102,19 +96,5 @@ said_end run n group i le = ap (λ l. flat_map (λ (e : ℕ × Telegram). said_a
 
 -- ---- the facts of the rules, by the greatest location
 
--- the finding of a packet that holds, if it is a profile of the kind that ends before the location
-abbrev before_at : Rule → Spot → (TrackPacket → Option Reach) → Option ℕ → Run → Option ℕ → ℕ → TrackPacket → List Finding
-before_at rule spot reach limit run b k p =
-    noted (holds run p && is_before reach limit p) (finding_of rule spot (Some run) b (Some k))
-
 pub lacks-is : (reach : TrackPacket → Option Reach) (packets : List TrackPacket) → (is_some (greatest packets) && not (list_any (λ p. is_some (reach p)) packets)) ≡ lacks reach packets
 lacks-is reach packets = ap (λ b. b && not (list_any (λ p. is_some (reach p)) packets)) (sym (some_greatest packets))
-
-pub message_short-is : (rule : Rule) (spot : Spot) (reach : TrackPacket → Option Reach) (packets : List TrackPacket) (run : Run) → for_each packets (before_at rule spot reach (greatest (filter (holds run) packets)) run None) ≡ message_short rule spot reach packets run
-message_short-is rule spot reach packets run = λ i. for_each packets (λ k p. noted (holds run p && sym (short-before reach (filter (holds run) packets) p) i) (finding_of rule spot (Some run) None (Some k)))
-
-pub short_by-is : (rule : Rule) (spot : Spot) (reach : TrackPacket → Option Reach) (group : List Telegram) (run : Run) (b : ℕ) (t : Telegram) → is_silent run t.header.dup (length group) b ≡ false → for_each t.packets (before_at rule spot reach (greatest (said_by run group)) run (Some b)) ≡ short_by rule spot reach group run b t
-short_by-is rule spot reach group run b t speaks = λ i. for_each t.packets (λ k p. noted (not (sym speaks i) && (holds run p && sym (short-before reach (said_by run group) p) i)) (finding_of rule spot (Some run) (Some b) (Some k)))
-
-pub short_by-silent : (rule : Rule) (spot : Spot) (reach : TrackPacket → Option Reach) (group : List Telegram) (run : Run) (b : ℕ) (t : Telegram) → is_silent run t.header.dup (length group) b ≡ true → short_by rule spot reach group run b t ≡ []
-short_by-silent rule spot reach group run b t silent = for_each-empty t.packets (short_at rule spot reach group run b t) (λ k p at. noted-empty _ (finding_of rule spot (Some run) (Some b) (Some k)) (and_left _ _ (not_from_true _ silent)))

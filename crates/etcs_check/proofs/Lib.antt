@@ -2,7 +2,6 @@ pub mod FindingLemmas
 pub mod NumberLemmas
 pub mod MemberLemmas
 pub mod ProfileLemmas
-pub mod CleanLemmas
 pub mod FormedLemmas
 pub mod PairLemmas
 pub mod SoundLemmas
@@ -11,10 +10,7 @@ pub mod CounterLemmas
 pub mod LineLemmas
 pub mod HarmLemmas
 pub mod PartLemmas
-pub mod MeaningLemmas
-pub mod ListedLemmas
 pub mod OrderLemmas
-pub mod BlockLemmas
 pub mod NamedLemmas
 pub mod CompareLemmas
 pub mod NoteLemmas

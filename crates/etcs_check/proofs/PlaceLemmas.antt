@@ -1,22 +1,23 @@
--- The facts about an aspect at its cells are those that one walk over its balises and packets finds.
+-- The facts at the cells of an aspect, of a group or of a message, place by place as one walk finds them.
 use Rattle.std.proofs.Common.{◌≡◌, ℕ, ◌+◌, ◌<◌, ◌≤◌, ◌&&◌, ◌||◌, Bool, true, false, not, cond, ltb, List, [], ◌∷◌, ◌++◌, length, map, slice_get, take, if◌then◌else◌, Option, Some, None, refl, sym, ap, ap₂, ◌∙◌}
-use Rattle.std.specs.Option.{option_map_or}
 use Rattle.std.proofs.lemmas.Bool.{and_left, le-ltb, lt-ltb}
 use Rattle.std.specs.List.{filter, flat_map, enumerate_from, range_with_len}
 use Rattle.std.proofs.lemmas.List.{append-nil}
 use Rattle.std.proofs.lemmas.List.Elements.{filter-append}
 use Rattle.std.proofs.lemmas.List.Folds.{flat_map-map}
+use Rattle.etcs_packet.specs.Track.{holds}
 use Rattle.etcs_packet.specs.declared.run.Run.{Run}
 use Rattle.etcs_packet.specs.declared.run.Run.TheVariants as runs
 use Rattle.etcs_packet.specs.declared.track.TrackPacket.{TrackPacket}
 use Rattle.etcs_telegram.specs.Record.{Telegram}
 use Rattle.etcs_group.specs.Group.{Telegrams, Aspects}
-use Rattle.etcs_group.specs.Packets.{said_by}
+use Rattle.etcs_group.specs.Packets.{is_silent, said_by}
 use Rattle.etcs_group.specs.Places.{At}
 use Rattle.etcs_check.specs.Aspects.{is_ambiguous, site_spot}
-use Rattle.etcs_check.specs.Cells.{none_and, directions, cells_at, cells_of, group_cells}
-use Rattle.etcs_check.specs.Facts.{passes_at, packets_at, speech_of, is_short_profile, aspect_fact, whole_fact, fact_of_aspect, group_fact}
-use Rattle.etcs_check.specs.Findings.{all_rules, balise_fact, finding_of, for_each, for_directions, is_short_at, is_unmodelled, lacks, noted, pair_differs}
+use Rattle.etcs_check.specs.Line.{none_and, directions, cells_at, cells_of, group_cells}
+use Rattle.etcs_check.specs.Walk.{unmodelled_at, unmodelled_in, ambiguous_at, pair_at}
+use Rattle.etcs_check.specs.Facts.{passes_at, packets_at, packets_alone, speech_in, is_short_profile, packet_fact, aspect_fact, whole_fact, fact_of_aspect, group_fact}
+use Rattle.etcs_check.specs.Findings.{all_rules, balise_fact, finding_of, for_each, for_directions, is_short_said, is_unmodelled, lacks, noted, pair_differs}
 use Rattle.etcs_check.specs.Profiles.{gradient_reach, speed_reach}
 use Rattle.etcs_check.specs.Soundness.{first_aspect}
 use Rattle.etcs_check.specs.declared.finding.Finding.{Finding}
@@ -24,7 +25,7 @@ use Rattle.etcs_check.specs.declared.finding.Rule.{Rule}
 use Rattle.etcs_check.specs.declared.finding.Rule.TheVariants as rules
 use Rattle.etcs_check.specs.declared.finding.Site.{Site}
 use Rattle.etcs_check.specs.declared.finding.Spot.{Spot}
-use Rattle.etcs_check.proofs.FactLemmas.{passes_as, packets_as, short_as}
+use Rattle.etcs_check.proofs.FactLemmas.{passes_as, failing, packets_as, packet_as, profile_as}
 use Rattle.etcs_check.proofs.GreatestLemmas.{or_false}
 use Rattle.etcs_check.proofs.FindingLemmas.{for_each-same}
 
@@ -53,19 +54,6 @@ each_place : {X : Type 0} (p : Finding → Bool) (f : Option ℕ → List Findin
 each_place p f xs =
     filter-flat_map p f (none_and (length xs))
     ∙ ap (λ l. filter p (f None) ++ l) (flat_map-map (λ o. filter p (f o)) (λ i. Some i) (range_with_len 0 (length xs)) ∙ each_range (λ i. filter p (f (Some i))) 0 xs)
-
--- the same tests at every cell of a spot
-pub filter-cells : (p q : Finding → Bool) (spot : Spot) (count : ℕ) (packets : Option ℕ → List TrackPacket)
-    → ((rule : Rule) (run : Option Run) (b k : Option ℕ) → p (finding_of rule spot run b k) ≡ q (finding_of rule spot run b k)) → filter p (cells_at spot count packets) ≡ filter q (cells_at spot count packets)
-filter-cells p q spot count packets same =
-    flat_same (λ run. flat_map (λ b. flat_map (λ k. map (λ rule. finding_of rule spot run b k) all_rules) (none_and (length (packets b)))) (none_and count)) directions (λ run.
-    flat_same (λ b. flat_map (λ k. map (λ rule. finding_of rule spot run b k) all_rules) (none_and (length (packets b)))) (none_and count) (λ b.
-    flat_same (λ k. map (λ rule. finding_of rule spot run b k) all_rules) (none_and (length (packets b))) (λ k.
-    filter-rules p (λ rule. finding_of rule spot run b k) (λ rule. q (finding_of rule spot run b k)) (λ rule. same rule run b k) all_rules
-    ∙ sym (filter-rules q (λ rule. finding_of rule spot run b k) (λ rule. q (finding_of rule spot run b k)) (λ rule. refl) all_rules))))
-  where
-    flat_same : {X : Type 0} (f : X → List Finding) (xs : List X) → ((x : X) → filter p (f x) ≡ filter q (f x)) → filter p (flat_map f xs) ≡ filter q (flat_map f xs)
-    flat_same f xs h = filter-flat_map p f xs ∙ (λ i. flat_map (λ x. h x i) xs) ∙ sym (filter-flat_map q f xs)
 
 -- ---- what a walk over the cells of a spot finds, where it is known at each place
 
@@ -117,6 +105,43 @@ module _ (p : Finding → Bool) (spot : Spot) (group : Telegrams) (leaves : Leav
       ∙ (λ i. in_none i ++ (in_direction runs.Nominal i ++ (in_direction runs.Reverse i ++ [])))
       ∙ ap (λ l. alone_walk ++ (direction_walk runs.Nominal ++ l)) (append-nil (direction_walk runs.Reverse))
 
+-- ---- what is found at a place, whoever speaks
+
+abbrev pub unmodelled_test : TrackPacket → Rule → Bool
+unmodelled_test q rules.NotModelled = is_unmodelled q
+unmodelled_test q rule = false
+
+abbrev pub lack_test : List TrackPacket → Rule → Bool
+lack_test said rules.NoGradient = lacks gradient_reach said
+lack_test said rules.NoSpeed = lacks speed_reach said
+lack_test said rule = false
+
+abbrev pub short_test : List TrackPacket → Run → Bool → TrackPacket → Rule → Bool
+short_test said run silent q rules.GradientShort = is_short_said gradient_reach said run silent q
+short_test said run silent q rules.SpeedShort = is_short_said speed_reach said run silent q
+short_test said run silent q rule = false
+
+abbrev pub lacks_noted : Spot → Run → List TrackPacket → List Finding
+lacks_noted spot run said = noted (lacks gradient_reach said) (finding_of rules.NoGradient spot (Some run) None None)
+    ++ noted (lacks speed_reach said) (finding_of rules.NoSpeed spot (Some run) None None)
+
+abbrev pub shorts_noted : Spot → Run → List TrackPacket → Bool → Option ℕ → ℕ → TrackPacket → List Finding
+shorts_noted spot run said silent b k q = noted (is_short_said gradient_reach said run silent q) (finding_of rules.GradientShort spot (Some run) b (Some k))
+    ++ noted (is_short_said speed_reach said run silent q) (finding_of rules.SpeedShort spot (Some run) b (Some k))
+
+module _ (p : Finding → Bool) (spot : Spot) where
+  pub packet_leaf : (b : Option ℕ) (k : ℕ) (q : TrackPacket) → ((rule : Rule) → p (finding_of rule spot None b (Some k)) ≡ unmodelled_test q rule) → filter p (about spot None b (Some k)) ≡ unmodelled_at spot b k q
+  packet_leaf b k q same = filter-rules p (λ rule. finding_of rule spot None b (Some k)) (unmodelled_test q) same all_rules ∙ append-nil _
+
+  pub said_leaf : (run : Run) (said : List TrackPacket) → ((rule : Rule) → p (finding_of rule spot (Some run) None None) ≡ lack_test said rule) → filter p (about spot (Some run) None None) ≡ lacks_noted spot run said
+  said_leaf run said same = filter-rules p (λ rule. finding_of rule spot (Some run) None None) (lack_test said) same all_rules
+      ∙ ap (λ l. noted (lacks gradient_reach said) (finding_of rules.NoGradient spot (Some run) None None) ++ l) (append-nil _)
+
+  pub profile_leaf : (run : Run) (said : List TrackPacket) (silent : Bool) (b : Option ℕ) (k : ℕ) (q : TrackPacket) → ((rule : Rule) → p (finding_of rule spot (Some run) b (Some k)) ≡ short_test said run silent q rule)
+      → filter p (about spot (Some run) b (Some k)) ≡ shorts_noted spot run said silent b k q
+  profile_leaf run said silent b k q same = filter-rules p (λ rule. finding_of rule spot (Some run) b (Some k)) (short_test said run silent q) same all_rules
+      ∙ ap (λ l. noted (is_short_said gradient_reach said run silent q) (finding_of rules.GradientShort spot (Some run) b (Some k)) ++ l) (append-nil _)
+
 -- ---- an aspect
 
 -- what the test of an aspect says at each place
@@ -125,20 +150,11 @@ module _ (first : Telegrams) (before : Aspects) (group : Telegrams) where
   says_balise b t at rules.PositionWrong = passes_as group b (balise_fact first before group rules.PositionWrong b) t at
   says_balise b t at rule = passes_as group b (balise_fact first before group rule b) t at
 
-  abbrev pub unmodelled_test : TrackPacket → Rule → Bool
-  unmodelled_test q rules.NotModelled = is_unmodelled q
-  unmodelled_test q rule = false
-
   pub says_packet : (b : ℕ) (t : Telegram) (k : ℕ) (q : TrackPacket) → At group b t → At t.packets k q → (rule : Rule) → aspect_fact first before group rule None (Some b) (Some k) ≡ unmodelled_test q rule
-  says_packet b t k q at at' rules.NotModelled = ap (λ l. passes_at l k is_unmodelled) (packets_as group b t at) ∙ passes_as t.packets k is_unmodelled q at'
+  says_packet b t k q at at' rules.NotModelled = packet_as group b k is_unmodelled t q at at'
   says_packet b t k q at at' rule = refl
 
-  abbrev pub lack_test : Run → Rule → Bool
-  lack_test run rules.NoGradient = lacks gradient_reach (said_by run group)
-  lack_test run rules.NoSpeed = lacks speed_reach (said_by run group)
-  lack_test run rule = false
-
-  pub says_said : (run : Run) (rule : Rule) → aspect_fact first before group rule (Some run) None None ≡ lack_test run rule
+  pub says_said : (run : Run) (rule : Rule) → aspect_fact first before group rule (Some run) None None ≡ lack_test (said_by run group) rule
   says_said run rules.NoGradient = refl
   says_said run rule = refl
 
@@ -150,16 +166,10 @@ module _ (first : Telegrams) (before : Aspects) (group : Telegrams) where
   says_pair run b t at rules.DuplicatesDiffer = passes_as group b (λ t. pair_differs run t (slice_get group (b + 1))) t at
   says_pair run b t at rule = refl
 
-  abbrev pub short_test : Run → ℕ → Telegram → TrackPacket → Rule → Bool
-  short_test run b t q rules.GradientShort = is_short_at gradient_reach group run b t q
-  short_test run b t q rules.SpeedShort = is_short_at speed_reach group run b t q
-  short_test run b t q rule = false
-
-  pub says_profile : (run : Run) (b : ℕ) (t : Telegram) (k : ℕ) (q : TrackPacket) → At group b t → At t.packets k q → (rule : Rule) → aspect_fact first before group rule (Some run) (Some b) (Some k) ≡ short_test run b t q rule
-  says_profile run b t k q at at' rules.GradientShort = ap (λ l. passes_at l k (is_short_profile gradient_reach (speech_of group) run (Some b))) (packets_as group b t at)
-      ∙ passes_as t.packets k (is_short_profile gradient_reach (speech_of group) run (Some b)) q at' ∙ short_as first before group gradient_reach run b t q at
-  says_profile run b t k q at at' rules.SpeedShort = ap (λ l. passes_at l k (is_short_profile speed_reach (speech_of group) run (Some b))) (packets_as group b t at)
-      ∙ passes_as t.packets k (is_short_profile speed_reach (speech_of group) run (Some b)) q at' ∙ short_as first before group speed_reach run b t q at
+  pub says_profile : (run : Run) (b : ℕ) (t : Telegram) (k : ℕ) (q : TrackPacket) → At group b t → At t.packets k q → (rule : Rule)
+      → aspect_fact first before group rule (Some run) (Some b) (Some k) ≡ short_test (said_by run group) run (is_silent run t.header.dup (length group) b) q rule
+  says_profile run b t k q at at' rules.GradientShort = profile_as gradient_reach group run b k t q at at'
+  says_profile run b t k q at at' rules.SpeedShort = profile_as speed_reach group run b k t q at at'
   says_profile run b t k q at at' rule = refl
 
   -- no rule of an aspect is about no place
@@ -174,30 +184,59 @@ module _ (first : Telegrams) (before : Aspects) (group : Telegrams) where
   leaves_of p spot lead none alone directed = record {
     lead = lead;
     own = λ b t. flat_map (λ rule. noted (balise_fact first before group rule b t) (finding_of rule spot None (Some b) None)) all_rules;
-    packet = λ b k q. noted (is_unmodelled q) (finding_of rules.NotModelled spot None (Some b) (Some k));
-    said = λ run. noted (lacks gradient_reach (said_by run group)) (finding_of rules.NoGradient spot (Some run) None None)
-        ++ noted (lacks speed_reach (said_by run group)) (finding_of rules.NoSpeed spot (Some run) None None);
-    pair = λ run b t. noted (pair_differs run t (slice_get group (b + 1))) (finding_of rules.DuplicatesDiffer spot (Some run) (Some b) None);
-    profile = λ run b t k q. noted (is_short_at gradient_reach group run b t q) (finding_of rules.GradientShort spot (Some run) (Some b) (Some k))
-        ++ noted (is_short_at speed_reach group run b t q) (finding_of rules.SpeedShort spot (Some run) (Some b) (Some k));
+    packet = λ b k q. unmodelled_at spot (Some b) k q;
+    said = λ run. lacks_noted spot run (said_by run group);
+    pair = pair_at spot group;
+    profile = λ run b t k q. shorts_noted spot run (said_by run group) (is_silent run t.header.dup (length group) b) (Some b) k q;
     at_none = none;
     at_balise = λ b t at. filter-rules p (λ rule. finding_of rule spot None (Some b) None) (λ rule. balise_fact first before group rule b t) (λ rule. alone rule b None ∙ says_balise b t at rule) all_rules;
-    at_packet = λ b t k q at at'. filter-rules p (λ rule. finding_of rule spot None (Some b) (Some k)) (unmodelled_test q) (λ rule. alone rule b (Some k) ∙ says_packet b t k q at at' rule) all_rules ∙ append-nil _;
-    at_said = λ run. filter-rules p (λ rule. finding_of rule spot (Some run) None None) (lack_test run) (λ rule. directed rule run None None ∙ says_said run rule) all_rules
-        ∙ ap (λ l. noted (lacks gradient_reach (said_by run group)) (finding_of rules.NoGradient spot (Some run) None None) ++ l) (append-nil _);
+    at_packet = λ b t k q at at'. packet_leaf p spot (Some b) k q (λ rule. alone rule b (Some k) ∙ says_packet b t k q at at' rule);
+    at_said = λ run. said_leaf p spot run (said_by run group) (λ rule. directed rule run None None ∙ says_said run rule);
     at_pair = λ run b t at. filter-rules p (λ rule. finding_of rule spot (Some run) (Some b) None) (pair_test run b t) (λ rule. directed rule run (Some b) None ∙ says_pair run b t at rule) all_rules ∙ append-nil _;
-    at_profile = λ run b t k q at at'. filter-rules p (λ rule. finding_of rule spot (Some run) (Some b) (Some k)) (short_test run b t q) (λ rule. directed rule run (Some b) (Some k) ∙ says_profile run b t k q at at' rule) all_rules
-        ∙ ap (λ l. noted (is_short_at gradient_reach group run b t q) (finding_of rules.GradientShort spot (Some run) (Some b) (Some k)) ++ l) (append-nil _);
+    at_profile = λ run b t k q at at'. profile_leaf p spot run (said_by run group) (is_silent run t.header.dup (length group) b) (Some b) k q (λ rule. directed rule run (Some b) (Some k) ∙ says_profile run b t k q at at' rule);
   }
 
--- ---- a group
+-- ---- a message
 
-never_passes : {X : Type 0} (xs : List X) (i : ℕ) (test : X → Bool) → ((x : X) → test x ≡ false) → passes_at xs i test ≡ false
-never_passes {X} xs i test never = go (slice_get xs i)
-  where
-    go : (o : Option X) → option_map_or test o false ≡ false
-    go None = refl
-    go (Some x) = never x
+module _ (p : Finding → Bool) (spot : Spot) (packets : List TrackPacket) (same : (rule : Rule) (run : Option Run) (b k : Option ℕ) → p (finding_of rule spot run b k) ≡ packet_fact (speech_in packets) rule run b k) where
+  no_rule : (rule : Rule) → packet_fact (speech_in packets) rule None None None ≡ false
+  no_rule rules.NotModelled = refl
+  no_rule rule = refl
+
+  packet_says : (k : ℕ) (q : TrackPacket) → At packets k q → (rule : Rule) → packet_fact (speech_in packets) rule None None (Some k) ≡ unmodelled_test q rule
+  packet_says k q at rules.NotModelled = passes_as packets k is_unmodelled q at
+  packet_says k q at rule = refl
+
+  said_says : (run : Run) (rule : Rule) → packet_fact (speech_in packets) rule (Some run) None None ≡ lack_test (filter (holds run) packets) rule
+  said_says run rules.NoGradient = refl
+  said_says run rule = refl
+
+  profile_says : (run : Run) (k : ℕ) (q : TrackPacket) → At packets k q → (rule : Rule) → packet_fact (speech_in packets) rule (Some run) None (Some k) ≡ short_test (filter (holds run) packets) run false q rule
+  profile_says run k q at rules.GradientShort = passes_as packets k (is_short_profile gradient_reach (speech_in packets) run None) q at
+  profile_says run k q at rules.SpeedShort = passes_as packets k (is_short_profile speed_reach (speech_in packets) run None) q at
+  profile_says run k q at rule = refl
+
+  cells_in : (run : Option Run) → filter p (flat_map (about spot run None) (none_and (length packets)) ++ []) ≡ filter p (about spot run None None) ++ for_each packets (λ k q. filter p (about spot run None (Some k)))
+  cells_in run = ap (filter p) (append-nil (flat_map (about spot run None) (none_and (length packets)))) ∙ each_place p (about spot run None) packets
+
+  abbrev pub packets_walk : Run → List Finding
+  packets_walk run = lacks_noted spot run (filter (holds run) packets) ++ for_each packets (shorts_noted spot run (filter (holds run) packets) false None)
+
+  none_walk : filter p (flat_map (about spot None None) (none_and (length packets)) ++ []) ≡ unmodelled_in spot None packets
+  none_walk = cells_in None ∙ ap₂ ◌++◌ (filter-rules p (λ rule. finding_of rule spot None None None) (λ rule. false) (λ rule. same rule None None None ∙ no_rule rule) all_rules)
+      (for_each-same _ (unmodelled_at spot None) packets (λ k q at. packet_leaf p spot None k q (λ rule. same rule None None (Some k) ∙ packet_says k q at rule)))
+
+  run_walk : (run : Run) → filter p (flat_map (about spot (Some run) None) (none_and (length packets)) ++ []) ≡ packets_walk run
+  run_walk run = cells_in (Some run) ∙ ap₂ ◌++◌ (said_leaf p spot run (filter (holds run) packets) (λ rule. same rule (Some run) None None ∙ said_says run rule))
+      (for_each-same _ (shorts_noted spot run (filter (holds run) packets) false None) packets (λ k q at. profile_leaf p spot run (filter (holds run) packets) false None k q (λ rule. same rule (Some run) None (Some k) ∙ profile_says run k q at rule)))
+
+  pub walk_of_packets : filter p (cells_at spot 0 (packets_alone packets)) ≡ unmodelled_in spot None packets ++ for_directions packets_walk
+  walk_of_packets =
+      filter-flat_map p (λ run. flat_map (about spot run None) (none_and (length packets)) ++ []) directions
+      ∙ (λ i. none_walk i ++ (run_walk runs.Nominal i ++ (run_walk runs.Reverse i ++ [])))
+      ∙ ap (λ l. unmodelled_in spot None packets ++ (packets_walk runs.Nominal ++ l)) (append-nil (packets_walk runs.Reverse))
+
+-- ---- a group
 
 module _ (used : Bool) (aspects : Aspects) (site : Site) where
   abbrev pub of_group : Finding → Bool
@@ -221,7 +260,7 @@ module _ (used : Bool) (aspects : Aspects) (site : Site) where
         ∙ passes_as aspects 0 (λ group. aspect_fact only (take 0 aspects) group rule run b k) only at
 
     unambiguous : (b : ℕ) → passes_at only b (is_ambiguous aspects b) ≡ false
-    unambiguous b = never_passes only b (is_ambiguous aspects b) (λ t. and_left (ltb 1 (length aspects)) _ (le-ltb 1 (length aspects) few))
+    unambiguous b = failing only b (is_ambiguous aspects b) (λ t at. and_left (ltb 1 (length aspects)) _ (le-ltb 1 (length aspects) few))
 
     pub few_alone : (rule : Rule) (b : ℕ) (k : Option ℕ) → of_group (finding_of rule (site_spot site) None (Some b) k) ≡ aspect_fact only [] only rule None (Some b) k
     few_alone rules.NotToldApart b None = ap (λ q. q || (not (ltb 1 (length aspects)) && fact_of_aspect aspects 0 rules.NotToldApart None (Some b) None)) (unambiguous b) ∙ few_is rules.NotToldApart None (Some b) None
@@ -288,7 +327,7 @@ module _ (used : Bool) (aspects : Aspects) (site : Site) where
     abbrev pub whole_leaves : Leaves of_group (site_spot site) (first_aspect aspects)
     whole_leaves = record {
       lead = identity;
-      own = λ b t. noted (is_ambiguous aspects b t) (finding_of rules.NotToldApart (site_spot site) None (Some b) None);
+      own = ambiguous_at (site_spot site) aspects;
       packet = λ b k q. [];
       said = λ run. [];
       pair = λ run b t. [];

@@ -3,20 +3,13 @@
 use Rattle.std.specs.Prelude.{◌≡◌, ℕ, ◌<◌, ◌&&◌, nat_lt, Bool, List}
 use Rattle.std.specs.List.{list_any}
 use Rattle.etcs_telegram.specs.Record.{Telegram}
-use Rattle.etcs_group.specs.Group.{Telegrams, Aspects}
-use Rattle.etcs_check.specs.Findings.{balise_facts, has_counter}
+use Rattle.etcs_group.specs.Group.{Aspects}
+use Rattle.etcs_check.specs.Findings.{has_counter}
 use Rattle.etcs_check.specs.Identities.{is_marked}
-use Rattle.etcs_check.specs.declared.finding.Finding.{Finding}
-use Rattle.etcs_check.specs.declared.finding.Rule.TheVariants as rules
-use Rattle.etcs_check.specs.declared.finding.Spot.{Spot}
 
 -- a counter below 254 that is marked
 abbrev pub is_taken : List ℕ → Telegram → Bool
 is_taken table t = nat_lt t.header.counter 254 && is_marked table t.header.counter
-
--- the findings about the balises whose counters, below 254, are marked
-abbrev pub taken_facts : Spot → List ℕ → Telegrams → List Finding
-taken_facts spot table group = balise_facts rules.NotToldApart spot (λ b t. is_taken table t) group
 
 -- Just the counters of these aspects are marked.
 abbrev pub HasCounters : List ℕ → Aspects → Type 0

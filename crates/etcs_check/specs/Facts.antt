@@ -1,6 +1,6 @@
 -- Which facts stand against a line: for each rule one test, asked at a running direction, a balise and a packet
 -- (this project's rules, after SUBSET-026, 3.16.2). No definition here speaks of what a train reads.
-use Rattle.std.specs.Prelude.{ℕ, ◌+◌, ◌&&◌, ◌||◌, nat_lt, Bool, false, not, List, [], length, slice_get, take, filter, Option, Some, None}
+use Rattle.std.specs.Prelude.{ℕ, ◌+◌, ◌&&◌, ◌||◌, nat_lt, Bool, false, not, List, [], length, slice_get, take, filter, Option, Some, None, IsTrue}
 use Rattle.std.specs.Option.{option_map_or}
 use Rattle.etcs_packet.specs.Track.{holds}
 use Rattle.etcs_packet.specs.declared.run.Run.{Run}
@@ -11,7 +11,7 @@ use Rattle.etcs_radio.specs.declared.message.Message.TheVariants as messages
 use Rattle.etcs_group.specs.Group.{Telegrams, Aspects}
 use Rattle.etcs_group.specs.Packets.{is_silent, said_by}
 use Rattle.etcs_check.specs.Aspects.{is_used, is_ambiguous}
-use Rattle.etcs_check.specs.Findings.{balise_fact, pair_differs, is_unmodelled, lacks, is_short}
+use Rattle.etcs_check.specs.Findings.{balise_fact, pair_differs, is_unmodelled, lacks, is_short_said}
 use Rattle.etcs_check.specs.Profiles.{gradient_reach, speed_reach}
 use Rattle.etcs_check.specs.Soundness.{first_aspect}
 use Rattle.etcs_check.specs.declared.finding.Finding.{Finding}
@@ -59,10 +59,9 @@ speech_in packets = record {
   said = λ run. filter (holds run) packets;
 }
 
--- F11 and F13: the packet holds, its speaker is not mute, and it is a profile that ends before a supervised
--- location that is said
+-- F11 and F13 of a packet of this speaker
 abbrev pub is_short_profile : (TrackPacket → Option Reach) → Speech → Run → Option ℕ → TrackPacket → Bool
-is_short_profile reach speech run b p = not (speech.is_mute run b) && (holds run p && is_short reach (speech.said run) p)
+is_short_profile reach speech run b p = is_short_said reach (speech.said run) run (speech.is_mute run b) p
 
 abbrev pub packet_fact : Speech → Rule → Option Run → Option ℕ → Option ℕ → Bool
 packet_fact speech rules.NotModelled None b (Some k) = passes_at (speech.packets b) k is_unmodelled
@@ -116,3 +115,7 @@ fact_at groups messages (sites.Message i) f =
 -- the fact that a finding states stands against the line
 abbrev pub is_fact : List Aspects → List Message → Finding → Bool
 is_fact groups messages f = fact_at groups messages f.site f
+
+-- a finding states a fact
+abbrev pub States : List Aspects → List Message → Finding → Type 0
+States groups messages f = IsTrue (is_fact groups messages f)

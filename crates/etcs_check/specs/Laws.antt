@@ -1,5 +1,5 @@
 -- The laws that join findings and soundness.
-use Rattle.std.specs.Prelude.{◌≡◌, ◌≢◌, ◌↔◌, ℕ, ◌<◌, Bool, List, [], length, Option, is_some, IsTrue}
+use Rattle.std.specs.Prelude.{◌≡◌, ◌≢◌, ◌↔◌, ℕ, ◌<◌, Bool, false, List, [], length, Option, is_some, IsTrue}
 use Rattle.etcs_packet.specs.Track.{track_number}
 use Rattle.etcs_packet.specs.declared.run.Run.{Run}
 use Rattle.etcs_packet.specs.declared.track.TrackPacket.{TrackPacket}
@@ -17,9 +17,7 @@ use Rattle.etcs_check.specs.Profiles.{gradient_reach, speed_reach}
 use Rattle.etcs_check.specs.Soundness.{IsSoundGroup, IsSoundControlled, IsSoundMessage, IsSoundLine, group_identity}
 use Rattle.etcs_check.specs.Aspects.{is_used}
 use Rattle.etcs_check.specs.Line.{findings}
-use Rattle.etcs_check.specs.Cells.{findings as of_cells}
-use Rattle.etcs_check.specs.Facts.{is_fact}
-use Rattle.etcs_check.specs.Meaning.{GroupFact, States}
+use Rattle.etcs_check.specs.Facts.{group_fact, States}
 use Rattle.etcs_check.specs.Order.{IsListOf}
 use Rattle.etcs_check.specs.Harm.{HasParts, Hurts, IsNew}
 use Rattle.etcs_check.specs.declared.finding.Finding.{Finding}
@@ -46,7 +44,7 @@ ProfilesAreTheirPackets =
 abbrev pub NoFindingMeansSoundGroup : Type 0
 NoFindingMeansSoundGroup = (earlier : List Aspects) (aspects : Aspects) → IsControlled aspects
     → ((rule : Rule) (aspect : Option ℕ) (run : Option Run) (b k : Option ℕ)
-    → GroupFact (is_used earlier aspects) aspects rule aspect run b k → ⊥)
+    → group_fact (is_used earlier aspects) aspects rule aspect run b k ≡ false)
     ↔ (IsSoundControlled aspects × ((i : ℕ) (h : Aspects) → At earlier i h
     → group_identity h ≢ group_identity aspects))
 
@@ -115,13 +113,3 @@ SoundGroupsAreDecided = (group : Telegrams) (run : Run) (missed : ℕ → Bool)
 abbrev pub SoundMixturesAreDecided : Type 0
 SoundMixturesAreDecided = (run : Run) (aspects : Aspects) (shown : ℕ → Option ℕ)
     → IsControlled aspects → IsSoundControlled aspects → Fits aspects shown → IsMixtureDecided run aspects shown
-
--- A finding states its fact exactly where the one test says so.
-abbrev pub FactsAreTests : Type 0
-FactsAreTests = (groups : List Aspects) (messages : List Message) (f : Finding)
-    → IsTrue (is_fact groups messages f) ↔ States groups messages f
-
--- At each place every rule is asked; the facts of each site, sorted by rule, are a line's findings.
-abbrev pub CellsAreTheFindings : Type 0
-CellsAreTheFindings = (groups : List Aspects) (messages : List Message)
-    → of_cells groups messages ≡ findings groups messages

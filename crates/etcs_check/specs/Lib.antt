@@ -8,7 +8,6 @@ pub mod Identities
 pub mod LineChecker
 pub mod Counters
 pub mod Greatest
-pub mod Meaning
 pub mod Order
 pub mod Harm
 pub mod Laws
@@ -16,4 +15,3 @@ pub mod Quiet
 pub mod Facts
 pub mod Said
 pub mod Walk
-pub mod Cells

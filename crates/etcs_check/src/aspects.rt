@@ -4,12 +4,12 @@ ghost use Rattle.std.specs.Prelude.{◌≡◌, ◌≢◌, ◌<◌, ◌≤◌, �
 ghost use Rattle.std.specs.List.{list_any};
 ghost use Rattle.std.specs.Option.{option_map_or};
 ghost use Rattle.etcs_telegram.specs.Record.{Telegram};
-ghost use Rattle.etcs_check.specs.Aspects.{all_at, aspect_facts, aspect_of, has_aspect_counter, is_steady, is_ambiguous, site_spot};
-ghost use Rattle.etcs_check.specs.Counters.{is_taken, taken_facts};
-ghost use Rattle.etcs_check.specs.Findings.{balise_facts, for_each, has_counter};
+ghost use Rattle.etcs_check.specs.Aspects.{all_at, has_aspect_counter, is_steady, is_ambiguous, site_spot};
+ghost use Rattle.etcs_check.specs.Counters.{is_taken};
+ghost use Rattle.etcs_check.specs.Findings.{for_each, has_counter};
 ghost use Rattle.etcs_check.specs.Identities.{is_marked};
 ghost use Rattle.etcs_check.specs.Soundness.{first_aspect};
-ghost use Rattle.etcs_check.specs.declared.finding.Rule.TheVariants as rules;
+ghost use Rattle.etcs_check.specs.Walk.{ambiguous_at};
 
 use crate::duplicates::same_telegram;
 use crate::finding::{Finding, Rule, Site, Spot, note};
@@ -23,14 +23,6 @@ pub(crate) fn site_spot(site: Site) -> Spot
     ensures { result ≡ site_spot site }
 {
     Spot { site, aspect: None }
-}
-
-// Where the facts about an aspect stand. It is named where there are two or more.
-pub(crate) fn aspect_of(site: Site, aspects: &[Group], place: usize) -> Spot
-    ensures { result ≡ aspect_of site aspects.now place }
-{
-    let aspect = if aspects.len() > 1 { Some(place) } else { None };
-    Spot { site, aspect }
 }
 
 // The first aspect.
@@ -105,9 +97,9 @@ pub(crate) fn note_ambiguous(
 ) -> Result<(), Memory>
     requires some { 0 < length aspects.now }
     ensures ok { OnOk result (found.new.items ≡ found.old.items
-        ++ balise_facts rules.NotToldApart (site_spot site) (is_ambiguous aspects.now) (first_aspect aspects.now)) }
-    ensures memory { OnErr result (balise_facts rules.NotToldApart (site_spot site) (is_ambiguous aspects.now)
-        (first_aspect aspects.now) ≢ []) }
+        ++ for_each (first_aspect aspects.now) (ambiguous_at (site_spot site) aspects.now)) }
+    ensures memory { OnErr result
+        (for_each (first_aspect aspects.now) (ambiguous_at (site_spot site) aspects.now) ≢ []) }
 {
     let first = first_aspect(aspects);
     let spot = site_spot(site);

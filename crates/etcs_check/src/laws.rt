@@ -1,7 +1,7 @@
 //! Laws of findings and soundness, for users. Each law is the contract of a function that does
 //! nothing.
 
-ghost use Rattle.etcs_check.specs.Laws.{CellsAreTheFindings, FactsAreTests, FactsAreFindings, FindingsAreFacts, FindingsAreTheFactsInOrder, NoFindingMeansSoundGroup, NoFindingMeansSoundLine, NothingHurtsASoundLine, PacketsAreTheirNumbers, PartsHoldUnlessFound, ProfilesAreTheirPackets, SoundGroupsAreDecided, SoundMixturesAreDecided, TelegramsAreTheirParts, UnnamedMeansSound};
+ghost use Rattle.etcs_check.specs.Laws.{FactsAreFindings, FindingsAreFacts, FindingsAreTheFactsInOrder, NoFindingMeansSoundGroup, NoFindingMeansSoundLine, NothingHurtsASoundLine, PacketsAreTheirNumbers, PartsHoldUnlessFound, ProfilesAreTheirPackets, SoundGroupsAreDecided, SoundMixturesAreDecided, TelegramsAreTheirParts, UnnamedMeansSound};
 
 /// Two packets are equal exactly if the numbers in the rows of their tables are.
 pub fn packets_are_their_numbers()
@@ -80,14 +80,4 @@ pub fn sound_groups_are_decided()
 /// the packets of this aspect with nothing missed.
 pub fn sound_mixtures_are_decided()
     ensures { SoundMixturesAreDecided }
-{}
-
-/// A finding states its fact exactly where the one test says so.
-pub fn facts_are_tests()
-    ensures { FactsAreTests }
-{}
-
-/// At each place every rule is asked; the facts of each site, sorted by rule, are a line's findings.
-pub fn cells_are_the_findings()
-    ensures { CellsAreTheFindings }
 {}

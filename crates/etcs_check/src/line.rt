@@ -10,12 +10,11 @@ ghost use Rattle.etcs_group.specs.Reading.{reading_of};
 ghost use Rattle.etcs_group.specs.Laws.{IsDecided, IsMixtureDecided};
 ghost use Rattle.etcs_group.specs.Mixture.{Fits};
 ghost use Rattle.etcs_group.specs.Group.{Telegrams, Aspects};
-ghost use Rattle.etcs_check.specs.Aspects.{group_facts};
 ghost use Rattle.etcs_check.specs.Harm.{Hurts};
 ghost use Rattle.etcs_check.specs.Identities.{HasIdentity, identity_number};
 ghost use Rattle.etcs_check.specs.Laws.{AreControlled, NamesTheUnsound};
-ghost use Rattle.etcs_check.specs.Line.{findings, group_list, message_list};
-ghost use Rattle.etcs_check.specs.Meaning.{States};
+ghost use Rattle.etcs_check.specs.Line.{findings, group_findings, group_list, message_list};
+ghost use Rattle.etcs_check.specs.Facts.{States};
 ghost use Rattle.etcs_check.specs.Soundness.{IsSoundControlled, IsSoundGroup, IsSoundLine};
 ghost use Rattle.etcs_check.specs.declared.finding.Finding.{Finding};
 ghost use Rattle.etcs_check.specs.declared.finding.Site.TheVariants as sites;
@@ -50,11 +49,11 @@ fn note_next(
     aspects: &[Group],
 ) -> Result<(), Memory>
     requires some { 0 < length aspects.now }
-    ensures ok { OnOk result (found.new.items ≡ found.old.items ++ group_facts (sites.Group place)
+    ensures ok { OnOk result (found.new.items ≡ found.old.items ++ group_findings (sites.Group place)
         (again && contains nat_cmp kept.old (identity_number aspects.now)) aspects.now) }
     ensures kept { OnOk result (again ≡ true → (n : ℕ) → contains nat_cmp kept.new n
         ≡ (identity_number aspects.now == n || contains nat_cmp kept.old n)) }
-    ensures memory { OnErr result (again ≡ false → group_facts (sites.Group place) false aspects.now ≢ []) }
+    ensures memory { OnErr result (again ≡ false → group_findings (sites.Group place) false aspects.now ≢ []) }
     ensures numbered { HasIdentity aspects.now }
 {
     let identity = identity_number(aspects);

@@ -8,7 +8,7 @@ ghost use Rattle.etcs_check.specs.Harm.{Hurts};
 ghost use Rattle.etcs_check.specs.Laws.{NamesTheUnsound};
 ghost use Rattle.etcs_check.specs.Line.{findings};
 ghost use Rattle.etcs_check.specs.LineChecker.{HasChecked, HasStill, TakesGroups, TakesMessages};
-ghost use Rattle.etcs_check.specs.Meaning.{States};
+ghost use Rattle.etcs_check.specs.Facts.{States};
 ghost use Rattle.etcs_check.specs.Soundness.{IsSoundLine};
 ghost use Rattle.etcs_check.specs.declared.finding.Finding.{Finding as SomeFinding};
 
