@@ -1,30 +1,21 @@
 -- The greatest supervised location, and what it says of the packets.
-use Rattle.std.proofs.Common.{◌≡◌, ℕ, ◌+◌, ◌≤◌, Bool, true, false, ◌||◌, ◌&&◌, max, ltb, if◌then◌else◌, List, [], ◌∷◌, ◌++◌, length, drop, filter, reverse, not, Option, Some, None, is_some, refl, sym, ap, ap₂, ◌∙◌, arith}
+use Rattle.std.proofs.Common.{◌≡◌, ℕ, ◌+◌, ◌≤◌, Bool, true, false, ◌||◌, ◌&&◌, max, ltb, List, [], ◌∷◌, ◌++◌, length, drop, not, Option, Some, None, is_some, refl, sym, ap, ap₂, ◌∙◌, arith}
 use Rattle.std.specs.List.{list_any, flat_map, enumerate_from}
 use Rattle.std.specs.Option.{option_map_or}
-use Rattle.std.proofs.lemmas.Bool.{lt-ltb, le-ltb, cases_lt, and_left, not_from_true}
+use Rattle.std.proofs.lemmas.Bool.{lt-ltb, le-ltb, cases_lt}
 use Rattle.std.proofs.lemmas.Option.{slice_get_within, get_or_from_slice_get}
-use Rattle.std.proofs.lemmas.List.{drop_more, drop_all, append-nil, reverse-append}
-use Rattle.std.proofs.lemmas.List.Concat.{flat_map-append}
-use Rattle.std.proofs.lemmas.List.Folds.{list_any-append}
+use Rattle.std.proofs.lemmas.List.{drop_more, drop_all}
 use mathlib.Core.Logic.{inl, inr}
 use Rattle.etcs_group.specs.Places.{At}
-use Rattle.etcs_packet.specs.Track.{holds}
 use Rattle.etcs_packet.specs.declared.run.Run.{Run}
-use Rattle.etcs_packet.specs.declared.run.Run.TheVariants as runs
 use Rattle.etcs_packet.specs.declared.track.TrackPacket.{TrackPacket}
 use Rattle.etcs_profile.specs.declared.reach.Reach.{Reach}
 use Rattle.etcs_profile.specs.declared.reach.Reach.TheVariants.{Ends, Open}
 use Rattle.etcs_telegram.specs.Record.{Telegram}
-use Rattle.etcs_group.specs.Packets.{is_silent, said_at, said_by}
-use Rattle.etcs_group.specs.Reading.{in_passing_order}
+use Rattle.etcs_group.specs.Packets.{said_at}
 use Rattle.etcs_check.specs.Profiles.{limit_of}
-use Rattle.etcs_check.specs.Findings.{lies_past, goes_past, is_short, lacks, noted, finding_of, for_each, short_at, short_by}
-use Rattle.etcs_check.specs.Greatest.{greater, greatest, is_before, before_at}
-use Rattle.etcs_check.specs.Line.{message_short}
-use Rattle.etcs_check.specs.declared.finding.Rule.{Rule}
-use Rattle.etcs_check.specs.declared.finding.Spot.{Spot}
-use Rattle.etcs_check.proofs.FindingLemmas.{for_each-empty, noted-empty}
+use Rattle.etcs_check.specs.Findings.{lies_past, goes_past, is_short, lacks}
+use Rattle.etcs_check.specs.Greatest.{greater, greatest, is_before}
 
 pub greater-none : (o : Option ℕ) → greater o None ≡ o
 greater-none None = refl
@@ -91,34 +82,6 @@ some_greatest (p ∷ ps) = ap (λ s. is_some (limit_of p) || s) (some_greatest p
 rest_at : {X : Type 0} (xs : List X) (i : ℕ) (x : X) → At xs i x → drop i xs ≡ x ∷ drop (i + 1) xs
 rest_at xs i x at = drop_more xs i x (slice_get_within xs i x at) ∙ ap (λ y. y ∷ drop (i + 1) xs) (get_or_from_slice_get xs i x x at)
 
-pub greatest_here : (held : TrackPacket → Bool) (packets : List TrackPacket) (i : ℕ) (p : TrackPacket) → At packets i p → greatest (filter held (drop i packets)) ≡ greater (if held p then limit_of p else None) (greatest (filter held (drop (i + 1) packets)))
-greatest_here held packets i p at =
-    ap (λ l. greatest (filter held l)) (rest_at packets i p at) ∙ go (held p)
-  where
-    rest : List TrackPacket
-    rest = filter held (drop (i + 1) packets)
-
-    go : (b : Bool) → greatest (if b then p ∷ rest else rest) ≡ greater (if b then limit_of p else None) (greatest rest)
-    go true = refl
-    go false = refl
-
-pub any_here : (held test : TrackPacket → Bool) (packets : List TrackPacket) (i : ℕ) (p : TrackPacket) → At packets i p → list_any test (filter held (drop i packets)) ≡ ((held p && test p) || list_any test (filter held (drop (i + 1) packets)))
-any_here held test packets i p at =
-    ap (λ l. list_any test (filter held l)) (rest_at packets i p at) ∙ go (held p)
-  where
-    rest : List TrackPacket
-    rest = filter held (drop (i + 1) packets)
-
-    go : (b : Bool) → list_any test (if b then p ∷ rest else rest) ≡ ((b && test p) || list_any test rest)
-    go true = refl
-    go false = refl
-
-pub greatest_end : (held : TrackPacket → Bool) (packets : List TrackPacket) (i : ℕ) → length packets ≤ i → greatest (filter held (drop i packets)) ≡ None
-greatest_end held packets i le = ap (λ l. greatest (filter held l)) (drop_all i packets le)
-
-pub any_end : (held test : TrackPacket → Bool) (packets : List TrackPacket) (i : ℕ) → length packets ≤ i → list_any test (filter held (drop i packets)) ≡ false
-any_end held test packets i le = ap (λ l. list_any test (filter held l)) (drop_all i packets le)
-
 -- ---- what a group says, balise by balise in its own order
 
 -- what the balises from place i on say, in the order of their places
@@ -128,50 +91,6 @@ said_from run n i group = flat_map (λ (e : ℕ × Telegram). said_at run n e.0 
 pub said_rest : (run : Run) (n : ℕ) (group : List Telegram) (i : ℕ) (t : Telegram) → At group i t → said_from run n i group ≡ said_at run n i t ++ said_from run n (i + 1) group
 said_rest run n group i t at = ap (λ l. flat_map (λ (e : ℕ × Telegram). said_at run n e.0 e.1) (enumerate_from i l)) (rest_at group i t at)
 
-greatest-append : (xs ys : List TrackPacket) → greatest (xs ++ ys) ≡ greater (greatest xs) (greatest ys)
-greatest-append [] ys = refl
-greatest-append (x ∷ xs) ys = ap (greater (limit_of x)) (greatest-append xs ys) ∙ sym (greater-assoc (limit_of x) (greatest xs) (greatest ys))
-
-pub greatest_step : (run : Run) (n : ℕ) (group : List Telegram) (i : ℕ) (t : Telegram) → At group i t → greatest (said_from run n i group) ≡ greater (greatest (said_at run n i t)) (greatest (said_from run n (i + 1) group))
-greatest_step run n group i t at = ap greatest (said_rest run n group i t at) ∙ greatest-append (said_at run n i t) (said_from run n (i + 1) group)
-
-pub any_step : (test : TrackPacket → Bool) (run : Run) (n : ℕ) (group : List Telegram) (i : ℕ) (t : Telegram) → At group i t → list_any test (said_from run n i group) ≡ (list_any test (said_at run n i t) || list_any test (said_from run n (i + 1) group))
-any_step test run n group i t at = ap (list_any test) (said_rest run n group i t at) ∙ list_any-append test (said_at run n i t) (said_from run n (i + 1) group)
-
-greatest_passing : {X : Type 0} (f : X → List TrackPacket) (run : Run) (xs : List X) → greatest (flat_map f (in_passing_order run xs)) ≡ greatest (flat_map f xs)
-greatest_passing f runs.Nominal xs = refl
-greatest_passing f runs.Reverse [] = refl
-greatest_passing f runs.Reverse (x ∷ xs) =
-    ap (λ l. greatest (flat_map f l)) (reverse-append (x ∷ []) xs)
-    ∙ ap greatest (flat_map-append f (reverse xs) (x ∷ []))
-    ∙ greatest-append (flat_map f (reverse xs)) (f x ++ [])
-    ∙ ap₂ greater (greatest_passing f runs.Reverse xs) (ap greatest (append-nil (f x)))
-    ∙ greater-comm (greatest (flat_map f xs)) (greatest (f x))
-    ∙ sym (greatest-append (f x) (flat_map f xs))
-
-or_comm : (a b : Bool) → (a || b) ≡ (b || a)
-or_comm true true = refl
-or_comm true false = refl
-or_comm false true = refl
-or_comm false false = refl
-
-any_passing : {X : Type 0} (test : TrackPacket → Bool) (f : X → List TrackPacket) (run : Run) (xs : List X) → list_any test (flat_map f (in_passing_order run xs)) ≡ list_any test (flat_map f xs)
-any_passing test f runs.Nominal xs = refl
-any_passing test f runs.Reverse [] = refl
-any_passing test f runs.Reverse (x ∷ xs) =
-    ap (λ l. list_any test (flat_map f l)) (reverse-append (x ∷ []) xs)
-    ∙ ap (list_any test) (flat_map-append f (reverse xs) (x ∷ []))
-    ∙ list_any-append test (flat_map f (reverse xs)) (f x ++ [])
-    ∙ ap₂ ◌||◌ (any_passing test f runs.Reverse xs) (ap (list_any test) (append-nil (f x)))
-    ∙ or_comm (list_any test (flat_map f xs)) (list_any test (f x))
-    ∙ sym (list_any-append test (f x) (flat_map f xs))
-
-pub greatest_said : (run : Run) (group : List Telegram) → greatest (said_from run (length group) 0 group) ≡ greatest (said_by run group)
-greatest_said run group = sym (greatest_passing (λ (e : ℕ × Telegram). said_at run (length group) e.0 e.1) run (enumerate_from 0 group))
-
-pub any_said : (test : TrackPacket → Bool) (run : Run) (group : List Telegram) → list_any test (said_from run (length group) 0 group) ≡ list_any test (said_by run group)
-any_said test run group = sym (any_passing test (λ (e : ℕ × Telegram). said_at run (length group) e.0 e.1) run (enumerate_from 0 group))
-
 pub said_end : (run : Run) (n : ℕ) (group : List Telegram) (i : ℕ) → length group ≤ i → said_from run n i group ≡ []
 said_end run n group i le = ap (λ l. flat_map (λ (e : ℕ × Telegram). said_at run n e.0 e.1) (enumerate_from i l)) (drop_all i group le)
 
@@ -179,12 +98,3 @@ said_end run n group i le = ap (λ l. flat_map (λ (e : ℕ × Telegram). said_a
 
 pub lacks-is : (reach : TrackPacket → Option Reach) (packets : List TrackPacket) → (is_some (greatest packets) && not (list_any (λ p. is_some (reach p)) packets)) ≡ lacks reach packets
 lacks-is reach packets = ap (λ b. b && not (list_any (λ p. is_some (reach p)) packets)) (sym (some_greatest packets))
-
-pub message_short-is : (rule : Rule) (spot : Spot) (reach : TrackPacket → Option Reach) (packets : List TrackPacket) (run : Run) → for_each packets (before_at rule spot reach (greatest (filter (holds run) packets)) run None) ≡ message_short rule spot reach packets run
-message_short-is rule spot reach packets run = λ i. for_each packets (λ k p. noted (holds run p && sym (short-before reach (filter (holds run) packets) p) i) (finding_of rule spot (Some run) None (Some k)))
-
-pub short_by-is : (rule : Rule) (spot : Spot) (reach : TrackPacket → Option Reach) (group : List Telegram) (run : Run) (b : ℕ) (t : Telegram) → is_silent run t.header.dup (length group) b ≡ false → for_each t.packets (before_at rule spot reach (greatest (said_by run group)) run (Some b)) ≡ short_by rule spot reach group run b t
-short_by-is rule spot reach group run b t speaks = λ i. for_each t.packets (λ k p. noted (not (sym speaks i) && (holds run p && sym (short-before reach (said_by run group) p) i)) (finding_of rule spot (Some run) (Some b) (Some k)))
-
-pub short_by-silent : (rule : Rule) (spot : Spot) (reach : TrackPacket → Option Reach) (group : List Telegram) (run : Run) (b : ℕ) (t : Telegram) → is_silent run t.header.dup (length group) b ≡ true → short_by rule spot reach group run b t ≡ []
-short_by-silent rule spot reach group run b t silent = for_each-empty t.packets (short_at rule spot reach group run b t) (λ k p at. noted-empty _ (finding_of rule spot (Some run) (Some b) (Some k)) (and_left _ _ (not_from_true _ silent)))

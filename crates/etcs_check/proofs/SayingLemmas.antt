@@ -7,12 +7,12 @@ use Rattle.etcs_group.specs.Places.{At}
 use Rattle.etcs_check.specs.Harm.{Hurts}
 use Rattle.etcs_check.specs.Laws.{AreControlled, NamesTheUnsound}
 use Rattle.etcs_check.specs.Line.{findings, group_list, message_list}
-use Rattle.etcs_check.specs.Meaning.{States}
+use Rattle.etcs_check.specs.Facts.{States}
 use Rattle.etcs_check.specs.Soundness.{IsSoundLine}
 use Rattle.etcs_check.specs.declared.finding.Finding.{Finding}
 use Rattle.etcs_check.proofs.LineLemmas.{no_finding_means_sound_line}
-use Rattle.etcs_check.proofs.ListedLemmas.{each_fact_is_listed}
-use Rattle.etcs_check.proofs.MeaningLemmas.{findings_are_facts}
+use Rattle.etcs_check.proofs.CellLemmas.{each_fact_is_listed}
+use Rattle.etcs_check.proofs.HarmLemmas.{findings_are_facts}
 use Rattle.etcs_check.proofs.NamedLemmas.{unnamed_means_sound}
 
 -- the findings about the groups were appended to none, and then the findings about the messages

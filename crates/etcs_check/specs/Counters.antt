@@ -1,32 +1,16 @@
 -- Which counters earlier aspects have, as the bits of a table. A counter is a number of 8 bits, M_MCOUNT
 -- (SUBSET-026, 7.5.1).
-use Rattle.std.specs.Prelude.{◌≡◌, ℕ, ◌<◌, ◌&&◌, nat_lt, Bool, List, []}
+use Rattle.std.specs.Prelude.{◌≡◌, ℕ, ◌<◌, ◌&&◌, nat_lt, Bool, List}
 use Rattle.std.specs.List.{list_any}
 use Rattle.etcs_telegram.specs.Record.{Telegram}
-use Rattle.etcs_group.specs.Group.{Telegrams, Aspects}
-use Rattle.etcs_check.specs.Aspects.{aspect_of}
-use Rattle.etcs_check.specs.Findings.{balise_facts, facts_of, has_counter}
+use Rattle.etcs_group.specs.Group.{Aspects}
+use Rattle.etcs_check.specs.Findings.{has_counter}
 use Rattle.etcs_check.specs.Identities.{is_marked}
-use Rattle.etcs_check.specs.Soundness.{first_aspect}
-use Rattle.etcs_check.specs.declared.finding.Finding.{Finding}
-use Rattle.etcs_check.specs.declared.finding.Rule.{Rule}
-use Rattle.etcs_check.specs.declared.finding.Rule.TheVariants as rules
-use Rattle.etcs_check.specs.declared.finding.Site.{Site}
-use Rattle.etcs_check.specs.declared.finding.Spot.{Spot}
 
 -- a counter below 254 that is marked
 abbrev pub is_taken : List ℕ → Telegram → Bool
 is_taken table t = nat_lt t.header.counter 254 && is_marked table t.header.counter
 
--- the findings about the balises whose counters, below 254, are marked
-abbrev pub taken_facts : Spot → List ℕ → Telegrams → List Finding
-taken_facts spot table group = balise_facts rules.NotToldApart spot (λ b t. is_taken table t) group
-
 -- Just the counters of these aspects are marked.
 abbrev pub HasCounters : List ℕ → Aspects → Type 0
 HasCounters table aspects = (n : ℕ) → n < 256 → is_marked table n ≡ list_any (has_counter n) aspects
-
--- the findings of a rule about aspect a, as if no aspect came before it
-abbrev pub facts_without_earlier : Site → Aspects → Rule → ℕ → Telegrams → List Finding
-facts_without_earlier site aspects rule a group =
-    facts_of (aspect_of site aspects a) (first_aspect aspects) [] group rule

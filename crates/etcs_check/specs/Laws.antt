@@ -1,5 +1,5 @@
 -- The laws that join findings and soundness.
-use Rattle.std.specs.Prelude.{◌≡◌, ◌≢◌, ◌↔◌, ℕ, ◌<◌, Bool, List, [], length, Option, is_some, IsTrue}
+use Rattle.std.specs.Prelude.{◌≡◌, ◌≢◌, ◌↔◌, ℕ, ◌<◌, Bool, false, List, [], length, Option, is_some, IsTrue}
 use Rattle.etcs_packet.specs.Track.{track_number}
 use Rattle.etcs_packet.specs.declared.run.Run.{Run}
 use Rattle.etcs_packet.specs.declared.track.TrackPacket.{TrackPacket}
@@ -17,7 +17,7 @@ use Rattle.etcs_check.specs.Profiles.{gradient_reach, speed_reach}
 use Rattle.etcs_check.specs.Soundness.{IsSoundGroup, IsSoundControlled, IsSoundMessage, IsSoundLine, group_identity}
 use Rattle.etcs_check.specs.Aspects.{is_used}
 use Rattle.etcs_check.specs.Line.{findings}
-use Rattle.etcs_check.specs.Meaning.{GroupFact, States}
+use Rattle.etcs_check.specs.Facts.{group_fact, States}
 use Rattle.etcs_check.specs.Order.{IsListOf}
 use Rattle.etcs_check.specs.Harm.{HasParts, Hurts, IsNew}
 use Rattle.etcs_check.specs.declared.finding.Finding.{Finding}
@@ -44,7 +44,7 @@ ProfilesAreTheirPackets =
 abbrev pub NoFindingMeansSoundGroup : Type 0
 NoFindingMeansSoundGroup = (earlier : List Aspects) (aspects : Aspects) → IsControlled aspects
     → ((rule : Rule) (aspect : Option ℕ) (run : Option Run) (b k : Option ℕ)
-    → GroupFact (is_used earlier aspects) aspects rule aspect run b k → ⊥)
+    → group_fact (is_used earlier aspects) aspects rule aspect run b k ≡ false)
     ↔ (IsSoundControlled aspects × ((i : ℕ) (h : Aspects) → At earlier i h
     → group_identity h ≢ group_identity aspects))
 

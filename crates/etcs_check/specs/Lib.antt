@@ -8,9 +8,10 @@ pub mod Identities
 pub mod LineChecker
 pub mod Counters
 pub mod Greatest
-pub mod Summary
-pub mod Meaning
 pub mod Order
 pub mod Harm
 pub mod Laws
 pub mod Quiet
+pub mod Facts
+pub mod Said
+pub mod Walk
