@@ -10,7 +10,7 @@ inputs of the tests OLD accepts.
 
 The first differences are printed. The last line counts the documents, those in which each finding was met, the lines,
 and the inputs whose answers differ. The exit status is 1 if there are any. 100,000 documents and lines of each command
-take 20 minutes on two processors.
+take 15 minutes on two processors that others use too.
 """
 import argparse
 import collections

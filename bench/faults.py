@@ -72,14 +72,12 @@ def put(number, body, direction, scale):
 def profile_to(kind, direction, metres):
     """A profile that ends so far away in any scale that can express it, or a longer or an open one."""
     element, end_mark, other = PROFILES[kind]
-    open_end = metres is None or numbers.random() < 0.1
-    scale = numbers.choice((0, 1, 2) if metres is None or metres % 10 == 0 else (0, 1))
-    units = numbers.randrange(MOST_METRES) if metres is None else metres * 10 // 10 ** scale
-    longer = 0 if numbers.random() < 0.5 else numbers.randrange(1000)
-    if metres is not None and open_end:
-        units = numbers.randrange(units + 1)
-    body = profile(units, other, element) if open_end else profile(units + longer, end_mark, element)
-    return put(kind, body, direction, scale)
+    scale = numbers.choice((0, 1, 2) if metres % 10 == 0 else (0, 1))
+    units = metres * 10 // 10 ** scale
+    longer = numbers.choice((0, numbers.randrange(1000)))
+    is_open = numbers.random() < 0.1
+    end, last = (numbers.randrange(units + 1), other) if is_open else (units + longer, end_mark)
+    return put(kind, profile(end, last, element), direction, scale)
 
 
 def short_profile(kind, direction, metres):
@@ -186,15 +184,12 @@ def sound_group(identity, aspects):
               "nid_c": identity >> 14, "nid_bg": identity & 0x3fff}
     long = {place for place in range(count) if numbers.random() < 0.3}
     fixed = [numbers.random() < 0.4 for _ in speakers]
-    # an authority of a fixed speaker is in each aspect, so the others have none
-    first = contents_of(speakers, True)
-    held = any(is_fixed and any(it.number == LEVEL_1 for it in those) for is_fixed, those in zip(fixed, first))
-    found = []
+    first, found = contents_of(speakers, True), []
+    kept = {it.number for is_fixed, those in zip(fixed, first) if is_fixed for it in those}
     for counter in numbers.sample(range(254), aspects):
-        packets = first if not found else contents_of(speakers, not held)
-        if found and (held or any(it.number in PROFILES for those in first for it in those)):
-            packets = first  # a profile of a fixed speaker may be too short for the authority of another aspect
-        packets = [one if is_fixed else own for is_fixed, one, own in zip(fixed, first, packets)]
+        # no authority beside profiles that another aspect has too: they may be too short for it
+        own = contents_of(speakers, kept.isdisjoint(PROFILES)) if found and LEVEL_1 not in kept else first
+        packets = [one if is_fixed else other for is_fixed, one, other in zip(fixed, first, own)]
         counters = [NO_COUNTER if is_fixed else counter for is_fixed in fixed]
         found.append(aspect_of(speakers, header, packets, counters, long))
     return Group(speakers, found)
@@ -202,7 +197,7 @@ def sound_group(identity, aspects):
 
 def sound_document(has_aspects):
     """Some groups, with several aspects or none, and some messages."""
-    count = numbers.choice((1, 1, 1, 2, 2, 3, 4)) if numbers.random() < 0.995 else numbers.randrange(100)
+    count = numbers.choice((1, 1, 1, 2, 2, 3, 4)) if numbers.random() < 0.995 else 1 + numbers.randrange(100)
     identities = numbers.sample(range(1 << 24), count)
     groups = [sound_group(it, numbers.choice((1, 2, 2, 3, 4)) if has_aspects else 1) for it in identities]
     if has_aspects and all(len(it.aspects) == 1 for it in groups):
@@ -426,6 +421,5 @@ def random_document(has_aspects, is_faulty):
     """A document with aspects or without, sound or with some faults, mostly few."""
     document = sound_document(has_aspects)
     for _ in range(numbers.choice((1, 1, 1, 1, 2, 2, 3, 5, 12, 40)) if is_faulty else 0):
-        if document.groups:
-            numbers.choice(FAULTS)(document)
+        numbers.choice(FAULTS)(document)
     return document_json(document)
