@@ -1,4 +1,4 @@
--- A controlled group is sound exactly where each part of it holds, and what is read of a mixture is decided.
+-- A controlled group is sound if and only if each part of it holds. What is read of a mixture is decided.
 use Rattle.std.proofs.Common.{◌≡◌, ◌≢◌, ℕ, zero, suc, ◌<◌, Bool, true, false, ltb, ◌||◌, List, [], ◌∷◌, length, slice_get, take, Option, Some, None, refl, sym, ap, subst, ◌∙◌, arith}
 use Rattle.std.specs.List.{list_all}
 use Rattle.std.specs.Option.{option_map_or}

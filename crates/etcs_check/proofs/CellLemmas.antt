@@ -304,7 +304,7 @@ module _ (site : Site) (used : Bool) (aspects : Aspects) where
       let l = group_celled used aspects site f.rule f.aspect f.dir f.balise f.packet h in
       sorted_listed (group_cells site aspects) of_group f (subst (λ n. IsListed n (group_cells site aspects)) (made_of f (record { site = site; aspect = f.aspect }) e refl) l) h
 
-  -- there is no finding exactly where there is no fact
+  -- where there is no finding no fact stands
   pub group_silent : group_findings site used aspects ≡ [] → HasNoGroupFact used aspects
   group_silent none rule aspect run b k = false_from_ne_true _ (λ h.
       let f : Finding = record { rule = rule; site = site; aspect = aspect; dir = run; balise = b; packet = k } in

@@ -7,7 +7,7 @@ use Rattle.std.proofs.lemmas.Option.{slice_get_within, get_or_from_slice_get}
 use mathlib.Core.Logic.{inl, inr}
 use Rattle.etcs_telegram.specs.Record.{Telegram}
 use Rattle.etcs_group.specs.Places.{At}
-use Rattle.etcs_check.specs.Counters.{is_taken, HasCounters}
+use Rattle.etcs_check.specs.Walk.{is_taken, HasCounters}
 use Rattle.etcs_check.specs.Findings.{has_counter, is_counter_taken}
 use Rattle.etcs_check.specs.Identities.{is_marked}
 use Rattle.etcs_check.proofs.IdentityLemmas.{unmarked, or_swap}
@@ -30,25 +30,3 @@ counters_more aspects a group table new at marked has n lt =
     marked n ∙ ap (λ q. has_counter n group || q) (has n lt) ∙ or_swap (has_counter n group) (list_any (has_counter n) (take a aspects))
     ∙ ap (λ g. list_any (has_counter n) (take a aspects) || has_counter n g) (sym (get_or_from_slice_get aspects a group group at))
     ∙ sym (list_any_more (has_counter n) aspects a group (slice_get_within aspects a group at))
-
-moved : (a b c : Bool) → (a || (b || c)) ≡ ((b || a) || c)
-moved true true c = refl
-moved true false c = refl
-moved false true c = refl
-moved false false c = refl
-
-eqb_swap : (m n : ℕ) → eqb m n ≡ eqb n m
-eqb_swap m n = elim (cases_eq m n) [
-  | inl e ↦ eq-eqb m n e ∙ sym (eq-eqb n m (sym e))
-  | inr ne ↦ ne_eqb m n ne ∙ sym (ne_eqb n m (λ e. ne (sym e)))
-]
-
--- one more counter of an aspect
-pub counter_more : (group : List Telegram) (i : ℕ) (t : Telegram) (table new : List ℕ) → At group i t → ((n : ℕ) → is_marked new n ≡ (eqb n t.header.counter || is_marked table n))
-    → (n : ℕ) (old : Bool) → is_marked table n ≡ (has_counter n (take i group) || old) → is_marked new n ≡ (has_counter n (take (i + 1) group) || old)
-counter_more group i t table new at marked n old h =
-    marked n ∙ ap (λ q. eqb n t.header.counter || q) h
-    ∙ moved (eqb n t.header.counter) (has_counter n (take i group)) old
-    ∙ ap (λ q. (has_counter n (take i group) || q) || old) (eqb_swap n t.header.counter)
-    ∙ ap (λ q. q || old) (ap (λ (u : Telegram). has_counter n (take i group) || eqb u.header.counter n) (sym (get_or_from_slice_get group i t t at))
-    ∙ sym (list_any_more (λ (u : Telegram). eqb u.header.counter n) group i t (slice_get_within group i t at)))

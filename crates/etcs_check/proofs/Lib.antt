@@ -14,9 +14,7 @@ pub mod OrderLemmas
 pub mod NamedLemmas
 pub mod CompareLemmas
 pub mod NoteLemmas
-pub mod GreatestLemmas
 pub mod IdentityLemmas
-pub mod QuietLemmas
 pub mod SayingLemmas
 pub mod CheckerLemmas
 pub mod FactLemmas

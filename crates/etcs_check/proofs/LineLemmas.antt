@@ -1,5 +1,5 @@
--- A group, a message or a line has no fact against it exactly where it is sound. The findings of a line with one group or
--- one message more.
+-- A group, a message or a line is sound if and only if no fact stands against it. The findings of a line with one group
+-- or one message more.
 use Rattle.std.proofs.Common.{◌≡◌, ◌≢◌, ◌↔◌, ℕ, zero, suc, ◌+◌, ◌<◌, Bool, true, false, List, [], ◌∷◌, ◌++◌, length, get_or, take, Option, Some, None, refl, sym, ap, ap₂, subst, ◌∙◌, arith}
 use Rattle.std.specs.List.{filter}
 use Rattle.std.proofs.lemmas.Bool.{both_ways, cases_lt, or_parts, false_from_ne_true}
@@ -40,7 +40,7 @@ use Rattle.etcs_check.proofs.ProfileLemmas.{HaveProfiles, profiles-from, profile
 
 -- ---- groups
 
--- no fact stands against a group exactly where it is sound and its identity is new, of which it is said whether it was used
+-- no fact stands against a group if and only if it is sound and its identity is new, which `used` denies
 module _ (new : Type 0) (used : Bool) (aspects : List (List Telegram)) (controlled : IsControlled aspects) where
   pub silent_sound : (used ≡ false → new) → HasNoGroupFact used aspects → IsSoundControlled aspects × new
   silent_sound is_new none = (sound_group new aspects controlled (whole, λ a group at rule run b k. aspect_holds aspects a group rule run b k (aspect_silent a group at rule run b k)), whole rules.IdentityUsed None None None)

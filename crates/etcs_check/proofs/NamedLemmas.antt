@@ -1,4 +1,4 @@
--- A group or a message is sound exactly where no finding of the line names it.
+-- A group or a message is sound if and only if no finding of the line names it.
 use Rattle.std.proofs.Common.{◌≡◌, ◌≢◌, ℕ, true, List, sym, subst}
 use Rattle.std.proofs.lemmas.Bool.{both_ways, false_from_ne_true}
 use Rattle.etcs_radio.specs.declared.message.Message.{Message}

@@ -1,4 +1,4 @@
--- A fact stands exactly where the part of soundness that its rule asks for does not hold.
+-- A fact stands if and only if the part of soundness that its rule asks for does not hold.
 use Rattle.std.proofs.Common.{◌≡◌, ℕ, ◌+◌, Bool, true, false, List, length, slice_get, take, Option, Some, None, refl, sym, ap, ◌∙◌}
 use Rattle.std.specs.List.{filter}
 use Rattle.std.proofs.lemmas.Option.{same_Some}

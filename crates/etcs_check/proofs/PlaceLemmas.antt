@@ -26,7 +26,7 @@ use Rattle.etcs_check.specs.declared.finding.Rule.TheVariants as rules
 use Rattle.etcs_check.specs.declared.finding.Site.{Site}
 use Rattle.etcs_check.specs.declared.finding.Spot.{Spot}
 use Rattle.etcs_check.proofs.FactLemmas.{passes_as, failing, packets_as, packet_as, profile_as}
-use Rattle.etcs_check.proofs.GreatestLemmas.{or_false}
+use Rattle.etcs_check.proofs.SaidLemmas.{or_false}
 use Rattle.etcs_check.proofs.FindingLemmas.{for_each-same}
 
 -- ---- tests of lists

@@ -27,7 +27,7 @@ module _ (groups : List (List (List Telegram))) (messages : List Message) (found
   found_all f fact = let r = each_fact_is_listed groups messages f fact in (r.0, subst (λ l. At l r.0 f) (sym is) r.1)
 
   module _ (controlled : AreControlled groups) where
-    -- there is no finding exactly where the line is sound
+    -- there is no finding if and only if the line is sound
     pub found_sound : (found ≡ []) ↔ IsSoundLine groups messages
     found_sound = let law = no_finding_means_sound_line groups messages controlled in (λ none. law.0 (sym is ∙ none), λ sound. is ∙ law.1 sound)
 

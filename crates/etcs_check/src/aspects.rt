@@ -5,11 +5,10 @@ ghost use Rattle.std.specs.List.{list_any};
 ghost use Rattle.std.specs.Option.{option_map_or};
 ghost use Rattle.etcs_telegram.specs.Record.{Telegram};
 ghost use Rattle.etcs_check.specs.Aspects.{all_at, has_aspect_counter, is_steady, is_ambiguous, site_spot};
-ghost use Rattle.etcs_check.specs.Counters.{is_taken};
 ghost use Rattle.etcs_check.specs.Findings.{for_each, has_counter};
 ghost use Rattle.etcs_check.specs.Identities.{is_marked};
 ghost use Rattle.etcs_check.specs.Soundness.{first_aspect};
-ghost use Rattle.etcs_check.specs.Walk.{ambiguous_at};
+ghost use Rattle.etcs_check.specs.Walk.{ambiguous_at, is_taken};
 
 use crate::duplicates::same_telegram;
 use crate::finding::{Finding, Rule, Site, Spot, note};

@@ -7,8 +7,7 @@ ghost use Rattle.etcs_telegram.specs.Record.{Telegram};
 ghost use Rattle.etcs_group.specs.Group.{is_modelled, partner_of};
 ghost use Rattle.etcs_check.specs.Duplicates.{same_mark};
 ghost use Rattle.etcs_check.specs.Findings.{are_pair, balise_fact, counter_differs, first_counter, differs_from, is_outside, is_unanswered, is_unlike, is_unmodelled, mark_differs, pair_differs};
-ghost use Rattle.etcs_check.specs.Walk.{unmodelled_in};
-ghost use Rattle.etcs_check.specs.Quiet.{are_same_pair};
+ghost use Rattle.etcs_check.specs.Walk.{are_same_pair, unmodelled_in};
 
 use crate::duplicates::{same_content, same_held};
 use crate::finding::{Finding, Rule, Spot, note};

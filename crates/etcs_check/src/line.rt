@@ -126,7 +126,7 @@ pub fn check(alloc: Global, line: &Line) -> Result<Vec<Finding>, Memory>
     ensures sound { IfOk result (λ found. (found.items ≡ [])
         ↔ IsSoundLine line.now.groups.items line.now.messages.items) }
 
-    // A group or a message is sound exactly where no finding names it, whatever is found elsewhere. Of two
+    // A group or a message is sound if and only if no finding names it, whatever is found elsewhere. Of two
     // groups with one identity the later one is named.
     ensures unnamed { IfOk result
         (λ found. NamesTheUnsound line.now.groups.items line.now.messages.items found.items) }
@@ -146,7 +146,7 @@ pub fn check(alloc: Global, line: &Line) -> Result<Vec<Finding>, Memory>
         (missed : ℕ → Bool) → At line.now.groups.items g aspects → At aspects a group → IsSoundGroup group
         → IsSetOf group missed → IsDecided run group missed (reading_of run missed group)) }
 
-    // A mixture of aspects of a sound group is accepted exactly where it is covered and one aspect has all
+    // A mixture of aspects of a sound group is accepted if and only if it is covered and one aspect has all
     // that it shows. Its packets are then those of that aspect.
     ensures mixtures { OnOk result ((g : ℕ) (aspects : Aspects) (run : Run) (shown : ℕ → Option ℕ)
         → At line.now.groups.items g aspects → IsSoundControlled aspects → Fits aspects shown

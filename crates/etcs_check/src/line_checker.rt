@@ -157,12 +157,12 @@ impl LineChecker {
         ensures sound { IfOk result (λ found. (gs : List Aspects) (ms : List SomeMessage)
             → HasChecked self gs ms → (found.items ≡ []) ↔ IsSoundLine gs ms) }
 
-        // A group or a message is sound exactly where no finding names it, whatever is found elsewhere. Of two
+        // A group or a message is sound if and only if no finding names it, whatever is found elsewhere. Of two
         // groups with one identity the later one is named.
         ensures unnamed { IfOk result (λ found. (gs : List Aspects) (ms : List SomeMessage)
             → HasChecked self gs ms → NamesTheUnsound gs ms found.items) }
 
-        // A finding is there exactly where its fact stands, and its own part of soundness does not hold there.
+        // A finding is there if and only if its fact stands, and its own part of soundness does not hold there.
         ensures facts { IfOk result (λ found. (gs : List Aspects) (ms : List SomeMessage)
             → HasChecked self gs ms → (f : SomeFinding) → ((i : ℕ) × At found.items i f) ↔ States gs ms f) }
         ensures hurts { IfOk result (λ found. (gs : List Aspects) (ms : List SomeMessage)

@@ -5,7 +5,7 @@ ghost use Rattle.std.specs.List.{list_any};
 ghost use Rattle.etcs_packet.specs.Track.{holds};
 ghost use Rattle.etcs_telegram.specs.Record.{Telegram};
 ghost use Rattle.etcs_group.specs.Packets.{is_silent, said_at, said_by};
-ghost use Rattle.etcs_check.specs.Greatest.{greater, is_before, reach_of};
+ghost use Rattle.etcs_check.specs.Said.{greater, is_before, reach_of};
 ghost use Rattle.etcs_check.specs.Profiles.{limit_of};
 
 use crate::balise_rules::packets;
