@@ -24,6 +24,7 @@ use Rattle.etcs_check.specs.declared.finding.Spot.{Spot}
 abbrev pub none_and : ℕ → List (Option ℕ)
 none_and n = None ∷ map (λ i. Some i) (range_with_len 0 n)
 
+-- no running direction, and then each
 abbrev pub directions : List (Option Run)
 directions = None ∷ Some runs.Nominal ∷ Some runs.Reverse ∷ []
 
@@ -41,10 +42,13 @@ abbrev pub group_cells : Site → Aspects → List Finding
 group_cells site aspects = cells_of (site_spot site) (first_aspect aspects)
     ++ for_each (if nat_lt 1 (length aspects) then aspects else []) (λ a group. cells_of (record { site = site; aspect = Some a }) group)
 
+-- of a message 3: its packets, at no balise
 abbrev pub message_cells : Site → Message → List Finding
 message_cells site (messages.Movement m) = cells_at (site_spot site) 0 (packets_alone m.packets)
 message_cells site (messages.Position m) = []
 
+-- The facts at these cells, sorted by rule. Proofs see through these two definitions only if they ask for it, so that
+-- goals stay short.
 unfoldable pub group_findings : Site → Bool → Aspects → List Finding
 group_findings site used aspects =
     by_rule (filter (λ f. group_fact used aspects f.rule f.aspect f.dir f.balise f.packet) (group_cells site aspects))

@@ -67,9 +67,11 @@ order_of f =
 
 -- ---- sorted by rule
 
+-- the finding is of this rule
 abbrev pub is_of : Rule → Finding → Bool
 is_of rule f = rule_number f.rule == rule_number rule
 
+-- the findings of each rule, as they are, in the order of rules
 abbrev pub by_rule : List Finding → List Finding
 by_rule facts = flat_map (λ rule. filter (is_of rule) facts) all_rules
 

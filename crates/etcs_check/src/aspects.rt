@@ -1,7 +1,6 @@
 //! The rules by which the aspects of a controlled group are distinguished.
 
-ghost use Rattle.std.specs.Prelude.{◌≡◌, ◌≢◌, ◌<◌, ◌≤◌, ◌*◌, ◌++◌, ◌||◌, [], ℕ, false, length, slice_get, Some, IsTrue, OnOk, OnErr};
-ghost use Rattle.std.specs.List.{list_any};
+ghost use Rattle.std.specs.Prelude.{◌≡◌, ◌≢◌, ◌<◌, ◌≤◌, ◌++◌, ◌||◌, [], ℕ, false, length, slice_get, Some, OnOk, OnErr};
 ghost use Rattle.std.specs.Option.{option_map_or};
 ghost use Rattle.etcs_telegram.specs.Record.{Telegram};
 ghost use Rattle.etcs_check.specs.Aspects.{all_at, has_aspect_counter, is_steady, is_ambiguous, site_spot};

@@ -1,10 +1,9 @@
 //! The rules about balises by themselves, about pairs of duplicates, and about packets that are not
 //! modelled.
 
-ghost use Rattle.std.specs.Prelude.{◌≡◌, ◌≢◌, ◌<◌, ◌≤◌, ◌+◌, ◌++◌, [], ℕ, length, slice_get, Some, IsTrue, OnOk, OnErr};
-ghost use Rattle.std.specs.List.{AllPass};
+ghost use Rattle.std.specs.Prelude.{◌≡◌, ◌≢◌, ◌<◌, ◌≤◌, ◌+◌, ◌++◌, [], length, slice_get, Some, OnOk, OnErr};
 ghost use Rattle.etcs_telegram.specs.Record.{Telegram};
-ghost use Rattle.etcs_group.specs.Group.{is_modelled, partner_of};
+ghost use Rattle.etcs_group.specs.Group.{partner_of};
 ghost use Rattle.etcs_check.specs.Duplicates.{same_mark};
 ghost use Rattle.etcs_check.specs.Findings.{are_pair, balise_fact, counter_differs, first_counter, differs_from, is_outside, is_unanswered, is_unlike, is_unmodelled, mark_differs, pair_differs};
 ghost use Rattle.etcs_check.specs.Walk.{are_same_pair, unmodelled_in};
@@ -134,7 +133,7 @@ fn counter_differs(group: &[Telegram], telegram: &Telegram) -> bool
 
 // Whether the rule is broken by this telegram, which is that of the balise at this place of an aspect. The
 // balise is compared with `first`, aspect 0. Counters of earlier aspects are not looked at. It is inlined
-// because the quick look at a group asks it of each balise for each rule.
+// because each balise is asked for each rule.
 #[inline(always)]
 pub(crate) fn balise_fact(
     first: &[Telegram],

@@ -1,16 +1,11 @@
 //! The rules about movement authorities and the profiles that they need.
 
-ghost use Rattle.std.specs.Prelude.{◌≡◌, ◌≢◌, ◌<◌, ◌≤◌, ◌++◌, ◌&&◌, [], ℕ, if◌then◌else◌, length, filter, is_some, not, slice_get, None, Some, IsTrue, OnOk, OnErr};
-ghost use Rattle.std.specs.List.{list_any};
+ghost use Rattle.std.specs.Prelude.{◌≡◌, ◌<◌, ◌&&◌};
 ghost use Rattle.etcs_packet.specs.Track.{holds};
-ghost use Rattle.etcs_telegram.specs.Record.{Telegram};
-ghost use Rattle.etcs_group.specs.Packets.{is_silent, said_at, said_by};
+ghost use Rattle.etcs_group.specs.Packets.{is_silent};
 ghost use Rattle.etcs_check.specs.Said.{greater, is_before, reach_of};
-ghost use Rattle.etcs_check.specs.Profiles.{limit_of};
 
-use crate::balise_rules::packets;
-use crate::finding::{Finding, Rule, Spot, note};
-use etcs_bits::{Dup, Memory};
+use etcs_bits::Dup;
 use etcs_packet::{Run, TrackPacket};
 use etcs_profile::Reach;
 use etcs_telegram::Telegram;
