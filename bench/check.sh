@@ -9,10 +9,14 @@
 # not fit into the processor's caches. The identities of the groups rise, are spread over all countries, or
 # are all the same, which gives a finding for each group but the first. The stack has 512 KiB.
 #
+# If valgrind is there, it counts the instructions for a group in a line of 1,000, in `check` and in a `LineChecker` that
+# takes the groups one by one: with rising identities, in a group whose gradients end 10 m early ("short", one finding),
+# in a group with six findings ("wrong"), and with equal identities. It also counts the requests for memory of such a line
+# that is checked once, and ten times more.
+#
 # The status is 1 if there are other findings, if 100,000 groups take more than 13 times as long as 10,000,
-# or if 100,000 groups with rising identities take more than 0.3 seconds. Where valgrind is there, it counts
-# the requests for memory of a line of 1,000 groups that is checked once, and ten times more: without a
-# finding they have to be as many. The longest line takes 160 MB of memory.
+# if 100,000 groups with rising identities take more than 0.3 seconds, or if a line without a finding asks for memory.
+# The longest line takes 160 MB of memory.
 set -euo pipefail
 
 here=$(cd "$(dirname "${BASH_SOURCE[0]}")" && pwd)
@@ -30,16 +34,30 @@ least() {
     processor=$(printf '%s\n' "${times[@]}" | sort -n | head -n 1)
 }
 
+# findings WAY COUNT: how many findings a line of so many groups has.
+findings() {
+    case $1 in
+    same) echo $(($2 - 1)) ;;
+    short) echo "$2" ;;
+    wrong) echo $(($2 * 6)) ;;
+    *) echo 0 ;;
+    esac
+}
+
+# is_right WAY COUNT: whether the answer has these findings; sets BASH_REMATCH[1] to the time of the fastest call.
+is_right() {
+    [[ $(cat "$room/answer") =~ ^"$1 $2 groups $(findings "$1" "$2") findings "([0-9]+)" us"$ ]] ||
+        fail "wrong answer: $(cat "$room/answer")"
+}
+
 # checked WAY COUNT CALLS: the processor time of `check` of a line of so many groups, whose identities go
 # this way, and that of the fastest of so many calls, elapsed; in microseconds.
 checked() {
-    local findings=0 made
-    [ "$1" != same ] || findings=$(($2 - 1))
+    local made
     least "$1" "$2" 0
     made=$processor
     least "$1" "$2" "$3"
-    [[ $(cat "$room/answer") =~ ^"$1 $2 groups $findings findings "([0-9]+)" us"$ ]] ||
-        fail "wrong answer: $(cat "$room/answer")"
+    is_right "$1" "$2"
     awk "BEGIN { printf \"%d\", ($processor - $made) / $3 * 1000000 }"
     echo " ${BASH_REMATCH[1]}"
 }
@@ -65,14 +83,26 @@ requests() {
         sed -n 's/.*total heap usage: \([0-9,]*\) allocs.*/\1/p' | tr -d ,
 }
 
+# a_group WAY [streamed]: the instructions for a group in a line of 1,000: those of 11 calls without those of one.
+a_group() {
+    local calls counts=()
+    for calls in 1 11; do
+        "$program" "$1" 1000 "$calls" "${@:2}" >"$room/answer"
+        is_right "$1" 1000
+        counts+=("$(instructions /dev/null "$program" "$1" 1000 "$calls" "${@:2}")")
+    done
+    echo $(((counts[1] - counts[0]) / 10000))
+}
+
 build check etcs_bits etcs_telegram etcs_group etcs_check
 program=$built
-machine
-printf '%-8s %12s %12s %6s %15s %15s\n' '' '10,000, us' '100,000, us' ratio '10,000 fastest' '100,000 fastest'
-compare rising 300000
-compare spread 10000000
-compare same 10000000
-if command -v valgrind >/dev/null; then
+if has_valgrind; then
+    printf '%-8s %12s %12s\n' 'a group' 'check' 'LineChecker'
+    for way in rising short wrong same; do
+        whole=$(a_group "$way")
+        streamed=$(a_group "$way" streamed)
+        printf '%-8s %12d %12d\n' "$way" "$whole" "$streamed"
+    done
     once=$(requests rising 1)
     often=$(requests rising 11)
     found=$(requests same 11)
@@ -81,3 +111,8 @@ if command -v valgrind >/dev/null; then
         fail 'check asks for memory where there is no finding, or the count is wrong'
     fi
 fi
+machine
+printf '%-8s %12s %12s %6s %15s %15s\n' '' '10,000, us' '100,000, us' ratio '10,000 fastest' '100,000 fastest'
+compare rising 300000
+compare spread 10000000
+compare same 10000000

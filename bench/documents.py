@@ -16,23 +16,27 @@ GRADIENT_END, SPEED_END = 255, 127
 MARKS = (1, 2)  # M_DUP: of the next balise, of the previous one
 ANY_MESSAGE = 255  # M_MCOUNT
 GROUPS_OF_COUNTRY = 1 << 14
+# the header's variables: key, width and usual number
+HEADER = (("q_updown", 1, 1), ("m_version", 7, 33), ("q_media", 1, 0), ("n_pig", 3, 0), ("n_total", 3, 0),
+          ("m_dup", 2, 0), ("m_mcount", 8, ANY_MESSAGE), ("nid_c", 10, 0), ("nid_bg", 14, 0), ("q_link", 1, 1))
 
 
-def put_packet(out, number, body):
-    """A packet for both directions with this body, in metres."""
+def put_packet(out, number, body, direction=BOTH, scale=METRES):
+    """A packet with this body and scale, for this direction."""
     out.put(number, 8)
-    out.put(BOTH, 2)
+    out.put(direction, 2)
     out.put(HEAD_BITS + 2 + body.bits, 13)
-    out.put(METRES, 2)
+    out.put(scale, 2)
     out.put(body.value, body.bits)
 
 
-def authority(limit):
-    """An authority to stop there, of a single section."""
+def authority(limit, has_speed=True):
+    """An authority to stop there, of a single section: of packet 12, which has a speed, or of packet 15."""
     body = Spelling()
-    body.one_of(SPEEDS, 7)  # V_MAIN
-    body.put(0, 7)  # V_LOA
-    body.put(NO_TIMEOUT, 10)  # T_LOA
+    if has_speed:
+        body.one_of(SPEEDS, 7)  # V_MAIN
+    body.put(0, 7)  # V_LOA or V_EMA
+    body.put(NO_TIMEOUT, 10)  # T_LOA or T_EMA
     body.put(0, ITER_BITS)
     body.put(limit, 15)  # L_ENDSECTION
     body.put(NONE_OF_FOUR, 4)
@@ -40,7 +44,7 @@ def authority(limit):
 
 
 def profile(limit, last, element):
-    """From one to six elements, the last of which is the end mark at the limit."""
+    """From one to six elements, the last of which has the number `last`, as an end mark, at the limit."""
     body = Spelling()
     count = numbers.randrange(6)
     places = [0, *sorted(numbers.randrange(limit + 1) for _ in range(count)), limit]
@@ -63,6 +67,19 @@ def speed(body, last):
     body.put(0, ITER_BITS)  # differences
 
 
+def telegram_text(header, packets, user_bits=USER_BITS):
+    """The telegram with these numbers in its header, and these packets."""
+    out = Spelling()
+    for key, bits, usual in HEADER:
+        out.put(header.get(key, usual), bits)
+    out.put(packets.value, packets.bits)
+    fill = user_bits - out.bits
+    assert fill >= END_BITS
+    out.put((1 << fill) - 1, fill)  # packet 255, then ones
+    pad = -user_bits % 8
+    return f"{out.value << pad:0{(user_bits + pad) // 4}x}"
+
+
 def pair(place, counter):
     """The texts of the two telegrams of the group at this place, with this M_MCOUNT."""
     limit = numbers.randrange(1 << 15)
@@ -70,19 +87,9 @@ def pair(place, counter):
     put_packet(packets, 12, authority(limit))
     put_packet(packets, 21, profile(limit, GRADIENT_END, gradient))
     put_packet(packets, 27, profile(limit, SPEED_END, speed))
-    fill = USER_BITS - 50 - packets.bits
-    texts = []
-    for position, mark in enumerate(MARKS):
-        out = Spelling()
-        # Q_UPDOWN, M_VERSION, Q_MEDIA, N_PIG, N_TOTAL, M_DUP, M_MCOUNT, NID_C, NID_BG, Q_LINK
-        for value, bits in ((1, 1), (33, 7), (0, 1), (position, 3), (1, 3), (mark, 2), (counter, 8),
-                            (place // GROUPS_OF_COUNTRY, 10), (place % GROUPS_OF_COUNTRY, 14), (1, 1)):
-            out.put(value, bits)
-        out.put(packets.value, packets.bits)
-        out.put((1 << fill) - 1, fill)  # packet 255, then ones
-        texts.append(f"{out.value << 2:0208x}")
-    assert fill >= END_BITS
-    return texts
+    country, number = divmod(place, GROUPS_OF_COUNTRY)
+    header = {"n_total": 1, "m_mcount": counter, "nid_c": country, "nid_bg": number}
+    return [telegram_text({**header, "n_pig": position, "m_dup": mark}, packets) for position, mark in enumerate(MARKS)]
 
 
 def group(place, aspects):

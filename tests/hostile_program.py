@@ -26,14 +26,16 @@ alone = functools.partial(run, seconds=SECONDS)
 
 
 class Program:
-    """The built program, or another one. Its runs are counted."""
+    """The built program, or another one. Its runs are counted. A script runs without the shim."""
 
     def __init__(self, path=None):
         self.path, self.runs, self.shim = path or program(), 0, None
         self.folder = tempfile.TemporaryDirectory(prefix="hostile-")
         self.room = pathlib.Path(self.folder.name)
         compiler = os.environ.get("CC", "cc")
-        if shutil.which(compiler):
+        with open(self.path, "rb") as file:
+            is_binary = file.read(4) == b"\x7fELF"
+        if is_binary and shutil.which(compiler):
             self.shim = self.room / "shim.so"
             command = [compiler, "-O2", "-shared", "-fPIC", "-o", self.shim, HERE / "hostile_shim.c"]
             subprocess.run(command, check=True)
@@ -54,7 +56,7 @@ class Program:
         """The answers to jobs with the same words. Without a shim there are no counts."""
         self.runs += len(jobs)
         if self.shim is None:
-            return [(alone(words, job.data), None) for job in jobs]
+            return [(alone(words, job.data, path=self.path), None) for job in jobs]
         with open(self.room / "jobs", "wb") as file:
             for job in jobs:
                 head = len(job.data), SECONDS, job.refused, job.request, job.seed, *job.reader, *job.writer

@@ -41,10 +41,10 @@ def in_bytes(text):
     return text if isinstance(text, bytes) else text.encode(errors="surrogateescape")
 
 
-def run(words, data=b"", limits="", seconds=LONGEST, **files):
-    """The answer of the program to this input, or with these files, after these lines of a shell. It has no status if
-    it takes too long."""
-    command = [program(), *words]
+def run(words, data=b"", limits="", seconds=LONGEST, path=None, **files):
+    """The answer of the program, or of the one at this path, to this input, or with these files, after these lines of a
+    shell. It has no status if it takes too long."""
+    command = [path or program(), *words]
     command = ["sh", "-c", f'{limits}\nexec "$0" "$@"', *command] if limits else command
     files = files or {"input": in_bytes(data)}
     files = {"stdout": subprocess.PIPE, "stderr": subprocess.PIPE, **files}

@@ -1,9 +1,9 @@
--- A controlled group has no finding exactly where it is sound, and what is read of a mixture is decided.
-use Rattle.std.proofs.Common.{◌≡◌, ◌≢◌, ℕ, zero, suc, ◌<◌, ◌↔◌, Bool, true, false, ltb, ◌||◌, List, [], ◌∷◌, length, slice_get, take, Some, None, refl, sym, ap, subst, ◌∙◌, arith}
+-- A controlled group is sound if and only if each part of it holds. What is read of a mixture is decided.
+use Rattle.std.proofs.Common.{◌≡◌, ◌≢◌, ℕ, zero, suc, ◌<◌, Bool, true, false, ltb, ◌||◌, List, [], ◌∷◌, length, slice_get, take, Option, Some, None, refl, sym, ap, subst, ◌∙◌, arith}
 use Rattle.std.specs.List.{list_all}
 use Rattle.std.specs.Option.{option_map_or}
 use Rattle.std.proofs.lemmas.Option.{none-some, same_Some, slice_get_within}
-use Rattle.std.proofs.lemmas.Bool.{both_ways, cases_lt, and_parts, and_from, and_cases, and_left, and_right, or_cases, or_left, or_right, eqb-true, eq-eqb, ltb-true, lt-ltb, le-ltb, not-false, not_from_true, false_from_ne_true}
+use Rattle.std.proofs.lemmas.Bool.{both_ways, cases_lt, and_parts, and_from, and_cases, and_left, and_right, or_cases, or_left, or_right, eqb-true, eq-eqb, ltb-true, lt-ltb, le-ltb, not-false, not_from_true}
 use mathlib.Core.Logic.{◌⊎◌, inl, inr}
 use Rattle.etcs_telegram.specs.Record.{Telegram}
 use Rattle.etcs_group.specs.Places.{At}
@@ -12,19 +12,16 @@ use Rattle.etcs_group.specs.Controlled.{count_of, IsControlled, HasAt, IsFixed, 
 use Rattle.etcs_group.specs.Laws.{MakesOneMessage}
 use Rattle.etcs_group.proofs.PlaceLemmas.{some_at, one_at, at_list_any, list_any-at, At-take, at_take}
 use Rattle.etcs_group.proofs.MixtureLemmas.{mixtures_are_decided}
-use Rattle.etcs_check.specs.Soundness.{IsSoundGroup, IsSoundControlled, first_aspect, group_identity}
-use Rattle.etcs_check.specs.Findings.{has_counter, is_counter_taken, mark_differs, finding_of, for_each}
-use Rattle.etcs_check.specs.Aspects.{site_spot, aspect_of, is_used, all_at, is_steady, has_aspect_counter, is_ambiguous, group_wide_facts, aspect_facts, rule_facts, group_facts}
+use Rattle.etcs_check.specs.Soundness.{IsSoundGroup, IsSoundControlled, first_aspect}
+use Rattle.etcs_check.specs.Findings.{has_counter, is_counter_taken, mark_differs}
+use Rattle.etcs_check.specs.Aspects.{all_at, is_steady, has_aspect_counter, is_ambiguous}
+use Rattle.etcs_check.specs.Harm.{GroupWidePart}
+use Rattle.etcs_packet.specs.declared.run.Run.{Run}
 use Rattle.etcs_check.specs.Laws.{SoundMixturesAreDecided}
 use Rattle.etcs_check.specs.declared.finding.Rule.{Rule}
 use Rattle.etcs_check.specs.declared.finding.Rule.TheVariants as rules
-use Rattle.etcs_check.specs.declared.finding.Site.{Site}
 use Rattle.etcs_check.proofs.NumberLemmas.{Decides-same_mark, Decides-same_telegram}
-use Rattle.etcs_check.proofs.FindingLemmas.{append_parts, append_empty, rules-say, rules-empty, noted-false, noted-empty, for_each-says, for_each-empty}
-use Rattle.etcs_check.proofs.CleanLemmas.{IsClean, clean-from_facts, facts-from_clean, balises_clean, balises_empty}
-use Rattle.etcs_check.proofs.FormedLemmas.{alike_both, clean_first}
-use Rattle.etcs_check.proofs.SoundLemmas.{sound-from_clean, clean-from_sound}
-use Rattle.etcs_check.proofs.IdentityLemmas.{identity-at, unused-says, unused-is}
+use Rattle.etcs_check.proofs.SoundLemmas.{HasAspectParts, alike_both, sound-from_parts, parts-from_sound}
 
 -- ---- tests of all aspects
 
@@ -157,37 +154,26 @@ fresh-says aspects a u fresh k q t lt ht low same = elim (and_cases (ltb u.heade
       (at_list_any _ ht.0 q t ht.2 (eq-eqb _ _ same)))
 ]
 
--- ---- no finding, so sound
+-- ---- parts that hold, so sound
 
-module _ (site : Site) (used : Bool) (aspects : List (List Telegram)) (controlled : IsControlled aspects) (none : group_facts site used aspects ≡ []) where
-  none_of : (rule : Rule) → (group_wide_facts site used aspects rule ≡ []) × (for_each aspects (aspect_facts site aspects rule) ≡ [])
-  none_of rule = append_parts _ _ (rules-say (rule_facts site used aspects) none rule)
+-- Each part of a group: of the group as a whole, and of each aspect.
+abbrev pub HasGroupParts : Type 0 → List (List Telegram) → Type 0
+HasGroupParts new aspects =
+    ((rule : Rule) (run : Option Run) (b k : Option ℕ) → GroupWidePart new aspects rule run b k)
+    × ((a : ℕ) (group : List Telegram) → At aspects a group → HasAspectParts aspects a group)
 
-  clean_at : (a : ℕ) (group : List Telegram) → At aspects a group → IsClean (first_aspect aspects) (take a aspects) group
-  clean_at a group at =
-      clean-from_facts (aspect_of site aspects a) (first_aspect aspects) (take a aspects) group (λ rule. for_each-says aspects (aspect_facts site aspects rule) (none_of rule).1 a group at)
-
-  new_identity : used ≡ false
-  new_identity = noted-false used (finding_of rules.IdentityUsed (site_spot site) None None None) (none_of rules.IdentityUsed).0
-
-  told_at : (b : ℕ) (t : Telegram) → At (first_aspect aspects) b t → is_ambiguous aspects b t ≡ false
-  told_at = balises_clean rules.NotToldApart (site_spot site) (is_ambiguous aspects) (first_aspect aspects) (none_of rules.NotToldApart).0
-
+module _ (new : Type 0) (aspects : List (List Telegram)) (controlled : IsControlled aspects) (parts : HasGroupParts new aspects) where
   alike_at : (a p : ℕ) (t f : Telegram) → HasAt aspects a p t → At (first_aspect aspects) 0 f → AreAlike t f
-  alike_at a p t f has at0 =
-      clean_first (first_aspect aspects) (take a aspects) has.0 (first_long aspects controlled) (clean_at a has.0 has.1) p t f has.2 at0
-
-  mark_at : (a p : ℕ) (t f : Telegram) → HasAt aspects a p t → At (first_aspect aspects) p f → t.header.dup ≡ f.header.dup
-  mark_at a p t f has at = mark-says t f (ap (λ o. mark_differs o t) (sym at) ∙ (clean_at a has.0 has.1).marks p t has.2)
+  alike_at a p t f has at0 = parts.1 a has.0 has.1 rules.HeaderDiffers None (Some p) None t f has.2 at0
 
   one_mark : (a b p : ℕ) (t u : Telegram) → HasAt aspects a p t → HasAt aspects b p u → t.header.dup ≡ u.header.dup
   one_mark a b p t u ht hu =
       let f = first_has aspects controlled a p t ht in
-      mark_at a p t f.0 ht f.1 ∙ sym (mark_at b p u f.0 hu f.1)
+      parts.1 a ht.0 ht.1 rules.MarksDiffer None (Some p) None t f.0 ht.2 f.1 ∙ sym (parts.1 b hu.0 hu.1 rules.MarksDiffer None (Some p) None u f.0 hu.2 f.1)
 
   -- a counter of an earlier aspect is another one
-  earlier_differs : (k a q p : ℕ) (t u : Telegram) → k < a → HasAt aspects k q t → HasAt aspects a p u → u.header.counter < 254 → t.header.counter ≢ u.header.counter
-  earlier_differs k a q p t u lt ht hu low = fresh-says aspects a u ((clean_at a hu.0 hu.1).fresh p u hu.2) k q t lt ht low
+  later_differs : (a c p q : ℕ) (t u : Telegram) → c < a → HasAt aspects a p t → HasAt aspects c q u → t.header.counter < 254 → t.header.counter ≢ u.header.counter
+  later_differs a c p q t u lt ht hu low = parts.1 a ht.0 ht.1 rules.NotToldApart None (Some p) None c q t u lt ht.2 hu low
 
   one_group : 1 < length aspects → AreOneGroup aspects
   one_group many = record {
@@ -195,23 +181,23 @@ module _ (site : Site) (used : Bool) (aspects : List (List Telegram)) (controlle
         let f = some_at (first_aspect aspects) 0 (first_long aspects controlled) in
         alike_both t u f.0 (alike_at a p t f.0 ht f.1) (alike_at b q u f.0 hu f.1);
     marks = one_mark;
-    fixed_or_switched = λ p. told_place aspects controlled many p (told_at p);
+    fixed_or_switched = λ p. parts.0 rules.NotToldApart None (Some p) None many;
     distinct = λ a b p q t u ne ht hu low low'. elim (cases_lt a b) [
-      | inl lt ↦ earlier_differs a b p q t u lt ht hu low'
-      | inr ge ↦ λ same. earlier_differs b a q p u t (omega arith) hu ht low (sym same)
+      | inl lt ↦ λ same. later_differs b a q p u t lt hu ht low' (sym same)
+      | inr ge ↦ later_differs a b p q t u (omega arith) ht hu low
     ];
   }
 
-  sound_group : IsSoundControlled aspects
+  pub sound_group : IsSoundControlled aspects
   sound_group = record {
-    sound = λ a group at. sound-from_clean (first_aspect aspects) (take a aspects) group (first_long aspects controlled) (aspect_long aspects controlled a group at) (clean_at a group at);
+    sound = λ a group at. sound-from_parts aspects a group (first_long aspects controlled) (aspect_long aspects controlled a group at) (parts.1 a group at);
     one = one_group;
   }
 
--- ---- sound, so no finding
+-- ---- sound, so parts hold
 
 module _ (aspects : List (List Telegram)) (controlled : IsControlled aspects) (sound : IsSoundControlled aspects) where
-  pub alike_all : (a p : ℕ) (t f : Telegram) → HasAt aspects a p t → At (first_aspect aspects) 0 f → AreAlike t f
+  alike_all : (a p : ℕ) (t f : Telegram) → HasAt aspects a p t → At (first_aspect aspects) 0 f → AreAlike t f
   alike_all a p t f has at0 = elim (cases_lt 1 (length aspects)) [
     | inl many ↦ (sound.one many).alike a 0 p 0 t f has (first_aspect aspects, first_here aspects controlled, at0)
     | inr few ↦
@@ -219,7 +205,7 @@ module _ (aspects : List (List Telegram)) (controlled : IsControlled aspects) (s
         (sound.sound a has.0 has.1).formed.alike p t f has.2 (subst (λ g. At g 0 f) (sym g) at0)
   ]
 
-  pub mark_first : (a p : ℕ) (t f : Telegram) → HasAt aspects a p t → At (first_aspect aspects) p f → t.header.dup ≡ f.header.dup
+  mark_first : (a p : ℕ) (t f : Telegram) → HasAt aspects a p t → At (first_aspect aspects) p f → t.header.dup ≡ f.header.dup
   mark_first a p t f has at = elim (cases_lt 1 (length aspects)) [
     | inl many ↦ (sound.one many).marks a 0 p t f has (first_aspect aspects, first_here aspects controlled, at)
     | inr few ↦
@@ -227,52 +213,27 @@ module _ (aspects : List (List Telegram)) (controlled : IsControlled aspects) (s
         ap (λ (x : Telegram). x.header.dup) (one_at (first_aspect aspects) p t f (subst (λ g. At g p t) g has.2) at)
   ]
 
-  mark_all : (a p : ℕ) (t : Telegram) → HasAt aspects a p t → mark_differs (slice_get (first_aspect aspects) p) t ≡ false
-  mark_all a p t has =
-      let f = first_has aspects controlled a p t has in
-      ap (λ o. mark_differs o t) f.1 ∙ mark-is t f.0 (mark_first a p t f.0 has f.1)
+  -- two counters below 254 of two aspects differ
+  fresh_all : (a p c q : ℕ) (t u : Telegram) → c < a → HasAt aspects a p t → HasAt aspects c q u → t.header.counter < 254 → t.header.counter ≢ u.header.counter
+  fresh_all a p c q t u lt ht hu low same =
+      let w = slice_get_within aspects a ht.0 ht.1 in
+      (sound.one (omega arith)).distinct a c p q t u (omega arith) ht hu low (subst (λ n. n < 254) same low) same
 
-  fresh_all : (a p : ℕ) (t : Telegram) → HasAt aspects a p t → is_counter_taken (take a aspects) t ≡ false
-  fresh_all a p t has = false_from_ne_true _ (λ taken.
-      let r = taken-at aspects a t taken in
-      let lt = r.3 in
-      let w = slice_get_within aspects a has.0 has.1 in
-      (sound.one (omega arith)).distinct r.0 a r.1 p r.2 t (omega arith) r.4 has (subst (λ c. c < 254) (sym r.6) r.5) r.5 r.6)
-
-  clean_all : (a : ℕ) (group : List Telegram) → At aspects a group → IsClean (first_aspect aspects) (take a aspects) group
-  clean_all a group at =
-      clean-from_sound group (sound.sound a group at) (first_aspect aspects) (take a aspects)
+  aspect_parts : (a : ℕ) (group : List Telegram) → At aspects a group → HasAspectParts aspects a group
+  aspect_parts a group at = parts-from_sound group (sound.sound a group at) aspects a
       (λ b t f at' at0. alike_all a b t f (group, at, at') at0)
-      (λ b t at'. mark_all a b t (group, at, at'))
-      (λ b t at'. fresh_all a b t (group, at, at'))
+      (λ b t f at' at0. mark_first a b t f (group, at, at') at0)
+      (λ b c q t u lt at' hu low. fresh_all a b c q t u lt (group, at, at') hu low)
 
-  whole_none : (site : Site) (used : Bool) → used ≡ false → (rule : Rule) → group_wide_facts site used aspects rule ≡ []
-  whole_none site used new rules.IdentityUsed = noted-empty used (finding_of rules.IdentityUsed (site_spot site) None None None) new
-  whole_none site used new rules.NotToldApart = balises_empty rules.NotToldApart (site_spot site) (is_ambiguous aspects) (first_aspect aspects) (λ b t at. untold-is aspects controlled b t at (λ many. (sound.one many).fixed_or_switched b))
-  whole_none site used new rule = refl
+  pub group_parts : (new : Type 0) → new → HasGroupParts new aspects
+  group_parts new is_new = (whole, aspect_parts)
+    where
+      whole : (rule : Rule) (run : Option Run) (b k : Option ℕ) → GroupWidePart new aspects rule run b k
+      whole rules.IdentityUsed None None None = is_new
+      whole rules.NotToldApart None (Some b) None = λ many. (sound.one many).fixed_or_switched b
+      whole rule run b k = tt
 
-  no_facts : (site : Site) (used : Bool) → used ≡ false → group_facts site used aspects ≡ []
-  no_facts site used new = rules-empty (rule_facts site used aspects) (λ rule.
-      append_empty _ _ (whole_none site used new rule)
-      (for_each-empty aspects (aspect_facts site aspects rule) (λ a group at. facts-from_clean (aspect_of site aspects a) (first_aspect aspects) (take a aspects) group (clean_all a group at) rule)))
-
--- ---- the laws
-
--- with an identity of which it is said whether an earlier group has it
-pub no_fact_means_sound_group : (site : Site) (used : Bool) (aspects : List (List Telegram)) → IsControlled aspects → (group_facts site used aspects ≡ []) ↔ (IsSoundControlled aspects × (used ≡ false))
-no_fact_means_sound_group site used aspects controlled = (
-  λ none. (sound_group site used aspects controlled none, new_identity site used aspects controlled none),
-  λ s. no_facts aspects controlled s.0 site used s.1,
-)
-
-pub nothing_listed_means_sound_group : (site : Site) (earlier : List (List (List Telegram))) (aspects : List (List Telegram)) → IsControlled aspects
-    → (group_facts site (is_used earlier aspects) aspects ≡ []) ↔ (IsSoundControlled aspects × ((i : ℕ) (h : List (List Telegram)) → At earlier i h → group_identity h ≢ group_identity aspects))
-nothing_listed_means_sound_group site earlier aspects controlled =
-    let law = no_fact_means_sound_group site (is_used earlier aspects) aspects controlled in
-    let f = some_at (first_aspect aspects) 0 (first_long aspects controlled) in (
-      λ none. let s = law.0 none in (s.0, unused-says earlier aspects f.0.header.identity (identity-at (first_aspect aspects) f.0 f.1) s.1),
-      λ s. law.1 (s.0, unused-is earlier aspects s.1),
-    )
+-- ---- mixtures
 
 makes_one_message : (group : List Telegram) → IsSoundGroup group → MakesOneMessage group
 makes_one_message group sound = record {

@@ -8,9 +8,9 @@ use Rattle.std.proofs.lemmas.List.{append-nil, append_assoc, length-append}
 use Rattle.etcs_radio.specs.declared.message.Message.{Message}
 use Rattle.etcs_telegram.specs.Record.{Telegram}
 use Rattle.etcs_group.specs.Controlled.{IsControlled}
-use Rattle.etcs_check.specs.Aspects.{group_facts, is_used}
+use Rattle.etcs_check.specs.Aspects.{is_used}
 use Rattle.etcs_check.specs.Identities.{HasIdentity, identity_number}
-use Rattle.etcs_check.specs.Line.{findings, group_list, message_at}
+use Rattle.etcs_check.specs.Line.{findings, group_findings, group_list, message_at}
 use Rattle.etcs_check.specs.LineChecker.{HasChecked, Kept, TakesGroups, TakesMessages}
 use Rattle.etcs_check.specs.declared.finding.Finding.{Finding}
 use Rattle.etcs_check.specs.declared.finding.Site.TheVariants as sites
@@ -26,14 +26,14 @@ unless_refused (Ok x) P fine p = p
 unless_refused (Err e) P fine p = absurd (both_ways _ fine refl)
 
 taken : (old new : Kept) (g : List (List Telegram)) → IsControlled g → HasIdentity g
-    → new.about_groups ≡ old.about_groups ++ group_facts (sites.Group old.groups) (contains nat_cmp old.identities (identity_number g)) g → new.about_messages ≡ old.about_messages
+    → new.about_groups ≡ old.about_groups ++ group_findings (sites.Group old.groups) (contains nat_cmp old.identities (identity_number g)) g → new.about_messages ≡ old.about_messages
     → new.groups ≡ old.groups + 1 → new.messages ≡ old.messages → ((n : ℕ) → contains nat_cmp new.identities n ≡ (eqb (identity_number g) n || contains nat_cmp old.identities n))
     → TakesGroups old (g ∷ []) new
 taken old new g controlled numbered found others count counted kept gs ms was =
     let used : contains nat_cmp old.identities (identity_number g) ≡ is_used gs g = was.seen (identity_number g) ∙ sym (used-among gs g was.numbered numbered) in
     record {
       about_groups =
-          found ∙ ap₂ ◌++◌ (was.about_groups ∙ append-nil (group_list gs)) (ap₂ (λ n u. group_facts (sites.Group n) u g) was.groups_counted used) ∙ sym (groups_found gs g) ∙ sym (append-nil (group_list (gs ++ g ∷ [])));
+          found ∙ ap₂ ◌++◌ (was.about_groups ∙ append-nil (group_list gs)) (ap₂ (λ n u. group_findings (sites.Group n) u g) was.groups_counted used) ∙ sym (groups_found gs g) ∙ sym (append-nil (group_list (gs ++ g ∷ [])));
       about_messages = others ∙ was.about_messages;
       groups_counted = count ∙ ap (λ n. n + 1) was.groups_counted ∙ sym (length-append gs (g ∷ []));
       messages_counted = counted ∙ was.messages_counted;
@@ -44,7 +44,7 @@ taken old new g controlled numbered found others count counted kept gs ms was =
 
 -- a checker takes a group, where its identity and findings are known of an equal one
 pub group_taken : (old new : Kept) (h g : List (List Telegram)) → h ≡ g → IsControlled h → HasIdentity h
-    → new.about_groups ≡ old.about_groups ++ group_facts (sites.Group old.groups) (contains nat_cmp old.identities (identity_number h)) h → new.about_messages ≡ old.about_messages
+    → new.about_groups ≡ old.about_groups ++ group_findings (sites.Group old.groups) (contains nat_cmp old.identities (identity_number h)) h → new.about_messages ≡ old.about_messages
     → new.groups ≡ old.groups + 1 → new.messages ≡ old.messages → ((n : ℕ) → contains nat_cmp new.identities n ≡ (eqb (identity_number h) n || contains nat_cmp old.identities n))
     → TakesGroups old (g ∷ []) new
 group_taken old new h g is controlled numbered found others count counted kept =

@@ -1,45 +1,16 @@
 -- The counters of earlier aspects, and the table in which they are marked.
-use Rattle.std.proofs.Common.{◌≡◌, ◌≢◌, ℕ, ◌+◌, Bool, true, false, ◌&&◌, ◌||◌, eqb, ltb, List, [], replicate, take, None, Some, refl, sym, ap, ◌∙◌, arith}
+use Rattle.std.proofs.Common.{◌≡◌, ℕ, ◌+◌, ◌&&◌, ◌||◌, ltb, List, [], replicate, take, sym, ap, ◌∙◌, arith}
 use Rattle.std.specs.List.{list_any}
-use Rattle.std.proofs.lemmas.Bool.{cases_Bool, cases_eq, eq-eqb, ne_eqb, ltb-true, and_left}
+use Rattle.std.proofs.lemmas.Bool.{cases_Bool, ltb-true, and_left}
 use Rattle.std.proofs.lemmas.List.Folds.{list_any_more}
 use Rattle.std.proofs.lemmas.Option.{slice_get_within, get_or_from_slice_get}
 use mathlib.Core.Logic.{inl, inr}
 use Rattle.etcs_telegram.specs.Record.{Telegram}
 use Rattle.etcs_group.specs.Places.{At}
-use Rattle.etcs_check.specs.Soundness.{first_aspect}
-use Rattle.etcs_check.specs.Aspects.{aspect_of, aspect_facts}
-use Rattle.etcs_check.specs.Counters.{is_taken, taken_facts, HasCounters, facts_without_earlier}
-use Rattle.etcs_check.specs.Findings.{has_counter, is_counter_taken, balise_fact, balise_at, balise_facts, noted, finding_of, for_each}
+use Rattle.etcs_check.specs.Walk.{is_taken, HasCounters}
+use Rattle.etcs_check.specs.Findings.{has_counter, is_counter_taken}
 use Rattle.etcs_check.specs.Identities.{is_marked}
-use Rattle.etcs_check.specs.declared.finding.Rule.{Rule}
-use Rattle.etcs_check.specs.declared.finding.Rule.TheVariants as rules
-use Rattle.etcs_check.specs.declared.finding.Site.{Site}
-use Rattle.etcs_check.specs.declared.finding.Spot.{Spot}
-use Rattle.etcs_check.proofs.FindingLemmas.{for_each-same}
 use Rattle.etcs_check.proofs.IdentityLemmas.{unmarked, or_swap}
-
--- ---- one fact for another
-
-balise_facts-same : (rule : Rule) (spot : Spot) (f g : ℕ → Telegram → Bool) (group : List Telegram) → ((b : ℕ) (t : Telegram) → f b t ≡ g b t) → balise_facts rule spot f group ≡ balise_facts rule spot g group
-balise_facts-same rule spot f g group h =
-    for_each-same (balise_at rule spot f) (balise_at rule spot g) group (λ b t at. ap (λ q. noted q (finding_of rule spot None (Some b) None)) (h b t))
-
--- no other rule looks at earlier aspects
-alone-is : (site : Site) (aspects : List (List Telegram)) (rule : Rule) → rule ≢ rules.NotToldApart → (a : ℕ) (group : List Telegram) → facts_without_earlier site aspects rule a group ≡ aspect_facts site aspects rule a group
-alone-is site aspects rules.PositionWrong ne a group = balise_facts-same rules.PositionWrong (aspect_of site aspects a) _ _ group (λ b t. refl)
-alone-is site aspects rules.TotalWrong ne a group = balise_facts-same rules.TotalWrong (aspect_of site aspects a) _ _ group (λ b t. refl)
-alone-is site aspects rules.HeaderDiffers ne a group = balise_facts-same rules.HeaderDiffers (aspect_of site aspects a) _ _ group (λ b t. refl)
-alone-is site aspects rules.MarkOutside ne a group = balise_facts-same rules.MarkOutside (aspect_of site aspects a) _ _ group (λ b t. refl)
-alone-is site aspects rules.MarkUnanswered ne a group = balise_facts-same rules.MarkUnanswered (aspect_of site aspects a) _ _ group (λ b t. refl)
-alone-is site aspects rules.CounterUnfit ne a group = balise_facts-same rules.CounterUnfit (aspect_of site aspects a) _ _ group (λ b t. refl)
-alone-is site aspects rules.CountersDiffer ne a group = balise_facts-same rules.CountersDiffer (aspect_of site aspects a) _ _ group (λ b t. refl)
-alone-is site aspects rules.MarksDiffer ne a group = balise_facts-same rules.MarksDiffer (aspect_of site aspects a) _ _ group (λ b t. refl)
-alone-is site aspects rules.NotToldApart ne a group = absurd (ne refl)
-alone-is site aspects rule ne a group = refl
-
-pub alone_are : (site : Site) (aspects : List (List Telegram)) (rule : Rule) → rule ≢ rules.NotToldApart → for_each aspects (facts_without_earlier site aspects rule) ≡ for_each aspects (aspect_facts site aspects rule)
-alone_are site aspects rule ne = for_each-same (facts_without_earlier site aspects rule) (aspect_facts site aspects rule) aspects (λ a group at. alone-is site aspects rule ne a group)
 
 -- ---- the table
 
@@ -51,10 +22,6 @@ taken_as table before t has = elim (cases_Bool (ltb t.header.counter 254)) [
   | inr high ↦ and_left _ _ high ∙ sym (and_left _ _ high)
 ]
 
-pub taken_are : (site : Site) (aspects : List (List Telegram)) (a : ℕ) (group : List Telegram) (table : List ℕ) → HasCounters table (take a aspects) → taken_facts (aspect_of site aspects a) table group ≡ aspect_facts site aspects rules.NotToldApart a group
-taken_are site aspects a group table has =
-    balise_facts-same rules.NotToldApart (aspect_of site aspects a) (λ b t. is_taken table t) (balise_fact (first_aspect aspects) (take a aspects) group rules.NotToldApart) group (λ b t. taken_as table (take a aspects) t has)
-
 pub no_counters : HasCounters (replicate 4 0) []
 no_counters n lt = unmarked 4 n (omega arith)
 
@@ -63,25 +30,3 @@ counters_more aspects a group table new at marked has n lt =
     marked n ∙ ap (λ q. has_counter n group || q) (has n lt) ∙ or_swap (has_counter n group) (list_any (has_counter n) (take a aspects))
     ∙ ap (λ g. list_any (has_counter n) (take a aspects) || has_counter n g) (sym (get_or_from_slice_get aspects a group group at))
     ∙ sym (list_any_more (has_counter n) aspects a group (slice_get_within aspects a group at))
-
-moved : (a b c : Bool) → (a || (b || c)) ≡ ((b || a) || c)
-moved true true c = refl
-moved true false c = refl
-moved false true c = refl
-moved false false c = refl
-
-eqb_swap : (m n : ℕ) → eqb m n ≡ eqb n m
-eqb_swap m n = elim (cases_eq m n) [
-  | inl e ↦ eq-eqb m n e ∙ sym (eq-eqb n m (sym e))
-  | inr ne ↦ ne_eqb m n ne ∙ sym (ne_eqb n m (λ e. ne (sym e)))
-]
-
--- one more counter of an aspect
-pub counter_more : (group : List Telegram) (i : ℕ) (t : Telegram) (table new : List ℕ) → At group i t → ((n : ℕ) → is_marked new n ≡ (eqb n t.header.counter || is_marked table n))
-    → (n : ℕ) (old : Bool) → is_marked table n ≡ (has_counter n (take i group) || old) → is_marked new n ≡ (has_counter n (take (i + 1) group) || old)
-counter_more group i t table new at marked n old h =
-    marked n ∙ ap (λ q. eqb n t.header.counter || q) h
-    ∙ moved (eqb n t.header.counter) (has_counter n (take i group)) old
-    ∙ ap (λ q. (has_counter n (take i group) || q) || old) (eqb_swap n t.header.counter)
-    ∙ ap (λ q. q || old) (ap (λ (u : Telegram). has_counter n (take i group) || eqb u.header.counter n) (sym (get_or_from_slice_get group i t t at))
-    ∙ sym (list_any_more (λ (u : Telegram). eqb u.header.counter n) group i t (slice_get_within group i t at)))

@@ -1,11 +1,9 @@
--- A list of findings is empty exactly where none of its facts stands.
-use Rattle.std.proofs.Common.{◌≡◌, ℕ, zero, suc, ◌+◌, Bool, true, false, List, [], ◌∷◌, ◌++◌, refl, sym, ap, ap₂, ◌∙◌, arith}
+-- A list of findings is empty if and only if none of its facts stands, and lists of the same findings are the same.
+use Rattle.std.proofs.Common.{◌≡◌, ℕ, zero, suc, ◌+◌, Bool, false, List, [], ◌∷◌, ◌++◌, refl, sym, ap, ap₂, ◌∙◌, arith}
 use Rattle.std.specs.List.{flat_map, enumerate_from}
 use Rattle.std.proofs.lemmas.Option.{none-some, same_Some}
 use Rattle.etcs_group.specs.Places.{At}
-use Rattle.etcs_packet.specs.declared.run.Run.{Run}
-use Rattle.etcs_packet.specs.declared.run.Run.TheVariants as runs
-use Rattle.etcs_check.specs.Findings.{noted, for_each, for_directions, all_rules}
+use Rattle.etcs_check.specs.Findings.{noted, for_each, all_rules}
 use Rattle.etcs_check.specs.declared.finding.Rule.{Rule}
 use Rattle.etcs_check.specs.declared.finding.Rule.TheVariants as rules
 use Rattle.etcs_check.specs.declared.finding.Finding.{Finding}
@@ -16,10 +14,6 @@ append_parts (x ∷ xs) ys h = cc
 
 pub append_empty : {X : Type 0} (xs ys : List X) → xs ≡ [] → ys ≡ [] → xs ++ ys ≡ []
 append_empty xs ys e f = rw (e, f) refl
-
-pub noted-false : (fact : Bool) (finding : Finding) → noted fact finding ≡ [] → fact ≡ false
-noted-false true finding h = cc
-noted-false false finding h = refl
 
 for_each_from-says : {X : Type 0} (f : ℕ → X → List Finding) (n : ℕ) (xs : List X) → flat_map (λ (e : ℕ × X). f e.0 e.1) (enumerate_from n xs) ≡ [] → (k : ℕ) (x : X) → At xs k x → f (n + k) x ≡ []
 for_each_from-says f n [] h k x at = absurd (none-some x at)
@@ -43,13 +37,6 @@ for_each_from-empty f n (y ∷ ys) h =
 pub for_each-empty : {X : Type 0} (xs : List X) (f : ℕ → X → List Finding) → ((k : ℕ) (x : X) → At xs k x → f k x ≡ []) → for_each xs f ≡ []
 for_each-empty xs f h = for_each_from-empty f 0 xs (λ k x at. let z : 0 + k ≡ k = omega arith in ap (λ m. f m x) z ∙ h k x at)
 
-pub for_directions-says : (f : Run → List Finding) → for_directions f ≡ [] → (run : Run) → f run ≡ []
-for_directions-says f h runs.Nominal = (append_parts (f runs.Nominal) (f runs.Reverse) h).0
-for_directions-says f h runs.Reverse = (append_parts (f runs.Nominal) (f runs.Reverse) h).1
-
-pub for_directions-empty : (f : Run → List Finding) → ((run : Run) → f run ≡ []) → for_directions f ≡ []
-for_directions-empty f h = append_empty (f runs.Nominal) (f runs.Reverse) (h runs.Nominal) (h runs.Reverse)
-
 pub noted-empty : (fact : Bool) (finding : Finding) → fact ≡ false → noted fact finding ≡ []
 noted-empty fact finding h = ap (λ b. noted b finding) h
 
@@ -57,10 +44,6 @@ pub flat_map-says : {X : Type 0} (f : X → List Finding) (xs : List X) → flat
 flat_map-says f [] h k x at = absurd (none-some x at)
 flat_map-says f (y ∷ ys) h zero x at = ap f (sym (same_Some y x at)) ∙ (append_parts (f y) (flat_map f ys) h).0
 flat_map-says f (y ∷ ys) h (suc k) x at = flat_map-says f ys (append_parts (f y) (flat_map f ys) h).1 k x at
-
-pub flat_map-empty : {X : Type 0} (f : X → List Finding) (xs : List X) → ((k : ℕ) (x : X) → At xs k x → f x ≡ []) → flat_map f xs ≡ []
-flat_map-empty f [] h = refl
-flat_map-empty f (y ∷ ys) h = append_empty (f y) (flat_map f ys) (h 0 y refl) (flat_map-empty f ys (λ k x at. h (suc k) x at))
 
 -- the findings of equal functions are the same
 for_each_from-same : {X : Type 0} (f g : ℕ → X → List Finding) (n : ℕ) (xs : List X) → ((k : ℕ) (x : X) → At xs k x → f (n + k) x ≡ g (n + k) x) → flat_map (λ (e : ℕ × X). f e.0 e.1) (enumerate_from n xs) ≡ flat_map (λ (e : ℕ × X). g e.0 e.1) (enumerate_from n xs)
@@ -95,6 +78,3 @@ rule_place rules.NotToldApart = (15, refl)
 
 pub rules-say : (f : Rule → List Finding) → flat_map f all_rules ≡ [] → (r : Rule) → f r ≡ []
 rules-say f h r = let p = rule_place r in flat_map-says f all_rules h p.0 r p.1
-
-pub rules-empty : (f : Rule → List Finding) → ((r : Rule) → f r ≡ []) → flat_map f all_rules ≡ []
-rules-empty f h = flat_map-empty f all_rules (λ _ r _. h r)

@@ -1,35 +1,22 @@
--- The facts about positions, marks and counters against a well-formed group whose counters agree.
-use Rattle.std.proofs.Common.{◌≡◌, ◌≢◌, ℕ, zero, suc, ◌+◌, ◌<◌, ◌≤◌, true, false, cond, eqb, ltb, List, [], ◌∷◌, length, get_or, slice_get, Option, Some, None, refl, sym, ap, subst, ◌∙◌, arith, IsSome, IsTrue}
+-- The facts about headers, marks and counters against the parts of soundness that they break.
+use Rattle.std.proofs.Common.{◌≡◌, ◌≢◌, ℕ, zero, suc, ◌+◌, ◌<◌, ◌≤◌, true, false, cond, eqb, ltb, List, [], ◌∷◌, length, slice_get, Option, Some, None, refl, sym, ap, subst, ◌∙◌, arith, IsSome}
 use Rattle.std.specs.Bool.{beq}
 use Rattle.std.specs.Cmp.{booleans_Decides}
-use Rattle.std.specs.List.{AllPass}
-use Rattle.std.proofs.lemmas.Option.{none-some, same_Some, slice_get_within, slice_get-get_or}
+use Rattle.std.proofs.lemmas.Option.{none-some, same_Some, slice_get_within}
 use Rattle.std.proofs.lemmas.Bool.{eqb-true, eq-eqb, eqb-false, ne_eqb, lt-ltb, le-ltb, both_ways, cases_lt, and_parts, and_from, and_cases, and_left, and_right, not-false, not_from_true}
 use mathlib.Core.Logic.{◌⊎◌, inl, inr}
 use Rattle.etcs_bits.specs.declared.variables.duplicate.Dup.{Dup}
 use Rattle.etcs_bits.specs.declared.variables.duplicate.Dup.TheVariants as dups
 use Rattle.etcs_bits.specs.variables.Variables.{version_number}
-use Rattle.etcs_packet.specs.declared.track.TrackPacket.{TrackPacket}
 use Rattle.etcs_telegram.specs.Record.{Telegram}
 use Rattle.etcs_group.specs.Places.{At}
-use Rattle.etcs_group.specs.Group.{is_modelled, named_by, partner_of, AreAlike, IsWellFormed, HasOneCounter}
-use Rattle.etcs_group.proofs.PlaceLemmas.{some_at, one_at}
+use Rattle.etcs_group.specs.Group.{named_by, partner_of, AreAlike}
+use Rattle.etcs_group.proofs.PlaceLemmas.{one_at}
 use Rattle.etcs_group.proofs.MarkLemmas.{partner-says, partner-is}
 use Rattle.etcs_check.specs.Duplicates.{same_identity}
-use Rattle.etcs_check.specs.Findings.{is_misplaced, is_miscounted, is_unlike, is_outside, differs_from, is_unanswered, is_unfit, first_counter, counter_differs, is_unmodelled}
+use Rattle.etcs_check.specs.Findings.{is_unlike, is_outside, differs_from, is_unanswered, first_counter, counter_differs}
 use Rattle.etcs_check.proofs.NumberLemmas.{version_same, same_identity-says, same_identity-is}
 use Rattle.etcs_check.specs.Harm.{IsFirstCounted}
-use Rattle.etcs_check.proofs.CleanLemmas.{IsClean}
-
--- ---- tests of all packets of a list
-
-pub modelled-from_at : (packets : List TrackPacket) → ((k : ℕ) (p : TrackPacket) → At packets k p → is_unmodelled p ≡ false) → AllPass is_modelled packets
-modelled-from_at packets h k d lt = not-false _ (h k (get_or packets k d) (slice_get-get_or packets k d lt))
-
-pub at-from_modelled : (packets : List TrackPacket) → AllPass is_modelled packets → (k : ℕ) (p : TrackPacket) → At packets k p → is_unmodelled p ≡ false
-at-from_modelled packets h k p at =
-    let lt = slice_get_within packets k p at in
-    not_from_true _ (subst (λ q. IsTrue (is_modelled q)) (same_Some (get_or packets k p) p (sym (slice_get-get_or packets k p lt) ∙ at)) (h k p lt))
 
 -- ---- equal headers
 
@@ -89,43 +76,7 @@ counter-says group t one lt = elim (and_cases (ltb t.header.counter 254) (differ
   | inr same ↦ differs_from-false (first_counter group) t.header.counter same
 ]
 
--- ---- no fact, so well formed
-
--- two telegrams like a third are alike
-pub alike_both : (t u first : Telegram) → AreAlike t first → AreAlike u first → AreAlike t u
-alike_both t u first a b = record {
-  version = a.version ∙ sym b.version;
-  identity = a.identity ∙ sym b.identity;
-  linked = a.linked ∙ sym b.linked;
-}
-
-module _ (first : List Telegram) (before : List (List Telegram)) (group : List Telegram) (long : 0 < length first) (clean : IsClean first before group) where
-  -- each balise is like balise 0 of aspect 0
-  pub clean_first : (b : ℕ) (t f : Telegram) → At group b t → At first 0 f → AreAlike t f
-  clean_first b t f at at0 = alike-says t f (ap (λ o. is_unlike o t) (sym at0) ∙ clean.alike b t at)
-
-  clean_alike : (b : ℕ) (t u : Telegram) → At group b t → At group 0 u → AreAlike t u
-  clean_alike b t u at at0 =
-      let f = some_at first 0 long in
-      alike_both t u f.0 (clean_first b t f.0 at f.1) (clean_first 0 u f.0 at0 f.1)
-
-  pub formed-from_clean : IsWellFormed group
-  formed-from_clean = record {
-    placed = λ b t at. eqb-true _ _ (not-false _ (clean.placed b t at));
-    counted = λ b t at. eqb-true _ _ (not-false _ (clean.counted b t at));
-    alike = clean_alike;
-    inside = λ b t at. inside-says group b t at (clean.inside b t at);
-    answered = λ b. answered-says group b (clean.answered b);
-    modelled = λ b t at. modelled-from_at t.packets (λ k p at'. clean.modelled b t k p at at');
-  }
-
-  pub fitting-from_clean : HasOneCounter group
-  fitting-from_clean = record {
-    agrees = λ b t at. eqb-false _ _ (clean.fit b t at);
-    equal = λ b c t u at au m n. same_Some t.header.counter u.header.counter (sym (counter-says group t (clean.one_counter b t at) m) ∙ counter-says group u (clean.one_counter c u au) n);
-  }
-
--- ---- well formed, so no fact
+-- ---- a part that holds, so no fact
 
 -- a telegram like balise 0 of aspect 0, if there is one
 pub alike_first : (first : List Telegram) (t : Telegram) → ((f : Telegram) → At first 0 f → AreAlike t f) → is_unlike (slice_get first 0) t ≡ false
@@ -168,22 +119,6 @@ answered-is group b answers = go (partner_of group b) refl
     go None e = refl
     go (Some q) e = other-is_false (partner_of group q) b (answers q e)
 
-module _ (group : List Telegram) (formed : IsWellFormed group) where
-  pub formed_placed : (b : ℕ) (t : Telegram) → At group b t → is_misplaced b t ≡ false
-  formed_placed b t at = not_from_true _ (eq-eqb _ _ (formed.placed b t at))
-
-  pub formed_counted : (b : ℕ) (t : Telegram) → At group b t → is_miscounted group t ≡ false
-  formed_counted b t at = not_from_true _ (eq-eqb _ _ (formed.counted b t at))
-
-  pub formed_inside : (b : ℕ) (t : Telegram) → At group b t → is_outside (length group) t.header.dup b ≡ false
-  formed_inside b t at = inside-is group b t at (formed.inside b t at)
-
-  pub formed_answered : (b : ℕ) (t : Telegram) → At group b t → is_unanswered group (partner_of group b) b ≡ false
-  formed_answered b t at = answered-is group b (formed.answered b)
-
-  pub formed_modelled : (b : ℕ) (t : Telegram) (k : ℕ) (p : TrackPacket) → At group b t → At t.packets k p → is_unmodelled p ≡ false
-  formed_modelled b t k p at at' = at-from_modelled t.packets (formed.modelled b t at) k p at'
-
 -- the counter of the first telegram with one below 254
 pub first_counter-is : (ts : List Telegram) (j : ℕ) (u : Telegram) → IsFirstCounted ts j u → first_counter ts ≡ Some u.header.counter
 first_counter-is [] j u first = absurd (none-some u first.0)
@@ -197,7 +132,7 @@ first_counter-is (x ∷ ts) (suc j) u first =
     ∙ first_counter-is ts j u (first.0, first.1, λ i v lt at. first.2 (suc i) v (omega arith) at)
 
 -- where there is one, there is a first one
-first_counted : (ts : List Telegram) (b : ℕ) (t : Telegram) → At ts b t → t.header.counter < 254 → (k : ℕ) × (u : Telegram) × IsFirstCounted ts k u
+pub first_counted : (ts : List Telegram) (b : ℕ) (t : Telegram) → At ts b t → t.header.counter < 254 → (k : ℕ) × (u : Telegram) × IsFirstCounted ts k u
 first_counted [] b t at lt = absurd (none-some t at)
 first_counted (x ∷ ts) zero t at lt =
     (0, t, (at, lt, λ i v less _. absurd (omega arith)))
@@ -211,9 +146,6 @@ first_counted (x ∷ ts) (suc b) t at lt = go (cases_lt x.header.counter 254) (f
         before zero v less at' = subst (λ (z : Telegram). 254 ≤ z.header.counter) (same_Some x v at') high
         before (suc i) v less at' = r.2.2 i v (omega arith) at'
 
-pub fitting_254 : (group : List Telegram) → HasOneCounter group → (b : ℕ) (t : Telegram) → At group b t → is_unfit t ≡ false
-fitting_254 group fit b t at = ne_eqb _ _ (fit.agrees b t at)
-
 -- a counter that is the first one below 254
 pub equal-is : (group : List Telegram) (b : ℕ) (t : Telegram) → At group b t → ((j : ℕ) (u : Telegram) → t.header.counter < 254 → IsFirstCounted group j u → t.header.counter ≡ u.header.counter) → counter_differs group t ≡ false
 equal-is group b t at same = elim (cases_lt t.header.counter 254) [
@@ -222,6 +154,3 @@ equal-is group b t at same = elim (cases_lt t.header.counter 254) [
       let r = first_counted group b t at lt in
       and_right (ltb t.header.counter 254) _ (other-is_false (first_counter group) t.header.counter (first_counter-is group r.0 r.1 r.2 ∙ ap Some (sym (same r.0 r.1 lt r.2))))
 ]
-
-pub fitting_one : (group : List Telegram) → HasOneCounter group → (b : ℕ) (t : Telegram) → At group b t → counter_differs group t ≡ false
-fitting_one group fit b t at = equal-is group b t at (λ j u low first. fit.equal b j t u at first.0 low first.1)

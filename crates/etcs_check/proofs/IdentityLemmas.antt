@@ -4,7 +4,7 @@ use Rattle.std.specs.Int.{w64}
 use Rattle.std.specs.Option.{option_map_or}
 use Rattle.std.proofs.lemmas.Nat.{div-add-mod', mod_below, div_below}
 use Rattle.std.proofs.lemmas.Nat.Bits.{bit_at_set_same, bit_at_set_other, bit_at-zero}
-use Rattle.std.proofs.lemmas.Bool.{both_ways, cases_eq, cases_lt, ne_eqb, eq-eqb, false_from_ne_true}
+use Rattle.std.proofs.lemmas.Bool.{both_ways, cases_eq, cases_lt, ne_eqb, eq-eqb, or_parts, false_from_ne_true}
 use Rattle.std.proofs.lemmas.List.{get_or-set_same, get_or-set_other, get_or-replicate}
 use Rattle.std.proofs.lemmas.List.Folds.{list_any-append, list_any_more}
 use Rattle.std.proofs.lemmas.Option.{none-some, slice_get_within, get_or_from_slice_get, same_Some}
@@ -14,13 +14,13 @@ use Rattle.etcs_telegram.specs.Record.{Telegram}
 use Rattle.etcs_group.specs.Places.{At}
 use Rattle.etcs_group.proofs.PlaceLemmas.{At-take, at_list_any, list_any-none}
 use Rattle.etcs_check.specs.Duplicates.{same_identity}
-use Rattle.etcs_check.specs.Aspects.{group_facts, site_spot, have_one_identity, is_used, rule_facts}
-use Rattle.etcs_check.specs.Findings.{finding_of}
-use Rattle.etcs_check.specs.Line.{group_at, group_list}
+use Rattle.etcs_check.specs.Aspects.{have_one_identity, is_used}
+use Rattle.etcs_check.specs.Line.{group_findings, group_at, group_list}
 use Rattle.etcs_check.specs.LineChecker.{HasKept}
 use Rattle.etcs_check.specs.declared.finding.Rule.TheVariants as rules
 use Rattle.etcs_check.specs.declared.finding.Site.TheVariants as sites
-use Rattle.etcs_check.proofs.FindingLemmas.{rules-say, for_each-says, noted-false, append_parts}
+use Rattle.etcs_check.proofs.CellLemmas.{group_silent}
+use Rattle.etcs_check.proofs.FindingLemmas.{for_each-says}
 use Rattle.etcs_check.specs.Identities.{number_of_identity, identity_number, HasIdentity, HaveIdentities, has_bit, is_marked, is_among, HasSeen, HasNoRepeat, HasRepeat}
 use Rattle.etcs_check.specs.Soundness.{identity_of, group_identity}
 use Rattle.etcs_check.proofs.NoteLemmas.{each_stands}
@@ -177,19 +177,19 @@ used_told groups i g false is_kept at own before none kept =
 -- a repeat is a finding
 pub repeat_stands : (groups : List (List (List Telegram))) → HasRepeat groups → group_list groups ≢ []
 repeat_stands groups r h =
-    let none = rules-say (rule_facts (sites.Group r.0) (is_used (take r.0 groups) r.1) r.1) (for_each-says groups (group_at groups) h r.0 r.1 r.2) rules.IdentityUsed in
-    both_ways _ (noted-false _ (finding_of rules.IdentityUsed (site_spot (sites.Group r.0)) None None None) (append_parts _ _ none).0) r.3
+    let none = group_silent (sites.Group r.0) (is_used (take r.0 groups) r.1) r.1 (for_each-says groups (group_at groups) h r.0 r.1 r.2) in
+    both_ways _ (or_parts _ _ (none rules.IdentityUsed None None None None)).0 r.3
 
 -- where memory was asked for there is a finding: that of a repeat, or one about this group
 pub next_stands : (groups : List (List (List Telegram))) (i : ℕ) (g : List (List Telegram)) (again : Bool) → At groups i g → HasIdentity g → (again ≡ true → HasRepeat groups) → (again ≡ false → HasNoRepeat 0 16777216 groups)
-    → (again ≡ false → group_facts (sites.Group i) false g ≢ []) → group_list groups ≢ []
+    → (again ≡ false → group_findings (sites.Group i) false g ≢ []) → group_list groups ≢ []
 next_stands groups i g true at own repeat none some = repeat_stands groups (repeat refl)
 next_stands groups i g false at own repeat none some =
     let is = number-is g own.0 own.1 in
     let country = own.2 in
     let group = own.3 in
     let new : is_used (take i groups) g ≡ false = none refl i g at (omega arith) (omega arith) in
-    each_stands (group_at groups) groups i g at (subst (λ u. group_facts (sites.Group i) u g ≢ []) (sym new) (some refl))
+    each_stands (group_at groups) groups i g at (subst (λ u. group_findings (sites.Group i) u g ≢ []) (sym new) (some refl))
 
 -- ---- identities that were used
 

@@ -1,4 +1,4 @@
--- Members of joined, filtered and numbered lists, and of what a group says.
+-- Members of joined, filtered and numbered lists, of lists of findings, and of what a group says.
 use Rattle.std.proofs.Common.{◌≡◌, ℕ, zero, suc, ◌+◌, Bool, true, false, cond, List, [], ◌∷◌, ◌++◌, length, reverse, Some, refl, sym, ap, subst, ◌∙◌, arith}
 use Rattle.std.specs.List.{flat_map, enumerate_from, filter}
 use Rattle.std.proofs.lemmas.Option.{none-some, same_Some}
@@ -13,6 +13,11 @@ use Rattle.etcs_packet.specs.declared.run.Run.TheVariants as runs
 use Rattle.etcs_packet.specs.declared.track.TrackPacket.{TrackPacket}
 use Rattle.etcs_telegram.specs.Record.{Telegram}
 use Rattle.etcs_group.proofs.PlaceLemmas.{At-reverse}
+use Rattle.etcs_check.specs.Findings.{all_rules, finding_of, for_each}
+use Rattle.etcs_check.specs.declared.finding.Finding.{Finding}
+use Rattle.etcs_check.specs.declared.finding.Rule.{Rule}
+use Rattle.etcs_check.specs.declared.finding.Spot.{Spot}
+use Rattle.etcs_check.proofs.FindingLemmas.{rule_place}
 
 pub At-append_left : {X : Type 0} (xs ys : List X) (i : ℕ) (x : X) → At xs i x → At (xs ++ ys) i x
 At-append_left [] ys i x h = absurd (none-some x h)
@@ -76,6 +81,38 @@ in_passing_order-at runs.Reverse xs i x h = let r = At-reverse xs i x h in (r.0,
 pub at-in_passing_order : {X : Type 0} (run : Run) (xs : List X) (i : ℕ) (x : X) → At xs i x → (j : ℕ) × At (in_passing_order run xs) j x
 at-in_passing_order runs.Nominal xs i x h = (i, h)
 at-in_passing_order runs.Reverse xs i x h = let h' : At (reverse (reverse xs)) i x = rw reverse-reverse h in let r = At-reverse (reverse xs) i x h' in (r.0, r.1)
+
+-- ---- findings
+
+-- a finding stands somewhere in a list
+abbrev pub IsListed : Finding → List Finding → Type 0
+IsListed f found = (i : ℕ) × At found i f
+
+pub none_at : (found : List Finding) → ((k : ℕ) (f : Finding) → At found k f → ⊥) → found ≡ []
+none_at [] h = refl
+none_at (f ∷ found) h = absurd (h 0 f refl)
+
+pub each-at : {X : Type 0} (g : ℕ → X → List Finding) (xs : List X) (i : ℕ) (f : Finding) → At (for_each xs g) i f → (b : ℕ) × (x : X) × (k : ℕ) × At xs b x × At (g b x) k f
+each-at {X} g xs i f h =
+    let r = flat_map-at (λ (e : ℕ × X). g e.0 e.1) (enumerate_from 0 xs) i f h in
+    let e = enumerate-at 0 xs r.0 r.1 r.3 in
+    let z : r.1.0 ≡ r.0 = (let q = e.0 in omega arith) in
+    (r.1.0, r.1.1, r.2, subst (λ b. At xs b r.1.1) (sym z) e.1, r.4)
+
+pub each-listed : {X : Type 0} (g : ℕ → X → List Finding) (xs : List X) (b : ℕ) (x : X) (f : Finding) → At xs b x → IsListed f (g b x) → IsListed f (for_each xs g)
+each-listed {X} g xs b x f at h =
+    let z : b ≡ 0 + b = omega arith in
+    at-flat_map (λ (e : ℕ × X). g e.0 e.1) (enumerate_from 0 xs) b (0 + b, x) h.0 f (at-enumerate 0 xs b x at) (subst (λ m. At (g m x) h.0 f) z h.1)
+
+pub rules-listed : (g : Rule → List Finding) (r : Rule) (f : Finding) → IsListed f (g r) → IsListed f (flat_map g all_rules)
+rules-listed g r f h = let p = rule_place r in at-flat_map g all_rules p.0 r h.0 f p.1 h.1
+
+-- a finding is made of its parts
+pub made_of : (f : Finding) (spot : Spot) → f.site ≡ spot.site → f.aspect ≡ spot.aspect → finding_of f.rule spot f.dir f.balise f.packet ≡ f
+made_of f spot e g = ap (λ z. finding_of f.rule (record { site = z; aspect = spot.aspect }) f.dir f.balise f.packet) (sym e)
+    ∙ ap (λ z. finding_of f.rule (record { site = f.site; aspect = z }) f.dir f.balise f.packet) (sym g)
+
+-- ---- what is said
 
 -- what is said stands in a balise that is not silent, and holds
 pub said-site : (run : Run) (group : List Telegram) (i : ℕ) (p : TrackPacket) → At (said_by run group) i p → (b : ℕ) × (t : Telegram) × (k : ℕ) × At group b t × At t.packets k p × (is_silent run t.header.dup (length group) b ≡ false) × (holds run p ≡ true)

@@ -1,8 +1,8 @@
 -- Steps of the loops that note findings.
-use Rattle.std.proofs.Common.{◌≡◌, ◌≢◌, ℕ, ◌+◌, ◌<◌, ◌≤◌, Bool, false, ◌||◌, List, [], ◌∷◌, ◌++◌, length, get_or, slice_get, drop, Some, Result, Ok, Err, OnErr, sym, ap, subst, ◌∙◌, arith}
-use Rattle.std.specs.List.{flat_map, list_any}
+use Rattle.std.proofs.Common.{◌≡◌, ◌≢◌, ℕ, ◌+◌, ◌<◌, Bool, List, [], ◌∷◌, ◌++◌, length, get_or, slice_get, drop, Some, Result, Ok, Err, OnErr, sym, ap, subst, ◌∙◌, arith}
+use Rattle.std.specs.List.{flat_map}
 use Rattle.std.proofs.lemmas.Option.{same_Some, slice_get_within, slice_get-get_or, get_or_from_slice_get}
-use Rattle.std.proofs.lemmas.List.{drop_more, drop_all, append_assoc}
+use Rattle.std.proofs.lemmas.List.{drop_more, append_assoc}
 use Rattle.std.proofs.lemmas.Bool.{cases_eq}
 use mathlib.Core.Logic.{inl, inr}
 use Rattle.etcs_group.specs.Places.{At}
@@ -56,14 +56,6 @@ first_stands xs ys some h = some (append_parts xs ys h).0
 
 pub second_stands : (xs ys : List Finding) → ys ≢ [] → xs ++ ys ≢ []
 second_stands xs ys some h = some (append_parts xs ys h).1
-
--- ---- tests of a list, item by item
-
-pub any_left : {X : Type 0} (test : X → Bool) (xs : List X) (i : ℕ) (x : X) → At xs i x → list_any test (drop i xs) ≡ (test x || list_any test (drop (i + 1) xs))
-any_left test xs i x at = ap (list_any test) (drop_at xs i x at)
-
-pub none_left : {X : Type 0} (test : X → Bool) (xs : List X) (i : ℕ) → length xs ≤ i → list_any test (drop i xs) ≡ false
-none_left test xs i le = ap (list_any test) (drop_all i xs le)
 
 -- what is known of each item and its place so far, and of one more
 pub each_more : {X : Type 0} (P : ℕ → X → Type 0) (xs : List X) (i : ℕ) (x : X) → At xs i x → ((k : ℕ) (y : X) → k < i → At xs k y → P k y) → P i x → (k : ℕ) (y : X) → k < i + 1 → At xs k y → P k y

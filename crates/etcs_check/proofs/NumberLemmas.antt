@@ -68,13 +68,13 @@ packet_decided p q e =
     let rows = rows_decided track_packet.fields (track_packet.rows p) (track_packet.rows q) [] [] (track_packet.laid.are_rows p) (track_packet.laid.are_rows q) h in
     sym (track_packet.laid.is_record p) ∙ ap track_packet.of rows.0 ∙ track_packet.laid.is_record q
 
--- two packets are equal exactly where their numbers are
+-- two packets are equal if and only if their numbers are
 pub Decides-same_packet : (p q : TrackPacket) → Decides (same_packet p q) (p ≡ q)
 Decides-same_packet p q =
     let d = slice_eq-Decides Decides-eqb (packet_numbers p) (packet_numbers q) (same_packet p q) refl in
     (λ h. packet_decided p q (d.0 h), λ e. d.1 (ap packet_numbers e))
 
--- two lists of packets are equal exactly where the numbers of their packets are
+-- two lists of packets are equal if and only if the numbers of their packets are
 pub Decides-same_packets : (xs ys : List TrackPacket) → Decides (pointwise same_packet xs ys) (xs ≡ ys)
 Decides-same_packets xs ys = slice_eq-Decides Decides-same_packet xs ys (pointwise same_packet xs ys) refl
 

@@ -1,6 +1,6 @@
 -- Lists in strict order: their members determine them, and they are made of blocks, one after another.
-use Rattle.std.proofs.Common.{◌≡◌, ℕ, zero, suc, ◌+◌, ◌<◌, ◌≤◌, Bool, true, false, List, [], ◌∷◌, ◌++◌, length, map, if◌then◌else◌, refl, sym, ap, ap₂, subst, ◌∙◌, arith}
-use Rattle.std.specs.List.{flat_map, enumerate_from, range_with_len}
+use Rattle.std.proofs.Common.{◌≡◌, ℕ, zero, suc, ◌+◌, ◌<◌, ◌≤◌, Bool, true, false, cond, List, [], ◌∷◌, ◌++◌, length, map, if◌then◌else◌, refl, sym, ap, ap₂, subst, ◌∙◌, arith}
+use Rattle.std.specs.List.{filter, flat_map, enumerate_from, range_with_len}
 use Rattle.std.specs.Ordering.{nat_cmp, ordering_then, ordering_reverse, is_lt}
 use Rattle.std.specs.Cmp.{nat_cmp_is}
 use Rattle.std.specs.Cmp.Lexicographic.{slice_cmp}
@@ -11,7 +11,7 @@ use Rattle.std.proofs.lemmas.List.{append_assoc}
 use Rattle.std.proofs.lemmas.Option.{none-some, same_Some, slice_get_within}
 use mathlib.Core.Logic.{inl, inr}
 use Rattle.etcs_group.specs.Places.{At}
-use Rattle.etcs_check.proofs.MemberLemmas.{At-append_cases, enumerate-at}
+use Rattle.etcs_check.proofs.MemberLemmas.{At-append_cases, enumerate-at, filter-at}
 
 -- ---- numbers decide
 
@@ -149,3 +149,21 @@ rising number (z ∷ ys) low e (suc i) y at =
     let rest : map number ys ≡ range_with_len (low + 1) (length ys) = cc in
     let r = rising number ys (low + 1) rest i y at in
     omega arith
+
+-- what is left of a list in order is in order
+module _ {X : Type 0} (order : X → List ℕ) (test : X → Bool) where
+  first_below : (x : X) (xs : List X) → AreOrdered order (x ∷ xs) → (j : ℕ) (y : X) → At (filter test xs) j y → slice_cmp nat_cmp (order x) (order y) ≡ Less
+  first_below x xs ordered j y at = let r = filter-at test xs j y at in ordered 0 (suc r.0) x y (omega arith) refl r.1
+
+  pub AreOrdered-filter : (xs : List X) → AreOrdered order xs → AreOrdered order (filter test xs)
+  AreOrdered-filter [] ordered = λ i j x y lt at at'. absurd (none-some x at)
+  AreOrdered-filter (z ∷ zs) ordered = go (test z) (AreOrdered-filter zs (λ i j x y lt at at'. ordered (suc i) (suc j) x y (omega arith) at at'))
+    where
+      go : (b : Bool) → AreOrdered order (filter test zs) → AreOrdered order (cond b (z ∷ filter test zs) (filter test zs))
+      go false rest = rest
+      go true rest = kept rest
+        where
+          kept : AreOrdered order (filter test zs) → (i j : ℕ) (x y : X) → i < j → At (z ∷ filter test zs) i x → At (z ∷ filter test zs) j y → slice_cmp nat_cmp (order x) (order y) ≡ Less
+          kept rest i zero x y lt at at' = absurd (omega arith)
+          kept rest zero (suc j) x y lt at at' = subst (λ w. slice_cmp nat_cmp (order w) (order y) ≡ Less) (same_Some z x at) (first_below z zs ordered j y at')
+          kept rest (suc i) (suc j) x y lt at at' = rest i j x y (omega arith) at at'

@@ -1,122 +1,158 @@
--- Where a rule has no fact, its part of soundness holds.
-use Rattle.std.proofs.Common.{◌≡◌, ℕ, Bool, false, List, [], take, Option, Some, None, refl, sym, ap, subst, ◌∙◌}
+-- A fact stands if and only if the part of soundness that its rule asks for does not hold.
+use Rattle.std.proofs.Common.{◌≡◌, ℕ, ◌+◌, Bool, true, false, List, length, slice_get, take, Option, Some, None, refl, sym, ap, ◌∙◌}
 use Rattle.std.specs.List.{filter}
-use Rattle.std.proofs.lemmas.Option.{none-some, same_Some}
-use Rattle.std.proofs.lemmas.Bool.{eqb-true, eqb-false, not-false, false_from_ne_true}
-use mathlib.Core.Logic.{inl, inr}
+use Rattle.std.proofs.lemmas.Option.{same_Some}
+use Rattle.std.proofs.lemmas.Bool.{both_ways, eqb-true, eq-eqb, eqb-false, ne_eqb, not-false, not_from_true, false_from_ne_true}
 use Rattle.etcs_packet.specs.Track.{holds}
 use Rattle.etcs_packet.specs.declared.run.Run.{Run}
 use Rattle.etcs_packet.specs.declared.track.TrackPacket.{TrackPacket}
+use Rattle.etcs_profile.specs.declared.reach.Reach.{Reach}
 use Rattle.etcs_radio.specs.declared.message.Message.{Message}
 use Rattle.etcs_radio.specs.declared.message.Message.TheVariants as messages
 use Rattle.etcs_telegram.specs.Record.{Telegram}
 use Rattle.etcs_group.specs.Places.{At}
-use Rattle.etcs_group.specs.Packets.{said_by}
+use Rattle.etcs_group.specs.Packets.{is_silent, said_by}
 use Rattle.etcs_group.specs.Controlled.{IsControlled}
-use Rattle.etcs_group.proofs.PlaceLemmas.{some_at, at_take}
 use Rattle.etcs_check.specs.Profiles.{gradient_reach, speed_reach}
 use Rattle.etcs_check.specs.Soundness.{first_aspect}
-use Rattle.etcs_check.specs.Findings.{is_unlike, mark_differs, pair_differs}
-use Rattle.etcs_check.specs.Aspects.{is_used}
-use Rattle.etcs_check.specs.Line.{findings}
-use Rattle.etcs_check.specs.Meaning.{AspectFact, GroupWideFact, PacketFact, MessageFact, StatesAt}
-use Rattle.etcs_check.specs.Harm.{AspectPart, GroupWidePart, PacketsPart, MessagePart, IsNew, HurtsSite, HasPartsAt}
-use Rattle.etcs_check.specs.Laws.{PartsHoldUnlessFound, NothingHurtsASoundLine}
+use Rattle.etcs_check.specs.Findings.{is_unlike, mark_differs, balise_fact, pair_differs, is_unmodelled}
+use Rattle.etcs_check.specs.Aspects.{is_ambiguous}
+use Rattle.etcs_check.specs.Facts.{passes_at, packets_at, speech_of, speech_in, is_short_profile, packet_fact, aspect_fact, whole_fact, message_fact}
+use Rattle.etcs_check.specs.Harm.{AspectPart, GroupWidePart, PacketsPart, MessagePart, IsLongAt}
 use Rattle.etcs_check.specs.declared.finding.Rule.{Rule}
 use Rattle.etcs_check.specs.declared.finding.Rule.TheVariants as rules
-use Rattle.etcs_check.specs.declared.finding.Finding.{Finding}
-use Rattle.etcs_check.specs.declared.finding.Site.{Site}
-use Rattle.etcs_check.specs.declared.finding.Site.TheVariants as sites
-use Rattle.etcs_check.proofs.FormedLemmas.{alike-says, inside-says, answered-says, counter-says, first_counter-is}
-use Rattle.etcs_check.proofs.ProfileLemmas.{one-from_lacks, at-long, in-long}
-use Rattle.etcs_check.proofs.SoundLemmas.{pair-equal}
-use Rattle.etcs_check.proofs.AspectLemmas.{first_long, mark-says, fresh-says, told_place}
-use Rattle.etcs_check.proofs.IdentityLemmas.{identity-at, unused-says}
-use Rattle.etcs_check.proofs.HarmLemmas.{told-says}
-use Rattle.etcs_check.proofs.ListedLemmas.{each_fact_is_listed}
-use Rattle.etcs_check.proofs.LineLemmas.{no_finding_means_sound_line}
+use Rattle.etcs_check.proofs.FactLemmas.{passes_as, failing, packet_stands, packet_as, profile_as, none_short}
+use Rattle.etcs_check.proofs.FormedLemmas.{alike-says, inside-says, answered-says, counter-says, first_counter-is, alike_first, inside-is, answered-is, equal-is}
+use Rattle.etcs_check.proofs.ProfileLemmas.{one-from_lacks, lacks-from_one, at-long, long-at}
+use Rattle.etcs_check.proofs.SoundLemmas.{pair-equal, pair-says}
+use Rattle.etcs_check.proofs.AspectLemmas.{mark-says, mark-is, taken-at, fresh-says, told_place, untold-is}
 
-aspect_holds : (aspects : List (List Telegram)) (a : ℕ) (group : List Telegram) (rule : Rule) (run : Option Run) (b k : Option ℕ) → (AspectFact (first_aspect aspects) (take a aspects) group rule run b k → ⊥) → AspectPart aspects a group rule run b k
-aspect_holds aspects a group rules.PositionWrong None (Some b) None none = λ t at. eqb-true _ _ (not-false _ (false_from_ne_true _ (λ e. none (t, at, e))))
-aspect_holds aspects a group rules.TotalWrong None (Some b) None none = λ t at. eqb-true _ _ (not-false _ (false_from_ne_true _ (λ e. none (t, at, e))))
-aspect_holds aspects a group rules.HeaderDiffers None (Some b) None none = λ t first at at0.
-    alike-says t first (ap (λ o. is_unlike o t) (sym at0) ∙ false_from_ne_true _ (λ e. none (t, at, e)))
-aspect_holds aspects a group rules.MarkOutside None (Some b) None none = λ t at. inside-says group b t at (false_from_ne_true _ (λ e. none (t, at, e)))
-aspect_holds aspects a group rules.MarkUnanswered None (Some b) None none = answered-says group b (λ t at. false_from_ne_true _ (λ e. none (t, at, e)))
-aspect_holds aspects a group rules.CounterUnfit None (Some b) None none = λ t at. eqb-false _ _ (false_from_ne_true _ (λ e. none (t, at, e)))
-aspect_holds aspects a group rules.CountersDiffer None (Some b) None none = λ j t u at low first.
-    same_Some t.header.counter u.header.counter (sym (counter-says group t (false_from_ne_true _ (λ e. none (t, at, e))) low) ∙ first_counter-is group j u first)
-aspect_holds aspects a group rules.DuplicatesDiffer (Some run) (Some b) None none = λ t u at au.
-    pair-equal run t u (ap (pair_differs run t) (sym au) ∙ false_from_ne_true _ (λ e. none (t, at, e)))
-aspect_holds aspects a group rules.NotModelled None (Some b) (Some k) none = λ t p at at_p. not-false _ (false_from_ne_true _ (λ e. none (t, p, at, at_p, e)))
-aspect_holds aspects a group rules.NoGradient (Some run) None None none = one-from_lacks gradient_reach (said_by run group) (false_from_ne_true _ none)
-aspect_holds aspects a group rules.GradientShort (Some run) (Some b) (Some k) none = λ t p at at_p.
-    at-long gradient_reach group run b t p (false_from_ne_true _ (λ e. none (t, p, at, at_p, e)))
-aspect_holds aspects a group rules.NoSpeed (Some run) None None none = one-from_lacks speed_reach (said_by run group) (false_from_ne_true _ none)
-aspect_holds aspects a group rules.SpeedShort (Some run) (Some b) (Some k) none = λ t p at at_p.
-    at-long speed_reach group run b t p (false_from_ne_true _ (λ e. none (t, p, at, at_p, e)))
-aspect_holds aspects a group rules.MarksDiffer None (Some b) None none = λ t first at at_f.
-    mark-says t first (ap (λ o. mark_differs o t) (sym at_f) ∙ false_from_ne_true _ (λ e. none (t, at, e)))
-aspect_holds aspects a group rules.NotToldApart None (Some b) None none = λ c q t u lt at has low same.
-    fresh-says aspects a t (false_from_ne_true _ (λ e. none (t, at, e))) c q u lt has low (sym same)
-aspect_holds aspects a group rule run b k none = tt
+-- ---- aspects
 
-whole_holds : (new : Type 0) (used : Bool) (aspects : List (List Telegram)) → IsControlled aspects → (used ≡ false → new) → (rule : Rule) (run : Option Run) (b k : Option ℕ) → (GroupWideFact used aspects rule run b k → ⊥) → GroupWidePart new aspects rule run b k
-whole_holds new used aspects controlled is_new rules.IdentityUsed None None None none = is_new (false_from_ne_true _ none)
-whole_holds new used aspects controlled is_new rules.NotToldApart None (Some b) None none = λ many.
-    told_place aspects controlled many b (λ f at. false_from_ne_true _ (λ e. none (f, at, e)))
-whole_holds new used aspects controlled is_new rule run b k none = tt
+-- the mark of the same balise in aspect 0, if there is one
+marks-are : (first : List Telegram) (b : ℕ) (t : Telegram) → ((f : Telegram) → At first b f → t.header.dup ≡ f.header.dup) → mark_differs (slice_get first b) t ≡ false
+marks-are first b t h = go (slice_get first b) refl
+  where
+    go : (o : Option Telegram) → slice_get first b ≡ o → mark_differs o t ≡ false
+    go None e = refl
+    go (Some f) e = mark-is t f (h f e)
 
-packets_hold : (packets : List TrackPacket) (rule : Rule) (run : Option Run) (b k : Option ℕ) → (PacketFact packets rule run b k → ⊥) → PacketsPart packets rule run b k
-packets_hold packets rules.NotModelled None None (Some k) none = λ p at. not-false _ (false_from_ne_true _ (λ e. none (p, at, e)))
-packets_hold packets rules.NoGradient (Some run) None None none = one-from_lacks gradient_reach (filter (holds run) packets) (false_from_ne_true _ none)
-packets_hold packets rules.GradientShort (Some run) None (Some k) none = λ p at. in-long gradient_reach packets run p (false_from_ne_true _ (λ e. none (p, at, e)))
-packets_hold packets rules.NoSpeed (Some run) None None none = one-from_lacks speed_reach (filter (holds run) packets) (false_from_ne_true _ none)
-packets_hold packets rules.SpeedShort (Some run) None (Some k) none = λ p at. in-long speed_reach packets run p (false_from_ne_true _ (λ e. none (p, at, e)))
-packets_hold packets rule run b k none = tt
+module _ (aspects : List (List Telegram)) (a : ℕ) (group : List Telegram) where
+  abbrev fact : Rule → ℕ → Telegram → Bool
+  fact rule = balise_fact (first_aspect aspects) (take a aspects) group rule
 
-message_holds : (m : Message) (rule : Rule) (run : Option Run) (b k : Option ℕ) → (MessageFact m rule run b k → ⊥) → MessagePart m rule run b k
+  at : (rule : Rule) (b : ℕ) → passes_at group b (fact rule b) ≡ false → (t : Telegram) → At group b t → fact rule b t ≡ false
+  at rule b none t here = sym (passes_as group b (fact rule b) t here) ∙ none
+
+  none_at : (rule : Rule) (b : ℕ) → ((t : Telegram) → At group b t → fact rule b t ≡ false) → passes_at group b (fact rule b) ≡ false
+  none_at rule b h = failing group b (fact rule b) h
+
+  long_at : (reach : TrackPacket → Option Reach) (run : Run) (b k : ℕ) → passes_at (packets_at group (Some b)) k (is_short_profile reach (speech_of group) run (Some b)) ≡ false → IsLongAt reach group run b k
+  long_at reach run b k none t p here there =
+      at-long reach (said_by run group) run (is_silent run t.header.dup (length group) b) p (sym (profile_as reach group run b k t p here there) ∙ none)
+
+  none_short_at : (reach : TrackPacket → Option Reach) (run : Run) (b k : ℕ) → IsLongAt reach group run b k → passes_at (packets_at group (Some b)) k (is_short_profile reach (speech_of group) run (Some b)) ≡ false
+  none_short_at reach run b k part = none_short reach group run b k (λ t p here there.
+      long-at reach (said_by run group) run (is_silent run t.header.dup (length group) b) p (part t p here there))
+
+  pub aspect_holds : (rule : Rule) (run : Option Run) (b k : Option ℕ) → aspect_fact (first_aspect aspects) (take a aspects) group rule run b k ≡ false → AspectPart aspects a group rule run b k
+  aspect_holds rules.PositionWrong None (Some b) None none = λ t here. eqb-true _ _ (not-false _ (at rules.PositionWrong b none t here))
+  aspect_holds rules.TotalWrong None (Some b) None none = λ t here. eqb-true _ _ (not-false _ (at rules.TotalWrong b none t here))
+  aspect_holds rules.HeaderDiffers None (Some b) None none = λ t first here at0. alike-says t first (ap (λ o. is_unlike o t) (sym at0) ∙ at rules.HeaderDiffers b none t here)
+  aspect_holds rules.MarkOutside None (Some b) None none = λ t here. inside-says group b t here (at rules.MarkOutside b none t here)
+  aspect_holds rules.MarkUnanswered None (Some b) None none = answered-says group b (at rules.MarkUnanswered b none)
+  aspect_holds rules.CounterUnfit None (Some b) None none = λ t here. eqb-false _ _ (at rules.CounterUnfit b none t here)
+  aspect_holds rules.CountersDiffer None (Some b) None none = λ j t u here low first.
+      same_Some t.header.counter u.header.counter (sym (counter-says group t (at rules.CountersDiffer b none t here) low) ∙ first_counter-is group j u first)
+  aspect_holds rules.DuplicatesDiffer (Some run) (Some b) None none = λ t u here next.
+      pair-equal run t u (ap (pair_differs run t) (sym next) ∙ sym (passes_as group b (λ t. pair_differs run t (slice_get group (b + 1))) t here) ∙ none)
+  aspect_holds rules.NotModelled None (Some b) (Some k) none = λ t p here there. not-false _ (sym (packet_as group b k is_unmodelled t p here there) ∙ none)
+  aspect_holds rules.NoGradient (Some run) None None none = one-from_lacks gradient_reach (said_by run group) none
+  aspect_holds rules.GradientShort (Some run) (Some b) (Some k) none = long_at gradient_reach run b k none
+  aspect_holds rules.NoSpeed (Some run) None None none = one-from_lacks speed_reach (said_by run group) none
+  aspect_holds rules.SpeedShort (Some run) (Some b) (Some k) none = long_at speed_reach run b k none
+  aspect_holds rules.MarksDiffer None (Some b) None none = λ t first here at_f. mark-says t first (ap (λ o. mark_differs o t) (sym at_f) ∙ at rules.MarksDiffer b none t here)
+  aspect_holds rules.NotToldApart None (Some b) None none = λ c q t u lt here has low same.
+      fresh-says aspects a t (at rules.NotToldApart b none t here) c q u lt has low (sym same)
+  aspect_holds rule run b k none = tt
+
+  pub aspect_unbroken : (rule : Rule) (run : Option Run) (b k : Option ℕ) → AspectPart aspects a group rule run b k → aspect_fact (first_aspect aspects) (take a aspects) group rule run b k ≡ false
+  aspect_unbroken rules.PositionWrong None (Some b) None part = none_at rules.PositionWrong b (λ t here. not_from_true _ (eq-eqb _ _ (part t here)))
+  aspect_unbroken rules.TotalWrong None (Some b) None part = none_at rules.TotalWrong b (λ t here. not_from_true _ (eq-eqb _ _ (part t here)))
+  aspect_unbroken rules.HeaderDiffers None (Some b) None part = none_at rules.HeaderDiffers b (λ t here. alike_first (first_aspect aspects) t (λ f at0. part t f here at0))
+  aspect_unbroken rules.MarkOutside None (Some b) None part = none_at rules.MarkOutside b (λ t here. inside-is group b t here (part t here))
+  aspect_unbroken rules.MarkUnanswered None (Some b) None part = none_at rules.MarkUnanswered b (λ t here. answered-is group b part)
+  aspect_unbroken rules.CounterUnfit None (Some b) None part = none_at rules.CounterUnfit b (λ t here. ne_eqb _ _ (part t here))
+  aspect_unbroken rules.CountersDiffer None (Some b) None part = none_at rules.CountersDiffer b (λ t here. equal-is group b t here (λ j u low first. part j t u here low first))
+  aspect_unbroken rules.DuplicatesDiffer (Some run) (Some b) None part = failing group b (λ t. pair_differs run t (slice_get group (b + 1))) (λ t here. false_from_ne_true _ (λ differs.
+      let p = pair-says run t (slice_get group (b + 1)) differs in
+      p.4 (part t p.0 here p.1 p.2 p.3)))
+  aspect_unbroken rules.NotModelled None (Some b) (Some k) part = failing (packets_at group (Some b)) k is_unmodelled (λ p here.
+      let s = packet_stands group b k p here in
+      not_from_true _ (part s.0 p s.1 s.2))
+  aspect_unbroken rules.NoGradient (Some run) None None part = lacks-from_one gradient_reach (said_by run group) part
+  aspect_unbroken rules.GradientShort (Some run) (Some b) (Some k) part = none_short_at gradient_reach run b k part
+  aspect_unbroken rules.NoSpeed (Some run) None None part = lacks-from_one speed_reach (said_by run group) part
+  aspect_unbroken rules.SpeedShort (Some run) (Some b) (Some k) part = none_short_at speed_reach run b k part
+  aspect_unbroken rules.MarksDiffer None (Some b) None part = none_at rules.MarksDiffer b (λ t here. marks-are (first_aspect aspects) b t (λ f at_f. part t f here at_f))
+  aspect_unbroken rules.NotToldApart None (Some b) None part = none_at rules.NotToldApart b (λ t here. false_from_ne_true _ (λ taken.
+      let r = taken-at aspects a t taken in
+      part r.0 r.1 t r.2 r.3 here r.4 r.5 (sym r.6)))
+  aspect_unbroken rules.NotModelled None None (Some k) part = refl
+  aspect_unbroken rules.GradientShort (Some run) None (Some k) part = refl
+  aspect_unbroken rules.SpeedShort (Some run) None (Some k) part = refl
+  aspect_unbroken rule None (Some b) None part = failing group b (fact rule b) (λ t here. refl)
+  aspect_unbroken rule run b k part = refl
+
+-- ---- a group as a whole
+
+module _ (new : Type 0) (used : Bool) (aspects : List (List Telegram)) (controlled : IsControlled aspects) where
+  pub whole_holds : (used ≡ false → new) → (rule : Rule) (run : Option Run) (b k : Option ℕ) → whole_fact used aspects rule run b k ≡ false → GroupWidePart new aspects rule run b k
+  whole_holds is_new rules.IdentityUsed None None None none = is_new none
+  whole_holds is_new rules.NotToldApart None (Some b) None none = λ many.
+      told_place aspects controlled many b (λ f at. sym (passes_as (first_aspect aspects) b (is_ambiguous aspects b) f at) ∙ none)
+  whole_holds is_new rule run b k none = tt
+
+  pub whole_unbroken : (new → used ≡ false) → (rule : Rule) (run : Option Run) (b k : Option ℕ) → GroupWidePart new aspects rule run b k → whole_fact used aspects rule run b k ≡ false
+  whole_unbroken unused rules.IdentityUsed None None None part = unused part
+  whole_unbroken unused rules.NotToldApart None (Some b) None part = failing (first_aspect aspects) b (is_ambiguous aspects b) (λ t at. untold-is aspects controlled b t at part)
+  whole_unbroken unused rule run b k part = refl
+
+-- ---- messages
+
+module _ (packets : List TrackPacket) where
+  packets_hold : (rule : Rule) (run : Option Run) (b k : Option ℕ) → packet_fact (speech_in packets) rule run b k ≡ false → PacketsPart packets rule run b k
+  packets_hold rules.NotModelled None None (Some k) none = λ p at. not-false _ (sym (passes_as packets k is_unmodelled p at) ∙ none)
+  packets_hold rules.NoGradient (Some run) None None none = one-from_lacks gradient_reach (filter (holds run) packets) none
+  packets_hold rules.GradientShort (Some run) None (Some k) none = λ p at.
+      at-long gradient_reach (filter (holds run) packets) run false p (sym (passes_as packets k (is_short_profile gradient_reach (speech_in packets) run None) p at) ∙ none) refl
+  packets_hold rules.NoSpeed (Some run) None None none = one-from_lacks speed_reach (filter (holds run) packets) none
+  packets_hold rules.SpeedShort (Some run) None (Some k) none = λ p at.
+      at-long speed_reach (filter (holds run) packets) run false p (sym (passes_as packets k (is_short_profile speed_reach (speech_in packets) run None) p at) ∙ none) refl
+  packets_hold rule run b k none = tt
+
+  packets_unbroken : (rule : Rule) (run : Option Run) (b k : Option ℕ) → PacketsPart packets rule run b k → packet_fact (speech_in packets) rule run b k ≡ false
+  packets_unbroken rules.NotModelled None None (Some k) part = failing packets k is_unmodelled (λ p at. not_from_true _ (part p at))
+  packets_unbroken rules.NoGradient (Some run) None None part = lacks-from_one gradient_reach (filter (holds run) packets) part
+  packets_unbroken rules.GradientShort (Some run) None (Some k) part =
+      failing packets k (is_short_profile gradient_reach (speech_in packets) run None) (λ p at. long-at gradient_reach (filter (holds run) packets) run false p (λ _. part p at))
+  packets_unbroken rules.NoSpeed (Some run) None None part = lacks-from_one speed_reach (filter (holds run) packets) part
+  packets_unbroken rules.SpeedShort (Some run) None (Some k) part =
+      failing packets k (is_short_profile speed_reach (speech_in packets) run None) (λ p at. long-at speed_reach (filter (holds run) packets) run false p (λ _. part p at))
+  packets_unbroken rules.NotModelled None (Some b) (Some k) part = refl
+  packets_unbroken rules.GradientShort (Some run) (Some b) (Some k) part = refl
+  packets_unbroken rules.SpeedShort (Some run) (Some b) (Some k) part = refl
+  packets_unbroken rule run b k part = refl
+
+pub message_holds : (m : Message) (rule : Rule) (run : Option Run) (b k : Option ℕ) → message_fact m rule None run b k ≡ false → MessagePart m rule run b k
 message_holds (messages.Movement m) rule run b k none = packets_hold m.packets rule run b k none
 message_holds (messages.Position m) rule run b k none = tt
 
--- ---- the laws
+pub message_unbroken : (m : Message) (rule : Rule) (run : Option Run) (b k : Option ℕ) → MessagePart m rule run b k → message_fact m rule None run b k ≡ false
+message_unbroken (messages.Movement m) rule run b k part = packets_unbroken m.packets rule run b k part
+message_unbroken (messages.Position m) rule run b k part = refl
 
--- the identity of a group that is not used is new
-new_here : (groups : List (List (List Telegram))) (g : ℕ) (aspects : List (List Telegram)) → IsControlled aspects → is_used (take g groups) aspects ≡ false → IsNew groups g aspects
-new_here groups g aspects controlled unused i h lt here =
-    let f = some_at (first_aspect aspects) 0 (first_long aspects controlled) in
-    unused-says (take g groups) aspects f.0.header.identity (identity-at (first_aspect aspects) f.0 f.1) unused i h (at_take g groups i h lt here)
-
-pub parts_hold_unless_found : PartsHoldUnlessFound
-parts_hold_unless_found groups messages f controlled none = at f.site refl
-  where
-    unstated : (s : Site) → f.site ≡ s → StatesAt groups messages f s → ⊥
-    unstated s e states =
-        let r = each_fact_is_listed groups messages f (subst (StatesAt groups messages f) (sym e) states) in
-        none r.0 r.1
-
-    at : (s : Site) → f.site ≡ s → HasPartsAt groups messages f s
-    at (sites.Group g) e = λ aspects here. (
-      λ whole. whole_holds (IsNew groups g aspects) (is_used (take g groups) aspects) aspects (controlled g aspects here) (new_here groups g aspects (controlled g aspects here)) f.rule f.dir f.balise f.packet
-          (λ fact. unstated (sites.Group g) e (aspects, here, inl (whole, fact))),
-      λ a group there told. aspect_holds aspects a group f.rule f.dir f.balise f.packet
-          (λ fact. unstated (sites.Group g) e (aspects, here, inr (a, group, there, told-says aspects a f.aspect told, fact))),
-    )
-    at (sites.Message i) e = λ m here whole. message_holds m f.rule f.dir f.balise f.packet
-        (λ fact. unstated (sites.Message i) e (m, here, whole, fact))
-
--- a finding that hurts has a part that does not hold
-hurt_parts : (groups : List (List (List Telegram))) (messages : List Message) (f : Finding) (s : Site) → HasPartsAt groups messages f s → HurtsSite groups messages f s → ⊥
-hurt_parts groups messages f (sites.Group g) parts h =
-    let p = parts h.0 h.1 in
-    elim h.2 [
-      | inl w ↦ w.1 (p.0 w.0)
-      | inr r ↦ r.4 (p.1 r.0 r.1 r.2 r.3)
-    ]
-hurt_parts groups messages f (sites.Message i) parts h = h.3 (parts h.0 h.1 h.2)
-
-pub nothing_hurts_a_sound_line : NothingHurtsASoundLine
-nothing_hurts_a_sound_line groups messages f controlled sound =
-    let empty : findings groups messages ≡ [] = (no_finding_means_sound_line groups messages controlled).1 sound in
-    let parts = parts_hold_unless_found groups messages f controlled (λ i at. none-some f (subst (λ l. At l i f) empty at)) in
-    (parts, hurt_parts groups messages f f.site parts)
+-- a fact about a message names no aspect
+pub message_whole : (m : Message) (rule : Rule) (aspect : Option ℕ) (run : Option Run) (b k : Option ℕ) → message_fact m rule aspect run b k ≡ true → aspect ≡ None
+message_whole (messages.Movement m) rule None run b k h = refl
+message_whole m rule aspect run b k h = absurd (both_ways false refl h)

@@ -7,12 +7,12 @@ use Rattle.etcs_group.specs.Places.{At}
 use Rattle.etcs_check.specs.Harm.{Hurts}
 use Rattle.etcs_check.specs.Laws.{AreControlled, NamesTheUnsound}
 use Rattle.etcs_check.specs.Line.{findings, group_list, message_list}
-use Rattle.etcs_check.specs.Meaning.{States}
+use Rattle.etcs_check.specs.Facts.{States}
 use Rattle.etcs_check.specs.Soundness.{IsSoundLine}
 use Rattle.etcs_check.specs.declared.finding.Finding.{Finding}
 use Rattle.etcs_check.proofs.LineLemmas.{no_finding_means_sound_line}
-use Rattle.etcs_check.proofs.ListedLemmas.{each_fact_is_listed}
-use Rattle.etcs_check.proofs.MeaningLemmas.{findings_are_facts}
+use Rattle.etcs_check.proofs.CellLemmas.{each_fact_is_listed}
+use Rattle.etcs_check.proofs.HarmLemmas.{findings_are_facts}
 use Rattle.etcs_check.proofs.NamedLemmas.{unnamed_means_sound}
 
 -- the findings about the groups were appended to none, and then the findings about the messages
@@ -27,7 +27,7 @@ module _ (groups : List (List (List Telegram))) (messages : List Message) (found
   found_all f fact = let r = each_fact_is_listed groups messages f fact in (r.0, subst (λ l. At l r.0 f) (sym is) r.1)
 
   module _ (controlled : AreControlled groups) where
-    -- there is no finding exactly where the line is sound
+    -- there is no finding if and only if the line is sound
     pub found_sound : (found ≡ []) ↔ IsSoundLine groups messages
     found_sound = let law = no_finding_means_sound_line groups messages controlled in (λ none. law.0 (sym is ∙ none), λ sound. is ∙ law.1 sound)
 

@@ -1,34 +1,36 @@
--- An aspect has no finding against itself exactly where it is sound, and each finding hurts.
-use Rattle.std.proofs.Common.{◌≡◌, ◌≢◌, ℕ, suc, ◌+◌, ◌<◌, Bool, true, false, not, List, length, slice_get, Option, Some, None, refl, sym, ap, subst, ◌∙◌, arith}
-use Rattle.std.proofs.lemmas.Option.{none-some, same_Some, slice_get_within}
-use Rattle.std.proofs.lemmas.Bool.{both_ways, and_parts, eqb-true, not-true, not-false, false_from_ne_true}
+-- An aspect is sound if and only if each part of it holds.
+use Rattle.std.proofs.Common.{◌≡◌, ◌≢◌, ℕ, suc, ◌+◌, ◌<◌, Bool, true, false, not, List, length, get_or, slice_get, Option, Some, None, refl, sym, ap, subst, ◌∙◌, arith}
+use Rattle.std.proofs.lemmas.Option.{none-some, same_Some, slice_get_within, slice_get-get_or, get_or_from_slice_get}
+use Rattle.std.proofs.lemmas.Bool.{both_ways, and_parts, eqb-true, not-true, not-false}
 use Rattle.etcs_bits.specs.declared.variables.duplicate.Dup.{Dup}
 use Rattle.etcs_bits.specs.declared.variables.duplicate.Dup.TheVariants as dups
 use Rattle.etcs_packet.specs.declared.run.Run.{Run}
 use Rattle.etcs_packet.specs.declared.run.Run.TheVariants as runs
+use Rattle.etcs_packet.specs.declared.track.TrackPacket.{TrackPacket}
 use Rattle.etcs_telegram.specs.Record.{Telegram}
 use Rattle.etcs_group.specs.Places.{At}
-use Rattle.etcs_group.specs.Group.{named_by, AreAlike, IsWellFormed, HasOneCounter}
+use Rattle.etcs_group.specs.Group.{is_modelled, named_by, AreAlike, IsWellFormed, HasOneCounter}
 use Rattle.etcs_group.specs.Missed.{IsSetOf, IsCovered, none_missed}
 use Rattle.etcs_group.specs.Reading.{reading_of}
 use Rattle.etcs_group.specs.Assembly.{IsAccepted}
 use Rattle.etcs_group.specs.Packets.{held_by, packets_of, said_by, HasEqualPairs}
-use Rattle.etcs_group.proofs.PlaceLemmas.{one_at}
+use Rattle.etcs_group.proofs.PlaceLemmas.{one_at, some_at}
 use Rattle.etcs_group.proofs.MarkLemmas.{partner-says, next-at, previous-at}
 use Rattle.etcs_group.proofs.ReadingLemmas.{at-reading}
 use Rattle.etcs_group.proofs.DecidedLemmas.{readings_are_decided}
 use Rattle.etcs_group.proofs.BlockLemmas.{readings_say_the_same}
 use Rattle.etcs_group.proofs.SaidLemmas.{said-packets}
 use Rattle.etcs_check.specs.Profiles.{gradient_reach, speed_reach, AreReached}
-use Rattle.etcs_check.specs.Soundness.{IsSoundReading, IsSoundGroup}
-use Rattle.etcs_check.specs.Findings.{is_unfit, counter_differs, mark_differs, is_counter_taken, are_pair, pair_differs}
-use Rattle.etcs_check.specs.Harm.{only, passed_first, DependsOnMissed, IsNeverAccepted}
+use Rattle.etcs_check.specs.Soundness.{IsSoundReading, IsSoundGroup, first_aspect}
+use Rattle.etcs_check.specs.Findings.{are_pair, pair_differs}
+use Rattle.etcs_check.specs.Harm.{only, passed_first, AspectPart}
+use Rattle.etcs_check.specs.declared.finding.Rule.{Rule}
+use Rattle.etcs_check.specs.declared.finding.Rule.TheVariants as rules
 use Rattle.etcs_check.specs.Duplicates.{same_held}
 use Rattle.etcs_check.specs.Laws.{SoundGroupsAreDecided}
 use Rattle.etcs_check.proofs.NumberLemmas.{Decides-same_packets}
-use Rattle.etcs_check.proofs.ProfileLemmas.{profiles-said, lacks-from_profiles, long-said}
-use Rattle.etcs_check.proofs.CleanLemmas.{IsClean}
-use Rattle.etcs_check.proofs.FormedLemmas.{formed-from_clean, fitting-from_clean, alike_first, formed_placed, formed_counted, formed_inside, formed_answered, formed_modelled, fitting_254, fitting_one}
+use Rattle.etcs_check.proofs.ProfileLemmas.{HaveProfiles, profiles-from, profiles-one, long-said, said-long}
+use Rattle.etcs_check.proofs.FormedLemmas.{first_counted}
 use Rattle.etcs_check.proofs.PairLemmas.{duplicates-equal, only-covered}
 
 -- ---- pairs
@@ -57,13 +59,12 @@ pair-equal run t u h e f =
     let same : not (same_held run t u) ≡ false = rw (e, f) at h in
     (Decides-same_packets (held_by run t) (held_by run u)).0 (not-false _ same)
 
-module _ (group : List Telegram) (run : Run) (formed : IsWellFormed group) (equal : (b : ℕ) (t : Telegram) → At group b t → pair_differs run t (slice_get group (b + 1)) ≡ false) where
+module _ (group : List Telegram) (run : Run) (formed : IsWellFormed group) (equal : (b : ℕ) (t u : Telegram) → At group b t → At group (b + 1) u → t.header.dup ≡ dups.Next → u.header.dup ≡ dups.Previous → held_by run t ≡ held_by run u) where
   -- the packets of a balise and of the one behind it, which is its partner
   next_equal : (b : ℕ) (t u : Telegram) → At group b t → At group (suc b) u → t.header.dup ≡ dups.Next → u.header.dup ≡ dups.Previous → held_by run t ≡ held_by run u
   next_equal b t u at au e f =
       let one : b + 1 ≡ suc b = omega arith in
-      let au' : slice_get group (b + 1) ≡ Some u = ap (slice_get group) one ∙ au in
-      pair-equal run t u (ap (pair_differs run t) (sym au') ∙ equal b t at) e f
+      equal b t u at (ap (slice_get group) one ∙ au) e f
 
   pub equal_pairs : HasEqualPairs run group
   equal_pairs b p t u partner at au =
@@ -91,43 +92,66 @@ module _ (group : List Telegram) (run : Run) (formed : IsWellFormed group) (equa
           let n' : named_by dups.Previous (suc r.0) ≡ Some p = ap (named_by dups.Previous) (sym r.1) ∙ n in
           by_previous r.0 r.2 r.1 (sym (same_Some r.0 p n')) r.3 r.4 e
 
--- where missing the first of a pair alone changes nothing that is said, the pair does not differ
-pair-from_same : (group : List Telegram) (run : Run) → IsWellFormed group → (b : ℕ) (t : Telegram) → At group b t
-    → (t.header.dup ≡ dups.Next → packets_of run (reading_of run (only (passed_first run b)) group) ≡ packets_of run (reading_of run none_missed group))
-    → pair_differs run t (slice_get group (b + 1)) ≡ false
-pair-from_same group run formed b t at same = false_from_ne_true _ (λ differs.
-    let one : b + 1 ≡ suc b = omega arith in
-    let p = pair-says run t (slice_get group (b + 1)) differs in
-    let au : At group (suc b) p.0 = ap (slice_get group) (sym one) ∙ p.1 in
-    p.4 (duplicates-equal group run b t p.0 formed at au p.2 p.3 (same p.2)))
+-- ---- parts that hold, so sound
 
--- ---- no finding, so sound
+-- each part of an aspect
+abbrev pub HasAspectParts : List (List Telegram) → ℕ → List Telegram → Type 0
+HasAspectParts aspects a group = (rule : Rule) (run : Option Run) (b k : Option ℕ) → AspectPart aspects a group rule run b k
 
-module _ (first : List Telegram) (before : List (List Telegram)) (group : List Telegram) (long : 0 < length first) (some : 0 < length group) (clean : IsClean first before group) where
+-- two telegrams like a third are alike
+pub alike_both : (t u first : Telegram) → AreAlike t first → AreAlike u first → AreAlike t u
+alike_both t u first a b = record {
+  version = a.version ∙ sym b.version;
+  identity = a.identity ∙ sym b.identity;
+  linked = a.linked ∙ sym b.linked;
+}
+
+module _ (aspects : List (List Telegram)) (a : ℕ) (group : List Telegram) (long : 0 < length (first_aspect aspects)) (some : 0 < length group) (parts : HasAspectParts aspects a group) where
+  -- each balise is like balise 0 of aspect 0
+  all_alike : (b : ℕ) (t u : Telegram) → At group b t → At group 0 u → AreAlike t u
+  all_alike b t u at at0 =
+      let f = some_at (first_aspect aspects) 0 long in
+      alike_both t u f.0 (parts rules.HeaderDiffers None (Some b) None t f.0 at f.1) (parts rules.HeaderDiffers None (Some 0) None u f.0 at0 f.1)
+
   formed : IsWellFormed group
-  formed = formed-from_clean first before group long clean
+  formed = record {
+    placed = λ b. parts rules.PositionWrong None (Some b) None;
+    counted = λ b. parts rules.TotalWrong None (Some b) None;
+    alike = all_alike;
+    inside = λ b. parts rules.MarkOutside None (Some b) None;
+    answered = λ b. parts rules.MarkUnanswered None (Some b) None;
+    modelled = λ b t at k d lt. parts rules.NotModelled None (Some b) (Some k) t (get_or t.packets k d) at (slice_get-get_or t.packets k d lt);
+  }
+
+  one_counter : HasOneCounter group
+  one_counter = record {
+    agrees = λ b. parts rules.CounterUnfit None (Some b) None;
+    equal = λ b c t u at au m n.
+        let r = first_counted group b t at m in
+        parts rules.CountersDiffer None (Some b) None r.0 t r.1 at m r.2 ∙ sym (parts rules.CountersDiffer None (Some c) None r.0 u r.1 au n r.2);
+  }
 
   reached_said : (run : Run) → AreReached (said_by run group)
-  reached_said run i a limit at is = (
-    profiles-said gradient_reach group run (clean.gradients run) (clean.long_gradients run) i a limit at is,
-    profiles-said speed_reach group run (clean.speeds run) (clean.long_speeds run) i a limit at is,
+  reached_said run i p limit at is = (
+    profiles-from gradient_reach (said_by run group) (parts rules.NoGradient (Some run) None None) (said-long gradient_reach group run (λ b k. parts rules.GradientShort (Some run) (Some b) (Some k))) i p limit at is,
+    profiles-from speed_reach (said_by run group) (parts rules.NoSpeed (Some run) None None) (said-long speed_reach group run (λ b k. parts rules.SpeedShort (Some run) (Some b) (Some k))) i p limit at is,
   )
 
   says_said : (run : Run) (missed : ℕ → Bool) → IsCovered group missed → packets_of run (reading_of run missed group) ≡ said_by run group
   says_said run missed covered =
-      (readings_say_the_same run group formed).covered (equal_pairs group run formed (clean.equal_pairs run)) missed covered
+      (readings_say_the_same run group formed).covered (equal_pairs group run formed (λ b. parts rules.DuplicatesDiffer (Some run) (Some b) None)) missed covered
 
-  pub sound-from_clean : IsSoundGroup group
-  sound-from_clean = record {
+  pub sound-from_parts : IsSoundGroup group
+  sound-from_parts = record {
     formed = formed;
     readings = λ run missed set covered. record {
-      accepted = (readings_are_decided run group missed formed (fitting-from_clean first before group long clean) some set).accepted.1 covered;
+      accepted = (readings_are_decided run group missed formed one_counter some set).accepted.1 covered;
       same = says_said run missed covered ∙ (readings_say_the_same run group formed).full;
       reached = subst AreReached (sym (says_said run missed covered)) (reached_said run);
     };
   }
 
--- ---- sound, so no finding
+-- ---- sound, so parts hold
 
 none_set : (group : List Telegram) → IsSetOf group none_missed
 none_set group p h = absurd (both_ways false refl h)
@@ -136,7 +160,7 @@ none_covered : (group : List Telegram) → IsCovered group none_missed
 none_covered group p h = absurd (both_ways false refl h)
 
 -- the counters agree where the reading with nothing missed is accepted
-fitting-from_accepted : (group : List Telegram) (run : Run) → IsAccepted run (reading_of run none_missed group) → HasOneCounter group
+pub fitting-from_accepted : (group : List Telegram) (run : Run) → IsAccepted run (reading_of run none_missed group) → HasOneCounter group
 fitting-from_accepted group run accepted = record {
   agrees = λ b t at. let r = at-reading group none_missed run b t at refl in accepted.one_counter.agrees r.0 t r.1;
   equal = λ b c t u at au m n.
@@ -163,45 +187,46 @@ module _ (group : List Telegram) (sound : IsSoundGroup group) where
       let w = slice_get_within group (suc b) n.1 n.2 in
       omega arith
 
+  equal_next : (run : Run) (b : ℕ) (t u : Telegram) → At group b t → At group (b + 1) u → t.header.dup ≡ dups.Next → u.header.dup ≡ dups.Previous → held_by run t ≡ held_by run u
+  equal_next run b t u at au e f =
+      let one : b + 1 ≡ suc b = omega arith in
+      duplicates-equal group run b t u sound.formed at (ap (slice_get group) (sym one) ∙ au) e f
+      (sound.readings run (only (passed_first run b)) (only_set run b t at e) (only-covered group run b t sound.formed at e)).same
+
+  all_modelled : (b k : ℕ) (t : Telegram) (p : TrackPacket) → At group b t → At t.packets k p → is_modelled p ≡ true
+  all_modelled b k t p at at' =
+      let lt = slice_get_within t.packets k p at' in
+      subst (λ q. is_modelled q ≡ true) (get_or_from_slice_get t.packets k p p at') (sound.formed.modelled b t at k p lt)
+
+  gradients : (run : Run) → HaveProfiles gradient_reach (said_by run group)
+  gradients run i p limit at is = (said_reached run i p limit at is).0
+
+  speeds : (run : Run) → HaveProfiles speed_reach (said_by run group)
+  speeds run i p limit at is = (said_reached run i p limit at is).1
+
   -- an aspect that is like aspect 0, and that its counters distinguish from the aspects before it
-  pub clean-from_sound : (first : List Telegram) (before : List (List Telegram))
-      → ((b : ℕ) (t f : Telegram) → At group b t → At first 0 f → AreAlike t f)
-      → ((b : ℕ) (t : Telegram) → At group b t → mark_differs (slice_get first b) t ≡ false)
-      → ((b : ℕ) (t : Telegram) → At group b t → is_counter_taken before t ≡ false)
-      → IsClean first before group
-  clean-from_sound first before alike marks fresh = record {
-    placed = formed_placed group sound.formed;
-    counted = formed_counted group sound.formed;
-    alike = λ b t at. alike_first first t (λ f at0. alike b t f at at0);
-    inside = formed_inside group sound.formed;
-    answered = formed_answered group sound.formed;
-    fit = fitting_254 group fitting;
-    one_counter = fitting_one group fitting;
-    equal_pairs = λ run b t at. pair-from_same group run sound.formed b t at (λ e.
-        (sound.readings run (only (passed_first run b)) (only_set run b t at e) (only-covered group run b t sound.formed at e)).same);
-    modelled = formed_modelled group sound.formed;
-    gradients = λ run. lacks-from_profiles gradient_reach (said_by run group) (λ i a limit at is. (said_reached run i a limit at is).0);
-    long_gradients = λ run. long-said gradient_reach group run (λ i a limit at is. (said_reached run i a limit at is).0);
-    speeds = λ run. lacks-from_profiles speed_reach (said_by run group) (λ i a limit at is. (said_reached run i a limit at is).1);
-    long_speeds = λ run. long-said speed_reach group run (λ i a limit at is. (said_reached run i a limit at is).1);
-    marks = marks;
-    fresh = fresh;
-  }
+  pub parts-from_sound : (aspects : List (List Telegram)) (a : ℕ) → ((b : ℕ) → AspectPart aspects a group rules.HeaderDiffers None (Some b) None)
+      → ((b : ℕ) → AspectPart aspects a group rules.MarksDiffer None (Some b) None) → ((b : ℕ) → AspectPart aspects a group rules.NotToldApart None (Some b) None) → HasAspectParts aspects a group
+  parts-from_sound aspects a alike marks fresh = go
+    where
+      go : (rule : Rule) (run : Option Run) (b k : Option ℕ) → AspectPart aspects a group rule run b k
+      go rules.PositionWrong None (Some b) None = sound.formed.placed b
+      go rules.TotalWrong None (Some b) None = sound.formed.counted b
+      go rules.HeaderDiffers None (Some b) None = alike b
+      go rules.MarkOutside None (Some b) None = sound.formed.inside b
+      go rules.MarkUnanswered None (Some b) None = sound.formed.answered b
+      go rules.CounterUnfit None (Some b) None = fitting.agrees b
+      go rules.CountersDiffer None (Some b) None = λ j t u at low first. fitting.equal b j t u at first.0 low first.1
+      go rules.DuplicatesDiffer (Some run) (Some b) None = equal_next run b
+      go rules.NotModelled None (Some b) (Some k) = all_modelled b k
+      go rules.NoGradient (Some run) None None = profiles-one gradient_reach (said_by run group) (gradients run)
+      go rules.GradientShort (Some run) (Some b) (Some k) = long-said gradient_reach group run (gradients run) b k
+      go rules.NoSpeed (Some run) None None = profiles-one speed_reach (said_by run group) (speeds run)
+      go rules.SpeedShort (Some run) (Some b) (Some k) = long-said speed_reach group run (speeds run) b k
+      go rules.MarksDiffer None (Some b) None = marks b
+      go rules.NotToldApart None (Some b) None = fresh b
+      go rule run b k = tt
 
 pub sound_groups_are_decided : SoundGroupsAreDecided
 sound_groups_are_decided group run missed sound long set =
     readings_are_decided run group missed sound.formed (fitting group sound) long set
-
--- ---- what each finding means
-
-module _ (group : List Telegram) (b : ℕ) (t : Telegram) (at : At group b t) where
-  pub unfit-hurts : is_unfit t ≡ true → IsNeverAccepted group
-  unfit-hurts fact run accepted = both_ways _ (fitting_254 group (fitting-from_accepted group run accepted) b t at) fact
-
-  pub differs-hurts : counter_differs group t ≡ true → IsNeverAccepted group
-  differs-hurts fact run accepted = both_ways _ (fitting_one group (fitting-from_accepted group run accepted) b t at) fact
-
-  pub pair-hurts : (run : Run) → pair_differs run t (slice_get group (b + 1)) ≡ true → IsWellFormed group → DependsOnMissed group run b
-  pair-hurts run fact formed =
-      let p = pair-says run t (slice_get group (b + 1)) fact in
-      (only-covered group run b t formed at p.2, λ same. both_ways _ (pair-from_same group run formed b t at (λ _. same)) fact)

@@ -1,25 +1,15 @@
 -- The facts against a controlled group, whose lineside unit chooses among aspects (this project's rules,
 -- after SUBSET-026, 3.16.2). Each aspect has the facts against itself. The group as a whole has the facts
 -- about its identity, and about the counters that distinguish its aspects.
-use Rattle.std.specs.Prelude.{ℕ, ◌==◌, ◌&&◌, ◌||◌, nat_lt, Bool, false, not, if◌then◌else◌, List, [], ◌++◌, length, slice_get, take, Option, Some, None, flat_map}
+use Rattle.std.specs.Prelude.{ℕ, ◌==◌, ◌&&◌, ◌||◌, nat_lt, Bool, false, not, List, length, slice_get, None}
 use Rattle.std.specs.List.{list_any, list_all}
 use Rattle.std.specs.Option.{option_map_or}
 use Rattle.etcs_telegram.specs.Record.{Telegram}
-use Rattle.etcs_group.specs.Group.{Telegrams, Aspects}
+use Rattle.etcs_group.specs.Group.{Aspects}
 use Rattle.etcs_check.specs.Duplicates.{same_identity, same_telegram}
-use Rattle.etcs_check.specs.Soundness.{first_aspect, group_identity}
-use Rattle.etcs_check.specs.Findings.{finding_of, noted, for_each, balise_facts, facts_of, all_rules}
-use Rattle.etcs_check.specs.declared.finding.Finding.{Finding}
-use Rattle.etcs_check.specs.declared.finding.Rule.{Rule}
-use Rattle.etcs_check.specs.declared.finding.Rule.TheVariants as rules
+use Rattle.etcs_check.specs.Soundness.{group_identity}
 use Rattle.etcs_check.specs.declared.finding.Site.{Site}
 use Rattle.etcs_check.specs.declared.finding.Spot.{Spot}
-
--- ---- where a fact stands
-
--- how a finding names aspect a: not at all where the group has one aspect
-abbrev pub named_aspect : Aspects → ℕ → Option ℕ
-named_aspect aspects a = if nat_lt 1 (length aspects) then Some a else None
 
 -- ---- the facts about a group as a whole
 
@@ -50,34 +40,6 @@ abbrev pub is_ambiguous : Aspects → ℕ → Telegram → Bool
 is_ambiguous aspects b t =
     nat_lt 1 (length aspects) && not (all_at (is_steady t) b aspects || all_at has_aspect_counter b aspects)
 
--- ---- the findings about a controlled group
--- Pinned by the law findings_are_the_facts_in_order.
-
--- where a finding about a message or a whole group stands, and one about aspect a of a group
+-- where a finding about a message or a whole group stands
 abbrev pub site_spot : Site → Spot
 site_spot site = record { site = site; aspect = None }
-
-abbrev pub aspect_of : Site → Aspects → ℕ → Spot
-aspect_of site aspects a = record { site = site; aspect = named_aspect aspects a }
-
--- the findings of a rule about a group as a whole; `used` says whether an earlier group has its identity
-abbrev pub group_wide_facts : Site → Bool → Aspects → Rule → List Finding
-group_wide_facts site used aspects rules.IdentityUsed =
-    noted used (finding_of rules.IdentityUsed (site_spot site) None None None)
-group_wide_facts site used aspects rules.NotToldApart =
-    balise_facts rules.NotToldApart (site_spot site) (is_ambiguous aspects) (first_aspect aspects)
-group_wide_facts site used aspects r = []
-
--- the findings of a rule about aspect a
-abbrev pub aspect_facts : Site → Aspects → Rule → ℕ → Telegrams → List Finding
-aspect_facts site aspects rule a group =
-    facts_of (aspect_of site aspects a) (first_aspect aspects) (take a aspects) group rule
-
--- the findings of a rule: about the group as a whole, and then about each aspect
-abbrev pub rule_facts : Site → Bool → Aspects → Rule → List Finding
-rule_facts site used aspects rule =
-    group_wide_facts site used aspects rule ++ for_each aspects (aspect_facts site aspects rule)
-
--- the findings of all rules: by rule, then aspect (none first), direction, balise and packet
-abbrev pub group_facts : Site → Bool → Aspects → List Finding
-group_facts site used aspects = flat_map (rule_facts site used aspects) all_rules

@@ -1,8 +1,8 @@
--- The facts against one aspect of a balise group, and their list in order (this project's rules, after
+-- The facts against one aspect of a balise group, and lists of findings (this project's rules, after
 -- SUBSET-026, 3.16.2). A group that no lineside unit switches has one aspect. A fact is seen in the
 -- telegrams of the aspect and of the aspects before it: no definition here speaks of what a train reads.
 -- A place counts the balises of the group from 0.
-use Rattle.std.specs.Prelude.{ℕ, ◌+◌, ◌==◌, ◌&&◌, nat_lt, Bool, true, false, not, if◌then◌else◌, List, [], ◌∷◌, ◌++◌, length, slice_get, filter, Option, Some, None, is_some, flat_map}
+use Rattle.std.specs.Prelude.{ℕ, ◌+◌, ◌==◌, ◌&&◌, nat_lt, Bool, true, false, not, if◌then◌else◌, List, [], ◌∷◌, ◌++◌, length, slice_get, Option, Some, None, is_some, flat_map}
 use Rattle.std.specs.Bool.{beq}
 use Rattle.std.specs.List.{list_any, enumerate_from}
 use Rattle.std.specs.Option.{option_map_or}
@@ -17,9 +17,8 @@ use Rattle.etcs_profile.specs.declared.reach.Reach.{Reach}
 use Rattle.etcs_profile.specs.declared.reach.Reach.TheVariants.{Ends, Open}
 use Rattle.etcs_telegram.specs.Record.{Telegram}
 use Rattle.etcs_group.specs.Group.{is_modelled, partner_of, Telegrams, Aspects}
-use Rattle.etcs_group.specs.Packets.{is_silent, said_by}
 use Rattle.etcs_check.specs.Duplicates.{same_identity, same_mark, same_held}
-use Rattle.etcs_check.specs.Profiles.{limit_of, gradient_reach, speed_reach}
+use Rattle.etcs_check.specs.Profiles.{limit_of}
 use Rattle.etcs_check.specs.declared.finding.Finding.{Finding}
 use Rattle.etcs_check.specs.declared.finding.Rule.{Rule}
 use Rattle.etcs_check.specs.declared.finding.Rule.TheVariants as rules
@@ -134,19 +133,12 @@ goes_past r a = option_map_or (lies_past r) (limit_of a) false
 abbrev pub is_short : (TrackPacket → Option Reach) → List TrackPacket → TrackPacket → Bool
 is_short reach packets p = option_map_or (λ r. list_any (goes_past r) packets) (reach p) false
 
--- F11 and F13 of packet p of the balise at place b: the balise is not silent, the packet holds, and it is
--- a profile that ends before a supervised location that the group says
-abbrev pub is_short_at : (TrackPacket → Option Reach) → Telegrams → Run → ℕ → Telegram → TrackPacket → Bool
-is_short_at reach group run b t p =
-    not (is_silent run t.header.dup (length group) b) && (holds run p && is_short reach (said_by run group) p)
-
--- F11 and F13 of a packet of a message 3: the packet holds, and it is a profile that ends before a supervised
--- location of the packets that hold
-abbrev pub is_short_in : (TrackPacket → Option Reach) → List TrackPacket → Run → TrackPacket → Bool
-is_short_in reach packets run p = holds run p && is_short reach (filter (holds run) packets) p
+-- F11 and F13: the speaker is not silent, the packet holds, and it is a profile that ends before a supervised
+-- location that is said
+abbrev pub is_short_said : (TrackPacket → Option Reach) → List TrackPacket → Run → Bool → TrackPacket → Bool
+is_short_said reach said run silent p = not silent && (holds run p && is_short reach said p)
 
 -- ---- lists of findings
--- Pinned by the law findings_are_the_facts_in_order.
 
 -- a finding of these parts
 abbrev pub finding_of : Rule → Spot → Option Run → Option ℕ → Option ℕ → Finding
@@ -168,90 +160,6 @@ for_each xs f = each_from f 0 xs
 -- the findings of each running direction, nominal first
 abbrev pub for_directions : (Run → List Finding) → List Finding
 for_directions f = f runs.Nominal ++ f runs.Reverse
-
--- ---- the facts of each rule
--- Pinned by the law findings_are_the_facts_in_order.
-
--- one balise by itself
-abbrev pub balise_at : Rule → Spot → (ℕ → Telegram → Bool) → ℕ → Telegram → List Finding
-balise_at rule spot fact b t = noted (fact b t) (finding_of rule spot None (Some b) None)
-
-abbrev pub balise_facts : Rule → Spot → (ℕ → Telegram → Bool) → Telegrams → List Finding
-balise_facts rule spot fact group = for_each group (balise_at rule spot fact)
-
--- F8: each pair, named by its lower balise
-abbrev pub pair_at : Spot → Telegrams → Run → ℕ → Telegram → List Finding
-pair_at spot group run b t =
-    noted (pair_differs run t (slice_get group (b + 1)))
-    (finding_of rules.DuplicatesDiffer spot (Some run) (Some b) None)
-
-abbrev pub pair_facts : Spot → Telegrams → Run → List Finding
-pair_facts spot group run = for_each group (pair_at spot group run)
-
--- F9: each packet of a balise, or of a message
-abbrev pub unmodelled_at : Spot → Option ℕ → ℕ → TrackPacket → List Finding
-unmodelled_at spot b k p = noted (is_unmodelled p) (finding_of rules.NotModelled spot None b (Some k))
-
-abbrev pub unmodelled_in : Spot → Option ℕ → List TrackPacket → List Finding
-unmodelled_in spot b packets = for_each packets (unmodelled_at spot b)
-
-abbrev pub unmodelled_by : Spot → ℕ → Telegram → List Finding
-unmodelled_by spot b t = unmodelled_in spot (Some b) t.packets
-
-abbrev pub unmodelled_facts : Spot → Telegrams → List Finding
-unmodelled_facts spot group = for_each group (unmodelled_by spot)
-
--- F10 and F12: what is said
-abbrev pub lack_facts : Rule → Spot → (TrackPacket → Option Reach) → Telegrams → Run → List Finding
-lack_facts rule spot reach group run =
-    noted (lacks reach (said_by run group)) (finding_of rule spot (Some run) None None)
-
--- F11 and F13: each packet of each balise
-abbrev pub short_at : Rule → Spot → (TrackPacket → Option Reach) → Telegrams → Run → ℕ → Telegram → ℕ → TrackPacket → List Finding
-short_at rule spot reach group run b t k p =
-    noted (is_short_at reach group run b t p) (finding_of rule spot (Some run) (Some b) (Some k))
-
-abbrev pub short_by : Rule → Spot → (TrackPacket → Option Reach) → Telegrams → Run → ℕ → Telegram → List Finding
-short_by rule spot reach group run b t = for_each t.packets (short_at rule spot reach group run b t)
-
-abbrev pub short_facts : Rule → Spot → (TrackPacket → Option Reach) → Telegrams → Run → List Finding
-short_facts rule spot reach group run = for_each group (short_by rule spot reach group run)
-
--- ---- all facts about an aspect
--- Pinned by the law findings_are_the_facts_in_order.
-
--- the findings of a rule about an aspect, in one running direction
-abbrev pub facts_in : Spot → Telegrams → Rule → Run → List Finding
-facts_in spot group rules.DuplicatesDiffer run = pair_facts spot group run
-facts_in spot group rules.NoGradient run = lack_facts rules.NoGradient spot gradient_reach group run
-facts_in spot group rules.GradientShort run = short_facts rules.GradientShort spot gradient_reach group run
-facts_in spot group rules.NoSpeed run = lack_facts rules.NoSpeed spot speed_reach group run
-facts_in spot group rules.SpeedShort run = short_facts rules.SpeedShort spot speed_reach group run
-facts_in spot group r run = []
-
--- The findings of a rule about an aspect. Its balises are compared with `first`, which is aspect 0, and
--- with the aspects before its own.
-abbrev pub facts_of : Spot → Telegrams → Aspects → Telegrams → Rule → List Finding
-facts_of spot first before group rules.PositionWrong =
-    balise_facts rules.PositionWrong spot (balise_fact first before group rules.PositionWrong) group
-facts_of spot first before group rules.TotalWrong =
-    balise_facts rules.TotalWrong spot (balise_fact first before group rules.TotalWrong) group
-facts_of spot first before group rules.HeaderDiffers =
-    balise_facts rules.HeaderDiffers spot (balise_fact first before group rules.HeaderDiffers) group
-facts_of spot first before group rules.MarkOutside =
-    balise_facts rules.MarkOutside spot (balise_fact first before group rules.MarkOutside) group
-facts_of spot first before group rules.MarkUnanswered =
-    balise_facts rules.MarkUnanswered spot (balise_fact first before group rules.MarkUnanswered) group
-facts_of spot first before group rules.CounterUnfit =
-    balise_facts rules.CounterUnfit spot (balise_fact first before group rules.CounterUnfit) group
-facts_of spot first before group rules.CountersDiffer =
-    balise_facts rules.CountersDiffer spot (balise_fact first before group rules.CountersDiffer) group
-facts_of spot first before group rules.NotModelled = unmodelled_facts spot group
-facts_of spot first before group rules.MarksDiffer =
-    balise_facts rules.MarksDiffer spot (balise_fact first before group rules.MarksDiffer) group
-facts_of spot first before group rules.NotToldApart =
-    balise_facts rules.NotToldApart spot (balise_fact first before group rules.NotToldApart) group
-facts_of spot first before group r = for_directions (facts_in spot group r)
 
 -- the rules in the order of their numbers
 abbrev pub all_rules : List Rule

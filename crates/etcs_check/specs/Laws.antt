@@ -1,5 +1,5 @@
 -- The laws that join findings and soundness.
-use Rattle.std.specs.Prelude.{◌≡◌, ◌≢◌, ◌↔◌, ℕ, ◌<◌, Bool, List, [], length, Option, is_some, IsTrue}
+use Rattle.std.specs.Prelude.{◌≡◌, ◌≢◌, ◌↔◌, ℕ, ◌<◌, Bool, false, List, [], length, Option, is_some, IsTrue}
 use Rattle.etcs_packet.specs.Track.{track_number}
 use Rattle.etcs_packet.specs.declared.run.Run.{Run}
 use Rattle.etcs_packet.specs.declared.track.TrackPacket.{TrackPacket}
@@ -17,7 +17,7 @@ use Rattle.etcs_check.specs.Profiles.{gradient_reach, speed_reach}
 use Rattle.etcs_check.specs.Soundness.{IsSoundGroup, IsSoundControlled, IsSoundMessage, IsSoundLine, group_identity}
 use Rattle.etcs_check.specs.Aspects.{is_used}
 use Rattle.etcs_check.specs.Line.{findings}
-use Rattle.etcs_check.specs.Meaning.{GroupFact, States}
+use Rattle.etcs_check.specs.Facts.{group_fact, States}
 use Rattle.etcs_check.specs.Order.{IsListOf}
 use Rattle.etcs_check.specs.Harm.{HasParts, Hurts, IsNew}
 use Rattle.etcs_check.specs.declared.finding.Finding.{Finding}
@@ -25,11 +25,11 @@ use Rattle.etcs_check.specs.declared.finding.Rule.{Rule}
 use Rattle.etcs_check.specs.declared.finding.Site.{Site}
 use Rattle.etcs_check.specs.declared.finding.Site.TheVariants as sites
 
--- Two packets are equal exactly where the numbers in their rows are.
+-- Two packets are equal if and only if the numbers in their rows are.
 abbrev pub PacketsAreTheirNumbers : Type 0
 PacketsAreTheirNumbers = (p q : TrackPacket) → IsTrue (same_packet p q) ↔ (p ≡ q)
 
--- Two telegrams are equal exactly where their sizes and headers are, and the numbers in the rows of
+-- Two telegrams are equal if and only if their sizes and headers are, and the numbers in the rows of
 -- their packets.
 abbrev pub TelegramsAreTheirParts : Type 0
 TelegramsAreTheirParts = (t u : Telegram) → IsTrue (same_telegram t u) ↔ (t ≡ u)
@@ -40,11 +40,11 @@ ProfilesAreTheirPackets =
     ((p : TrackPacket) → IsTrue (is_some (gradient_reach p)) → track_number p ≡ 21)
     × ((p : TrackPacket) → IsTrue (is_some (speed_reach p)) → track_number p ≡ 27)
 
--- No fact stands against a controlled group exactly where it is sound and no earlier group has its identity.
+-- No fact stands against a controlled group if and only if it is sound and no earlier group has its identity.
 abbrev pub NoFindingMeansSoundGroup : Type 0
 NoFindingMeansSoundGroup = (earlier : List Aspects) (aspects : Aspects) → IsControlled aspects
     → ((rule : Rule) (aspect : Option ℕ) (run : Option Run) (b k : Option ℕ)
-    → GroupFact (is_used earlier aspects) aspects rule aspect run b k → ⊥)
+    → group_fact (is_used earlier aspects) aspects rule aspect run b k ≡ false)
     ↔ (IsSoundControlled aspects × ((i : ℕ) (h : Aspects) → At earlier i h
     → group_identity h ≢ group_identity aspects))
 
@@ -52,7 +52,7 @@ NoFindingMeansSoundGroup = (earlier : List Aspects) (aspects : Aspects) → IsCo
 abbrev pub AreControlled : List Aspects → Type 0
 AreControlled groups = (i : ℕ) (aspects : Aspects) → At groups i aspects → IsControlled aspects
 
--- A line has no finding exactly where it is sound.
+-- A line has no finding if and only if it is sound.
 abbrev pub NoFindingMeansSoundLine : Type 0
 NoFindingMeansSoundLine = (groups : List Aspects) (messages : List Message) → AreControlled groups
     → (findings groups messages ≡ []) ↔ IsSoundLine groups messages
@@ -108,7 +108,7 @@ SoundGroupsAreDecided = (group : Telegrams) (run : Run) (missed : ℕ → Bool)
     → IsSoundGroup group → 0 < length group → IsSetOf group missed
     → IsDecided run group missed (reading_of run missed group)
 
--- In a sound controlled group a mixture is accepted exactly where it is covered and one aspect has all
+-- In a sound controlled group a mixture is accepted if and only if it is covered and one aspect has all
 -- that it shows. Its message is then that of this aspect with nothing missed.
 abbrev pub SoundMixturesAreDecided : Type 0
 SoundMixturesAreDecided = (run : Run) (aspects : Aspects) (shown : ℕ → Option ℕ)

@@ -6,11 +6,9 @@ pub mod Aspects
 pub mod Line
 pub mod Identities
 pub mod LineChecker
-pub mod Counters
-pub mod Greatest
-pub mod Summary
-pub mod Meaning
 pub mod Order
 pub mod Harm
 pub mod Laws
-pub mod Quiet
+pub mod Facts
+pub mod Said
+pub mod Walk

@@ -1,69 +1,72 @@
--- The findings of a line, in order: by group, then by message; within each by rule, then by aspect,
--- running direction, balise and packet. No finding hides another.
+-- The findings of a line: at each place every rule is asked, and the facts of a group or a message are sorted by rule.
+-- A place is an aspect or none, a running direction or none, a balise or none, and a packet or none. No finding hides
+-- another.
 -- Pinned by the law findings_are_the_facts_in_order.
-use Rattle.std.specs.Prelude.{ℕ, List, [], ◌++◌, take, filter, Option, Some, None, flat_map}
-use Rattle.etcs_packet.specs.Track.{holds}
+use Rattle.std.specs.Prelude.{ℕ, nat_lt, if◌then◌else◌, Bool, take, List, [], ◌∷◌, ◌++◌, length, map, filter, flat_map, Option, Some, None}
+use Rattle.std.specs.List.{range_with_len}
 use Rattle.etcs_packet.specs.declared.run.Run.{Run}
+use Rattle.etcs_packet.specs.declared.run.Run.TheVariants as runs
 use Rattle.etcs_packet.specs.declared.track.TrackPacket.{TrackPacket}
-use Rattle.etcs_profile.specs.declared.reach.Reach.{Reach}
 use Rattle.etcs_radio.specs.declared.message.Message.{Message}
 use Rattle.etcs_radio.specs.declared.message.Message.TheVariants as messages
-use Rattle.etcs_group.specs.Group.{Aspects}
-use Rattle.etcs_check.specs.Profiles.{gradient_reach, speed_reach}
-use Rattle.etcs_check.specs.Findings.{finding_of, noted, for_each, for_directions, unmodelled_in, lacks, is_short_in, all_rules}
-use Rattle.etcs_check.specs.Aspects.{site_spot, is_used, group_facts}
+use Rattle.etcs_group.specs.Group.{Telegrams, Aspects}
+use Rattle.etcs_check.specs.Aspects.{is_used, site_spot}
+use Rattle.etcs_check.specs.Facts.{group_fact, message_fact, packets_alone, packets_at}
+use Rattle.etcs_check.specs.Findings.{all_rules, finding_of, for_each}
+use Rattle.etcs_check.specs.Soundness.{first_aspect}
+use Rattle.etcs_check.specs.Order.{by_rule}
 use Rattle.etcs_check.specs.declared.finding.Finding.{Finding}
-use Rattle.etcs_check.specs.declared.finding.Rule.{Rule}
-use Rattle.etcs_check.specs.declared.finding.Rule.TheVariants as rules
+use Rattle.etcs_check.specs.declared.finding.Site.{Site}
 use Rattle.etcs_check.specs.declared.finding.Site.TheVariants as sites
 use Rattle.etcs_check.specs.declared.finding.Spot.{Spot}
 
--- ---- the findings about a message 3
+-- none, and then each of the first n numbers
+abbrev pub none_and : ℕ → List (Option ℕ)
+none_and n = None ∷ map (λ i. Some i) (range_with_len 0 n)
 
--- F10 and F12: the packets that hold in the direction have an authority, and no profile of the kind
-abbrev pub message_lack : Rule → Spot → (TrackPacket → Option Reach) → List TrackPacket → Run → List Finding
-message_lack rule spot reach packets run =
-    noted (lacks reach (filter (holds run) packets)) (finding_of rule spot (Some run) None None)
+-- no running direction, and then each
+abbrev pub directions : List (Option Run)
+directions = None ∷ Some runs.Nominal ∷ Some runs.Reverse ∷ []
 
--- F11 and F13: each of the packets
-abbrev pub message_short_at : Rule → Spot → (TrackPacket → Option Reach) → List TrackPacket → Run → ℕ → TrackPacket → List Finding
-message_short_at rule spot reach packets run k p =
-    noted (is_short_in reach packets run p) (finding_of rule spot (Some run) None (Some k))
+-- each rule at each place of a spot that has so many balises, and these packets at a balise or at none
+abbrev pub cells_at : Spot → ℕ → (Option ℕ → List TrackPacket) → List Finding
+cells_at spot count packets = flat_map (λ run. flat_map (λ b. flat_map
+    (λ k. map (λ rule. finding_of rule spot run b k) all_rules) (none_and (length (packets b)))) (none_and count)) directions
 
-abbrev pub message_short : Rule → Spot → (TrackPacket → Option Reach) → List TrackPacket → Run → List Finding
-message_short rule spot reach packets run = for_each packets (message_short_at rule spot reach packets run)
+-- of an aspect
+abbrev pub cells_of : Spot → Telegrams → List Finding
+cells_of spot group = cells_at spot (length group) (packets_at group)
 
--- the findings of a rule about the packets of a message, in one running direction
-abbrev pub message_facts_in : Spot → List TrackPacket → Rule → Run → List Finding
-message_facts_in spot packets rules.NoGradient run = message_lack rules.NoGradient spot gradient_reach packets run
-message_facts_in spot packets rules.GradientShort run =
-    message_short rules.GradientShort spot gradient_reach packets run
-message_facts_in spot packets rules.NoSpeed run = message_lack rules.NoSpeed spot speed_reach packets run
-message_facts_in spot packets rules.SpeedShort run = message_short rules.SpeedShort spot speed_reach packets run
-message_facts_in spot packets r run = []
+-- Of a group: with no aspect named, and with each of them named if there are two or more.
+abbrev pub group_cells : Site → Aspects → List Finding
+group_cells site aspects = cells_of (site_spot site) (first_aspect aspects)
+    ++ for_each (if nat_lt 1 (length aspects) then aspects else []) (λ a group. cells_of (record { site = site; aspect = Some a }) group)
 
--- the findings of a rule about the packets of a message; F9 is about all packets
-abbrev pub message_facts : Spot → List TrackPacket → Rule → List Finding
-message_facts spot packets rules.NotModelled = unmodelled_in spot None packets
-message_facts spot packets r = for_directions (message_facts_in spot packets r)
+-- of a message 3: its packets, at no balise
+abbrev pub message_cells : Site → Message → List Finding
+message_cells site (messages.Movement m) = cells_at (site_spot site) 0 (packets_alone m.packets)
+message_cells site (messages.Position m) = []
 
--- the findings of all rules about a message; a message 136 has none
-abbrev pub message_findings : Spot → Message → List Finding
-message_findings spot (messages.Movement m) = flat_map (message_facts spot m.packets) all_rules
-message_findings spot (messages.Position m) = []
+-- The facts at these cells, sorted by rule. Proofs see through these two definitions only if they ask for it, so that
+-- goals stay short.
+unfoldable pub group_findings : Site → Bool → Aspects → List Finding
+group_findings site used aspects =
+    by_rule (filter (λ f. group_fact used aspects f.rule f.aspect f.dir f.balise f.packet) (group_cells site aspects))
 
--- ---- the findings of a line
+unfoldable pub message_findings : Site → Message → List Finding
+message_findings site m =
+    by_rule (filter (λ f. message_fact m f.rule f.aspect f.dir f.balise f.packet) (message_cells site m))
 
 -- the findings about the group at place i, and about all groups
 abbrev pub group_at : List Aspects → ℕ → Aspects → List Finding
-group_at groups i aspects = group_facts (sites.Group i) (is_used (take i groups) aspects) aspects
+group_at groups i aspects = group_findings (sites.Group i) (is_used (take i groups) aspects) aspects
 
 abbrev pub group_list : List Aspects → List Finding
 group_list groups = for_each groups (group_at groups)
 
 -- the findings about the message at place i, and about all messages
 abbrev pub message_at : ℕ → Message → List Finding
-message_at i m = message_findings (site_spot (sites.Message i)) m
+message_at i m = message_findings (sites.Message i) m
 
 abbrev pub message_list : List Message → List Finding
 message_list messages = for_each messages message_at

@@ -1,6 +1,6 @@
 -- The order in which findings are listed, and the one list that a line has: by group, then by message; within
 -- each by rule, then by aspect, running direction, balise and packet.
-use Rattle.std.specs.Prelude.{◌≡◌, ℕ, suc, ◌<◌, List, [], ◌∷◌, Option, Some, None}
+use Rattle.std.specs.Prelude.{◌≡◌, ℕ, suc, ◌<◌, ◌==◌, Bool, List, [], ◌∷◌, filter, flat_map, Option, Some, None}
 use Rattle.std.specs.Cmp.Lexicographic.{slice_cmp}
 use Rattle.std.specs.Ordering.{nat_cmp}
 use Rattle.std.specs.declared.cmp.Ordering.TheVariants.{Less}
@@ -9,7 +9,8 @@ use Rattle.etcs_packet.specs.declared.run.Run.TheVariants as runs
 use Rattle.etcs_radio.specs.declared.message.Message.{Message}
 use Rattle.etcs_group.specs.Places.{At}
 use Rattle.etcs_group.specs.Group.{Aspects}
-use Rattle.etcs_check.specs.Meaning.{States}
+use Rattle.etcs_check.specs.Facts.{States}
+use Rattle.etcs_check.specs.Findings.{all_rules}
 use Rattle.etcs_check.specs.declared.finding.Finding.{Finding}
 use Rattle.etcs_check.specs.declared.finding.Rule.{Rule}
 use Rattle.etcs_check.specs.declared.finding.Rule.TheVariants as rules
@@ -63,6 +64,16 @@ abbrev pub order_of : Finding → List ℕ
 order_of f =
     site_order f.site ∷ site_place f.site ∷ rule_number f.rule ∷ none_first f.aspect ∷ direction_order f.dir
     ∷ none_first f.balise ∷ none_first f.packet ∷ []
+
+-- ---- sorted by rule
+
+-- the finding is of this rule
+abbrev pub is_of : Rule → Finding → Bool
+is_of rule f = rule_number f.rule == rule_number rule
+
+-- the findings of each rule, as they are, in the order of rules
+abbrev pub by_rule : List Finding → List Finding
+by_rule facts = flat_map (λ rule. filter (is_of rule) facts) all_rules
 
 -- ---- the list
 

@@ -1,16 +1,13 @@
 //! The rules by which the aspects of a controlled group are distinguished.
 
-ghost use Rattle.std.specs.Prelude.{◌≡◌, ◌≢◌, ◌<◌, ◌≤◌, ◌*◌, ◌++◌, ◌||◌, [], ℕ, false, length, slice_get, Some, IsTrue, OnOk, OnErr};
-ghost use Rattle.std.specs.List.{list_any};
+ghost use Rattle.std.specs.Prelude.{◌≡◌, ◌≢◌, ◌<◌, ◌≤◌, ◌++◌, ◌||◌, [], ℕ, false, length, slice_get, Some, OnOk, OnErr};
 ghost use Rattle.std.specs.Option.{option_map_or};
 ghost use Rattle.etcs_telegram.specs.Record.{Telegram};
-ghost use Rattle.etcs_check.specs.Aspects.{all_at, aspect_facts, aspect_of, has_aspect_counter, is_steady, is_ambiguous, site_spot};
-ghost use Rattle.etcs_check.specs.Counters.{is_taken, taken_facts};
-ghost use Rattle.etcs_check.specs.Findings.{balise_facts, for_each, has_counter};
+ghost use Rattle.etcs_check.specs.Aspects.{all_at, has_aspect_counter, is_steady, is_ambiguous, site_spot};
+ghost use Rattle.etcs_check.specs.Findings.{for_each, has_counter};
 ghost use Rattle.etcs_check.specs.Identities.{is_marked};
-ghost use Rattle.etcs_check.specs.Quiet.{AreFresh, AreUnambiguous};
 ghost use Rattle.etcs_check.specs.Soundness.{first_aspect};
-ghost use Rattle.etcs_check.specs.declared.finding.Rule.TheVariants as rules;
+ghost use Rattle.etcs_check.specs.Walk.{ambiguous_at, is_taken};
 
 use crate::duplicates::same_telegram;
 use crate::finding::{Finding, Rule, Site, Spot, note};
@@ -24,14 +21,6 @@ pub(crate) fn site_spot(site: Site) -> Spot
     ensures { result ≡ site_spot site }
 {
     Spot { site, aspect: None }
-}
-
-// Where the facts about an aspect stand. It is named where there are two or more.
-pub(crate) fn aspect_of(site: Site, aspects: &[Group], place: usize) -> Spot
-    ensures { result ≡ aspect_of site aspects.now place }
-{
-    let aspect = if aspects.len() > 1 { Some(place) } else { None };
-    Spot { site, aspect }
 }
 
 // The first aspect.
@@ -106,9 +95,9 @@ pub(crate) fn note_ambiguous(
 ) -> Result<(), Memory>
     requires some { 0 < length aspects.now }
     ensures ok { OnOk result (found.new.items ≡ found.old.items
-        ++ balise_facts rules.NotToldApart (site_spot site) (is_ambiguous aspects.now) (first_aspect aspects.now)) }
-    ensures memory { OnErr result (balise_facts rules.NotToldApart (site_spot site) (is_ambiguous aspects.now)
-        (first_aspect aspects.now) ≢ []) }
+        ++ for_each (first_aspect aspects.now) (ambiguous_at (site_spot site) aspects.now)) }
+    ensures memory { OnErr result
+        (for_each (first_aspect aspects.now) (ambiguous_at (site_spot site) aspects.now) ≢ []) }
 {
     let first = first_aspect(aspects);
     let spot = site_spot(site);
@@ -128,7 +117,7 @@ pub(crate) fn note_ambiguous(
 }
 
 // Whether a counter is below 254 and marked.
-fn is_taken(table: &[u64], telegram: &Telegram) -> bool
+pub(crate) fn is_taken(table: &[u64], telegram: &Telegram) -> bool
     requires { length table.now ≡ 4 }
     ensures { result ≡ is_taken table.now telegram.now }
 {
@@ -136,34 +125,8 @@ fn is_taken(table: &[u64], telegram: &Telegram) -> bool
     counter < 254 && is_marked(table, counter)
 }
 
-// Appends a finding for each balise of an aspect whose counter is below 254 and marked.
-fn note_taken_in(
-    found: &mut Vec<Finding>,
-    spot: Spot,
-    table: &[u64],
-    group: &[Telegram],
-) -> Result<(), Memory>
-    requires { length table.now ≡ 4 }
-    ensures ok { OnOk result (found.new.items ≡ found.old.items ++ taken_facts spot table.now group.now) }
-    ensures memory { OnErr result (taken_facts spot table.now group.now ≢ []) }
-{
-    'places: for place in 0..group.len() {
-        let fact = is_taken(table, &group[place]);
-        note(
-            found,
-            fact,
-            Rule::NotToldApart,
-            spot,
-            None,
-            Some(place),
-            None,
-        )?;
-    }
-    Ok(())
-}
-
 // Marks the counters of an aspect.
-fn mark_counters(table: &mut [u64], group: &[Telegram])
+pub(crate) fn mark_counters(table: &mut [u64], group: &[Telegram])
     requires { length table.now ≡ 4 }
     ensures { (n : ℕ) → is_marked table.new n ≡ (has_counter n group.now || is_marked table.old n) }
 {
@@ -171,76 +134,4 @@ fn mark_counters(table: &mut [u64], group: &[Telegram])
         let telegram = &group[place];
         mark(table, telegram.header.counter.number() as usize);
     }
-}
-
-// Appends a finding for each balise whose counter is below 254 and stands in an earlier aspect. The
-// counters that were seen are the bits of a table.
-pub(crate) fn note_taken(
-    found: &mut Vec<Finding>,
-    site: Site,
-    aspects: &[Group],
-) -> Result<(), Memory>
-    ensures ok { OnOk result (found.new.items ≡ found.old.items
-        ++ for_each aspects.now (aspect_facts site aspects.now rules.NotToldApart)) }
-    ensures memory { OnErr result (for_each aspects.now (aspect_facts site aspects.now rules.NotToldApart) ≢ []) }
-{
-    let mut table = [0u64; 4];
-    'aspects: for place in 0..aspects.len() {
-        let spot = aspect_of(site, aspects, place);
-        let group = aspects[place].telegrams();
-        note_taken_in(found, spot, &table, group)?;
-        mark_counters(&mut table, group);
-    }
-    Ok(())
-}
-
-// Whether a balise of an aspect has a counter below 254 that is marked.
-fn has_taken(table: &[u64], group: &[Telegram]) -> bool
-    requires { length table.now ≡ 4 }
-    ensures { result ≡ list_any (is_taken table.now) group.now }
-{
-    'telegrams: for telegram in group {
-        if is_taken(table, telegram) {
-            return true;
-        }
-    }
-    false
-}
-
-// Whether no counter below 254 stands in an earlier aspect.
-fn are_fresh(aspects: &[Group]) -> bool
-    ensures { IsTrue result → AreFresh aspects.now }
-{
-    let mut counters = [0u64; 4];
-    'aspects: for place in 0..aspects.len() {
-        let group = aspects[place].telegrams();
-        if has_taken(&counters, group) {
-            return false;
-        }
-        mark_counters(&mut counters, group);
-    }
-    true
-}
-
-// Whether each balise is fixed or switched, as aspect 0 shows.
-fn are_unambiguous(aspects: &[Group]) -> bool
-    requires some { 0 < length aspects.now }
-    ensures { IsTrue result → AreUnambiguous aspects.now }
-{
-    let first = first_aspect(aspects);
-    'places: for place in 0..first.len() {
-        if is_ambiguous(aspects, place, &first[place]) {
-            return false;
-        }
-    }
-    true
-}
-
-// Whether no fact stands about how a train distinguishes the aspects. One aspect is always distinguished.
-pub(crate) fn are_distinguished(aspects: &[Group]) -> bool
-    requires some { 0 < length aspects.now }
-    ensures fresh { IsTrue result → AreFresh aspects.now }
-    ensures told { IsTrue result → AreUnambiguous aspects.now }
-{
-    aspects.len() == 1 || (are_fresh(aspects) && are_unambiguous(aspects))
 }

@@ -1,13 +1,12 @@
 //! The rules about balises by themselves, about pairs of duplicates, and about packets that are not
 //! modelled.
 
-ghost use Rattle.std.specs.Prelude.{◌≡◌, ◌≢◌, ◌<◌, ◌≤◌, ◌+◌, ◌++◌, [], ℕ, length, slice_get, Some, IsTrue, OnOk, OnErr};
-ghost use Rattle.std.specs.List.{AllPass};
+ghost use Rattle.std.specs.Prelude.{◌≡◌, ◌≢◌, ◌<◌, ◌≤◌, ◌+◌, ◌++◌, [], length, slice_get, Some, OnOk, OnErr};
 ghost use Rattle.etcs_telegram.specs.Record.{Telegram};
-ghost use Rattle.etcs_group.specs.Group.{is_modelled, partner_of};
+ghost use Rattle.etcs_group.specs.Group.{partner_of};
 ghost use Rattle.etcs_check.specs.Duplicates.{same_mark};
-ghost use Rattle.etcs_check.specs.Findings.{are_pair, balise_fact, balise_facts, counter_differs, first_counter, differs_from, is_outside, is_unanswered, is_unlike, is_unmodelled, mark_differs, pair_differs, pair_facts, unmodelled_facts, unmodelled_in};
-ghost use Rattle.etcs_check.specs.Quiet.{IsQuietBalise, are_same_pair};
+ghost use Rattle.etcs_check.specs.Findings.{are_pair, balise_fact, counter_differs, first_counter, differs_from, is_outside, is_unanswered, is_unlike, is_unmodelled, mark_differs, pair_differs};
+ghost use Rattle.etcs_check.specs.Walk.{are_same_pair, unmodelled_in};
 
 use crate::duplicates::{same_content, same_held};
 use crate::finding::{Finding, Rule, Spot, note};
@@ -134,9 +133,9 @@ fn counter_differs(group: &[Telegram], telegram: &Telegram) -> bool
 
 // Whether the rule is broken by this telegram, which is that of the balise at this place of an aspect. The
 // balise is compared with `first`, aspect 0. Counters of earlier aspects are not looked at. It is inlined
-// because the quick look at a group asks it of each balise for each rule.
+// because each balise is asked for each rule.
 #[inline(always)]
-fn balise_fact(
+pub(crate) fn balise_fact(
     first: &[Telegram],
     group: &[Telegram],
     rule: Rule,
@@ -161,77 +160,6 @@ fn balise_fact(
     }
 }
 
-// Whether no fact stands about the balise at this place of an aspect, about its packets, or about the pair
-// of it and the next balise. The rules are named one by one: a loop over all of them is slower. F16 is not
-// among them, since earlier aspects are not looked at.
-pub(crate) fn is_quiet_balise(
-    first: &[Telegram],
-    group: &[Telegram],
-    place: usize,
-    telegram: &Telegram,
-) -> bool
-    requires within { place < length group.now }
-    requires few { length group.now ≤ 8 }
-    requires at { slice_get group.now place ≡ Some telegram.now }
-    ensures { IsTrue result → IsQuietBalise first.now group.now place telegram.now }
-{
-    if balise_fact(first, group, Rule::PositionWrong, place, telegram) {
-        return false;
-    }
-    if balise_fact(first, group, Rule::TotalWrong, place, telegram) {
-        return false;
-    }
-    if balise_fact(first, group, Rule::HeaderDiffers, place, telegram) {
-        return false;
-    }
-    if balise_fact(first, group, Rule::MarkOutside, place, telegram) {
-        return false;
-    }
-    if balise_fact(first, group, Rule::MarkUnanswered, place, telegram) {
-        return false;
-    }
-    if balise_fact(first, group, Rule::CounterUnfit, place, telegram) {
-        return false;
-    }
-    if balise_fact(first, group, Rule::CountersDiffer, place, telegram) {
-        return false;
-    }
-    if balise_fact(first, group, Rule::MarksDiffer, place, telegram) {
-        return false;
-    }
-    if !are_same_pair_at(group, place, telegram) {
-        return false;
-    }
-    are_modelled(packets(telegram))
-}
-
-// Whether all packets are modelled.
-fn are_modelled(packets: &[TrackPacket]) -> bool
-    ensures { IsTrue result → AllPass is_modelled packets.now }
-{
-    packets.iter().all(|packet| !is_unmodelled(packet))
-}
-
-// Appends a finding for each balise that breaks the rule.
-pub(crate) fn note_balises(
-    found: &mut Vec<Finding>,
-    rule: Rule,
-    spot: Spot,
-    first: &[Telegram],
-    group: &[Telegram],
-) -> Result<(), Memory>
-    requires few { length group.now ≤ 8 }
-    ensures ok { OnOk result (found.new.items ≡ found.old.items
-        ++ balise_facts rule spot (balise_fact first.now [] group.now rule) group.now) }
-    ensures memory { OnErr result (balise_facts rule spot (balise_fact first.now [] group.now rule) group.now ≢ []) }
-{
-    'places: for place in 0..group.len() {
-        let fact = balise_fact(first, group, rule, place, &group[place]);
-        note(found, fact, rule, spot, None, Some(place), None)?;
-    }
-    Ok(())
-}
-
 // Whether a mark names the next balise, and another one the previous balise.
 fn are_pair(first: Dup, second: Dup) -> bool
     ensures { result ≡ are_pair first second }
@@ -251,7 +179,7 @@ fn pair_differs(first: &Telegram, second: &Telegram, run: Run) -> bool
 
 // Whether the balise at this place and the one after it are a pair of duplicates whose packets that hold
 // differ.
-fn pair_differs_at(group: &[Telegram], run: Run, place: usize) -> bool
+pub(crate) fn pair_differs_at(group: &[Telegram], run: Run, place: usize) -> bool
     requires { place < length group.now }
     ensures { (t : Telegram) → slice_get group.now place ≡ Some t
         → result ≡ pair_differs run t (slice_get group.now (place + 1)) }
@@ -271,7 +199,7 @@ fn are_same_pair(first: &Telegram, second: &Telegram) -> bool
 
 // Whether a telegram, which is that of the balise at this place, and the next one are no pair of duplicates,
 // or have the same packets.
-fn are_same_pair_at(group: &[Telegram], place: usize, telegram: &Telegram) -> bool
+pub(crate) fn are_same_pair_at(group: &[Telegram], place: usize, telegram: &Telegram) -> bool
     requires { place < length group.now }
     ensures { result ≡ are_same_pair telegram.now (slice_get group.now (place + 1)) }
 {
@@ -279,31 +207,6 @@ fn are_same_pair_at(group: &[Telegram], place: usize, telegram: &Telegram) -> bo
         Some(second) => are_same_pair(telegram, second),
         None => true,
     }
-}
-
-// Appends a finding for each pair of duplicates whose packets differ in the running direction.
-pub(crate) fn note_pairs(
-    found: &mut Vec<Finding>,
-    spot: Spot,
-    group: &[Telegram],
-    run: Run,
-) -> Result<(), Memory>
-    ensures ok { OnOk result (found.new.items ≡ found.old.items ++ pair_facts spot group.now run) }
-    ensures memory { OnErr result (pair_facts spot group.now run ≢ []) }
-{
-    'places: for place in 0..group.len() {
-        let fact = pair_differs_at(group, run, place);
-        note(
-            found,
-            fact,
-            Rule::DuplicatesDiffer,
-            spot,
-            Some(run),
-            Some(place),
-            None,
-        )?;
-    }
-    Ok(())
 }
 
 // The packets of a telegram.
@@ -345,21 +248,6 @@ pub(crate) fn note_unmodelled(
             balise,
             Some(place),
         )?;
-    }
-    Ok(())
-}
-
-// Appends a finding for each packet of a group that is not modelled.
-pub(crate) fn note_group_unmodelled(
-    found: &mut Vec<Finding>,
-    spot: Spot,
-    group: &[Telegram],
-) -> Result<(), Memory>
-    ensures ok { OnOk result (found.new.items ≡ found.old.items ++ unmodelled_facts spot group.now) }
-    ensures memory { OnErr result (unmodelled_facts spot group.now ≢ []) }
-{
-    'places: for place in 0..group.len() {
-        note_unmodelled(found, spot, Some(place), packets(&group[place]))?;
     }
     Ok(())
 }

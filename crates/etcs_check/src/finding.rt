@@ -51,26 +51,6 @@ pub enum Rule {
     NotToldApart,
 }
 
-// The rules in the order of their numbers.
-pub(crate) const RULES: [Rule; 16] = [
-    Rule::PositionWrong,
-    Rule::TotalWrong,
-    Rule::HeaderDiffers,
-    Rule::MarkOutside,
-    Rule::MarkUnanswered,
-    Rule::CounterUnfit,
-    Rule::CountersDiffer,
-    Rule::DuplicatesDiffer,
-    Rule::NotModelled,
-    Rule::NoGradient,
-    Rule::GradientShort,
-    Rule::NoSpeed,
-    Rule::SpeedShort,
-    Rule::IdentityUsed,
-    Rule::MarksDiffer,
-    Rule::NotToldApart,
-];
-
 /// Where a finding stands. Groups and messages are counted from 0, each by themselves.
 #[derive(Clone, Copy, Debug, PartialEq, Eq)]
 pub enum Site {
@@ -129,5 +109,23 @@ pub(crate) fn note(
         };
         found.push(finding)?;
     }
+    Ok(())
+}
+
+// Appends the other findings. Memory is asked for only if neither list is empty. If it runs out, nothing changes.
+#[inline(always)]
+pub(crate) fn append(found: &mut Vec<Finding>, mut more: Vec<Finding>) -> Result<(), Memory>
+    ensures ok { OnOk result (found.new.items ≡ found.old.items ++ more.items) }
+    ensures memory { OnErr result ((found.old.items ≢ []) × (more.items ≢ [])) }
+    ensures err { OnErr result (found.new.items ≡ found.old.items) }
+{
+    if more.is_empty() {
+        return Ok(());
+    }
+    if found.is_empty() {
+        *found = more;
+        return Ok(());
+    }
+    found.append(&mut more)?;
     Ok(())
 }

@@ -2,15 +2,14 @@
 //!
 //! A [`Line`] is balise groups, each with one or more aspects, and radio messages. A [`Finding`] states
 //! a fact about it by its [`Rule`], its [`Site`] and its aspect. [`same_packets`] compares the packets
-//! of two balises. Read `finding.rt` first, with `specs/Findings.antt`, `specs/Aspects.antt`,
-//! `specs/Meaning.antt` and `specs/Order.antt`, then `specs/Soundness.antt`, which states what a sound line
-//! is by all that trains may read of it. [`laws`] joins the two: a line has no finding exactly where it is
-//! sound. The crate leaves out how a train reacts to what it reads.
+//! of two balises. Read `finding.rt` first, with `specs/Facts.antt`, which states each fact as a test, and
+//! `specs/Order.antt`, then `specs/Soundness.antt`, which states what a sound line is by all that trains may
+//! read of it. [`laws`] joins the two: a line has no finding if and only if it is sound. The crate leaves out
+//! how a train reacts to what it reads.
 #![tactic(auto)]
 
 mod aspects;
 mod balise_rules;
-mod checking;
 mod duplicates;
 mod finding;
 mod identities;
@@ -18,7 +17,7 @@ pub mod laws;
 mod line;
 mod line_checker;
 mod profile_rules;
-mod summary;
+mod walk;
 
 pub use duplicates::same_packets;
 pub use finding::{Finding, Rule, Site};

@@ -10,19 +10,18 @@ ghost use Rattle.etcs_group.specs.Reading.{reading_of};
 ghost use Rattle.etcs_group.specs.Laws.{IsDecided, IsMixtureDecided};
 ghost use Rattle.etcs_group.specs.Mixture.{Fits};
 ghost use Rattle.etcs_group.specs.Group.{Telegrams, Aspects};
-ghost use Rattle.etcs_check.specs.Aspects.{group_facts};
 ghost use Rattle.etcs_check.specs.Harm.{Hurts};
 ghost use Rattle.etcs_check.specs.Identities.{HasIdentity, identity_number};
 ghost use Rattle.etcs_check.specs.Laws.{AreControlled, NamesTheUnsound};
-ghost use Rattle.etcs_check.specs.Line.{findings, group_list, message_list};
-ghost use Rattle.etcs_check.specs.Meaning.{States};
+ghost use Rattle.etcs_check.specs.Line.{findings, group_findings, group_list, message_list};
+ghost use Rattle.etcs_check.specs.Facts.{States};
 ghost use Rattle.etcs_check.specs.Soundness.{IsSoundControlled, IsSoundGroup, IsSoundLine};
 ghost use Rattle.etcs_check.specs.declared.finding.Finding.{Finding};
 ghost use Rattle.etcs_check.specs.declared.finding.Site.TheVariants as sites;
 
-use crate::checking::{note_group, note_message};
-use crate::finding::{Finding, Site};
+use crate::finding::{Finding, Site, append};
 use crate::identities::{has_repeat, identity_number, keep};
+use crate::walk::{group_findings, message_findings};
 use etcs_bits::Memory;
 use etcs_group::{Controlled, Group};
 use etcs_radio::Message;
@@ -42,6 +41,7 @@ pub struct Line {
 // Appends the findings about the group at this place, and keeps its identity, which was used if it was kept before.
 // Where no identity is used again, none is kept, and memory is asked for only if there is a finding.
 fn note_next(
+    alloc: Global,
     found: &mut Vec<Finding>,
     kept: &mut BTreeSet<u32>,
     again: bool,
@@ -49,16 +49,17 @@ fn note_next(
     aspects: &[Group],
 ) -> Result<(), Memory>
     requires some { 0 < length aspects.now }
-    ensures ok { OnOk result (found.new.items ≡ found.old.items ++ group_facts (sites.Group place)
+    ensures ok { OnOk result (found.new.items ≡ found.old.items ++ group_findings (sites.Group place)
         (again && contains nat_cmp kept.old (identity_number aspects.now)) aspects.now) }
     ensures kept { OnOk result (again ≡ true → (n : ℕ) → contains nat_cmp kept.new n
         ≡ (identity_number aspects.now == n || contains nat_cmp kept.old n)) }
-    ensures memory { OnErr result (again ≡ false → group_facts (sites.Group place) false aspects.now ≢ []) }
+    ensures memory { OnErr result (again ≡ false → group_findings (sites.Group place) false aspects.now ≢ []) }
     ensures numbered { HasIdentity aspects.now }
 {
     let identity = identity_number(aspects);
     let used = again && kept.contains(&identity);
-    note_group(found, Site::Group(place), used, aspects)?;
+    let more = group_findings(alloc, place, used, aspects)?;
+    append(found, more)?;
     if again { keep(kept, identity) } else { Ok(()) }
 }
 
@@ -71,18 +72,30 @@ fn note_groups(alloc: Global, found: &mut Vec<Finding>, groups: &[Controlled]) -
     let again = has_repeat(groups);
     let mut kept = BTreeSet::new(alloc);
     'places: for place in 0..groups.len() {
-        note_next(found, &mut kept, again, place, groups[place].aspects())?;
+        note_next(
+            alloc,
+            found,
+            &mut kept,
+            again,
+            place,
+            groups[place].aspects(),
+        )?;
     }
     Ok(())
 }
 
 // Appends the findings about the messages.
-fn note_messages(found: &mut Vec<Finding>, messages: &[Message]) -> Result<(), Memory>
+fn note_messages(
+    alloc: Global,
+    found: &mut Vec<Finding>,
+    messages: &[Message],
+) -> Result<(), Memory>
     ensures ok { OnOk result (found.new.items ≡ found.old.items ++ message_list messages.now) }
     ensures memory { OnErr result (message_list messages.now ≢ []) }
 {
     'places: for place in 0..messages.len() {
-        note_message(found, Site::Message(place), &messages[place])?;
+        let more = message_findings(alloc, Site::Message(place), &messages[place])?;
+        append(found, more)?;
     }
     Ok(())
 }
@@ -113,7 +126,7 @@ pub fn check(alloc: Global, line: &Line) -> Result<Vec<Finding>, Memory>
     ensures sound { IfOk result (λ found. (found.items ≡ [])
         ↔ IsSoundLine line.now.groups.items line.now.messages.items) }
 
-    // A group or a message is sound exactly where no finding names it, whatever is found elsewhere. Of two
+    // A group or a message is sound if and only if no finding names it, whatever is found elsewhere. Of two
     // groups with one identity the later one is named.
     ensures unnamed { IfOk result
         (λ found. NamesTheUnsound line.now.groups.items line.now.messages.items found.items) }
@@ -133,7 +146,7 @@ pub fn check(alloc: Global, line: &Line) -> Result<Vec<Finding>, Memory>
         (missed : ℕ → Bool) → At line.now.groups.items g aspects → At aspects a group → IsSoundGroup group
         → IsSetOf group missed → IsDecided run group missed (reading_of run missed group)) }
 
-    // A mixture of aspects of a sound group is accepted exactly where it is covered and one aspect has all
+    // A mixture of aspects of a sound group is accepted if and only if it is covered and one aspect has all
     // that it shows. Its packets are then those of that aspect.
     ensures mixtures { OnOk result ((g : ℕ) (aspects : Aspects) (run : Run) (shown : ℕ → Option ℕ)
         → At line.now.groups.items g aspects → IsSoundControlled aspects → Fits aspects shown
@@ -141,6 +154,6 @@ pub fn check(alloc: Global, line: &Line) -> Result<Vec<Finding>, Memory>
 {
     let mut found = Vec::new(alloc);
     note_groups(alloc, &mut found, &line.groups)?;
-    note_messages(&mut found, &line.messages)?;
+    note_messages(alloc, &mut found, &line.messages)?;
     Ok(found)
 }

@@ -8,13 +8,13 @@ ghost use Rattle.etcs_check.specs.Harm.{Hurts};
 ghost use Rattle.etcs_check.specs.Laws.{NamesTheUnsound};
 ghost use Rattle.etcs_check.specs.Line.{findings};
 ghost use Rattle.etcs_check.specs.LineChecker.{HasChecked, HasStill, TakesGroups, TakesMessages};
-ghost use Rattle.etcs_check.specs.Meaning.{States};
+ghost use Rattle.etcs_check.specs.Facts.{States};
 ghost use Rattle.etcs_check.specs.Soundness.{IsSoundLine};
 ghost use Rattle.etcs_check.specs.declared.finding.Finding.{Finding as SomeFinding};
 
-use crate::checking::{note_group, note_message};
-use crate::finding::{Finding, Site};
+use crate::finding::{Finding, Site, append};
 use crate::identities::{identity_number, keep};
+use crate::walk::{group_findings, message_findings};
 use etcs_bits::Memory;
 use etcs_group::Controlled;
 use etcs_radio::Message;
@@ -65,22 +65,6 @@ impl Model for LineChecker {
     ghost view = { λ c. record { about_groups = c.about_groups.items; about_messages = c.about_messages.items; groups = c.groups; messages = c.messages; identities = c.identities } };
 }
 
-// Appends the other findings. Memory is asked for only if neither list is empty. If it runs out, nothing changes.
-fn append(found: &mut Vec<Finding>, mut more: Vec<Finding>) -> Result<(), Memory>
-    ensures ok { OnOk result (found.new.items ≡ found.old.items ++ more.items) }
-    ensures memory { OnErr result ((found.old.items ≢ []) × (more.items ≢ [])) }
-    ensures err { OnErr result (found.new.items ≡ found.old.items) }
-{
-    if found.is_empty() {
-        *found = more;
-        return Ok(());
-    }
-    if !more.is_empty() {
-        found.append(&mut more)?;
-    }
-    Ok(())
-}
-
 impl LineChecker {
     /// A checker that has taken nothing yet. It asks for no memory.
     pub fn new(alloc: Global) -> LineChecker
@@ -112,8 +96,7 @@ impl LineChecker {
         let aspects = group.aspects();
         let identity = identity_number(aspects);
         let used = self.identities.contains(&identity);
-        let mut found = Vec::new(alloc);
-        note_group(&mut found, Site::Group(self.groups), used, aspects)?;
+        let found = group_findings(alloc, self.groups, used, aspects)?;
         let before = self.about_groups.len();
         append(&mut self.about_groups, found)?;
         if keep(&mut self.identities, identity).is_err() {
@@ -139,8 +122,7 @@ impl LineChecker {
         let Some(messages) = self.messages.checked_add(1) else {
             return Err(CheckError::TooMany);
         };
-        let mut found = Vec::new(alloc);
-        note_message(&mut found, Site::Message(self.messages), message)?;
+        let found = message_findings(alloc, Site::Message(self.messages), message)?;
         append(&mut self.about_messages, found)?;
         self.messages = messages;
         Ok(())
@@ -175,12 +157,12 @@ impl LineChecker {
         ensures sound { IfOk result (λ found. (gs : List Aspects) (ms : List SomeMessage)
             → HasChecked self gs ms → (found.items ≡ []) ↔ IsSoundLine gs ms) }
 
-        // A group or a message is sound exactly where no finding names it, whatever is found elsewhere. Of two
+        // A group or a message is sound if and only if no finding names it, whatever is found elsewhere. Of two
         // groups with one identity the later one is named.
         ensures unnamed { IfOk result (λ found. (gs : List Aspects) (ms : List SomeMessage)
             → HasChecked self gs ms → NamesTheUnsound gs ms found.items) }
 
-        // A finding is there exactly where its fact stands, and its own part of soundness does not hold there.
+        // A finding is there if and only if its fact stands, and its own part of soundness does not hold there.
         ensures facts { IfOk result (λ found. (gs : List Aspects) (ms : List SomeMessage)
             → HasChecked self gs ms → (f : SomeFinding) → ((i : ℕ) × At found.items i f) ↔ States gs ms f) }
         ensures hurts { IfOk result (λ found. (gs : List Aspects) (ms : List SomeMessage)

@@ -1,4 +1,4 @@
-use Rattle.etcs_check.specs.Findings.{unmodelled_at}
+use Rattle.etcs_check.specs.Walk.{unmodelled_at}
 use Rattle.etcs_check.proofs.NoteLemmas.{on_err, index_at, each_stands, each_pushed, noted_as, stands_as}
 use Rattle.etcs_check.proofs.balise_rules.note_unmodelled.Goals as goal
 

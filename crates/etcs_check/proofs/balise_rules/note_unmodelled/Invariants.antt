@@ -1,6 +1,6 @@
 use Rattle.std.proofs.Common.{◌≡◌, ◌++◌, drop}
 use Rattle.etcs_check.specs.Findings.{each_from, for_each}
-use Rattle.etcs_check.specs.Findings.{unmodelled_at}
+use Rattle.etcs_check.specs.Walk.{unmodelled_at}
 use Rattle.etcs_check.proofs.balise_rules.note_unmodelled.Given as goal
 
 -- the findings so far and those about the rest are all

@@ -3,7 +3,7 @@ use Rattle.etcs_group.specs.Packets.{held_by}
 use Rattle.etcs_check.proofs.NumberLemmas.{Decides-same_packets}
 use Rattle.etcs_check.proofs.duplicates.same_packets.Goals as goal
 
--- The numbers of two lists of packets are equal exactly where the lists are.
+-- The numbers of two lists of packets are equal if and only if the lists are.
 pub returns : goal.returns
 returns c =
     let d = Decides-same_packets (held_by c.args.run c.args.this.now) (held_by c.args.run c.args.that.now) in

@@ -6,7 +6,7 @@ use Rattle.etcs_check.proofs.SoundLemmas.{sound_groups_are_decided}
 use Rattle.etcs_check.proofs.SayingLemmas.{findings_noted, found_all, found_facts, found_sound, found_unnamed}
 use Rattle.etcs_check.proofs.line.check.Goals as goal
 
--- The list is empty exactly where the line is sound.
+-- The list is empty if and only if the line is sound.
 pub returns-clause-sound : goal.returns-clause-sound
 returns-clause-sound c =
     let is : c.note_messages.new.found.items ≡ findings c.args.line.now.groups.items c.args.line.now.messages.items =

@@ -6,7 +6,7 @@ use Rattle.etcs_check.proofs.line_checker.LineChecker.finish.Goals as goal
 pub returns-clause-ok : goal.returns-clause-ok
 returns-clause-ok c = λ gs ms was. held_findings _ _ _ gs ms c.self.view_is c.in_ok-append.ensures.ok was
 
--- It is empty exactly where the line is sound.
+-- It is empty if and only if the line is sound.
 pub returns-clause-sound : goal.returns-clause-sound
 returns-clause-sound c = λ gs ms was.
     found_sound gs ms _ (held_findings _ _ _ gs ms c.self.view_is c.in_ok-append.ensures.ok was) was.controlled

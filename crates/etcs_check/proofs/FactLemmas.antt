@@ -1,0 +1,102 @@
+-- What the tests of facts say of what stands at a place, and how a finding names the aspect of its fact.
+use Rattle.std.proofs.Common.{◌≡◌, ℕ, Bool, true, false, not, ltb, List, [], length, slice_get, take, Option, Some, None, refl, sym, ap, subst, ◌∙◌, arith}
+use Rattle.std.specs.Option.{option_map_or}
+use Rattle.std.proofs.lemmas.Bool.{both_ways, and_parts, and_from, or_cases, or_right, cases_lt, lt-ltb, le-ltb, ltb-true, ltb-false, not_from_false, not-true}
+use Rattle.std.proofs.lemmas.Option.{none-some, slice_get_within}
+use mathlib.Core.Logic.{◌⊎◌, inl, inr}
+use Rattle.etcs_packet.specs.declared.run.Run.{Run}
+use Rattle.etcs_packet.specs.declared.track.TrackPacket.{TrackPacket}
+use Rattle.etcs_profile.specs.declared.reach.Reach.{Reach}
+use Rattle.etcs_telegram.specs.Record.{Telegram}
+use Rattle.etcs_group.specs.Group.{Telegrams, Aspects}
+use Rattle.etcs_group.specs.Packets.{is_silent, said_by}
+use Rattle.etcs_group.specs.Places.{At}
+use Rattle.etcs_check.specs.Facts.{passes_at, packets_at, speech_of, is_short_profile, aspect_fact, whole_fact, fact_of_aspect, group_fact}
+use Rattle.etcs_check.specs.Findings.{is_short_said}
+use Rattle.etcs_check.specs.Harm.{NamesAspect}
+use Rattle.etcs_check.specs.Soundness.{first_aspect}
+use Rattle.etcs_check.specs.declared.finding.Rule.{Rule}
+
+-- ---- tests of what stands at a place
+
+pub passed : {X : Type 0} (xs : List X) (i : ℕ) (test : X → Bool) → passes_at xs i test ≡ true → (x : X) × At xs i x × (test x ≡ true)
+passed {X} xs i test h = go (slice_get xs i) refl h
+  where
+    go : (o : Option X) → slice_get xs i ≡ o → option_map_or test o false ≡ true → (x : X) × At xs i x × (test x ≡ true)
+    go None e h = absurd (both_ways false refl h)
+    go (Some x) e h = (x, e, h)
+
+pub failing : {X : Type 0} (xs : List X) (i : ℕ) (test : X → Bool) → ((x : X) → At xs i x → test x ≡ false) → passes_at xs i test ≡ false
+failing {X} xs i test h = go (slice_get xs i) refl
+  where
+    go : (o : Option X) → slice_get xs i ≡ o → option_map_or test o false ≡ false
+    go None e = refl
+    go (Some x) e = h x e
+
+-- what stands there decides
+pub passes_as : {X : Type 0} (xs : List X) (i : ℕ) (test : X → Bool) (x : X) → At xs i x → passes_at xs i test ≡ test x
+passes_as xs i test x at = ap (λ o. option_map_or test o false) at
+
+-- ---- packets of a balise
+
+pub packets_as : (group : Telegrams) (b : ℕ) (t : Telegram) → At group b t → packets_at group (Some b) ≡ t.packets
+packets_as group b t at = ap (λ o. option_map_or (λ (t : Telegram). t.packets) o []) at
+
+-- a packet of a balise is one of its telegram
+pub packet_stands : (group : Telegrams) (b k : ℕ) (p : TrackPacket) → At (packets_at group (Some b)) k p → (t : Telegram) × At group b t × At t.packets k p
+packet_stands group b k p h = go (slice_get group b) refl h
+  where
+    go : (o : Option Telegram) → slice_get group b ≡ o → At (option_map_or (λ (t : Telegram). t.packets) o []) k p → (t : Telegram) × At group b t × At t.packets k p
+    go None e h = absurd (none-some p h)
+    go (Some t) e h = (t, e, h)
+
+pub packet_as : (group : Telegrams) (b k : ℕ) (test : TrackPacket → Bool) (t : Telegram) (p : TrackPacket) → At group b t → At t.packets k p → passes_at (packets_at group (Some b)) k test ≡ test p
+packet_as group b k test t p at at' = ap (λ l. passes_at l k test) (packets_as group b t at) ∙ passes_as t.packets k test p at'
+
+module _ (reach : TrackPacket → Option Reach) (group : Telegrams) (run : Run) (b : ℕ) where
+  short_as : (t : Telegram) (p : TrackPacket) → At group b t → is_short_profile reach (speech_of group) run (Some b) p ≡ is_short_said reach (said_by run group) run (is_silent run t.header.dup (length group) b) p
+  short_as t p at =
+      ap (λ q. is_short_said reach (said_by run group) run q p) (passes_as group b (λ (t : Telegram). is_silent run t.header.dup (length group) b) t at)
+
+  pub profile_as : (k : ℕ) (t : Telegram) (p : TrackPacket) → At group b t → At t.packets k p
+      → passes_at (packets_at group (Some b)) k (is_short_profile reach (speech_of group) run (Some b)) ≡ is_short_said reach (said_by run group) run (is_silent run t.header.dup (length group) b) p
+  profile_as k t p at at' = packet_as group b k (is_short_profile reach (speech_of group) run (Some b)) t p at at' ∙ short_as t p at
+
+  pub none_short : (k : ℕ) → ((t : Telegram) (p : TrackPacket) → At group b t → At t.packets k p → is_short_said reach (said_by run group) run (is_silent run t.header.dup (length group) b) p ≡ false)
+      → passes_at (packets_at group (Some b)) k (is_short_profile reach (speech_of group) run (Some b)) ≡ false
+  none_short k h = failing (packets_at group (Some b)) k (is_short_profile reach (speech_of group) run (Some b)) (λ p at.
+      let s = packet_stands group b k p at in
+      short_as s.0 p s.1 ∙ h s.0 p s.1 s.2)
+
+-- ---- a group: the fact is about the whole, or about the aspect that is named
+
+module _ (used : Bool) (aspects : Aspects) where
+  pub group_means : (rule : Rule) (aspect : Option ℕ) (run : Option Run) (b k : Option ℕ) → group_fact used aspects rule aspect run b k ≡ true
+      → ((aspect ≡ None) × (whole_fact used aspects rule run b k ≡ true))
+      ⊎ ((a : ℕ) × (group : Telegrams) × At aspects a group × NamesAspect aspects a aspect × (aspect_fact (first_aspect aspects) (take a aspects) group rule run b k ≡ true))
+  group_means rule None run b k h = elim (or_cases (whole_fact used aspects rule run b k) _ h) [
+    | inl w ↦ inl (refl, w)
+    | inr r ↦
+        let q = and_parts (not (ltb 1 (length aspects))) _ r in
+        let few = ltb-false 1 (length aspects) (not-true _ q.0) in
+        let s = passed aspects 0 (λ group. aspect_fact (first_aspect aspects) (take 0 aspects) group rule run b k) q.1 in
+        inr (0, s.0, s.1, (λ many. absurd (omega arith), λ _. refl), s.2)
+  ]
+  group_means rule (Some a) run b k h =
+      let q = and_parts (ltb 1 (length aspects)) _ h in
+      let many = ltb-true 1 (length aspects) q.0 in
+      let s = passed aspects a (λ group. aspect_fact (first_aspect aspects) (take a aspects) group rule run b k) q.1 in
+      inr (a, s.0, s.1, (λ _. refl, λ few. absurd (omega arith)), s.2)
+
+  pub aspect_stands : (a : ℕ) (group : Telegrams) → At aspects a group → (rule : Rule) (aspect : Option ℕ) (run : Option Run) (b k : Option ℕ) → NamesAspect aspects a aspect
+      → aspect_fact (first_aspect aspects) (take a aspects) group rule run b k ≡ true → group_fact used aspects rule aspect run b k ≡ true
+  aspect_stands a group at rule aspect run b k names h =
+      let here : fact_of_aspect aspects a rule run b k ≡ true = passes_as aspects a (λ group. aspect_fact (first_aspect aspects) (take a aspects) group rule run b k) group at ∙ h in
+      elim (cases_lt 1 (length aspects)) [
+        | inl many ↦ subst (λ o. group_fact used aspects rule o run b k ≡ true) (sym (names.0 many)) (and_from (ltb 1 (length aspects)) _ (lt-ltb 1 (length aspects) many) here)
+        | inr few ↦
+            let w = slice_get_within aspects a group at in
+            let only : a ≡ 0 = omega arith in
+            subst (λ o. group_fact used aspects rule o run b k ≡ true) (sym (names.1 few))
+            (or_right (whole_fact used aspects rule run b k) _ (and_from (not (ltb 1 (length aspects))) _ (not_from_false _ (le-ltb 1 (length aspects) few)) (subst (λ n. fact_of_aspect aspects n rule run b k ≡ true) only here)))
+      ]

@@ -1,0 +1,121 @@
+-- Which facts stand against a line: for each rule one test, asked at a running direction, a balise and a packet
+-- (this project's rules, after SUBSET-026, 3.16.2). No definition here speaks of what a train reads.
+use Rattle.std.specs.Prelude.{ℕ, ◌+◌, ◌&&◌, ◌||◌, nat_lt, Bool, false, not, List, [], length, slice_get, take, filter, Option, Some, None, IsTrue}
+use Rattle.std.specs.Option.{option_map_or}
+use Rattle.etcs_packet.specs.Track.{holds}
+use Rattle.etcs_packet.specs.declared.run.Run.{Run}
+use Rattle.etcs_packet.specs.declared.track.TrackPacket.{TrackPacket}
+use Rattle.etcs_profile.specs.declared.reach.Reach.{Reach}
+use Rattle.etcs_radio.specs.declared.message.Message.{Message}
+use Rattle.etcs_radio.specs.declared.message.Message.TheVariants as messages
+use Rattle.etcs_group.specs.Group.{Telegrams, Aspects}
+use Rattle.etcs_group.specs.Packets.{is_silent, said_by}
+use Rattle.etcs_check.specs.Aspects.{is_used, is_ambiguous}
+use Rattle.etcs_check.specs.Findings.{balise_fact, pair_differs, is_unmodelled, lacks, is_short_said}
+use Rattle.etcs_check.specs.Profiles.{gradient_reach, speed_reach}
+use Rattle.etcs_check.specs.Soundness.{first_aspect}
+use Rattle.etcs_check.specs.declared.finding.Finding.{Finding}
+use Rattle.etcs_check.specs.declared.finding.Rule.{Rule}
+use Rattle.etcs_check.specs.declared.finding.Rule.TheVariants as rules
+use Rattle.etcs_check.specs.declared.finding.Site.{Site}
+use Rattle.etcs_check.specs.declared.finding.Site.TheVariants as sites
+
+-- something stands at place i of the list, and passes the test
+abbrev pub passes_at : {X : Type 0} → List X → ℕ → (X → Bool) → Bool
+passes_at xs i test = option_map_or test (slice_get xs i) false
+
+-- ---- packets, and what is said
+
+-- Who speaks: the balises of an aspect, each by its place, or a message, by no place. `packets` are those of a
+-- speaker, `said` are those that are said in a running direction, by all that speak.
+pub record Speech : Type 0 where
+  pub packets : Option ℕ → List TrackPacket
+  pub is_mute : Run → Option ℕ → Bool
+  pub said : Run → List TrackPacket
+
+abbrev pub packets_at : Telegrams → Option ℕ → List TrackPacket
+packets_at group (Some b) = option_map_or (λ t. t.packets) (slice_get group b) []
+packets_at group None = []
+
+abbrev pub is_mute_at : Telegrams → Run → Option ℕ → Bool
+is_mute_at group run (Some b) = passes_at group b (λ t. is_silent run t.header.dup (length group) b)
+is_mute_at group run None = false
+
+abbrev pub speech_of : Telegrams → Speech
+speech_of group = record {
+  packets = packets_at group;
+  is_mute = is_mute_at group;
+  said = λ run. said_by run group;
+}
+
+abbrev pub packets_alone : List TrackPacket → Option ℕ → List TrackPacket
+packets_alone packets (Some b) = []
+packets_alone packets None = packets
+
+abbrev pub speech_in : List TrackPacket → Speech
+speech_in packets = record {
+  packets = packets_alone packets;
+  is_mute = λ run b. false;
+  said = λ run. filter (holds run) packets;
+}
+
+-- F11 and F13 of a packet of this speaker
+abbrev pub is_short_profile : (TrackPacket → Option Reach) → Speech → Run → Option ℕ → TrackPacket → Bool
+is_short_profile reach speech run b p = is_short_said reach (speech.said run) run (speech.is_mute run b) p
+
+abbrev pub packet_fact : Speech → Rule → Option Run → Option ℕ → Option ℕ → Bool
+packet_fact speech rules.NotModelled None b (Some k) = passes_at (speech.packets b) k is_unmodelled
+packet_fact speech rules.NoGradient (Some run) None None = lacks gradient_reach (speech.said run)
+packet_fact speech rules.GradientShort (Some run) b (Some k) =
+    passes_at (speech.packets b) k (is_short_profile gradient_reach speech run b)
+packet_fact speech rules.NoSpeed (Some run) None None = lacks speed_reach (speech.said run)
+packet_fact speech rules.SpeedShort (Some run) b (Some k) =
+    passes_at (speech.packets b) k (is_short_profile speed_reach speech run b)
+packet_fact speech rule run b k = false
+
+-- ---- aspects, groups, messages and lines
+
+-- a fact about an aspect, which is compared with `first`, aspect 0, and with the aspects before it
+abbrev pub aspect_fact : Telegrams → Aspects → Telegrams → Rule → Option Run → Option ℕ → Option ℕ → Bool
+aspect_fact first before group rules.DuplicatesDiffer (Some run) (Some b) None =
+    passes_at group b (λ t. pair_differs run t (slice_get group (b + 1)))
+aspect_fact first before group rule None (Some b) None = passes_at group b (balise_fact first before group rule b)
+aspect_fact first before group rule run b k = packet_fact (speech_of group) rule run b k
+
+-- a fact about a group as a whole; `used` says whether an earlier group has its identity
+abbrev pub whole_fact : Bool → Aspects → Rule → Option Run → Option ℕ → Option ℕ → Bool
+whole_fact used aspects rules.IdentityUsed None None None = used
+whole_fact used aspects rules.NotToldApart None (Some b) None =
+    passes_at (first_aspect aspects) b (is_ambiguous aspects b)
+whole_fact used aspects rule run b k = false
+
+-- a fact about aspect a of a group
+abbrev pub fact_of_aspect : Aspects → ℕ → Rule → Option Run → Option ℕ → Option ℕ → Bool
+fact_of_aspect aspects a rule run b k =
+    passes_at aspects a (λ group. aspect_fact (first_aspect aspects) (take a aspects) group rule run b k)
+
+-- A fact about a group: where no aspect is named, about the whole or its only aspect, else about the one that is
+-- named. None of one aspect alone is named.
+abbrev pub group_fact : Bool → Aspects → Rule → Option ℕ → Option Run → Option ℕ → Option ℕ → Bool
+group_fact used aspects rule None run b k = whole_fact used aspects rule run b k
+    || (not (nat_lt 1 (length aspects)) && fact_of_aspect aspects 0 rule run b k)
+group_fact used aspects rule (Some a) run b k = nat_lt 1 (length aspects) && fact_of_aspect aspects a rule run b k
+
+-- a message 3 is its packets; a message 136 has no fact against it
+abbrev pub message_fact : Message → Rule → Option ℕ → Option Run → Option ℕ → Option ℕ → Bool
+message_fact (messages.Movement m) rule None run b k = packet_fact (speech_in m.packets) rule run b k
+message_fact m rule aspect run b k = false
+
+abbrev pub fact_at : List Aspects → List Message → Site → Finding → Bool
+fact_at groups messages (sites.Group g) f = passes_at groups g
+    (λ aspects. group_fact (is_used (take g groups) aspects) aspects f.rule f.aspect f.dir f.balise f.packet)
+fact_at groups messages (sites.Message i) f =
+    passes_at messages i (λ m. message_fact m f.rule f.aspect f.dir f.balise f.packet)
+
+-- the fact that a finding states stands against the line
+abbrev pub is_fact : List Aspects → List Message → Finding → Bool
+is_fact groups messages f = fact_at groups messages f.site f
+
+-- a finding states a fact
+abbrev pub States : List Aspects → List Message → Finding → Type 0
+States groups messages f = IsTrue (is_fact groups messages f)
