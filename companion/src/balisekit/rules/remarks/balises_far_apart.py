@@ -17,7 +17,7 @@ from balisekit.rules.line import Line
 from balisekit.rules.location import Location
 from balisekit.rules.rule import Options, Remark, Result, Rule
 from balisekit.tables.model import Group, Row
-from balisekit.tables.names import clean, quoted
+from balisekit.tables.names import clean, kilometre, quoted
 
 FAR = 100
 """More metres than a group of eight balises is long."""
@@ -43,7 +43,8 @@ def _look_at(group: Group) -> Optional[Remark]:
 
 
 def _row(row: Row) -> str:
-    return f"row {row.number}{f' {quoted(row.name)}' if row.name else ''} (km {row.km:.3f})"
+    km = "" if row.km is None else f" (km {kilometre(row.km)})"
+    return f"row {row.number}{f' {quoted(row.name)}' if row.name else ''}{km}"
 
 
 RULE = Rule("far apart", "groups", __doc__ or "", find)
