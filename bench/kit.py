@@ -8,7 +8,7 @@ compares two releases. The tables are made in a folder of their own by the progr
 (BALISECHECK names another one): signals of two balises in three aspects, in long telegrams with linking, authority,
 gradients and speeds, 2,500 groups a track. The new release differs from the old one in every twentieth group.
 
-Each line has the medians of all runs: seconds of the processor for balisekit and the program together, and the peak of
+All kits run with the Python that runs this script. Each line has the medians of all runs: seconds of the processor for balisekit and the program together, and the peak of
 memory of the larger process. Measure on an idle processor: other work makes both slower.
 """
 from __future__ import annotations
@@ -101,7 +101,9 @@ def run(command: Sequence[str], folder: Path) -> Tuple[float, float]:
     out = folder / "out.json"
     out.unlink(missing_ok=True)
     words = [str(out) if word == "OUT" else word for word in command]
-    child = subprocess.Popen(words, cwd=folder, stdout=subprocess.DEVNULL, stderr=subprocess.PIPE)
+    path = os.pathsep.join([os.path.dirname(sys.executable), os.environ.get("PATH", "")])
+    environment = {**os.environ, "PATH": path, "BALISEKIT_PYTHON": sys.executable}
+    child = subprocess.Popen(words, cwd=folder, env=environment, stdout=subprocess.DEVNULL, stderr=subprocess.PIPE)
     assert child.stderr is not None
     error = child.stderr.read()
     _, status, used = os.wait4(child.pid, 0)
@@ -132,7 +134,7 @@ def main() -> None:
             for _ in range(options.runs):
                 for kit in options.kits:
                     tail = [] if name == "--version" else ["--program", program.path]
-                    command = [sys.executable, os.path.abspath(kit), *COMMANDS[name], *tail]
+                    command = [os.path.abspath(kit), *COMMANDS[name], *tail]
                     figures[kit].append(run(command, Path(room)))
             for kit, measured in figures.items():
                 seconds, memory = (statistics.median(column) for column in zip(*measured))
