@@ -12,7 +12,7 @@ from cases_of_program import TOP
 
 from balisekit.present.explanations import explanations
 from balisekit.present.pages import premises
-from balisekit.rules.correct_data import reasons
+from balisekit.rules.findings_on_correct_data import reasons
 
 DOCS = TOP / "docs"
 
@@ -35,7 +35,7 @@ def test_the_package_has_the_texts_of_the_pages() -> None:
     [
         ("## F3: ", "balise", "present/findings.json"),
         ("\nA yes rests on", "memory", "present/templates/premises.json"),
-        ("## Findings on correct data", "accept", "rules/correct_data.json"),
+        ("## Findings on correct data", "accept", "rules/findings_on_correct_data.json"),
     ],
 )
 def test_a_page_that_has_changed_is_noticed(heading: str, word: str, name: str, tmp_path: Path) -> None:

@@ -11,7 +11,7 @@ from pathlib import Path
 
 import pytest
 
-from balisekit.engine import location as program_file
+from balisekit.engine import find_program as program_file
 from balisekit.engine.program import Program
 
 TOP = Path(__file__).resolve().parents[2]

@@ -15,7 +15,7 @@ from conftest import Run
 from telegrams import ALONE, MESSAGE
 from test_links import group, header, line_with
 
-from balisekit.drawing.scale import LEFT, RIGHT, WIDTH, Picture, Shape
+from balisekit.drawing.sheet import LEFT, RIGHT, WIDTH, Picture, Shape
 from balisekit.drawing.track import LANES, track_pictures, tracks_of
 from balisekit.drawing.track_pages import at_km, pages
 from balisekit.etcs.geometry import kilometre

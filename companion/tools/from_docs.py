@@ -82,7 +82,7 @@ def correct_data(page: str) -> Dict[str, str]:
 FILES: Dict[str, Callable[[str], Any]] = {
     "present/findings.json": explanations,
     "present/templates/premises.json": premises,
-    "rules/correct_data.json": correct_data,
+    "rules/findings_on_correct_data.json": correct_data,
 }
 
 

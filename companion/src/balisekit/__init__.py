@@ -12,7 +12,7 @@ if TYPE_CHECKING:
     from decimal import Decimal
     from typing import Optional, Union
 
-    from balisekit.compare.lines import Difference
+    from balisekit.compare.releases import Difference
     from balisekit.engine.program import Program
     from balisekit.errors import KitError
     from balisekit.rules.checking import Checked
@@ -67,7 +67,7 @@ def links(checked: Checked, tolerance: Union[int, Decimal] = 0) -> Links:
 
 def diff(old: Checked, new: Checked) -> Difference:
     """What differs between two releases of a table."""
-    from balisekit.compare.lines import compare
+    from balisekit.compare.releases import compare
 
     return compare(old, new)
 

@@ -16,10 +16,10 @@ from conftest import Run
 from fakes import RECORD, fake
 from telegrams import ALONE, MESSAGE, OTHER, SPARE
 
-from balisekit.engine import process
+from balisekit.engine import run as process
 from balisekit.engine.grammar import Refusal
-from balisekit.engine.process import Limit
 from balisekit.engine.program import Program
+from balisekit.engine.run import Limit
 from balisekit.errors import NoAnswer
 
 Write = Callable[..., Path]

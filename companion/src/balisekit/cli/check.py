@@ -6,7 +6,7 @@ import argparse
 from balisekit.cli import options as shared
 from balisekit.io import clock
 from balisekit.io.outputs import write_json
-from balisekit.present import accepted as accepted_output, junit
+from balisekit.present import accepted_text, junit
 from balisekit.present.check_json import as_json
 from balisekit.present.check_text import before_last, finding_words, lines
 from balisekit.rules import accepted, checking
@@ -34,7 +34,7 @@ def run(options: argparse.Namespace) -> int:
     checked = checking.check(program, table, messages, options.by_position, options.all)
     judged = accepted.judge(checked, entries, now.date()) if entries else None
     if options.propose:
-        options.propose.write([accepted_output.proposal(checked, judged)])
+        options.propose.write([accepted_text.proposal(checked, judged)])
     if options.junit:
         said = dict(enumerate(map(finding_words, checked.findings)))
         last = list(lines(checked, judged=judged))[-1]

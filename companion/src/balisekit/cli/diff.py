@@ -6,7 +6,7 @@ from datetime import datetime
 from typing import List, Optional, Tuple
 
 from balisekit.cli import options as shared
-from balisekit.compare.lines import Difference, by_place, compare
+from balisekit.compare.releases import Difference, by_place, compare
 from balisekit.engine.grammar import Refusal
 from balisekit.engine.program import Program
 from balisekit.errors import TableError

@@ -9,7 +9,7 @@ from typing import Optional
 
 from balisekit.cli import options as shared
 from balisekit.drawing.group import picture_of, picture_of_message
-from balisekit.drawing.scale import WIDTH, Picture
+from balisekit.drawing.sheet import WIDTH, Picture
 from balisekit.drawing.track import note, track_pictures, tracks_of
 from balisekit.errors import TableError
 from balisekit.etcs.places import Identities

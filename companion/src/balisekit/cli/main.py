@@ -128,7 +128,7 @@ def _run(options: argparse.Namespace) -> int:
 
 def _inputs(options: argparse.Namespace, outputs: Sequence[Output]) -> List[str]:
     """The files that the command reads, and the program if an output could replace it."""
-    from balisekit.engine import location
+    from balisekit.engine import find_program
     from balisekit.io.inputs import InputPath
 
     inputs: List[str] = [value for value in vars(options).values() if isinstance(value, InputPath)]
@@ -136,7 +136,7 @@ def _inputs(options: argparse.Namespace, outputs: Sequence[Output]) -> List[str]
         inputs.append("/dev/stdin")
     if any(os.path.lexists(output.path) for output in outputs):
         named = options.program or os.environ.get("BALISECHECK") or "balisecheck"
-        inputs += filter(None, (shutil.which(named), location.find(options.program)))
+        inputs += filter(None, (shutil.which(named), find_program.find(options.program)))
     return inputs
 
 

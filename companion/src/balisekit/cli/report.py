@@ -7,7 +7,7 @@ from balisekit.cli import options as shared
 from balisekit.cli.draw import check_aspect
 from balisekit.drawing.track import track_pictures, tracks_of
 from balisekit.io import clock
-from balisekit.present.accepted import closing_lines
+from balisekit.present.accepted_text import closing_lines
 from balisekit.present.check_text import last_line
 from balisekit.present.explanations import explanations
 from balisekit.present.pages import pieces, premises

@@ -9,8 +9,7 @@ from functools import lru_cache
 from itertools import count, zip_longest
 from typing import Callable, List, Mapping, Optional, Sequence
 
-from balisekit.drawing.scale import BOLD_LETTER, LEFT, LETTER, WIDTH, Lane, Picture, Sheet, tenths
-from balisekit.drawing.way import (
+from balisekit.drawing.profiles import (
     Sizes,
     WayDrawing,
     gap_label,
@@ -20,6 +19,7 @@ from balisekit.drawing.way import (
     short_profiles,
     speed_top,
 )
+from balisekit.drawing.sheet import BOLD_LETTER, LEFT, LETTER, WIDTH, Lane, Picture, Sheet, tenths
 from balisekit.engine.grammar import Finding
 from balisekit.etcs.geometry import DIRECTIONS, NOMINAL, REVERSE, Authority, Kilometres, Way, infill, kilometres, way
 from balisekit.etcs.variables import Around, Form, metres, value_words

@@ -6,7 +6,7 @@ from typing import Iterable
 
 from markupsafe import Markup, escape
 
-from balisekit.drawing.scale import Shape
+from balisekit.drawing.sheet import Shape
 
 
 @lru_cache(maxsize=1 << 16)

@@ -8,9 +8,9 @@ from decimal import Decimal
 from functools import partial
 from typing import Iterator, List, Optional, Sequence, Tuple
 
-from balisekit.drawing.scale import BOLD_LETTER, LEFT, LETTER, RIGHT, WIDTH, Lane, Picture, Rows, Sheet, tenths
+from balisekit.drawing.profiles import Sizes, WayDrawing, profile_number, speed_top
+from balisekit.drawing.sheet import BOLD_LETTER, LEFT, LETTER, RIGHT, WIDTH, Lane, Picture, Rows, Sheet, tenths
 from balisekit.drawing.track_pages import PAGE, Arc, Band, Page, at_km, pages, place_of
-from balisekit.drawing.way import Sizes, WayDrawing, profile_number, speed_top
 from balisekit.etcs.geometry import DIRECTIONS, NOMINAL, kilometre
 from balisekit.etcs.variables import metres
 from balisekit.rules.line import Line

@@ -9,7 +9,7 @@ from decimal import Decimal
 from functools import cached_property
 from typing import Iterator, List, Optional, Sequence, Tuple
 
-from balisekit.drawing.way import gap, gap_label, reach, short_profiles
+from balisekit.drawing.profiles import gap, gap_label, reach, short_profiles
 from balisekit.engine.grammar import Finding
 from balisekit.etcs.geometry import DIRECTIONS, Way, kilometre_of, way
 from balisekit.etcs.variables import Around, value_words

@@ -29,10 +29,10 @@ from typing import (
     Union,
 )
 
-from balisekit.engine import grammar, location, records
+from balisekit.engine import find_program, grammar, records
 from balisekit.engine.grammar import Finding, Refusal, Verdict
-from balisekit.engine.process import HANDSHAKE_LIMIT, Limit, Run
 from balisekit.engine.records import Form, form_of
+from balisekit.engine.run import HANDSHAKE_LIMIT, Limit, Run
 from balisekit.errors import NoAnswer
 
 FEW = 16
@@ -107,9 +107,9 @@ class Program:
 
         NoAnswer is raised if there is none, or if it answers as another program or version does.
         """
-        path = location.find(named)
-        sha256 = location.checksum(path)
-        program = cls(path, sha256, location.papers(sha256), timeout)
+        path = find_program.find(named)
+        sha256 = find_program.checksum(path)
+        program = cls(path, sha256, find_program.papers(sha256), timeout)
         program._shake_hands()
         return program
 

@@ -4,7 +4,7 @@ from __future__ import annotations
 from typing import Any, Dict, Optional
 
 from balisekit.io.outputs import Json, encode
-from balisekit.present import accepted as accepted_output
+from balisekit.present import accepted_text
 from balisekit.present.check_text import finding_words, last_line
 from balisekit.present.refusals import message_refused, telegram_refused
 from balisekit.rules.accepted import Judged
@@ -18,7 +18,7 @@ def as_json(checked: Checked, judged: Optional[Judged] = None) -> Dict[str, Any]
     """All of the answer for other tools. The telegrams are an iterator, which decodes them."""
     program, table, messages = checked.program, checked.table, checked.messages
     return {
-        **({"accepted": accepted_output.as_json(judged)} if judged else {}),
+        **({"accepted": accepted_text.as_json(judged)} if judged else {}),
         "status": judged.status if judged else checked.status,
         "last_line": last_line(checked),
         "verdict" if checked.whole else "rest": checked.verdict.line if checked.verdict else None,

@@ -3,7 +3,7 @@ from __future__ import annotations
 
 from typing import Iterator, Optional
 
-from balisekit.present import accepted as accepted_output, explanations as explain
+from balisekit.present import accepted_text, explanations as explain
 from balisekit.present.headings import headings
 from balisekit.present.refusals import not_looked_at, refused_lines
 from balisekit.rules.accepted import Judged
@@ -29,11 +29,11 @@ def lines(checked: Checked, explained: bool = False, judged: Optional[Judged] = 
         yield f"{finding_words(place)}"
         yield f"    program: {place.finding.line}"
         if entry:
-            yield f"    {accepted_output.accepted_words(entry)}"
+            yield f"    {accepted_text.accepted_words(entry)}"
     if explained:
         yield from _explained(checked)
     yield from before_last(table)
-    yield from accepted_output.closing_lines(judged, last_line(checked)) if judged else (last_line(checked),)
+    yield from accepted_text.closing_lines(judged, last_line(checked)) if judged else (last_line(checked),)
 
 
 def before_last(table: Table) -> Iterator[str]:

@@ -3,7 +3,7 @@ from __future__ import annotations
 
 from typing import Any, Dict, Iterator, List
 
-from balisekit.compare.lines import Changed, Difference
+from balisekit.compare.releases import Changed, Difference
 from balisekit.present import NOT_PROVED
 from balisekit.present.check_text import finding_words
 from balisekit.present.refusals import not_looked_at, refused_lines

@@ -9,7 +9,7 @@ from collections import Counter
 from typing import Dict, Iterator, List, NamedTuple, Optional, Sequence, Tuple
 
 from balisekit.present import NOT_PROVED
-from balisekit.present.accepted import accepted_words
+from balisekit.present.accepted_text import accepted_words
 from balisekit.present.refusals import message_refused, refused
 from balisekit.rules.accepted import Entry, Judged
 from balisekit.rules.checking import Checked, Place

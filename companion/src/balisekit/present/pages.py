@@ -8,7 +8,7 @@ from itertools import groupby
 from pathlib import Path
 from typing import Any, Iterator, List, Sequence, Tuple
 
-from balisekit.io.packages import needed
+from balisekit.io.optional_packages import needed
 
 PIECES = 100
 """So many pieces of a page become one."""

@@ -7,14 +7,14 @@ from typing import Dict, Iterator, List, Mapping, Optional, Sequence, Tuple
 
 from balisekit import __version__
 from balisekit.drawing.group import picture_of, picture_of_message
-from balisekit.drawing.scale import Picture
+from balisekit.drawing.sheet import Picture
 from balisekit.engine.grammar import Finding
 from balisekit.etcs.geometry import kilometre
 from balisekit.etcs.places import Identities, places_of_rows
 from balisekit.etcs.variables import Form
 from balisekit.io import clock
 from balisekit.present import NOT_PROVED
-from balisekit.present.accepted import accepted_words, fault_lines, verdict_lines
+from balisekit.present.accepted_text import accepted_words, fault_lines, verdict_lines
 from balisekit.present.check_text import finding_words, last_line
 from balisekit.present.headings import headings
 from balisekit.present.refusals import RefusedInput, not_looked_at, refused

@@ -9,7 +9,7 @@ from balisekit.engine.grammar import Finding, Refusal, Verdict
 from balisekit.engine.program import Program, Record, Report
 from balisekit.engine.records import Form
 from balisekit.errors import NoAnswer
-from balisekit.rules.differing import differs
+from balisekit.rules.differing_numbers import differs
 from balisekit.tables.grouping import by_position
 from balisekit.tables.model import Aspect, Group, Message, Messages, Row, Table
 

@@ -11,7 +11,7 @@ from decimal import Decimal
 from typing import Any, Dict, Iterator, List, Optional, Pattern, Tuple
 
 from balisekit.errors import KitError, TableError
-from balisekit.io.packages import needed
+from balisekit.io.optional_packages import needed
 from balisekit.tables.cells import NEEDED, Sheet, headings, kind_and_text, of_kind
 from balisekit.tables.encoding import ZIPS
 

@@ -1,6 +1,6 @@
 """Findings on correct data: which row of that table of docs/FINDINGS.md a finding fits, by the program's JSON.
 
-companion/tools/from_docs.py makes `correct_data.json` of the table.
+companion/tools/from_docs.py makes `findings_on_correct_data.json` of the table.
 """
 from __future__ import annotations
 
@@ -12,7 +12,7 @@ from balisekit.etcs.geometry import passed
 from balisekit.etcs.variables import Form
 from balisekit.rules.checking import Checked, Place
 
-MADE = Path(__file__).with_name("correct_data.json")
+MADE = Path(__file__).with_name("findings_on_correct_data.json")
 MISSING, SHORT = (10, 12), (11, 13)
 PROFILES = (21, 27)
 Forms = Sequence[Form]

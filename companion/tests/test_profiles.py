@@ -11,7 +11,7 @@ from test_links import group, header
 from test_track import drawn
 
 from balisekit.drawing.group import Content, draw
-from balisekit.drawing.scale import Picture
+from balisekit.drawing.sheet import Picture
 from balisekit.etcs.geometry import Kilometres
 
 Form = Dict[str, Any]

@@ -24,7 +24,7 @@ from typing import (
     TypeVar,
 )
 
-from balisekit.compare.forms import Change, differences
+from balisekit.compare.telegrams import Change, differences
 from balisekit.engine.program import Record
 from balisekit.etcs.variables import Form
 from balisekit.rules.checking import Checked, Place, findings_of

@@ -7,7 +7,7 @@ from __future__ import annotations
 from dataclasses import dataclass
 from typing import Callable, Iterator, NamedTuple, Optional, Sequence, Tuple
 
-from balisekit.drawing.scale import Lane, Sheet, tenths
+from balisekit.drawing.sheet import Lane, Sheet, tenths
 from balisekit.engine.grammar import Finding
 from balisekit.etcs.geometry import Authority, Element, Profile, Way
 from balisekit.etcs.variables import Around, metres, value_words

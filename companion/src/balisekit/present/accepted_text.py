@@ -4,7 +4,7 @@ from __future__ import annotations
 from typing import Any, Dict, Iterator, List, Optional
 
 from balisekit.io import csv_writing
-from balisekit.rules import correct_data
+from balisekit.rules import findings_on_correct_data
 from balisekit.rules.accepted import COLUMNS, UNNAMED, Entry, Judged, Key, checksum, keys
 from balisekit.rules.checking import Checked, Place
 from balisekit.tables.names import clean
@@ -86,13 +86,13 @@ def proposal(checked: Checked, judged: Optional[Judged]) -> str:
     """
     accepting = judged.by_finding if judged else (None,) * len(checked.findings)
     former = judged.former if judged else accepting
-    reasons = correct_data.reasons()
+    reasons = findings_on_correct_data.reasons()
     del reasons["pair controlled"]
     findings: Dict[Key, List[Place]] = {}
     for key, place in zip(keys(checked), checked.findings):
         findings.setdefault(key, []).append(place)
     rows: Dict[Key, List[str]] = {}
-    fits = correct_data.rows_of(checked.findings, checked)
+    fits = findings_on_correct_data.rows_of(checked.findings, checked)
     for key, row, entry, known in zip(keys(checked), fits, accepting, former):
         if entry is None and UNNAMED not in key and key not in rows:
             reason = known.reason if known else reasons.get(row, "")
