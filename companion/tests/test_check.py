@@ -170,7 +170,7 @@ def test_a_remark_on_aspects_changes_no_yes(run: Run, table: Write) -> None:
     [
         (["A1,13.850", "A2,13.950"], []),
         (["A1,", "A2,13.950"], []),
-        (["A1,13.850", "A2,13.9501"], ['row 2 "A1" (km 13.850) and row 3 "A2" (km 13.950) stand 100.1 m apart by km']),
+        (["A1,13.850", "A2,13.9501"], ['row 2 "A1" (km 13.850) and row 3 "A2" (km 13.9501) stand 100.1 m apart by km']),
         (["A1,18.850", "A2,13.850"], ['row 2 "A1" (km 18.850) and row 3 "A2" (km 13.850) stand 5000 m apart by km']),
         ([",-1", ",1"], ["row 2 (km -1.000) and row 3 (km 1.000) stand 2000 m apart by km"]),
     ],

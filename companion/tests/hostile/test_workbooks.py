@@ -101,7 +101,7 @@ def test_workbooks_that_are_too_large(table: Write, name: str) -> None:
     path = table(content=make())
     begin = time.process_time()
     assert wanted in refusal(path)
-    assert time.process_time() - begin < 3
+    assert time.process_time() - begin < 10  # (a fifth of a second on an idle processor)
 
 
 def test_a_row_number_takes_no_memory(table: Write) -> None:

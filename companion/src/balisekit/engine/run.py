@@ -41,6 +41,7 @@ class Limit:
         return cls(seconds, hint="; --timeout SECONDS allows more", stop=stop)
 
 
+INTERRUPTS = (signal.SIGINT, signal.SIGTERM, signal.SIGHUP)
 HANDSHAKE_LIMIT = Limit(10, 64 * 1024)
 
 
@@ -58,15 +59,24 @@ class Run:
         self.status: Optional[int] = None
         """The exit status, once all lines have been read; of a process that was killed the signal, less than 0."""
         pipes = [*os.pipe(), *os.pipe()]
+        # A signal that comes between the start of the process and __enter__ waits: else nobody would end the process.
+        self._mask = signal.pthread_sigmask(signal.SIG_BLOCK, INTERRUPTS)
         try:
             files = ((stdin.fileno(), 0), (pipes[1], 1), (pipes[3], 2))
             actions = [(os.POSIX_SPAWN_DUP2, here, there) for here, there in files]
             self._pid = os.posix_spawn(
-                path, [path, *words], os.environ, file_actions=actions, setpgroup=0, setsigdef=DEFAULT_SIGNALS
+                path,
+                [path, *words],
+                os.environ,
+                file_actions=actions,
+                setpgroup=0,
+                setsigmask=self._mask,
+                setsigdef=DEFAULT_SIGNALS,
             )
         except OSError as error:
             os.close(pipes[0])
             os.close(pipes[2])
+            signal.pthread_sigmask(signal.SIG_SETMASK, self._mask)
             raise NoAnswer(f"no answer of {path}: {error.strerror or error}") from error
         finally:
             os.close(pipes[1])
@@ -74,6 +84,11 @@ class Run:
         self._pipes = [pipes[0], pipes[2]]
 
     def __enter__(self) -> Run:
+        try:
+            signal.pthread_sigmask(signal.SIG_SETMASK, self._mask)
+        except BaseException:
+            self.__exit__()
+            raise
         return self
 
     def __exit__(self, *_: object) -> None:
