@@ -27,11 +27,15 @@ EMPTY = [
     ("report LINE --html {empty}", "--html"),
     ("report LINE --html x --accepted {empty}", "--accepted"),
     ("draw LINE --track --svg {empty}", "--svg"),
+    ("draw LINE --group {empty}", "--group"),
+    ("draw LINE --track {empty}", "--track"),
+    ("draw LINE --track --aspect {empty}", "--aspect"),
+    ("report LINE --html x --aspect {empty}", "--aspect"),
     ("show --messages {empty}", "--messages"),
     *((f"diff LINE LINE {option} {{empty}}", option) for option in ("--html", "--json", "--program", "--sheet")),
     *((f"diff LINE LINE {option} {{empty}}", option) for option in ("--old-messages", "--new-messages")),
 ]
-"""An empty name for each option with a name of a file, as an unset variable of a shell is."""
+"""An empty name for each option with a name, as an unset variable of a shell is."""
 REFUSED = [
     ("check LINE --js x", "error: unrecognized arguments: --js x"),
     ("check LINE --acc x", "error: unrecognized arguments: --acc x"),

@@ -212,6 +212,14 @@ def test_many_columns_that_are_passed_over(run: Run, table: Write) -> None:
     assert line == f"columns passed over: {', '.join(names[:20])} and 980 more"
 
 
+def test_a_mistyped_heading_behind_many_columns(run: Run, table: Write) -> None:
+    """It is named, however many columns are passed over before it."""
+    names = [*(f"c{number}" for number in range(30)), "Aspct", "c30"]
+    _, out, _ = run("check", table(",".join(["group", "telegram", *names]), ",".join(["A", ALONE, *["x"] * 32])))
+    line = next(line for line in out if line.startswith("columns passed over"))
+    assert line == f"columns passed over: {', '.join(names[:20])}, Aspct (did you mean \"aspect\"?) and 11 more"
+
+
 def test_numbers_of_kilometres(table: Write) -> None:
     """A sign is for plain numbers only."""
     with pytest.raises(KitError, match="-1\\+850 is no kilometre"):

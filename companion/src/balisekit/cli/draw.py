@@ -29,13 +29,14 @@ def add_options(parser: argparse.ArgumentParser) -> None:
     """The options of this command."""
     shared.add_input_options(parser)
     what = parser.add_mutually_exclusive_group(required=True)
-    what.add_argument("--group", metavar="NAME", help="the group's name in the table")
+    what.add_argument("--group", metavar="NAME", type=shared.name, help="the group's name in the table")
     what.add_argument("--message", metavar="LINE", type=int, help="the message in this line of --messages")
     what.add_argument(
         "--track",
         metavar="NAME",
         nargs="?",
-        const="",
+        type=shared.name,
+        const=True,
         help="a whole track, in strips of 5 km; without NAME the only one, or the one without a name",
     )
     shared.add_track_options(parser, "; with --group which aspect is drawn alone")
@@ -87,7 +88,7 @@ def _message(checked: Checked) -> Picture:
 def _track(options: argparse.Namespace, checked: Checked) -> int:
     """Draws a track. What is refused is named, and the rest is drawn."""
     line, table = Line.of(checked), checked.table
-    track = _chosen_track(line, table, options.track)
+    track = _chosen_track(line, table, "" if options.track is True else options.track)
     check_aspect(table, options.aspect)
     links = compare(line, Options(options.tolerance), [L2])
     pictures = list(track_pictures(line, links, track, options.aspect))
@@ -114,7 +115,7 @@ def _track(options: argparse.Namespace, checked: Checked) -> int:
 
 
 def _chosen_track(line: Line, table: Table, name: str) -> str:
-    """The track of this name, or the only one if no name is given."""
+    """The track of this name. Without a name it is the only track, or the one without a name."""
     known = tracks_of(line)
     track = known[0] if not name and len(known) == 1 else name
     if track not in known:

@@ -92,7 +92,7 @@ def add_tolerance(parser: argparse.ArgumentParser) -> None:
 def add_track_options(parser: argparse.ArgumentParser, group: str = "") -> None:
     """What is drawn of a track, and of a group."""
     text = f"which aspect of the groups a track shows; without it the first one of each group{group}"
-    parser.add_argument("--aspect", metavar="NAME", help=text)
+    parser.add_argument("--aspect", metavar="NAME", type=name, help=text)
     add_tolerance(parser)
 
 

@@ -72,7 +72,7 @@ class Table:
     notes: Tuple[str, ...] = ()
     """What the user should know of how the table was read."""
     meant: Tuple[str, ...] = ()
-    """Of each heading that is passed over: the one for which it may have been mistyped, or nothing."""
+    """Of the first 1,000 headings that are passed over: the one for which each may have been mistyped, or nothing."""
 
 
 @dataclass(frozen=True)

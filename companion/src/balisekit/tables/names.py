@@ -33,12 +33,14 @@ def quoted(text: str) -> str:
 
 
 def passed_over(table: Table) -> List[str]:
-    """A line on the columns that say nothing here, if there are any."""
+    """A line on the columns that say nothing here, if there are any: the first ones, and those that look mistyped."""
+    pairs = list(zip(table.passed_over, table.meant))
+    mistyped = [pair for pair in pairs[NAMED:] if pair[1]]
     names = [
         clean(name) + (f" (did you mean {quoted(meant)}?)" if meant else "")
-        for name, meant in zip(table.passed_over[:NAMED], table.meant)
+        for name, meant in [*pairs[:NAMED], *mistyped[:NAMED]]
     ]
-    return [f"columns passed over: {listed(names, NAMED, len(table.passed_over))}"] if names else []
+    return [f"columns passed over: {listed(names, len(names), len(table.passed_over))}"] if names else []
 
 
 def kilometre(km: Decimal) -> str:

@@ -21,6 +21,8 @@ ALIKE = 0.75
 BY_POSITION = "balises are ordered by N_PIG, as --by-position says, which hides a wrong N_PIG"
 GREATEST_NAME = 1000
 """So many characters a cell may have that is no telegram, and are shown of a heading."""
+COMPARED = 1000
+"""So many headings that are passed over are compared with the known ones."""
 ABSENT = -1
 """The place of a column that the table has not: each row that is read ends with an empty cell."""
 PLAIN = re.compile(r"[^\0\r\n#]{0,1000}")
@@ -37,7 +39,7 @@ def read(path: str, sheet: Optional[str] = None, by_position: bool = False) -> T
         cells = xlsx_file.read(file.content, sheet) if is_workbook else csv_file.read(file.content)
         places = _places(cells)
         passed_over = _passed_over(cells)
-        meant = tuple(_meant(name, places) for name in passed_over)
+        meant = tuple(_meant(name, places) for name in passed_over[:COMPARED])
         try:
             rows = _rows(cells, places)
             groups, notes = groups_of(rows, by_position)
