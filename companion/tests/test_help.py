@@ -52,3 +52,10 @@ def test_help_ends_with_0(words: List[str], capsys: pytest.CaptureFixture[str]) 
         cli.main(words)
     said = capsys.readouterr().out
     assert ended.value.code == 0 and ("exit status:" in said if len(words) == 1 else "--program" in said)
+
+
+def test_the_page_names_the_packages_of_the_tests() -> None:
+    """Each package that companion/test looks for."""
+    script = (TOP / "companion" / "test").read_text("utf-8")
+    packages = set(re.findall(r"\bhas \w+ ([\w-]+) '", script))
+    assert "mypy" in packages and packages - set(re.findall(r"[\w-]+", PAGE.split("## Tests")[1])) == set()

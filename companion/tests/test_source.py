@@ -2,6 +2,7 @@
 from __future__ import annotations
 
 import ast
+import re
 import sys
 from pathlib import Path
 
@@ -30,6 +31,17 @@ def test_types_are_looked_at_as_of_python_3_9() -> None:
     """mypy takes the version from here, and the package asks for it."""
     text = (TOP / "companion" / "pyproject.toml").read_text("utf-8")
     assert 'python_version = "3.9"' in text and 'requires-python = ">=3.9"' in text
+
+
+def test_each_package_that_is_installed_is_used() -> None:
+    """Those of the dependencies and of the extras except `test`. openpyxl uses defusedxml if it is installed."""
+    text = (TOP / "companion" / "pyproject.toml").read_text("utf-8").split("dependencies = ", 1)[1]
+    lists = re.findall(
+        r"^(?!test)[^#\[\n]*\[(.+)\]$", f"dependencies = {text.split('[project.scripts]')[0]}", re.MULTILINE
+    )
+    packages = {name for names in lists for name in re.findall(r'"([A-Za-z0-9_-]+)', names)} - {"defusedxml"}
+    sources = "".join(path.read_text("utf-8") for path in SOURCES if "src" in path.parts)
+    assert {"jinja2", "openpyxl"} <= packages and [name for name in packages if name not in sources] == []
 
 
 @pytest.mark.parametrize("path", SOURCES, ids=NAMES)
