@@ -128,6 +128,8 @@ DISORDER = "in the workbook, which is damaged: save it again"
             [f"<row>{text(OTHER, 'B3')}{text('B', 'A3')}</row>"],
             "row 3: its cells are not in the order of their columns",
         ),
+        ([f"<row>{text('B', 'A3')}{text('C', 'A3')}</row>"], "row 3: its cells are not in the order of their columns"),
+        ([f"<row r='3'>{row('B', OTHER, number='4')}</row>"], f"row 3: it follows row 4 {DISORDER}"),
         (["<row><c t='s'><v>-1</v></c></row>"], "row 3: openpyxl cannot read it (IndexError: shared string -1): "),
     ],
 )

@@ -1,4 +1,4 @@
-"""Cells of a workbook, by openpyxl. What would take it too long is refused before it sees the workbook."""
+"""Cells of a workbook. openpyxl reads all but plain texts. What would take too long is refused before it is parsed."""
 from __future__ import annotations
 
 import datetime
@@ -8,7 +8,8 @@ import re
 import warnings
 import zipfile
 from decimal import Decimal
-from typing import Any, Dict, Iterator, List, Optional, Pattern, Tuple
+from typing import Any, Callable, Dict, Iterator, List, Optional, Pattern, Tuple
+from xml.etree.ElementTree import Element, ParseError, iterparse
 
 from balisekit.errors import KitError, TableError
 from balisekit.io.optional_packages import needed
@@ -30,9 +31,8 @@ GREATEST_COLUMNS = 200
 """So many columns the sheet may have that is read."""
 SHORT_WAY_OUT = "save the table as CSV, or in a workbook of its own"
 
-NUMBER = re.compile(rb"""[^<]*?\sr\s*=\s*["']\s*([^"']*?)\s*["']""")
+NAMESPACE = "{http://schemas.openxmlformats.org/spreadsheetml/2006/main}"
 REFERENCE = rb"""[^<]*?\s%b\s*=\s*["']([^"']*)"""
-COLUMN = re.compile(rb"""r(?<=\sr)\s*=\s*["']([A-Za-z]{1,3})[0-9]""")
 NO_VALUE = rb"[^<]*(?:</[^<]*)?(?:<[^\s<>/]*v\s*/>\s*|<[^\s<>/]*v\s*>\s*</[^<]*)?</[^<]*c\s*>"
 """What follows a formula whose value is not stored, up to the end of its cell."""
 PLACES = 6
@@ -42,7 +42,7 @@ DATES = (datetime.date, datetime.time, datetime.timedelta)
 
 def read(content: bytes, name: Optional[str]) -> Sheet:
     """The cells of the sheet of this name, else of the one that has the needed headings."""
-    faults = _look_at_parts(content)
+    _look_at_parts(content)
     with needed("openpyxl", "reading .xlsx (CSV needs no package)"):
         import openpyxl
     with warnings.catch_warnings():
@@ -52,20 +52,19 @@ def read(content: bytes, name: Optional[str]) -> Sheet:
         except Exception as error:
             raise _unreadable(error) from error
         sheet, note = _chosen(book, name)
-        if sheet._worksheet_path in faults:
-            raise faults[sheet._worksheet_path]
-        return _cells(sheet, note)
+        return Sheet("xlsx", "", _cells(_rows(sheet)), (note, *_read_as_empty(sheet)))
 
 
 def _unreadable(error: Exception, row: Optional[int] = None) -> Exception:
     """The fault of a workbook in which openpyxl, or a reader of zips, has raised something."""
     if isinstance(error, (KitError, MemoryError)):
         return error
+    row = None if isinstance(error, ParseError) else row  # (which names a line of the XML)
     return TableError(f"openpyxl cannot read it ({type(error).__name__}: {error}): {SHORT_WAY_OUT}", row)
 
 
-def _look_at_parts(content: bytes) -> Dict[str, TableError]:
-    """Sheets with a fault, by their parts. TableError is raised for what is no workbook, or takes too long to read."""
+def _look_at_parts(content: bytes) -> None:
+    """TableError is raised for what is no workbook, or takes too long to read."""
     if content.startswith(OLD):
         raise TableError("it is an .xls, or protected by a password: save it as .xlsx or CSV")
     try:
@@ -78,8 +77,8 @@ def _look_at_parts(content: bytes) -> Dict[str, TableError]:
                 raise TableError(f"it has {size:,} bytes unpacked, more than {GREATEST:,}: {SHORT_WAY_OUT}")
             if CONTENTS not in parts.namelist():
                 raise TableError("it is no .xlsx, but an .ods or another zip: save it as .xlsx or CSV")
-            faults = {part.filename: _look_at_elements(part.filename, parts.read(part)) for part in members}
-            return {name: fault for name, fault in faults.items() if fault}
+            for part in members:
+                _look_at_elements(part.filename, parts.read(part))
     except zipfile.BadZipFile as error:
         raise TableError(f"it is cut short or damaged ({error}): copy it again, or save it as CSV") from error
     except Exception as error:  # zipfile raises whatever its decompressors raise
@@ -99,33 +98,26 @@ def _look_at_size(part: zipfile.ZipInfo) -> None:
     raise TableError(f"{part.filename} in it has {what}: {SHORT_WAY_OUT}")
 
 
-def _look_at_elements(name: str, xml: bytes) -> Optional[TableError]:
-    """The fault of rows in disorder. TableError is raised for a part with more than a spreadsheet writes."""
+def _look_at_elements(name: str, xml: bytes) -> None:
+    """TableError is raised for a part with more than a spreadsheet writes, or with definitions of its own."""
     if name.endswith((".xml", ".rels")) and (b"\0" in xml[:4] or xml[:2] in (b"\xff\xfe", b"\xfe\xff")):
         raise TableError(f"{name} in it is not UTF-8: {SHORT_WAY_OUT}")
     if b"<!DOCTYPE" in xml:
         raise TableError(f"{name} in it has a document type definition: {SHORT_WAY_OUT}")
     if sum(1 for _ in _tag(b"si", xml).finditer(xml)) > GREATEST_STRINGS:
         raise TableError(f"{name} in it has more than {GREATEST_STRINGS:,} strings: {SHORT_WAY_OUT}")
-    number, fault, cells = 0, None, _tag(b"c", xml)
-    for row in _tag(b"row", xml).split(xml)[1:]:
-        given = NUMBER.match(row)
-        before, number = number, _number(given[1]) if given else number + 1
-        if number > GREATEST_ROW:
-            raise TableError(f"{name} in it has a row {number:,}, and the last possible row is {GREATEST_ROW:,}")
-        if row.count(b"<") > GREATEST_CELLS and sum(1 for _ in cells.finditer(row)) > GREATEST_CELLS:
-            raise TableError(f"row {number} of {name} in it has more than {GREATEST_CELLS:,} cells: {SHORT_WAY_OUT}")
-        if number <= before and fault is None:  # (openpyxl would drop it)
-            fault = TableError(f"it follows row {before} in the workbook, which is damaged: save it again", row=number)
-        letters = COLUMN.findall(row)
-        if letters != sorted(letters, key=lambda column: (len(column), column)) and fault is None:  # (as well)
-            fault = TableError("its cells are not in the order of their columns: save the workbook again", row=number)
-    return fault
+    begins, cells = [row.start() for row in _tag(b"row", xml).finditer(xml)], _tag(b"c", xml)
+    for number, (begin, end) in enumerate(zip(begins, [*begins[1:], len(xml)]), 1):
+        _look_at_number(name, number)
+        if xml.count(b"<", begin, end) > GREATEST_CELLS:
+            if sum(1 for _ in cells.finditer(xml, begin, end)) > GREATEST_CELLS:
+                what = f"more than {GREATEST_CELLS:,} cells: {SHORT_WAY_OUT}"
+                raise TableError(f"row {number} of {name} in it has {what}")
 
 
-def _number(text: bytes) -> int:
-    """The number of a row. What is no number is no row of a sheet, and the same as 0."""
-    return int(text) if re.fullmatch(rb"-?[0-9]{1,20}", text) else 0
+def _look_at_number(name: str, number: int) -> None:
+    if number > GREATEST_ROW:
+        raise TableError(f"{name} in it has a row {number:,}, and the last possible row is {GREATEST_ROW:,}")
 
 
 def _tag(name: bytes, xml: bytes) -> Pattern[bytes]:
@@ -134,38 +126,47 @@ def _tag(name: bytes, xml: bytes) -> Pattern[bytes]:
     return re.compile(b"<" + prefix + name + rb"(?=[\s/>])")
 
 
-def _chosen(book: Any, name: Optional[str]) -> Tuple[Any, str]:
-    """The sheet that is meant, and a note that names it."""
-    if name is not None and name not in book.sheetnames:
-        raise TableError(f"there is no sheet {name}: the sheets are {', '.join(book.sheetnames)}")
-    sheets = [sheet for sheet in book.worksheets if name is None or sheet.title == name]
-    if not sheets:
-        raise TableError("the workbook has no sheet with cells")
-    fits = [sheet for sheet in sheets if set(NEEDED) <= set(headings(_heading(sheet)))]
-    if len(fits) > 1:
-        names = ", ".join(sheet.title for sheet in fits)
-        raise TableError(f"several sheets have the headings: name one by --sheet: {names}")
-    sheet = (fits or sheets)[0]
-    hidden = sheet.sheet_state != "visible"
-    if fits and hidden and name is None:
-        raise TableError(f"only the hidden sheet {sheet.title} has the headings: name it by --sheet, or show it")
-    return sheet, f"the sheet is {sheet.title}{', which is hidden' * hidden}; hidden and filtered rows are read as well"
+def _rows(sheet: Any) -> Iterator[List[Any]]:
+    """The values of each row of a sheet, also of rows that it skips. TableError is raised for what openpyxl raises."""
+    from openpyxl.worksheet._reader import WorkSheetParser
 
-
-def _heading(sheet: Any) -> List[str]:
-    return [str(value) for value in next(_values(sheet), ()) if value is not None]
-
-
-def _values(sheet: Any) -> Iterator[Tuple[Any, ...]]:
-    """The rows of a sheet as openpyxl reads them. TableError is raised for what it raises."""
-    number = 0
+    book, strings, number = sheet.parent, _Strings(sheet._shared_strings), 0
+    parser = WorkSheetParser(None, strings, data_only=True, epoch=book.epoch, date_formats=book._date_formats)
     try:
-        sheet.reset_dimensions()
-        sheet._shared_strings = _Strings(sheet._shared_strings)
-        for number, values in enumerate(sheet.iter_rows(values_only=True), 1):
-            yield values
+        with sheet._get_source() as part:
+            for _, row in iterparse(part):
+                if row.tag == f"{NAMESPACE}row":
+                    before, number = number, _number(row.get("r", str(number + 1)))
+                    _look_at_number(sheet._worksheet_path, number)
+                    if number <= before:
+                        why = f"it follows row {before} in the workbook, which is damaged: save it again"
+                        raise TableError(why, row=number)
+                    yield from ([] for _ in range(before + 1, number))
+                    yield _values(row, number, parser.parse_cell)
+                    row.clear()
     except Exception as error:
-        raise _unreadable(error, number + 1) from error
+        raise _unreadable(error, number) from error
+
+
+def _number(text: str) -> int:
+    """The number of a row. What is no number is no row of a sheet, and the same as 0."""
+    return int(text) if re.fullmatch(r"\s*-?[0-9]{1,20}\s*", text) else 0
+
+
+def _values(row: Element, number: int, parse_cell: Callable[[Element], Dict[str, Any]]) -> List[Any]:
+    """The values of a row. A plain text is read without the objects of openpyxl, which take three times as long."""
+    from openpyxl.utils import column_index_from_string
+
+    values: List[Any] = []
+    for cell in row.iterfind(f"{NAMESPACE}c"):
+        column = cell.get("r", "").rstrip("0123456789")
+        skipped = column_index_from_string(column) - len(values) - 1 if column else 0
+        if skipped < 0:
+            raise TableError("its cells are not in the order of their columns: save the workbook again", row=number)
+        child = cell.find(f"{NAMESPACE}is") if cell.get("t") == "inlineStr" else None
+        text = child.findtext(f"{NAMESPACE}t") if child is not None and len(child) == 1 else None
+        values += [*[None] * skipped, parse_cell(cell)["value"] if text is None else text]
+    return values
 
 
 class _Strings(List[str]):
@@ -177,14 +178,36 @@ class _Strings(List[str]):
         return super().__getitem__(index)
 
 
-def _cells(sheet: Any, note: str) -> Sheet:
+def _chosen(book: Any, name: Optional[str]) -> Tuple[Any, str]:
+    """The sheet that is meant, and a note that names it."""
+    if name is not None and name not in book.sheetnames:
+        raise TableError(f"there is no sheet {name}: the sheets are {', '.join(book.sheetnames)}")
+    sheets = [sheet for sheet in book.worksheets if name is None or sheet.title == name]
+    if not sheets:
+        raise TableError("the workbook has no sheet with cells")
+    fits = [sheet for sheet in sheets if set(NEEDED) <= set(_heading(sheet))]
+    if len(fits) > 1:
+        names = ", ".join(sheet.title for sheet in fits)
+        raise TableError(f"several sheets have the headings: name one by --sheet: {names}")
+    sheet = (fits or sheets)[0]
+    hidden = sheet.sheet_state != "visible"
+    if fits and hidden and name is None:
+        raise TableError(f"only the hidden sheet {sheet.title} has the headings: name it by --sheet, or show it")
+    return sheet, f"the sheet is {sheet.title}{', which is hidden' * hidden}; hidden and filtered rows are read as well"
+
+
+def _heading(sheet: Any) -> List[str]:
+    return headings([str(value) for value in next(_rows(sheet), []) if value is not None])
+
+
+def _cells(values_of_rows: Iterator[List[Any]]) -> List[List[str]]:
     rows: List[List[str]] = []
-    for number, values in enumerate(_values(sheet), 1):
+    for number, values in enumerate(values_of_rows, 1):
         if len(values) > GREATEST_COLUMNS:
             raise TableError(f"it has more than {GREATEST_COLUMNS} columns: {SHORT_WAY_OUT}", row=number)
         rows.append([value if type(value) is str else _text(value) for value in values])
     rows[:1] = [[kind_and_text(cell)[1] for cell in row] for row in rows[:1]]
-    return Sheet("xlsx", "", rows, (note, *_read_as_empty(sheet)))
+    return rows
 
 
 def _read_as_empty(sheet: Any) -> Iterator[str]:
@@ -193,12 +216,11 @@ def _read_as_empty(sheet: Any) -> Iterator[str]:
         xml = part.read()
     cell, formula, merged = (_tag(name, xml).pattern for name in (b"c", b"f", b"mergeCell"))
     no_value = cell + REFERENCE % b"r" + b"[^<]*" + formula + NO_VALUE
+    formulas = re.findall(no_value, xml) if re.search(formula, xml) else []
+    ranges = re.findall(merged + REFERENCE % b"ref", xml)
     for places, what in (
-        (
-            re.findall(no_value, xml) if re.search(formula, xml) else [],
-            "formulas without a stored value, read as empty",
-        ),
-        (re.findall(merged + REFERENCE % b"ref", xml), "merged ranges, of which only the first cell is not empty"),
+        (formulas, "formulas without a stored value, read as empty"),
+        (ranges, "merged ranges, of which only the first cell is not empty"),
     ):
         if places:
             yield f"{what}: {len(places)}, the first {places[0].decode('utf-8', 'replace')[:40]}"
