@@ -13,6 +13,7 @@ import pytest
 
 from balisekit.engine import find_program as program_file
 from balisekit.engine.program import Program
+from balisekit.errors import NoAnswer
 
 TOP = Path(__file__).resolve().parents[2]
 
@@ -69,3 +70,17 @@ def test_in_a_clone_the_start_script_stands_for_its_program(tmp_path: Path, monk
     assert {program_file.find(str(path)) for path in (script, link, program)} == {str(program)}
     monkeypatch.setenv("BALISECHECK", str(script))
     assert program_file.find(None) == str(program)
+
+
+def test_a_start_script_that_does_not_end(tmp_path: Path, monkeypatch: pytest.MonkeyPatch) -> None:
+    """It has a minute: it sums up all sources, which takes long on a machine that does much else."""
+    assert program_file.SECONDS == 60
+    (tmp_path / "companion").mkdir()
+    (tmp_path / "companion" / "pyproject.toml").touch()
+    script = tmp_path / "balisecheck"
+    script.write_text("#!/bin/sh\nexec sleep 60\n")
+    script.chmod(0o755)
+    monkeypatch.setattr(program_file, "TOP", tmp_path)
+    monkeypatch.setattr(program_file, "SECONDS", 0.2)
+    with pytest.raises(NoAnswer, match="balisecheck: it has not ended within 0.2 s"):
+        program_file.find(None)

@@ -307,11 +307,11 @@ def is_running(pid: str) -> bool:
 
 def test_a_line_as_long_as_a_file(answers: Answers) -> None:
     error = answers("check {t}", "head -c 9000000 /dev/zero | tr '\\0' x")[0]
-    assert error.endswith(": check: a line of more than 4 MB")
+    assert error.endswith(": check: a line of more than 4 MiB")
 
 
 def test_a_timeout_that_the_user_names(tmp_path: Path) -> None:
-    program = Program.find(str(fake(tmp_path / "fake", "sleep 60")), timeout=0.5)
+    program = replace(Program.find(str(fake(tmp_path / "fake", "sleep 60"))), timeout=0.5)
     begin = time.monotonic()
     with pytest.raises(NoAnswer, match="it has not ended within 0.5 s; --timeout SECONDS allows more"):
         program.check({"groups": [], "messages": [""]})
@@ -348,8 +348,32 @@ def test_a_stopped_balisekit_does_not_count(tmp_path: Path) -> None:
         assert list(run.lines()) == [] and run.status == 0
 
 
+def test_the_timeout_holds_for_the_handshake(tmp_path: Path, monkeypatch: pytest.MonkeyPatch) -> None:
+    """Be it shorter or longer than what balisekit waits without it."""
+    sleeper = str(fake(tmp_path / "sleeper", "", "sleep 60"))
+    with pytest.raises(NoAnswer, match="check: it has not ended within 0.2 s; --timeout SECONDS allows more"):
+        Program.find(sleeper, timeout=0.2)
+    monkeypatch.setattr("balisekit.engine.program.HANDSHAKE_LIMIT", Limit(0.2, process.HANDSHAKE_LIMIT.size))
+    with pytest.raises(NoAnswer, match="it has not ended within 0.2 s"):
+        Program.find(sleeper)
+    slow = str(fake(tmp_path / "slow", "", "sleep 0.5"))
+    assert Program.find(slow, timeout=60).timeout == 60
+
+
+def test_output_that_comes_just_before_the_end(tmp_path: Path, monkeypatch: pytest.MonkeyPatch) -> None:
+    """A program writes and ends after balisekit has found nothing to read, and before it looks at the process."""
+    monkeypatch.setattr(process, "PAUSE", 0.01)
+    monkeypatch.setattr(os, "waitid", lambda kind, pid, options, wait=os.waitid: wait(kind, pid, options & ~os.WNOHANG))
+    path = tmp_path / "slow"
+    path.write_text("#!/bin/sh\nsleep 0.3\necho line\n")
+    path.chmod(0o755)
+    with open(path, "rb") as nothing, process.Run(str(path), ["check"], nothing, Limit(60)) as run:
+        assert list(run.lines()) == ["line"] and run.status == 0
+
+
 def test_a_program_that_trickles(tmp_path: Path) -> None:
-    program = Program.find(str(fake(tmp_path / "fake", "while :; do printf x; sleep 0.1; done")), timeout=0.5)
+    found = Program.find(str(fake(tmp_path / "fake", "while :; do printf x; sleep 0.1; done")))
+    program = replace(found, timeout=0.5)
     with pytest.raises(NoAnswer, match="it has not ended within"):
         list(program.decode([ALONE]))
 

@@ -12,8 +12,8 @@ from balisekit.errors import NoAnswer
 
 TOP = Path(__file__).resolve().parents[4]
 """The top of the repository, if this is a clone."""
-SECONDS = 10
-"""For how long the start script of the clone may take."""
+SECONDS = 60
+"""For how long the start script of the clone may take, which sums up its sources."""
 
 
 def find(named: Optional[str]) -> str:

@@ -266,11 +266,12 @@ class Program:
 
     def _shake_hands(self) -> None:
         """Raises NoAnswer if it is not the program whose words this version knows."""
+        limit = HANDSHAKE_LIMIT if self.timeout is None else replace(HANDSHAKE_LIMIT, seconds=self.timeout)
         for words, text, status, answer in HANDSHAKE:
             with tempfile.TemporaryFile() as file:
                 file.write(text.encode("ascii"))
                 file.seek(0)
-                with Run(self.path, words, file, HANDSHAKE_LIMIT) as run:
+                with Run(self.path, words, file, limit) as run:
                     lines = list(run.lines())
                     if run.status is not None and run.status < 0:
                         raise run.no_answer(_end(run, 0))

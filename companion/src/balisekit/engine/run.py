@@ -29,8 +29,6 @@ class Limit:
 
     seconds: float
     size: Optional[int] = None
-    hint: str = ""
-    """What the user can do if the time was too short."""
     stop: Event = field(default_factory=Event)
     """Once it is set all runs with this limit are ended."""
 
@@ -38,7 +36,7 @@ class Limit:
     def of(cls, size: int, timeout: Optional[float], stop: Event) -> Limit:
         """The limit for an input of this size: the time that the user names, else by the size."""
         seconds = LEAST_SECONDS + size // BYTES_A_SECOND if timeout is None else timeout
-        return cls(seconds, hint="; --timeout SECONDS allows more", stop=stop)
+        return cls(seconds, stop=stop)
 
 
 INTERRUPTS = (signal.SIGINT, signal.SIGTERM, signal.SIGHUP)
@@ -112,7 +110,7 @@ class Run:
             lines = (rest + piece).split(b"\n")
             rest = lines.pop()
             if len(rest) > GREATEST_LINE:
-                raise self.no_answer(f"a line of more than {GREATEST_LINE // 1024 // 1024} MB")
+                raise self.no_answer(f"a line of more than {GREATEST_LINE // 1024 // 1024} MiB")
             for line in lines:
                 yield line.decode("utf-8", "backslashreplace")
         self._wait()
@@ -133,19 +131,21 @@ class Run:
                 elif pipe == output:
                     self._size += len(piece)
                     if self._limit.size is not None and self._size > self._limit.size:
-                        raise self.no_answer(f"more than {self._limit.size // 1024} KB")
+                        raise self.no_answer(f"more than {self._limit.size // 1024} KiB")
                     yield piece
                 else:
                     self.errors += piece
                     if len(self.errors) > GREATEST_ERRORS:
-                        raise self.no_answer(f"more than {GREATEST_ERRORS // 1024} KB on standard error")
+                        raise self.no_answer(f"more than {GREATEST_ERRORS // 1024} KiB on standard error")
 
     def _ready(self, poll: select.poll) -> List[int]:
         """The pipes that have something, or have ended."""
         begin = time.monotonic()
         events = poll.poll(1000 * min(PAUSE, max(self._limit.seconds - self._waited, 0)))
         if not events and os.waitid(os.P_PID, self._pid, os.WEXITED | os.WNOHANG | os.WNOWAIT):
-            raise self.no_answer("it has ended, and another process keeps its output open")
+            events = poll.poll(0)  # (it may have written between the two calls above)
+            if not events:
+                raise self.no_answer("it has ended, and another process keeps its output open")
         self._count(begin)
         return [pipe for pipe, _ in events]
 
@@ -165,7 +165,7 @@ class Run:
         now = time.monotonic()
         self._waited += min(now - begin, PAUSE)  # (more, if balisekit itself was stopped)
         if self._waited >= self._limit.seconds:
-            raise self.no_answer(f"it has not ended within {self._limit.seconds:g} s{self._limit.hint}")
+            raise self.no_answer(f"it has not ended within {self._limit.seconds:g} s; --timeout SECONDS allows more")
         if self._limit.stop.is_set():
             raise self.no_answer("it is ended here")
         return now
