@@ -9,7 +9,7 @@ from cases_of_program import TOP
 
 from balisekit.etcs.layout import TRACK
 from balisekit.etcs.packets import packet_name
-from balisekit.etcs.variables import KEYS as ROWS, VARIABLES, Around, metres, value_texts, value_words, variable_name
+from balisekit.etcs.variables import LABELS, VARIABLES, Around, metres, value_texts, value_words, variable_name
 
 SCHEMAS = [json.loads((TOP / "schemas" / f"{name}.json").read_text()) for name in ("telegram", "message")]
 #: Numbers that name something by themselves, and have no words.
@@ -40,7 +40,7 @@ KEYS = sorted({key for whole in SCHEMAS for key, schema in _properties(whole) if
 def test_each_key_has_a_row() -> None:
     """No key of the schemas is without a name, and no row without a key."""
     assert set(KEYS) - {"body"} == set(VARIABLES)
-    assert set(ROWS) >= {key for whole in SCHEMAS for key, _ in _properties(whole)}
+    assert {*LABELS, *VARIABLES} >= {key for whole in SCHEMAS for key, _ in _properties(whole)}
 
 
 def _numbers(schema: Any, whole: Any) -> Iterator[int]:

@@ -8,7 +8,7 @@ from __future__ import annotations
 import re
 from dataclasses import dataclass
 from functools import lru_cache
-from typing import Dict, List, Match, Optional, Pattern, Tuple
+from typing import Any, Dict, List, Optional, Pattern, Tuple
 
 GRAMMAR = r"""
 number          0|[1-9][0-9]*
@@ -86,10 +86,10 @@ class Verdict:
     """The first line of a report."""
 
     line: str
-    groups: Optional[int]
+    groups: Optional[int] = None
     """Of a yes: the groups that were checked, and None else."""
-    messages: Optional[int]
-    findings: int
+    messages: Optional[int] = None
+    findings: int = 0
 
     @property
     def yes(self) -> bool:
@@ -132,43 +132,31 @@ class Refusal:
     message: Optional[int] = None
 
 
-def _match(name: str, line: str) -> Optional[Match[str]]:
-    """The match of the first expression of this name that the line matches. No number has more than 18 digits."""
-    if LONG.search(line):
+def _parts(name: str, line: str) -> Optional[Dict[str, Any]]:
+    """What a line of this name holds, or None if it is none. No number has more than 18 digits."""
+    matches = (expression.fullmatch(line) for expression in expressions(name))
+    match = None if LONG.search(line) else next(filter(None, matches), None)
+    if match is None:
         return None
-    return next(filter(None, (expression.fullmatch(line) for expression in expressions(name))), None)
-
-
-def _numbers(match: Match[str], *names: str) -> Dict[str, Optional[int]]:
-    parts = match.groupdict()
-    return {name: None if parts.get(name) is None else int(parts[name]) for name in names}
+    return {key: int(text) if text.isdigit() else text for key, text in match.groupdict().items() if text is not None}
 
 
 def verdict(line: str) -> Optional[Verdict]:
     """The first line of a report, or None if the line is none."""
-    match = _match("verdict", line)
-    if not match:
-        return None
-    numbers = _numbers(match, "groups", "messages", "findings")
-    return Verdict(line, numbers["groups"], numbers["messages"], numbers["findings"] or 0)
+    parts = _parts("verdict", line)
+    return None if parts is None else Verdict(line, **parts)
 
 
 def finding(line: str) -> Optional[Finding]:
     """The finding of a line, or None if it is none."""
-    match = _match("finding", line)
-    if not match:
+    parts = _parts("finding", line)
+    if parts is None:
         return None
     rule = int(line[1 : line.index(" ")])
-    numbers = _numbers(match, "group", "message", "aspect", "balise", "packet")
-    return Finding(line, rule, NAMES[rule], direction=match.groupdict().get("direction"), **numbers)
+    return Finding(line, rule, NAMES[rule], **parts)
 
 
 def refusal(command: str, line: str) -> Optional[Refusal]:
     """The refusal that a command has written in a line, or None if it is none of this command."""
-    match = _match(command, line)
-    if not match:
-        return None
-    parts = match.groupdict()
-    numbers = _numbers(match, "at", "end", "group", "aspect", "balise", "message")
-    number = _numbers(match, "line")["line"]
-    return Refusal(parts["text"], line, parts.get("why"), path=parts.get("path"), number=number, **numbers)
+    parts = _parts(command, line)
+    return None if parts is None else Refusal(line=line, number=parts.pop("line", None), **parts)

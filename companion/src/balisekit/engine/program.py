@@ -9,25 +9,11 @@ import json
 import os
 import tempfile
 from collections import deque
+from collections.abc import Callable, Iterable, Iterator, Mapping, Sequence
 from concurrent.futures import Future, ThreadPoolExecutor
 from dataclasses import dataclass, field, replace
 from threading import Event
-from typing import (
-    IO,
-    Any,
-    Callable,
-    Deque,
-    Dict,
-    Iterable,
-    Iterator,
-    List,
-    Mapping,
-    Optional,
-    Sequence,
-    Tuple,
-    TypeVar,
-    Union,
-)
+from typing import IO, Any, Deque, Dict, List, Optional, Tuple, TypeVar, Union
 
 from balisekit.engine import find_program, grammar, records
 from balisekit.engine.grammar import Finding, Refusal, Verdict

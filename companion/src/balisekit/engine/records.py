@@ -23,39 +23,39 @@ GroupNumber = Annotated[int, range(16_384)]
 
 
 class Form(TypedDict, total=False):
-    """An object of a record. Its kind decides which of these keys it has: see `KEYS`.
+    """An object of a record. Its kind decides which of these keys it has: see `KEYS`. They are in the standard's order.
 
     A number is annotated with the values that it may have, and a list with its least and greatest length.
     """
 
+    nid_message: Annotated[int, 3, 136]
     user_bits: Annotated[int, 210, 830]
     m_version: Annotated[int, 32, 33]
     n_pig: Annotated[int, range(8)]
     n_total: Annotated[int, range(8)]
     m_dup: UpToTwo
     m_mcount: Byte
-    nid_c: Country
-    nid_bg: GroupNumber
-    q_link: Bit
-    nid_message: Annotated[int, 3, 136]
     t_train: Annotated[int, range(2**32)]
     m_ack: Bit
     nid_engine: Annotated[int, range(2**24)]
-    packets: List[Form]
     nid_packet: Annotated[int, range(255)]
     q_dir: UpToTwo
-    q_scale: UpToTwo
     l_packet: Annotated[int, range(8192)]
-    body: str
-    nid_vbcmk: Annotated[int, range(64)]
-    links: Annotated[List[Form], 1, 32]
-    d_link: Distance
-    q_linkorientation: Bit
-    q_linkreaction: UpToTwo
-    q_locacc: Annotated[int, range(64)]
+    q_scale: UpToTwo
     v_main: Speed
     end_speed: Speed
     end_timeout: Seconds
+    d_link: Distance
+    nid_c: Country
+    nid_bg: GroupNumber
+    q_link: Bit
+    prv_nid_c: Country
+    prv_nid_bg: GroupNumber
+    nid_vbcmk: Annotated[int, range(64)]
+    q_linkorientation: Bit
+    q_linkreaction: UpToTwo
+    q_locacc: Annotated[int, range(64)]
+    links: Annotated[List[Form], 1, 32]
     sections: Annotated[List[Form], 0, 31]
     l_section: Distance
     l_endsection: Distance
@@ -73,24 +73,17 @@ class Form(TypedDict, total=False):
     t_ol: Seconds
     d_ol: Distance
     v_releaseol: ReleaseSpeed
-    elements: Annotated[List[Form], 1, 32]
     d_gradient: Distance
     q_gdir: Bit
     g_a: Byte
     d_static: Distance
     v_static: Annotated[int, range(121), 127]
     q_front: Bit
-    differences: Annotated[List[Form], 0, 31]
     q_diff: UpToTwo
     nc: Annotated[int, range(16)]
     v_diff: Speed
-    d_leveltr: Distance
-    transitions: Annotated[List[Form], 1, 32]
-    m_leveltr: Level
-    nid_ntc: Byte
-    l_ackleveltr: Distance
-    prv_nid_c: Country
-    prv_nid_bg: GroupNumber
+    differences: Annotated[List[Form], 0, 31]
+    elements: Annotated[List[Form], 1, 32]
     d_lrbg: Distance
     q_dirlrbg: UpToTwo
     q_dlrbg: UpToTwo
@@ -102,6 +95,13 @@ class Form(TypedDict, total=False):
     q_dirtrain: UpToTwo
     m_mode: Annotated[int, range(16)]
     m_level: Level
+    d_leveltr: Distance
+    m_leveltr: Level
+    nid_ntc: Byte
+    l_ackleveltr: Distance
+    transitions: Annotated[List[Form], 1, 32]
+    body: str
+    packets: List[Form]
 
 
 KEYS: Dict[str, str] = {

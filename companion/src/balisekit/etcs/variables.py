@@ -1,7 +1,7 @@
 """What the variables of telegrams and messages are called, and what their numbers mean (SUBSET-026, 7.5.1).
 
-Each key of the program's JSON has a row in `KEYS`, in the order of the standard: a function that gives its number with
-a unit or by name, or the label of a part. A number that needs neither unit nor name has no words.
+Each key of the program's JSON that has a number is in `VARIABLES`, with a function that gives it with a unit or by name.
+Each other key has a label. A number that needs neither unit nor name has no words.
 """
 from __future__ import annotations
 
@@ -97,9 +97,6 @@ def category(value: int, around: Around) -> str:
 DIRECTIONS = {0: "reverse", 1: "nominal", 2: "both directions"}
 END_OF_PROFILE = "end of the profile"
 CANT = dict(enumerate((80, 100, 130, 150, 165, 180, 210, 225, 245, 275, 300)))
-NO_NAME = named({}, "")
-SIDE = listed("reverse | nominal | unknown")
-LEVEL = listed("level 0 | level NTC | level 1 | level 2 | level 3")
 MODE = listed(
     "full supervision (FS) | on sight (OS) | staff responsible (SR) | shunting (SH) | unfitted (UN) | sleeping (SL) | "
     "stand by (SB) | trip (TR) | post trip (PT) | system failure (SF) | isolation (IS) | non leading (NL) | "
@@ -110,12 +107,17 @@ POSITION = listed(
     "first of the group | second of the group | third of the group | fourth of the group | fifth of the group | "
     "sixth of the group | seventh of the group | eighth of the group"
 )
-DISTANCE, DISTANCE_OR_NOT_KNOWN = distance(), distance({32_767: "not known"})
-SPEED, RELEASE_SPEED = speed(), speed({126: "calculated on board", 127: "the national value"})
-SECONDS = written("{} s", {1023: "no time-out"})
-GROUP = named({16_383: "not known"}, "")
-
-KEYS: Dict[str, Union[Words, str]] = {
+VARIABLES: Dict[str, Words] = {
+    **dict.fromkeys(("nid_c", "prv_nid_c", "nid_engine", "nid_vbcmk", "nid_ntc"), named({}, "")),
+    **dict.fromkeys(("nid_bg", "prv_nid_bg"), named({16_383: "not known"}, "")),
+    **dict.fromkeys(("d_link", "l_section", "l_endsection", "l_ackleveltr", "d_gradient", "d_static"), distance()),
+    **dict.fromkeys(("d_sectiontimerstoploc", "d_endtimerstartloc", "d_dp", "d_startol", "d_ol"), distance()),
+    **dict.fromkeys(("d_lrbg", "l_doubtover", "l_doubtunder"), distance({32_767: "not known"})),
+    **dict.fromkeys(("end_timeout", "t_sectiontimer", "t_endtimer", "t_ol"), written("{} s", {1023: "no time-out"})),
+    **dict.fromkeys(("v_releasedp", "v_releaseol"), speed({126: "calculated on board", 127: "the national value"})),
+    **dict.fromkeys(("v_diff", "v_train"), speed()),
+    **dict.fromkeys(("q_dirlrbg", "q_dlrbg", "q_dirtrain"), listed("reverse | nominal | unknown")),
+    **dict.fromkeys(("m_level", "m_leveltr"), listed("level 0 | level NTC | level 1 | level 2 | level 3")),
     "nid_message": named(MESSAGES, "not named here"),
     "user_bits": named({210: "short telegram", 830: "long telegram"}),
     "m_version": named({32: "2.0", 33: "2.1"}),
@@ -125,46 +127,18 @@ KEYS: Dict[str, Union[Words, str]] = {
     "m_mcount": named({254: "fits no message of the group", 255: "fits each telegram of the group"}, ""),
     "t_train": clock,
     "m_ack": listed("no | yes"),
-    "nid_engine": NO_NAME,
     "nid_packet": lambda value, around: packet_name(value, around.from_track),
     "q_dir": named(DIRECTIONS),
     "l_packet": written("{} bits"),
     "q_scale": listed("10 cm | 1 m | 10 m"),
     "v_main": speed({0: "0 km/h, train trip"}),
     "end_speed": speed({0: "0 km/h, stop"}),
-    "end_timeout": SECONDS,
-    "d_link": DISTANCE,
-    "nid_c": NO_NAME,
-    "nid_bg": GROUP,
     "q_link": listed("unlinked | linked"),
-    "prv_nid_c": NO_NAME,
-    "prv_nid_bg": GROUP,
-    "nid_vbcmk": NO_NAME,
     "q_linkorientation": listed("reverse | nominal"),
     "q_linkreaction": listed("train trip | service brake | none"),
     "q_locacc": written("{} m to either side"),
-    "links": "link",
-    "sections": "section",
-    "l_section": DISTANCE,
-    "l_endsection": DISTANCE,
-    "section_timer": "section timer",
-    "t_sectiontimer": SECONDS,
-    "d_sectiontimerstoploc": DISTANCE,
-    "end_timer": "end timer",
-    "t_endtimer": SECONDS,
-    "d_endtimerstartloc": DISTANCE,
-    "danger_point": "danger point",
-    "d_dp": DISTANCE,
-    "v_releasedp": RELEASE_SPEED,
-    "overlap": "overlap",
-    "d_startol": DISTANCE,
-    "t_ol": SECONDS,
-    "d_ol": DISTANCE,
-    "v_releaseol": RELEASE_SPEED,
-    "d_gradient": DISTANCE,
     "q_gdir": slope,
     "g_a": gradient,
-    "d_static": DISTANCE,
     "v_static": speed({127: END_OF_PROFILE}),
     "q_front": listed("holds until the rear has passed | holds until the front has passed"),
     "q_diff": listed(
@@ -172,30 +146,14 @@ KEYS: Dict[str, Union[Words, str]] = {
         "by another category, beside cant deficiency"
     ),
     "nc": category,
-    "v_diff": SPEED,
-    "differences": "difference",
-    "elements": "element",
-    "d_lrbg": DISTANCE_OR_NOT_KNOWN,
-    "q_dirlrbg": SIDE,
-    "q_dlrbg": SIDE,
-    "l_doubtover": DISTANCE_OR_NOT_KNOWN,
-    "l_doubtunder": DISTANCE_OR_NOT_KNOWN,
     "q_length": listed("no information | confirmed by a device | confirmed by the driver | lost"),
     "l_trainint": written("{} m"),
-    "v_train": SPEED,
-    "q_dirtrain": SIDE,
     "m_mode": MODE,
-    "m_level": LEVEL,
     "d_leveltr": distance({32_767: "now"}),
-    "m_leveltr": LEVEL,
-    "nid_ntc": NO_NAME,
-    "l_ackleveltr": DISTANCE,
-    "transitions": "choice",
-    "body": "body",
-    "packets": "packet",
 }
-VARIABLES: Dict[str, Words] = {key: words for key, words in KEYS.items() if not isinstance(words, str)}
-LABELS = {key: label for key, label in KEYS.items() if isinstance(label, str)}
+_PLACES = {key: place for place, key in enumerate(Form.__annotations__)}
+LABELS = {key: key.removesuffix("s").replace("_", " ") for key in _PLACES if key not in VARIABLES}
+LABELS["transitions"] = "choice"
 """The names of parts and of their items."""
 NAMES = {
     "user_bits": "user bits",
@@ -205,7 +163,6 @@ NAMES = {
     "prv_nid_bg": "NID_BG of NID_PRVLRBG",
 }
 """The variables whose keys are not the standard's names in small letters."""
-_PLACES = {key: place for place, key in enumerate(KEYS)}
 
 
 def in_order(keys: Iterable[str]) -> List[str]:
