@@ -7,7 +7,7 @@ from typing import Any, Dict, Iterator, Tuple
 import pytest
 from cases_of_program import TOP
 
-from balisekit.etcs.layout import TRACK
+from balisekit.engine.records import FROM_TRACK
 from balisekit.etcs.packets import packet_name
 from balisekit.etcs.variables import LABELS, VARIABLES, Around, metres, value_texts, value_words, variable_name
 
@@ -129,7 +129,7 @@ def test_category_depends_on_the_kind() -> None:
 
 def test_packet_names() -> None:
     """A packet that is read has a name in each direction, and one that is not listed is not called unassigned."""
-    assert all(packet_name(number) != "not named here" for number in (0, *TRACK))
+    assert all(packet_name(number) != "not named here" for number in FROM_TRACK)
     assert (packet_name(1), packet_name(1, False)) == ("not named here", "position report based on two balise groups")
 
 

@@ -21,16 +21,10 @@ def find(named: Optional[str]) -> str:
     named = named or os.environ.get("BALISECHECK")
     script = TOP / "balisecheck"
     is_clone = (TOP / "companion" / "pyproject.toml").is_file() and script.is_file()
-    if named:
-        path = shutil.which(named)
-        if path is None or not os.path.isfile(path):
-            raise NoAnswer(f"there is no program {named}")
-    elif is_clone:
-        path = str(script)
-    else:
-        path = shutil.which("balisecheck")
-        if path is None:
-            raise NoAnswer("there is no balisecheck on the path: name one by --program or BALISECHECK")
+    path = str(script) if is_clone and not named else shutil.which(named or "balisecheck")
+    if path is None or not os.path.isfile(path):
+        advice = "there is no balisecheck on the path: name one by --program or BALISECHECK"
+        raise NoAnswer(f"there is no program {named}" if named else advice)
     # (in a clone it is the start script; in a release it is the program itself)
     if is_clone and os.path.samefile(path, script) and script.read_bytes()[:4] != b"\x7fELF":
         path = _stored(str(script))

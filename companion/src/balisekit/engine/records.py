@@ -119,11 +119,10 @@ KEYS: Dict[str, str] = {
     "differences": "q_diff nc v_diff",
     "transitions": "m_leveltr nid_ntc? l_ackleveltr",
 }
-"""The keys of each kind of object but packets. A question mark follows a key that may be absent."""
+"""The keys of each kind of object but packets, in the order of the bits. A key with a question mark may be absent."""
 AUTHORITY = "end_speed end_timeout sections l_endsection section_timer? end_timer? danger_point? overlap?"
 REPORT = (
-    "q_scale nid_c nid_bg d_lrbg q_dirlrbg q_dlrbg l_doubtover l_doubtunder q_length l_trainint? v_train q_dirtrain "
-    "m_mode m_level nid_ntc?"
+    "d_lrbg q_dirlrbg q_dlrbg l_doubtover l_doubtunder q_length l_trainint? v_train q_dirtrain m_mode m_level nid_ntc?"
 )
 FROM_TRACK: Dict[int, str] = {
     0: "nid_vbcmk",
@@ -135,7 +134,10 @@ FROM_TRACK: Dict[int, str] = {
     41: "q_dir q_scale d_leveltr transitions",
 }
 """The keys of each packet from track to train that is decoded, beside its number."""
-FROM_TRAIN: Dict[int, str] = {0: REPORT, 1: f"{REPORT} prv_nid_c prv_nid_bg"}
+FROM_TRAIN: Dict[int, str] = {
+    0: f"q_scale nid_c nid_bg {REPORT}",
+    1: f"q_scale nid_c nid_bg prv_nid_c prv_nid_bg {REPORT}",
+}
 """The same of packets from train to track."""
 ONLY_WITH: Dict[str, Tuple[Tuple[str, str], ...]] = {
     "nid_ntc": (("m_leveltr", "1"), ("m_level", "1")),
@@ -172,15 +174,27 @@ def _types() -> Dict[str, Any]:
     return get_type_hints(Form, include_extras=True)
 
 
+def allowed(key: str) -> Tuple[Any, ...]:
+    """The numbers and ranges that a key allows, or the least and greatest length of its list; nothing of an object."""
+    numbers: Tuple[Any, ...] = getattr(_types()[key], "__metadata__", ())
+    return numbers
+
+
+@lru_cache(maxsize=None)
+def width(key: str) -> int:
+    """How many bits the greatest number of a key has."""
+    greatest: int = max(part if isinstance(part, int) else part[-1] for part in allowed(key))
+    return greatest.bit_length()
+
+
 def _value(key: str) -> str:
     """An expression for the values of a key."""
-    kind = _types()[key]
-    allowed: Tuple[Any, ...] = getattr(kind, "__metadata__", ())
-    if not allowed:
+    numbers = allowed(key)
+    if not numbers:
         return _object(KEYS[key])
-    if kind.__origin__ is not int:
-        return _list(_object(KEYS[key]), *allowed)
-    return _number(allowed[0]) if len(allowed) == 1 else f"(?:{'|'.join(map(_number, allowed))})"
+    if _types()[key].__origin__ is not int:
+        return _list(_object(KEYS[key]), *numbers)
+    return _number(numbers[0]) if len(numbers) == 1 else f"(?:{'|'.join(map(_number, numbers))})"
 
 
 def _list(item: str, least: int, most: Optional[int] = None) -> str:
@@ -223,7 +237,7 @@ def _packets(from_track: bool, one_of: str = "") -> str:
     for number, keys in kinds.items():
         own = {"nid_packet": str(number)}
         if "elements" in keys:
-            own["elements"] = _list(_object(KEYS[f"elements of {number}"]), 1, 32)
+            own["elements"] = _list(_object(KEYS[f"elements of {number}"]), *allowed("elements"))
         packets.append(_object(f"nid_packet {keys}", **own))
     head, most = BODIES[from_track]
     others = f"(?!(?:{'|'.join(map(str, kinds))})(?![0-9])){_number(range(255))}"

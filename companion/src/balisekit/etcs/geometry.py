@@ -36,7 +36,6 @@ class Site(NamedTuple):
     packet: int
 
 
-NONE: FrozenSet[Site] = frozenset()
 GREATEST = 10**15
 """In decimetres. The kilometres of a table are far less."""
 
@@ -258,7 +257,7 @@ def origins(forms: Sequence[Optional[Form]], direction: str) -> Iterator[Tuple[S
 def infill(forms: Sequence[Form], direction: str) -> FrozenSet[Site]:
     """The packets that are passed behind a packet 136: their distances count from another group."""
     if not has_infill(forms):
-        return NONE
+        return frozenset()
     known = {site for site, origin in origins(forms, direction) if origin is Origin.INFILL}
     return frozenset(site for site in known if not is_silent(forms, site.balise, direction))
 

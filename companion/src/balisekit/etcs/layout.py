@@ -5,67 +5,20 @@ field at which the program says that a telegram is wrong. Which telegram is wron
 """
 from __future__ import annotations
 
+import re
 from contextlib import suppress
 from dataclasses import dataclass
-from functools import lru_cache
-from typing import Any, List, Mapping, Optional, Sequence, Tuple
+from typing import Dict, List, Optional, Tuple
 
-KEYS = {"V_LOA": "end_speed", "T_LOA": "end_timeout", "NC_DIFF": "nc", "NC_CDDIFF": "nc"}
-"""The keys of variables in the JSON that are not their names in small letters."""
-Layout = Sequence[Any]
-"""Texts of variables with their bits, and tuples in which other layouts follow a kind, a name and a third value:
+from balisekit.engine.records import BODIES, FROM_TRACK, FROM_TRAIN, KEYS, ONLY_WITH, allowed, width
+from balisekit.etcs.variables import NO_FORM, Values, variable_name
 
-- "optional", a flag of one bit, which the JSON does not write: if it is set, a part under the third value.
-- "when", a variable with its bits: the third value has what follows it by its number.
-- "items", the key of a list: as many items as the third value says, N_ITER, and as many as that says.
-- "group", a variable of NID_C and NID_BG, whose keys begin with the third value.
-"""
-SECTION_TIMER = ("optional", "Q_SECTIONTIMER", "/section_timer", "T_SECTIONTIMER 10 D_SECTIONTIMERSTOPLOC 15")
-AUTHORITY: Layout = (
-    "V_LOA 7 T_LOA 10",
-    ("items", "sections", 0, "L_SECTION 15", SECTION_TIMER),
-    "L_ENDSECTION 15",
-    SECTION_TIMER,
-    ("optional", "Q_ENDTIMER", "/end_timer", "T_ENDTIMER 10 D_ENDTIMERSTARTLOC 15"),
-    ("optional", "Q_DANGERPOINT", "/danger_point", "D_DP 15 V_RELEASEDP 7"),
-    ("optional", "Q_OVERLAP", "/overlap", "D_STARTOL 15 T_OL 10 D_OL 15 V_RELEASEOL 7"),
-)
-POSITION: Layout = (
-    "D_LRBG 15 Q_DIRLRBG 2 Q_DLRBG 2 L_DOUBTOVER 15 L_DOUBTUNDER 15",
-    ("when", "Q_LENGTH 2", {1: "L_TRAININT 15", 2: "L_TRAININT 15"}),
-    "V_TRAIN 7 Q_DIRTRAIN 2 M_MODE 4",
-    ("when", "M_LEVEL 3", {1: "NID_NTC 8"}),
-)
-LINK: Layout = (
-    "D_LINK 15",
-    ("optional", "Q_NEWCOUNTRY", "", "NID_C 10"),
-    "NID_BG 14 Q_LINKORIENTATION 1 Q_LINKREACTION 2 Q_LOCACC 6",
-)
-DIFFERENCE: Layout = (
-    ("when", "Q_DIFF 2", {0: "NC_CDDIFF 4", 1: "NC_DIFF 4", 2: "NC_DIFF 4", 3: "NC_DIFF 4"}),
-    "V_DIFF 7",
-)
-TRACK: Mapping[int, Layout] = {
-    5: (("items", "links", 1, *LINK),),
-    12: ("V_MAIN 7", *AUTHORITY),
-    15: AUTHORITY,
-    21: (("items", "elements", 1, "D_GRADIENT 15 Q_GDIR 1 G_A 8"),),
-    27: (("items", "elements", 1, "D_STATIC 15 V_STATIC 7 Q_FRONT 1", ("items", "differences", 0, *DIFFERENCE)),),
-    41: ("D_LEVELTR 15", ("items", "transitions", 1, ("when", "M_LEVELTR 3", {1: "NID_NTC 8"}), "L_ACKLEVELTR 15")),
-}
-TRAIN: Mapping[int, Layout] = {
-    0: (("group", "NID_LRBG", ""), *POSITION),
-    1: (("group", "NID_LRBG", ""), ("group", "NID_PRVLRBG", "prv_"), *POSITION),
-}
-HEADER = "Q_UPDOWN 1 M_VERSION 7 Q_MEDIA 1 N_PIG 3 N_TOTAL 3 M_DUP 2 M_MCOUNT 8 NID_C 10 NID_BG 14 Q_LINK 1"
+HEADER = {"Q_UPDOWN": 1, "M_VERSION": 7, "Q_MEDIA": 1, "N_PIG": 3, "N_TOTAL": 3, "M_DUP": 2, "M_MCOUNT": 8}
+HEADER.update({"NID_C": 10, "NID_BG": 14, "Q_LINK": 1})
 NOT_WRITTEN = ("Q_UPDOWN", "Q_MEDIA")
 """The variables of a telegram's header that the JSON does not write."""
-
-
-@lru_cache(maxsize=None)
-def _variables(text: str) -> Sequence[Tuple[str, int]]:
-    words = text.split()
-    return list(zip(words[::2], map(int, words[1::2])))
+GROUPS = {"nid_c": "NID_LRBG", "prv_nid_c": "NID_PRVLRBG"}
+"""Variables of NID_C and NID_BG, by the key of the first one."""
 
 
 @dataclass(frozen=True)
@@ -121,29 +74,43 @@ class _Walk:
             raise _End
         return field.value
 
-    def value(self, name: str, width: int, path: str) -> int:
-        """The number in the next field, which the JSON has at `path` under its key."""
-        return self.read(name, width, (f"{path}/{KEYS.get(name, name.lower())}", width))
+    def value(self, key: str, path: str, parent: Values = NO_FORM) -> int:
+        """The number in the next field, which the JSON has at `path` under this key."""
+        return self.read(variable_name(key, parent), width(key), (f"{path}/{key}", width(key)))
 
-    def layout(self, layout: Layout, path: str) -> None:
-        """The fields of an object, which the JSON has at this path."""
-        for item in layout:
-            if isinstance(item, str):
-                for name, width in _variables(item):
-                    self.value(name, width, path)
+    def object(self, keys: str, path: str) -> None:
+        """The fields of an object with these keys, which the JSON has at this path."""
+        values: Dict[str, int] = {}
+        words = iter(keys.split())
+        for word in words:
+            key = word.rstrip("?")
+            inner = KEYS.get(key) or KEYS.get(f"{key} of {self.number}")
+            if key == "q_scale":
+                self.read("L_PACKET", 13)
+            if key != word and not self.is_present(key, values):
                 continue
-            kind, name, third, *inner = item
-            if kind == "items":
-                for place in range(third):
-                    self.layout(inner, f"{path}/{name}/{place}")
-                for place in range(third, third + self.read("N_ITER", 5)):
-                    self.layout(inner, f"{path}/{name}/{place}")
-            elif kind == "group":
-                self.read(name, 24, (f"{path}/{third}nid_c", 10), (f"{path}/{third}nid_bg", 14))
-            elif kind == "optional" and self.read(name, 1):
-                self.layout(inner, f"{path}{third}")
-            elif kind == "when":
-                self.layout((third.get(self.value(*_variables(name)[0], path), ""),), path)
+            if word in GROUPS:
+                self.read(GROUPS[word], 24, (f"{path}/{key}", 10), (f"{path}/{next(words)}", 14))
+            elif inner is None:
+                values[key] = self.value(key, path, values)
+            elif allowed(key):
+                self.items(inner, allowed(key)[0], f"{path}/{key}")
+            else:
+                self.object(inner, f"{path}/{key}")
+
+    def is_present(self, key: str, values: Values) -> bool:
+        """Whether an object has a key that may be absent: by numbers before it, else by a flag that the JSON lacks."""
+        if key in ONLY_WITH:
+            return any(re.fullmatch(value, str(values.get(other))) for other, value in ONLY_WITH[key])
+        flag = "NEWCOUNTRY" if key == "nid_c" else key.replace("_", "").upper()
+        return self.read(f"Q_{flag}", 1) == 1
+
+    def items(self, keys: str, least: int, path: str) -> None:
+        """The items of a list: as many as there are at least, and as many more as N_ITER says."""
+        for place in range(least):
+            self.object(keys, f"{path}/{place}")
+        for place in range(least, least + self.read("N_ITER", 5)):
+            self.object(keys, f"{path}/{place}")
 
     def packets(self, from_track: bool) -> None:
         """Packets up to the end mark, or as far as there is room for one."""
@@ -154,7 +121,7 @@ class _Walk:
                 self.packet = None
                 self.read("NID_PACKET", 8)
                 break
-            self.value("NID_PACKET", 8, f"/packets/{index}")
+            self.value("nid_packet", f"/packets/{index}")
             self.body(f"/packets/{index}", self.number, from_track)
             index += 1
         self.packet = self.number = None
@@ -163,29 +130,24 @@ class _Walk:
 
     def body(self, path: str, number: int, from_track: bool) -> None:
         """What a packet has after its number."""
-        if from_track and number == 0:
-            self.value("NID_VBCMK", 6, path)
+        known = (FROM_TRACK if from_track else FROM_TRAIN).get(number)
+        if known is not None:
+            self.object(known, path)
             return
         if from_track:
-            self.value("Q_DIR", 2, path)
-        known = (TRACK if from_track else TRAIN).get(number)
-        if known is not None:
-            self.read("L_PACKET", 13)
-            self.value("Q_SCALE", 2, path)
-            self.layout(known, path)
-            return
-        width = self.value("L_PACKET", 13, path) - (23 if from_track else 21)
-        if width < 0:
+            self.value("q_dir", path)
+        bits = self.value("l_packet", path) - BODIES[from_track][0]
+        if bits < 0:
             raise _End
-        self.read("body", width, (f"{path}/body", width))
+        self.read("body", bits, (f"{path}/body", bits))
 
 
 def telegram_fields(bits: str) -> List[Field]:
     """The fields of a telegram's user bits, a text of 0 and 1."""
     walk = _Walk(bits)
     with suppress(_End):
-        for name, width in _variables(HEADER):
-            walk.read(name, width, *([] if name in NOT_WRITTEN else [(f"/{name.lower()}", width)]))
+        for name, count in HEADER.items():
+            walk.read(name, count, *([] if name in NOT_WRITTEN else [(f"/{name.lower()}", count)]))
         walk.packets(True)
     return walk.fields
 
@@ -194,10 +156,9 @@ def message_fields(bits: str) -> List[Field]:
     """The fields of a radio message's bits, a text of 0 and 1."""
     walk = _Walk(bits)
     with suppress(_End):
-        number = walk.value("NID_MESSAGE", 8, "")
+        number = walk.value("nid_message", "")
         walk.read("L_MESSAGE", 10)
-        walk.value("T_TRAIN", 32, "")
-        walk.layout(("NID_ENGINE 24",) if number == 136 else ("M_ACK 1", ("group", "NID_LRBG", "")), "")
+        walk.object("t_train nid_engine" if number == 136 else "t_train m_ack nid_c nid_bg", "")
         walk.packets(number != 136)
     return walk.fields
 

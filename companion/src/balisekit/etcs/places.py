@@ -5,18 +5,8 @@ from dataclasses import dataclass, field
 from itertools import accumulate
 from typing import Callable, Dict, Iterator, List, Mapping, NamedTuple, Optional, Sequence, Tuple
 
-from balisekit.etcs.geometry import (
-    DIRECTIONS,
-    ELEMENT_KEYS,
-    Kilometres,
-    Origin,
-    Site,
-    authority,
-    has_infill,
-    holds,
-    kilometres,
-    origins,
-)
+from balisekit.etcs import geometry
+from balisekit.etcs.geometry import DIRECTIONS, ELEMENT_KEYS, Kilometres, Origin, holds, kilometres
 from balisekit.etcs.variables import Form, metres, unit_dm
 from balisekit.tables.model import Group
 from balisekit.tables.names import quoted
@@ -141,7 +131,7 @@ def _notes(packet: Form, origin: Origin, place: Place) -> Dict[str, str]:
 
 def _authority_notes(packet: Form, place: Place) -> Notes:
     """Where sections end and timers stop, and where the authority ends."""
-    extent = authority(Site(0, 0), packet)
+    extent = geometry.authority(geometry.Site(0, 0), packet)
     stops = list(extent.timer_stops)
     for index, (section, cut) in enumerate(zip(packet["sections"], extent.cuts)):
         yield f"/sections/{index}", f"to {place(cut)}"
@@ -199,7 +189,7 @@ def places_of_rows(group: Group, forms: Mapping[int, Form]) -> Dict[int, Here]:
     """From where the distances of each row count, by the row's number, in the order of the table."""
     where, numbers = kilometres(group), sorted({row.number for row in group.rows()})
     passages: Mapping[int, Mapping[int, Sequence[Passage]]] = {}
-    if not all(number in forms and not has_infill([forms[number]]) for number in numbers):
+    if not all(number in forms and not geometry.has_infill([forms[number]]) for number in numbers):
         passages = _passages(
             [(aspect.name, [(row.number, forms.get(row.number)) for row in aspect.rows]) for aspect in group.aspects]
         )
@@ -213,7 +203,7 @@ def _passages(
     passages_of: Dict[int, Dict[int, List[Passage]]] = {}
     for name, telegrams in aspects:
         for direction in DIRECTIONS:
-            for site, origin in origins([form for _, form in telegrams], direction):
+            for site, origin in geometry.origins([form for _, form in telegrams], direction):
                 packets = passages_of.setdefault(telegrams[site.balise][0], {})
                 packets.setdefault(site.packet, []).append(Passage(name, direction, origin))
     return {

@@ -1,6 +1,6 @@
 """What the variables of telegrams and messages are called, and what their numbers mean (SUBSET-026, 7.5.1).
 
-Each key of the program's JSON that has a number is in `VARIABLES`, with a function that gives it with a unit or by name.
+Each key of the program's JSON that has a number is in `VARIABLES`: a function gives it with a unit or by name.
 Each other key has a label. A number that needs neither unit nor name has no words.
 """
 from __future__ import annotations
