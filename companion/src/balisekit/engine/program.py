@@ -17,7 +17,7 @@ from typing import IO, Any, Deque, Dict, List, Optional, Tuple, TypeVar, Union
 
 from balisekit.engine import find_program, grammar, records
 from balisekit.engine.grammar import Finding, Refusal, Verdict
-from balisekit.engine.records import Form, form_of
+from balisekit.engine.records import Form
 from balisekit.engine.run import HANDSHAKE_LIMIT, Limit, Run
 from balisekit.errors import NoAnswer
 
@@ -56,7 +56,8 @@ class Record:
     @property
     def form(self) -> Form:
         """The object of the line."""
-        return form_of(self.line)
+        form: Form = json.loads(self.line)
+        return form
 
 
 @dataclass(frozen=True)

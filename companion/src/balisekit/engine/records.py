@@ -5,7 +5,6 @@ describes each form completely. `schemas/*.json` describes the same forms for ot
 """
 from __future__ import annotations
 
-import json
 import re
 from functools import lru_cache
 from typing import Annotated, Any, Dict, List, Optional, Pattern, Tuple, TypedDict, Union, get_type_hints
@@ -260,9 +259,3 @@ def message_expression() -> Pattern[str]:
     authority = _object(KEYS["message 3"], nid_message="3", packets=_packets(True, "15"))
     report = _object(KEYS["message 136"], nid_message="136", packets=_packets(False, "[01]"))
     return re.compile(f"{authority}|{report}")
-
-
-def form_of(line: str) -> Form:
-    """The object of a line that matches one of these expressions."""
-    form: Form = json.loads(line)
-    return form

@@ -13,10 +13,6 @@ from typing import Dict, List, Optional, Tuple
 from balisekit.engine.records import BODIES, FROM_TRACK, FROM_TRAIN, KEYS, ONLY_WITH, allowed, width
 from balisekit.etcs.variables import NO_FORM, Values, variable_name
 
-HEADER = {"Q_UPDOWN": 1, "M_VERSION": 7, "Q_MEDIA": 1, "N_PIG": 3, "N_TOTAL": 3, "M_DUP": 2, "M_MCOUNT": 8}
-HEADER.update({"NID_C": 10, "NID_BG": 14, "Q_LINK": 1})
-NOT_WRITTEN = ("Q_UPDOWN", "Q_MEDIA")
-"""The variables of a telegram's header that the JSON does not write."""
 GROUPS = {"nid_c": "NID_LRBG", "prv_nid_c": "NID_PRVLRBG"}
 """Variables of NID_C and NID_BG, by the key of the first one."""
 
@@ -146,8 +142,11 @@ def telegram_fields(bits: str) -> List[Field]:
     """The fields of a telegram's user bits, a text of 0 and 1."""
     walk = _Walk(bits)
     with suppress(_End):
-        for name, count in HEADER.items():
-            walk.read(name, count, *([] if name in NOT_WRITTEN else [(f"/{name.lower()}", count)]))
+        walk.read("Q_UPDOWN", 1)
+        walk.read("M_VERSION", 7, ("/m_version", 7))
+        walk.read("Q_MEDIA", 1)
+        for key in "n_pig n_total m_dup m_mcount nid_c nid_bg q_link".split():
+            walk.value(key, "")
         walk.packets(True)
     return walk.fields
 
