@@ -8,12 +8,11 @@ from __future__ import annotations
 import json
 import os
 import tempfile
-from collections import deque
 from collections.abc import Callable, Iterable, Iterator, Mapping, Sequence
-from concurrent.futures import Future, ThreadPoolExecutor
+from concurrent.futures import ThreadPoolExecutor
 from dataclasses import dataclass, field, replace
 from threading import Event
-from typing import IO, Any, Deque, Dict, List, Optional, Tuple, TypeVar, Union
+from typing import IO, Any, Dict, List, Optional, Tuple, TypeVar, Union
 
 from balisekit.engine import find_program, grammar, records
 from balisekit.engine.grammar import Finding, Refusal, Verdict
@@ -209,21 +208,14 @@ class Program:
             yield answer
             if refused == FEW:
                 break
-        program = replace(self, _stop=Event())
-        waiting: Deque[Future[List[Done]]] = deque()
+        program, starts = replace(self, _stop=Event()), range(done, count, PART)
         with ThreadPoolExecutor(AT_A_TIME) as pool:
             try:
-                for start in range(done, count, PART):
-                    part = (start, min(start + PART, count))
-                    waiting.append(pool.submit(lambda part: list(work(program, part)), part))
-                    if len(waiting) > 2 * AT_A_TIME:
-                        yield from waiting.popleft().result()
-                while waiting:
-                    yield from waiting.popleft().result()
+                for answers in pool.map(lambda start: list(work(program, (start, start + PART))), starts):
+                    yield from answers
             finally:
                 program._stop.set()
-                for future in waiting:
-                    future.cancel()
+                pool.shutdown(wait=False, cancel_futures=True)
 
     def _check(self, document: IO[bytes]) -> Union[Report, Refusal]:
         """What `check` reports of the document in this file."""

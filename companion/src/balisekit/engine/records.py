@@ -203,29 +203,20 @@ def _list(item: str, least: int, most: Optional[int] = None) -> str:
 
 
 def _object(keys: str, **values: str) -> str:
-    """An expression for an object with these keys. Some values can be given by expressions of their own."""
+    """An expression for an object with these keys, one of which is always present. Some values can be given."""
     names = sorted(keys.split())
-    parts, conditions = [], []
+    text, conditions, comma = "", "", ""
     for name in names:
         key = name.rstrip("?")
-        parts.append((name, f'"{key}":{values.get(key) or _value(key)}'))
+        part = f'"{key}":{values.get(key) or _value(key)}'
         for other, value in ONLY_WITH.get(key, ()):
             if other in names:
                 there, holds = f'[^{{}}]*"{key}":', f'[^{{}}]*"{other}":{value}(?![0-9])'
-                conditions.append(f"(?:(?={there})(?={holds})|(?!{there})(?!{holds}))")
-    return _joined(parts, "".join(conditions))
-
-
-def _joined(parts: List[Tuple[str, str]], conditions: str) -> str:
-    """The parts of an object with commas between them. One part at least is always present, and none is the last."""
-    text, always = "", False
-    for name, part in parts:
-        optional = name.endswith("?")
-        if optional:
-            text += f"(?:,{part})?" if always else f"(?:{part},)?"
-        else:
-            text += f",{part}" if always else part
-            always = True
+                conditions += f"(?:(?={there})(?={holds})|(?!{there})(?!{holds}))"
+        if name == key:
+            text, comma = f"{text}{comma}{part}", ","
+        else:  # (before the first key that is always present, the comma is behind it)
+            text += f"(?:,{part})?" if comma else f"(?:{part},)?"
     return rf"\{{{conditions}{text}\}}"
 
 

@@ -177,10 +177,8 @@ def _level_notes(packet: Form, place: Place) -> Notes:
 
 NOTES: Mapping[int, Callable[[Form, Place], Notes]] = {
     5: _linking_notes,
-    12: _authority_notes,
-    15: _authority_notes,
-    21: _profile_notes,
-    27: _profile_notes,
+    **dict.fromkeys((12, 15), _authority_notes),
+    **dict.fromkeys((21, 27), _profile_notes),
     41: _level_notes,
 }
 
