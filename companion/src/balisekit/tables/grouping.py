@@ -10,6 +10,7 @@ from typing import Any, Dict, Iterable, List, Mapping, Optional, Sequence, Tuple
 
 from balisekit.errors import TableError, TableErrors
 from balisekit.tables.model import Aspect, Group, Row
+from balisekit.tables.names import NAMED, listed
 
 EVERY = "*"
 """In the column `aspect`: the balise sends this telegram in every aspect."""
@@ -19,8 +20,6 @@ KEYS = {"balise": "balise {}", "name": 'balise "{}"', "km": "the balise at km {}
 COLUMN = {name: place for place, name in enumerate(Row._fields)}
 UNKNOWN = {"", None}
 """What such a column has if it does not tell."""
-NAMED = 20
-"""So many rows or aspects of one kind are named."""
 
 
 def groups_of(rows: Sequence[Row], by_position: bool = False) -> Tuple[Tuple[Group, ...], Tuple[str, ...]]:
@@ -254,7 +253,7 @@ def _lacking(name: str, aspects: List[Aspect]) -> List[TableError]:
         return [
             TableError(
                 f'{words.format(key)} of group "{name}" has no telegram for '
-                f"{_listed((one for one, known in zip(aspects, keys) if key not in known), len(aspects) - count)}: "
+                f"{_described((one for one, known in zip(aspects, keys) if key not in known), len(aspects) - count)}: "
                 f"add the row, or write {EVERY} as the aspect of a telegram that is sent in every aspect",
                 row=first[key].number,
             )
@@ -264,11 +263,10 @@ def _lacking(name: str, aspects: List[Aspect]) -> List[TableError]:
     return []
 
 
-def _listed(aspects: Iterable[Aspect], count: int) -> str:
+def _described(aspects: Iterable[Aspect], count: int) -> str:
     """So many aspects with their rows, of which the first are named."""
-    shown = ", ".join(f'"{aspect.name}" ({_rows(sorted(aspect.rows))})' for aspect in islice(aspects, NAMED))
-    more = f" and {count - NAMED} more" if count > NAMED else ""
-    return f"aspect{'s' if count > 1 else ''} {shown}{more}"
+    names = [f'"{aspect.name}" ({_rows(sorted(aspect.rows))})' for aspect in islice(aspects, NAMED)]
+    return f"aspect{'s' if count > 1 else ''} {listed(names, NAMED, count)}"
 
 
 def _rows(rows: Sequence[Row]) -> str:
@@ -276,8 +274,8 @@ def _rows(rows: Sequence[Row]) -> str:
     first, last, count = rows[0].number, rows[-1].number, len(rows)
     if count > 2 and last - first + 1 == count:
         return f"rows {first} to {last}"
-    numbers = ", ".join(str(row.number) for row in rows[:NAMED])
-    return f"row{'s' if count > 1 else ''} {numbers}{f' and {count - NAMED} more' if count > NAMED else ''}"
+    numbers = listed([str(row.number) for row in rows[:NAMED]], NAMED, count)
+    return f"row{'s' if count > 1 else ''} {numbers}"
 
 
 def _numbered_otherwise(name: str, aspects: List[Aspect]) -> List[str]:
