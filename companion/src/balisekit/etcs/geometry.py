@@ -157,17 +157,14 @@ def kilometres(group: Group) -> Kilometres:
 
 def authority(site: Site, packet: Form) -> Authority:
     """The places of a packet 12 or 15."""
-    unit, at = unit_dm(packet), 0
-    cuts: List[int] = []
-    stops: List[int] = []
-    for section in packet["sections"]:
-        if "section_timer" in section:
-            stops.append((at + section["section_timer"]["d_sectiontimerstoploc"]) * unit)
-        at += section["l_section"]
-        cuts.append(at * unit)
-    if "section_timer" in packet:
-        stops.append((at + packet["section_timer"]["d_sectiontimerstoploc"]) * unit)
-    end = at + packet["l_endsection"]
+    unit, sections = unit_dm(packet), packet["sections"]
+    cuts = [0, *accumulate(section["l_section"] for section in sections)]
+    stops = [
+        (begin + section["section_timer"]["d_sectiontimerstoploc"]) * unit
+        for begin, section in zip(cuts, [*sections, packet])
+        if "section_timer" in section
+    ]
+    end = cuts[-1] + packet["l_endsection"]
 
     def beyond(part: Part, key: Key, sign: int = 1) -> Optional[int]:
         return (end + sign * packet[part][key]) * unit if part in packet else None
@@ -175,7 +172,7 @@ def authority(site: Site, packet: Form) -> Authority:
     return Authority(
         site,
         packet,
-        tuple(cuts),
+        tuple(cut * unit for cut in cuts[1:]),
         end * unit,
         beyond("danger_point", "d_dp"),
         beyond("overlap", "d_ol"),

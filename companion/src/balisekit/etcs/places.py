@@ -163,10 +163,8 @@ def _profile_notes(packet: Form, place: Place) -> Notes:
 
 def _linking_notes(packet: Form, place: Place) -> Notes:
     """Where each group of a linking packet is."""
-    at = 0
-    for index, link in enumerate(packet["links"]):
-        at += link["d_link"] * unit_dm(packet)
-        yield f"/links/{index}", f"at {place(at)}"
+    for index, at in enumerate(accumulate(link["d_link"] for link in packet["links"])):
+        yield f"/links/{index}", f"at {place(at * unit_dm(packet))}"
 
 
 def _level_notes(packet: Form, place: Place) -> Notes:
