@@ -1,7 +1,8 @@
 """What is said of accepted findings: in words, as JSON, and as entries for those that are open."""
 from __future__ import annotations
 
-from typing import Any, Dict, Iterator, List, Optional
+from itertools import repeat
+from typing import Any, Dict, Iterator, List, Optional, Tuple
 
 from balisekit.io import csv_writing
 from balisekit.rules import findings_on_correct_data
@@ -16,10 +17,9 @@ def accepted_words(entry: Entry) -> str:
     return f"accepted: {clean(entry.reason)} ({clean(entry.who)}, {entry.date}{until})"
 
 
-def closing_lines(judged: Judged, last: str) -> Iterator[str]:
-    """What ends the answer of `check`, whose last line without entries this is."""
-    yield from fault_lines(judged)
-    yield from verdict_lines(judged, last)
+def with_entries(checked: Checked, judged: Optional[Judged]) -> Iterator[Tuple[Place, Optional[Entry]]]:
+    """Each finding, and the entry that accepts it."""
+    return zip(checked.findings, judged.by_finding if judged else repeat(None))
 
 
 def fault_lines(judged: Judged) -> Iterator[str]:
