@@ -34,6 +34,6 @@ def run(options: argparse.Namespace) -> int:
         options.document.write(checking.document(checked.kept, [one.message for one in checked.accepted_messages]))
     if options.json:
         write_json(options.json, as_json(checked, judged))
-    answer = lines(checked, options.explain, judged)
+    answer = lines(checked, options.explain, judged, options.propose is not None)
     shared.say(answer, options.json, options.document, options.propose, options.junit)
     return judged.status if judged else checked.status

@@ -32,7 +32,12 @@ def fault_lines(judged: Judged) -> Iterator[str]:
             f"note: entries without a sha256: {unsigned}. They accept nothing, since nobody knows which telegrams were "
             "looked at: --propose writes new ones"
         )
-    unnamed = sum(UNNAMED in key for key, entry in zip(keys(judged.checked), judged.by_finding) if entry is None)
+    yield from unnamed_lines(judged.checked, judged)
+
+
+def unnamed_lines(checked: Checked, judged: Optional[Judged]) -> Iterator[str]:
+    """How many open findings no entry can name."""
+    unnamed = sum(UNNAMED in key for key, (_, entry) in zip(keys(checked), with_entries(checked, judged)) if not entry)
     if unnamed:
         yield f"note: {unnamed} open findings are of messages without a name of their own, so that no entry names them"
 
@@ -84,8 +89,6 @@ def proposal(checked: Checked, judged: Optional[Judged]) -> str:
 
     An entry of other data that fits a finding gives its reason.
     """
-    accepting = judged.by_finding if judged else (None,) * len(checked.findings)
-    former = judged.former if judged else accepting
     reasons = findings_on_correct_data.reasons()
     del reasons["pair controlled"]
     findings: Dict[Key, List[Place]] = {}
@@ -93,7 +96,8 @@ def proposal(checked: Checked, judged: Optional[Judged]) -> str:
         findings.setdefault(key, []).append(place)
     rows: Dict[Key, List[str]] = {}
     fits = findings_on_correct_data.rows_of(checked.findings, checked)
-    for key, row, entry, known in zip(keys(checked), fits, accepting, former):
+    former = judged.former if judged else repeat(None)
+    for key, row, (_, entry), known in zip(keys(checked), fits, with_entries(checked, judged), former):
         if entry is None and UNNAMED not in key and key not in rows:
             reason = known.reason if known else reasons.get(row, "")
             rows[key] = [*key, reason, "", "", "", checksum(findings[key])]

@@ -3,7 +3,7 @@ from __future__ import annotations
 
 from typing import Iterator, List, Optional
 
-from balisekit.present.accepted_text import accepted_words, fault_lines, verdict_lines, with_entries
+from balisekit.present.accepted_text import accepted_words, fault_lines, unnamed_lines, verdict_lines, with_entries
 from balisekit.present.explanations import finding_pages
 from balisekit.present.headings import headings
 from balisekit.present.refusals import not_looked_at, refused_counts, refused_lines
@@ -15,8 +15,10 @@ from balisekit.tables.model import Table
 from balisekit.tables.names import clean, describe_balise, describe_group, describe_message, passed_over
 
 
-def lines(checked: Checked, explained: bool = False, judged: Optional[Judged] = None) -> Iterator[str]:
-    """The answer in words. The last line is the program's, or says that the answer is not whole."""
+def lines(
+    checked: Checked, explained: bool = False, judged: Optional[Judged] = None, proposed: bool = False
+) -> Iterator[str]:
+    """The answer in words, and what is not `proposed`. The last line is the program's, or says that it is not whole."""
     table = checked.table
     yield head_line(table)
     yield from passed_over(table)
@@ -31,6 +33,7 @@ def lines(checked: Checked, explained: bool = False, judged: Optional[Judged] = 
     if explained:
         yield from finding_pages(place.finding.rule for place in checked.findings)
     yield from before_last(table)
+    yield from unnamed_lines(checked, judged) if proposed and not judged else ()
     yield from closing_lines(checked, judged)
 
 
