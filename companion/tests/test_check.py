@@ -17,7 +17,7 @@ from telegrams import ALONE, FAULTY, FIRST, MESSAGE, OTHER, SECOND, SPARE
 from balisekit.engine.grammar import Finding
 from balisekit.engine.program import Program
 from balisekit.present import explanations as explain
-from balisekit.present.headings import headings
+from balisekit.present.check_text import headings
 from balisekit.rules import checking
 from balisekit.tables.model import Aspect, Group, Message, Row
 

@@ -74,14 +74,8 @@ def as_json(judged: Judged) -> Dict[str, Any]:
 
 def entry_json(entry: Entry) -> Dict[str, Any]:
     """An entry for other tools."""
-    return {
-        "row": entry.row,
-        "reason": entry.reason,
-        "who": entry.who,
-        "date": str(entry.date or ""),
-        "until": str(entry.until or ""),
-        "sha256": entry.sha256,
-    }
+    texts = {name: str(getattr(entry, name) or "") for name in ("reason", "who", "date", "until", "sha256")}
+    return {"row": entry.row, **texts}
 
 
 def proposal(checked: Checked, judged: Optional[Judged]) -> str:

@@ -1,11 +1,11 @@
 """The answer of `check` in words: every refused telegram, then the program's findings, by row, name and kilometre."""
 from __future__ import annotations
 
-from typing import Iterator, List, Optional
+from itertools import groupby
+from typing import Iterator, List, Optional, Sequence, Tuple
 
 from balisekit.present.accepted_text import accepted_words, fault_lines, unnamed_lines, verdict_lines, with_entries
 from balisekit.present.explanations import finding_pages
-from balisekit.present.headings import headings
 from balisekit.present.refusals import not_looked_at, refused_counts, refused_lines
 from balisekit.rules.accepted import Judged
 from balisekit.rules.aspect_counts import aspects_found
@@ -13,6 +13,9 @@ from balisekit.rules.checking import Checked, Place
 from balisekit.rules.remarks import remarks
 from balisekit.tables.model import Table
 from balisekit.tables.names import clean, describe_balise, describe_group, describe_message, passed_over
+
+LEAST = 3
+"""So many findings have a heading. Two are seen at a glance."""
 
 
 def lines(
@@ -46,6 +49,21 @@ def before_last(table: Table) -> Iterator[str]:
     """What is said of the table before the last line, and changes neither that nor the status."""
     yield from remarks(table)
     yield aspects_found(table)
+
+
+def headings(places: Sequence[Place]) -> Iterator[str]:
+    """For each finding what stands above it: a heading, or nothing."""
+    for (rule, about), some in groupby(places, _about):
+        count = len(list(some))
+        yield f"F{rule}, {count} times, {about}:" if about and count >= LEAST else ""
+        yield from [""] * (count - 1)
+
+
+def _about(place: Place) -> Tuple[int, str]:
+    """The rule, and the group or message."""
+    if place.message is not None:
+        return place.finding.rule, f"message of {describe_message(place.message)}"
+    return place.finding.rule, f"group {clean(place.group.name)}" if place.group else ""
 
 
 def closing_lines(checked: Checked, judged: Optional[Judged]) -> List[str]:
