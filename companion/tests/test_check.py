@@ -298,7 +298,9 @@ def test_document(run: Run, table: Write, tmp_path: Path, program: Program) -> N
 
 def test_explain_is_what_the_document_says(run: Run, table: Write) -> None:
     known = explain.explanations()
-    assert sorted(known) == list(range(1, 17)) and all(all(vars(one).values()) for one in known.values())
+    parts = {"name", "says", "urgent", "cause", "happens", "remedy"}
+    assert sorted(known) == list(range(1, 17))
+    assert all(set(page) == parts and all(page.values()) for page in known.values())
     _, out, _ = run("check", table(*SOUND, f"C,,,,{OTHER}"), "--explain")
     assert "F14: identity used before" in out and any("How to correct it. Give one" in line for line in out)
 
