@@ -29,12 +29,11 @@ def add_options(parser: argparse.ArgumentParser) -> None:
     """The options of this command."""
     shared.add(parser, *shared.INPUTS)
     what = parser.add_mutually_exclusive_group(required=True)
-    what.add_argument("--group", **shared.name("the group's name in the table"))
+    what.add_argument("--group", **shared.value("NAME", shared.name, "the group's name in the table"))
     what.add_argument("--message", metavar="LINE", type=int, help="the message in this line of --messages")
     track = "a whole track, in strips of 5 km; without NAME the only one, or the one without a name"
-    what.add_argument("--track", nargs="?", const=True, **shared.name(track))
-    aspect = f"{shared.OPTIONS['--aspect']['help']}; with --group which aspect is drawn alone"
-    shared.add(parser, "--aspect", help=aspect)
+    what.add_argument("--track", nargs="?", const=True, **shared.value("NAME", shared.name, track))
+    shared.add(parser, "--aspect", help=f"{shared.ASPECT}; with --group which aspect is drawn alone")
     shared.add(parser, "--tolerance")
     parser.add_argument("--svg", **shared.output_file("where to write"), default="-")
     shared.add(parser, "--force")

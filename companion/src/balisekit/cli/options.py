@@ -17,11 +17,14 @@ from balisekit.tables import messages as messages_file, reader
 from balisekit.tables.model import Messages, Table
 
 TABLE = "a CSV file or an .xlsx with the columns group and telegram"
+TIMEOUT = "wait this long for each answer of the program; without it a minute, and more for a large input"
+ASPECT = "which aspect of the groups a track shows; without it the first one of each group"
+TOLERANCE = "by how much the kilometres of the table may be wrong, beside Q_LOCACC; 0 else"
 EXACT = Decimal()
 """The tolerance without --tolerance."""
 
 
-def _name(text: str) -> str:
+def name(text: str) -> str:
     """A name that is not empty, as an unset variable of a shell is."""
     if not text:
         raise argparse.ArgumentTypeError("the name is empty")
@@ -41,20 +44,19 @@ def _tolerance(text: str) -> Decimal:
     return Decimal(text.replace(",", "."))
 
 
-def name(text: str) -> Dict[str, Any]:
-    """The settings of an option that names something."""
-    return {"metavar": "NAME", "type": _name, "help": text}
+def value(metavar: str, kind: Callable[[str], Any], text: str) -> Dict[str, Any]:
+    """The settings of an option with a value."""
+    return {"metavar": metavar, "type": kind, "help": text}
 
 
 def input_file(text: str, metavar: str = "FILE") -> Dict[str, Any]:
     """The settings of an option that names a file to read."""
-    return {"metavar": metavar, "type": lambda path: InputPath(_name(path)), "help": text}
+    return value(metavar, lambda path: InputPath(name(path)), text)
 
 
 def output_file(text: str, always_new: bool = False) -> Dict[str, Any]:
     """The settings of an option that names a file to write."""
-    read: Callable[[str], Output] = lambda path: Output(_name(path), always_new)
-    return {"metavar": "FILE", "type": read, "help": f"{text}; - is standard output"}
+    return value("FILE", lambda path: Output(name(path), always_new), f"{text}; - is standard output")
 
 
 def flag(text: str) -> Dict[str, Any]:
@@ -66,28 +68,18 @@ OPTIONS: Dict[str, Dict[str, Any]] = {
     "table": input_file(TABLE, "TABLE"),
     "--messages": input_file("radio messages, one a line, a name behind ;"),
     "--by-position": flag("order the balises of a group by N_PIG, which hides a wrong N_PIG"),
-    "--sheet": name("which sheet of an .xlsx"),
-    "--program": {**name("the program balisecheck, in place of the one found"), "metavar": "PATH"},
-    "--timeout": {
-        "metavar": "SECONDS",
-        "type": _seconds,
-        "help": "wait this long for each answer of the program; without it a minute, and more for a large input",
-    },
+    "--sheet": value("NAME", name, "which sheet of an .xlsx"),
+    "--program": value("PATH", name, "the program balisecheck, in place of the one found"),
+    "--timeout": value("SECONDS", _seconds, TIMEOUT),
     "--explain": flag("show cause and remedy of each finding"),
     "--all": flag(checking.ALL_HELP),
     "--accepted": input_file("a CSV file of findings that were accepted, and by whom"),
     "--json": output_file("write all of the answer as JSON"),
     "--force": flag("replace existing files by the outputs, but never an input"),
-    "--aspect": name("which aspect of the groups a track shows; without it the first one of each group"),
-    "--tolerance": {
-        "metavar": "METRES",
-        "type": _tolerance,
-        "default": EXACT,
-        "help": "by how much the kilometres of the table may be wrong, beside Q_LOCACC; 0 else",
-    },
+    "--aspect": value("NAME", name, ASPECT),
+    "--tolerance": {**value("METRES", _tolerance, TOLERANCE), "default": EXACT},
 }
-PROGRAM = ("--sheet", "--program", "--timeout")
-INPUTS = ("table", "--messages", "--by-position", *PROGRAM)
+INPUTS = ("table", "--messages", "--by-position", "--sheet", "--program", "--timeout")
 
 
 def add(parser: argparse.ArgumentParser, *options: str, **changed: Any) -> None:
@@ -96,11 +88,11 @@ def add(parser: argparse.ArgumentParser, *options: str, **changed: Any) -> None:
         parser.add_argument(option, **{**OPTIONS[option], **changed})
 
 
-def refuse_unused(options: argparse.Namespace, purpose: str, *names: str) -> None:
+def refuse_unused(options: argparse.Namespace, purpose: str, *unused: str) -> None:
     """Raises TableError if one of these options is given, which serve another purpose."""
-    for name in names:
-        if not any(getattr(options, name) is default for default in (None, False, EXACT)):
-            raise TableError(f"--{name.replace('_', '-')} is not used {purpose}")
+    for option in unused:
+        if not any(getattr(options, option) is default for default in (None, False, EXACT)):
+            raise TableError(f"--{option.replace('_', '-')} is not used {purpose}")
 
 
 def inputs(options: argparse.Namespace) -> Tuple[Program, Table, Optional[Messages]]:
