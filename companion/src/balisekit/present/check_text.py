@@ -14,7 +14,7 @@ from balisekit.rules.remarks import remarks
 from balisekit.tables.model import Table
 from balisekit.tables.names import clean, describe_balise, describe_group, describe_message, passed_over
 
-LEAST = 3
+LEAST_HEADED = 3
 """So many findings have a heading. Two are seen at a glance."""
 
 
@@ -52,10 +52,10 @@ def before_last(table: Table) -> Iterator[str]:
 
 
 def headings(places: Sequence[Place]) -> Iterator[str]:
-    """For each finding what stands above it: a heading, or nothing."""
+    """For each finding the heading above it, or nothing: several of one rule about one group often have one cause."""
     for (rule, about), some in groupby(places, _about):
         count = len(list(some))
-        yield f"F{rule}, {count} times, {about}:" if about and count >= LEAST else ""
+        yield f"F{rule}, {count} times, {about}:" if about and count >= LEAST_HEADED else ""
         yield from [""] * (count - 1)
 
 
