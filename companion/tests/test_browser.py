@@ -58,11 +58,16 @@ def test_a_wrong_page_is_reported(page: Path, tmp_path: Path) -> None:
     assert "CONSOLE" in browse(tmp_path, wrong, "--dump-dom").stderr
 
 
-def test_a_screenshot_and_a_print(page: Path, tmp_path: Path) -> None:
-    """The window is not empty, and the print has pages of A4 with the telegrams."""
-    picture, printed = tmp_path / "page.png", tmp_path / "page.pdf"
+def test_a_screenshot(page: Path, tmp_path: Path) -> None:
+    """The window is not empty."""
+    picture = tmp_path / "page.png"
     browse(tmp_path, page, "--window-size=1100,1400", f"--screenshot={picture}")
     assert picture.stat().st_size > 50_000
+
+
+def test_a_print(page: Path, tmp_path: Path) -> None:
+    """The print has pages of A4 with the telegrams."""
+    printed = tmp_path / "page.pdf"
     browse(tmp_path, page, "--no-pdf-header-footer", f"--print-to-pdf={printed}")
     pages = len(re.findall(rb"/Type ?/Page\b", printed.read_bytes()))
     assert pages > 5

@@ -17,7 +17,7 @@ from telegrams import ALONE, FAULTY, FIRST, MESSAGE, OTHER, SECOND, SPARE
 from balisekit.engine.grammar import Finding
 from balisekit.engine.program import Program
 from balisekit.present import explanations as explain
-from balisekit.present.headings import headings
+from balisekit.present.check_text import headings
 from balisekit.rules import checking
 from balisekit.tables.model import Aspect, Group, Message, Row
 
@@ -298,7 +298,9 @@ def test_document(run: Run, table: Write, tmp_path: Path, program: Program) -> N
 
 def test_explain_is_what_the_document_says(run: Run, table: Write) -> None:
     known = explain.explanations()
-    assert sorted(known) == list(range(1, 17)) and all(all(vars(one).values()) for one in known.values())
+    parts = {"name", "says", "urgent", "cause", "happens", "remedy"}
+    assert sorted(known) == list(range(1, 17))
+    assert all(set(page) == parts and all(page.values()) for page in known.values())
     _, out, _ = run("check", table(*SOUND, f"C,,,,{OTHER}"), "--explain")
     assert "F14: identity used before" in out and any("How to correct it. Give one" in line for line in out)
 

@@ -223,7 +223,7 @@ def test_columns_passed_over_are_named(run: Run, table: Write) -> None:
     path = table(heading.replace("nominal", "nominl"), *lines)
     assert run("draw", path, "--track")[2][0] == said.format("nominl", "nominal")
     path = table(heading.replace("km", "kmm"), *lines)
-    why = f'there is no track "" with kilometres in {path}: no group has a kilometre'
+    why = f"there is no track without a name with kilometres in {path}: no group has a kilometre"
     assert run("draw", path, "--track")[2] == [f"balisekit: {why}; {said.format('kmm', 'km')}"]
 
 

@@ -64,8 +64,6 @@ def faults_of(path: str) -> Iterator[None]:
 class NoAnswer(KitError):
     """The program gave no answer, or is none that balisekit knows; or something that is needed is not there."""
 
-    status = 3
-
 
 class Terminated(KeyboardInterrupt):
     """SIGTERM or SIGHUP has ended the command."""

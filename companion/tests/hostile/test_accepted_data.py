@@ -143,10 +143,13 @@ def test_what_a_star_accepts_is_counted(run: Run, table: Write, tmp_path: Path) 
 def test_a_message_with_the_name_star_has_none(run: Run, table: Write, tmp_path: Path) -> None:
     path, radio = table("group,telegram", f"A,{ALONE}"), table(f"{MESSAGE};*", name="m.txt")
     proposed = tmp_path / "p.csv"
-    assert run("check", path, "--messages", radio, "--propose", proposed)[0] == 1
+    note = "note: 2 open findings are of messages without a name of their own, so that no entry names them"
+    status, out, _ = run("check", path, "--messages", radio, "--propose", proposed)
+    assert status == 1 and out.count(note) == 1 and out[-1].startswith("program: no")
     assert proposed.read_text("utf-8") == ",".join(COLUMNS) + "\n"
-    out = run("check", path, "--messages", radio, "--accepted", proposed)[1]
-    assert "note: 2 open findings are of messages without a name of their own, so that no entry names them" in out
+    out = run("check", path, "--messages", radio, "--accepted", proposed, "--propose", tmp_path / "q.csv")[1]
+    assert out.count(note) == 1
+    assert note not in run("check", path, "--messages", radio)[1]
 
 
 @pytest.mark.parametrize(

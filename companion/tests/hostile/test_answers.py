@@ -195,6 +195,13 @@ def test_a_record_that_is_none_in_each_command(command: str, record: str, answer
     assert counted in answers(command, decoding(record))[0]
 
 
+@pytest.mark.parametrize("command", ["check {t} --json -", "diff {t} {t} --json -", "report {t} --html -"])
+def test_standard_output_gets_no_part_of_an_answer(command: str, tmp_path: Path, run: Run, table: Write) -> None:
+    program, path = fake(tmp_path / "fake", decoding("garbage")), table("group,telegram", f"A,{ALONE}", f"B,{OTHER}")
+    status, out, errors = run(*command.format(t=path).split(), "--program", program)
+    assert (status, out) == (3, []) and "no record of a telegram" in errors[0]
+
+
 @pytest.mark.parametrize("record", MESSAGES, ids=begin_of)
 def test_a_message_that_is_none(record: str, answers: Answers) -> None:
     assert "no record of a message" in answers("show --messages {m}", decoding(RECORD, record))[0]

@@ -73,7 +73,7 @@ def test_links_to_another_track_are_counted(program: Program, run: Run, table: W
     lines = [f"{row},{track}" for row, track in zip(rows, "12")]
     status, out, _ = run("links", table(f"{HEADING},track", *lines))
     assert status == 2
-    assert out[-1].startswith("INCOMPLETE: L2 compared none of 1 links (another track: 1), L9 compared none of 1 pairs")
+    assert out[-1].startswith("INCOMPLETE: L2 compared none of 1 link (another track: 1), L9 compared none of 1 pair (")
 
 
 def test_a_link_that_turns_back(program: Program, run: Run, table: Write) -> None:

@@ -222,6 +222,14 @@ def test_all_outputs_or_none(words: str, limit: int, stdout: str, room: Path) ->
     assert status == 3 and said.startswith("balisekit: ") and _contents(room) == before
 
 
+def test_standard_output_takes_more_than_is_kept_in_memory(
+    room: Path, run: Run, monkeypatch: pytest.MonkeyPatch
+) -> None:
+    kept = run("check", room / "t.csv", "--json", "-")
+    monkeypatch.setattr("balisekit.io.outputs.IN_MEMORY", 10)
+    assert run("check", room / "t.csv", "--json", "-") == kept and json.loads("\n".join(kept[1]))["telegrams"]
+
+
 def test_two_outputs_in_one_place_are_refused(room: Path, run: Run) -> None:
     (room / "folder").symlink_to(".")
     status, _, err = run("check", "t.csv", "--json", "new", "--junit", "folder/new")

@@ -2,37 +2,33 @@
 from __future__ import annotations
 
 import argparse
-from datetime import datetime
-from typing import List, Optional, Tuple
+from typing import Optional, Tuple
 
 from balisekit.cli import options as shared
-from balisekit.compare.releases import Difference, by_place, compare
+from balisekit.compare.releases import by_place, compare
 from balisekit.engine.grammar import Refusal
 from balisekit.engine.program import Program
 from balisekit.errors import TableError
 from balisekit.io import clock, inputs
 from balisekit.io.inputs import Input
-from balisekit.io.outputs import Output, write_json
-from balisekit.present.check_text import finding_words
-from balisekit.present.diff_text import ABOUT, as_json, last_line, lines, not_compared, verdict, where
-from balisekit.present.pages import pieces
+from balisekit.io.outputs import write_json
+from balisekit.present.diff_text import as_json, lines, page
 from balisekit.rules import checking
 from balisekit.rules.checking import Checked
 from balisekit.tables import document as document_file, messages as messages_file, reader as tables
 from balisekit.tables.model import Messages, Table
-from balisekit.tables.names import clean
 
 
 def add_options(parser: argparse.ArgumentParser) -> None:
     """The options of this command."""
-    text = "a table, or a document of a line as --document writes it"
     for side in ("old", "new"):
-        shared.add_input(parser, side, text, side.upper())
-        shared.add_input(parser, f"--{side}-messages", f"radio messages beside the {side} table")
-    shared.add_program_options(parser, "which sheet of an .xlsx, in both")
-    shared.add_output(parser, "--html", "write the answer as one page of HTML")
-    shared.add_output(parser, "--json", shared.JSON)
-    shared.add_force(parser)
+        text = "a table, or a document of a line as --document writes it"
+        parser.add_argument(side, **shared.input_file(text, side.upper()))
+        parser.add_argument(f"--{side}-messages", **shared.input_file(f"radio messages beside the {side} table"))
+    shared.add(parser, "--sheet", help="which sheet of an .xlsx, in both")
+    shared.add(parser, "--program", "--timeout")
+    parser.add_argument("--html", **shared.output_file("write the answer as one page of HTML"))
+    shared.add(parser, "--json", "--force")
 
 
 def run(options: argparse.Namespace) -> int:
@@ -49,12 +45,10 @@ def run(options: argparse.Namespace) -> int:
     old, new = (_checked(program, *side, named) for side in sides)
     found = compare(old, new, named)
     if options.html:
-        _page(options.html, found, now)
+        options.html.write(page(found, now))
     if options.json:
         write_json(options.json, as_json(found))
-    out = shared.text_stream(options.html, options.json)
-    for line in lines(found):
-        print(line, file=out)
+    shared.say(lines(found), options.html, options.json)
     return found.status
 
 
@@ -79,35 +73,3 @@ def _checked(
         if isinstance(answer, Refusal) and answer.balise is None and answer.message is None:
             raise TableError(f"{document.path}: program: {answer.line}")
     return checking.check(program, table if named else by_place(table), messages)
-
-
-def _page(output: Output, found: Difference, now: datetime) -> None:
-    """The answer in the style of the report."""
-    sides = [
-        (word, clean(side.checked.table.path), side.checked.table.sha256, verdict(side.checked))
-        for word, side in (("old", found.old), ("new", found.new))
-    ]
-    findings = [
-        (word, [(finding_words(place), place.finding.line) for place in places])
-        for word, places in (("gone", found.findings_gone), ("new", found.findings_new))
-    ]
-    refused: List[List[str]] = []
-    for line in not_compared(found):
-        if line.startswith("    program: "):
-            refused[-1][1] = line[len("    program: ") :]
-        else:
-            refused.append([line, ""])
-    page = pieces(
-        "diff.html",
-        ["page.css"],
-        date=clock.stamp(now),
-        found=found,
-        sides=sides,
-        findings=findings,
-        refused=refused,
-        last_line=last_line(found),
-        where=where,
-        not_proved=ABOUT,
-        program=found.new.checked.program,
-    )
-    output.write(page)

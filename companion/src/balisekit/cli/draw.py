@@ -27,21 +27,16 @@ from balisekit.tables.names import clean, describe_message, passed_over, quoted
 
 def add_options(parser: argparse.ArgumentParser) -> None:
     """The options of this command."""
-    shared.add_input_options(parser)
+    shared.add(parser, *shared.INPUTS)
     what = parser.add_mutually_exclusive_group(required=True)
-    what.add_argument("--group", metavar="NAME", type=shared.name, help="the group's name in the table")
+    what.add_argument("--group", **shared.value("NAME", shared.name, "the group's name in the table"))
     what.add_argument("--message", metavar="LINE", type=int, help="the message in this line of --messages")
-    what.add_argument(
-        "--track",
-        metavar="NAME",
-        nargs="?",
-        type=shared.name,
-        const=True,
-        help="a whole track, in strips of 5 km; without NAME the only one, or the one without a name",
-    )
-    shared.add_track_options(parser, "; with --group which aspect is drawn alone")
-    shared.add_output(parser, "--svg", "where to write", default="-")
-    shared.add_force(parser)
+    track = "a whole track, in strips of 5 km; without NAME the only one, or the one without a name"
+    what.add_argument("--track", nargs="?", const=True, **shared.value("NAME", shared.name, track))
+    shared.add(parser, "--aspect", help=f"{shared.ASPECT}; with --group which aspect is drawn alone")
+    shared.add(parser, "--tolerance")
+    parser.add_argument("--svg", **shared.output_file("where to write"), default="-")
+    shared.add(parser, "--force")
 
 
 def run(options: argparse.Namespace) -> int:
@@ -66,8 +61,8 @@ def _group(checked: Checked, aspect: Optional[str]) -> Picture:
     """The picture of the only group of a table."""
     for item in refused(checked):
         raise TableError(str(item))
-    forms = {number: accepted.form for number, accepted in checked.accepted.items()}
-    return picture_of(checked.kept[0], forms, [place.finding for place in checked.findings], True, aspect)
+    findings = [place.finding for place in checked.findings]
+    return picture_of(checked.kept[0], Line.of(checked).forms, findings, True, aspect)
 
 
 def _message(checked: Checked) -> Picture:
@@ -76,8 +71,7 @@ def _message(checked: Checked) -> Picture:
         raise TableError(str(item))
     message = checked.accepted_messages[0]
     heading = f"message of {describe_message(message.message)}"
-    forms = {number: accepted.form for number, accepted in checked.accepted.items()}
-    here = Identities(checked.table.groups, forms).here(message.form)
+    here = Identities(checked.table.groups, Line.of(checked).forms).here(message.form)
     findings = [place.finding for place in checked.findings if place.message is not None]
     picture = picture_of_message(heading, message.form, findings, here.kilometres, titled=True)
     if picture is None:
@@ -105,12 +99,10 @@ def _track(options: argparse.Namespace, checked: Checked) -> int:
     options.svg.write(page)
     for item in [*refused(checked), *not_looked_at(checked)]:
         print(f"balisekit: {item}", file=sys.stderr)
-    where = "standard output" if options.svg.is_standard_output else clean(options.svg.path)
-    lines = [*passed_over(table), *written(line, track, options.aspect, where)]
+    lines = [*passed_over(table), *written(line, track, options.aspect, clean(str(options.svg)))]
     count = len(checked.accepted_messages)
     lines += [f"left out: {count} message{'s' * (count > 1)}, which --message draws"] if count else []
-    for text in lines:
-        print(text, file=shared.text_stream(options.svg))
+    shared.say(lines, options.svg)
     return 0 if checked.whole else 2
 
 
@@ -120,7 +112,8 @@ def _chosen_track(line: Line, table: Table, name: str) -> str:
     track = known[0] if not name and len(known) == 1 else name
     if track not in known:
         tracks = ", ".join(map(quoted, known)) or "no group has a kilometre"
-        why = f"there is no track {quoted(track)} with kilometres in {clean(table.path)}: {tracks}"
+        named = quoted(track) if track else "without a name"
+        why = f"there is no track {named} with kilometres in {clean(table.path)}: {tracks}"
         raise TableError("; ".join([why, *passed_over(table)]))
     return track
 
@@ -135,20 +128,19 @@ def _only_message(messages: Optional[Messages], line: int) -> Messages:
     """The file of messages with only the message of this line."""
     if messages is None:
         raise TableError("--message needs --messages FILE")
-    chosen = tuple(message for message in messages.messages if message.number == line)
-    if not chosen:
-        raise TableError(f"line {line} of {messages.path} has no message")
-    return replace(messages, messages=chosen)
+    for message in messages.messages:
+        if message.number == line:
+            return replace(messages, messages=(message,))
+    raise TableError(f"line {line} of {messages.path} has no message")
 
 
 def _only(table: Table, name: str, aspect: Optional[str]) -> Table:
     """The table with only this group, which has the aspect that is asked for."""
-    groups = tuple(group for group in table.groups if group.name == name)
-    if not groups:
+    group = next((group for group in table.groups if group.name == name), None)
+    if group is None:
         raise TableError(f"there is no group {quoted(name)} in {table.path}")
-    known = [known.name for known in groups[0].aspects]
+    known = [known.name for known in group.aspects]
     if aspect is not None and aspect not in known:
         has = f"its aspects are {', '.join(map(quoted, known))}" if any(known) else "what it sends is for every aspect"
         raise TableError(f"group {quoted(name)} has no aspect {quoted(aspect)}: {has}")
-    wanted = {row.number for row in groups[0].rows()}
-    return replace(table, groups=groups, rows=tuple(row for row in table.rows if row.number in wanted))
+    return replace(table, groups=(group,), rows=tuple(row for row in table.rows if row.group == name))

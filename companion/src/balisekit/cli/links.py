@@ -16,11 +16,9 @@ from balisekit.tables.names import passed_over
 
 def add_options(parser: argparse.ArgumentParser) -> None:
     """The options of this command."""
-    shared.add_input_options(parser)
-    shared.add_tolerance(parser)
-    parser.add_argument("--explain", action="store_true", help="show cause and remedy of each rule that has found")
-    shared.add_output(parser, "--json", shared.JSON)
-    shared.add_force(parser)
+    shared.add(parser, *shared.INPUTS, "--tolerance")
+    shared.add(parser, "--explain", help="show cause and remedy of each rule that has found")
+    shared.add(parser, "--json", "--force")
 
 
 def run(options: argparse.Namespace) -> int:
@@ -31,10 +29,7 @@ def run(options: argparse.Namespace) -> int:
         raise TableError("; ".join([why, *passed_over(table)]))
     checked = checking.check(program, table, messages, options.by_position)
     links = compare(Line.of(checked), Options(options.tolerance))
-    status = status_of(checked, links)
     if options.json:
-        write_json(options.json, as_json(checked, links, status))
-    out = shared.text_stream(options.json)
-    for line in lines(checked, links, options.explain):
-        print(line, file=out)
-    return status
+        write_json(options.json, as_json(checked, links))
+    shared.say(lines(checked, links, options.explain), options.json)
+    return status_of(checked, links)

@@ -94,7 +94,12 @@ def main(arguments: Optional[List[str]] = None) -> int:
     options = argparse.Namespace(debug=False)
     try:
         with _process():
-            _parse(sys.argv[1:] if arguments is None else arguments, options)
+            arguments = sys.argv[1:] if arguments is None else arguments
+            try:
+                parser(arguments).parse_args(arguments, options)
+            except SystemExit:  # help was written, or the options are wrong
+                sys.stdout.flush()
+                raise
             return _run(options)
     except KitError as error:
         return _ended(error, options.debug, *error.lines(), status=error.status)
@@ -102,15 +107,6 @@ def main(arguments: Optional[List[str]] = None) -> int:
         return _ended(error, options.debug, f"ended by {error.signal.name}", status=128 + error.signal)
     except (KeyboardInterrupt, Exception) as error:
         return _ended(error, options.debug, _reason(error))
-
-
-def _parse(arguments: List[str], options: argparse.Namespace) -> None:
-    """Puts the options into the namespace. SystemExit is raised for wrong ones, and once help has been written."""
-    try:
-        parser(arguments).parse_args(arguments, options)
-    except SystemExit:
-        sys.stdout.flush()
-        raise
 
 
 def _run(options: argparse.Namespace) -> int:

@@ -4,10 +4,9 @@ from __future__ import annotations
 import argparse
 import textwrap
 from collections import Counter, deque
-from functools import partial
-from typing import Callable, Deque, Dict, Generator, Iterable, Iterator, List, Mapping, Optional, Tuple, Union
+from typing import Callable, Deque, Dict, Generator, Iterable, Iterator, List, Optional, Tuple, Union
 
-from balisekit.cli.options import TABLE, add_input_options, inputs, refuse_unused
+from balisekit.cli import options as shared
 from balisekit.engine.grammar import Refusal
 from balisekit.engine.program import Program, Record
 from balisekit.errors import TableError
@@ -16,10 +15,10 @@ from balisekit.etcs.variables import Form
 from balisekit.present.bit_table import bit_lines
 from balisekit.present.refusals import message_refused, telegram_refused
 from balisekit.present.telegram_text import LEGEND, WIDTH, text
-from balisekit.rules.checking import ALL_HELP, greatest_refused, until_too_many
+from balisekit.rules.checking import greatest_refused, until_too_many
 from balisekit.tables import messages as messages_file, standard_input
 from balisekit.tables.grouping import by_position
-from balisekit.tables.model import Group, Messages, Table
+from balisekit.tables.model import Messages, Table
 from balisekit.tables.names import describe_balise, describe_message
 from balisekit.tables.reader import BY_POSITION
 
@@ -28,16 +27,17 @@ Answer = Union[Record, Refusal]
 
 def add_options(parser: argparse.ArgumentParser) -> None:
     """The options of this command."""
-    text = f"{TABLE}; without it and --messages, telegrams of standard input, one a line"
-    add_input_options(parser, text=text, nargs="?")
-    parser.add_argument("--bits", action="store_true", help="show each field with its bit places")
-    parser.add_argument("--all", action="store_true", help=ALL_HELP)
+    text = f"{shared.TABLE}; without it and --messages, telegrams of standard input, one a line"
+    shared.add(parser, "table", help=text, nargs="?")
+    shared.add(parser, *shared.INPUTS[1:])
+    parser.add_argument("--bits", **shared.flag("show each field with its bit places"))
+    shared.add(parser, "--all")
 
 
 def run(options: argparse.Namespace) -> int:
     """Does it. The answer is the exit status."""
     if options.table is None:
-        refuse_unused(options, "without TABLE", "sheet", "by_position")
+        shared.refuse_unused(options, "without TABLE", "sheet", "by_position")
     shown = _Shown(options)
     for lines in shown.blocks():
         print("\n".join(lines), end="\n\n", flush=options.table is None)
@@ -50,10 +50,6 @@ def run(options: argparse.Namespace) -> int:
         print(last_line)
         raise TableError(last_line)
     return 0
-
-
-def _given(here: Here, form: Form) -> Here:
-    return here
 
 
 class _Shown:
@@ -75,15 +71,14 @@ class _Shown:
     def blocks(self) -> Iterator[List[str]]:
         """The lines of each telegram and message."""
         options = self.options
-        if options.table is None and options.messages is None:
-            yield from self._standard_input(Program.find(options.program, options.timeout))
-        elif options.table is None:
-            messages = messages_file.read(options.messages)
-            yield from self._messages(Program.find(options.program, options.timeout), messages, Identities((), {}))
+        if options.table is not None:
+            program, table, messages = shared.inputs(options)
+            groups = Identities(table.groups, (yield from self._table(program, table)))
         else:
-            program, table, beside = inputs(options)
-            firsts = yield from self._table(program, table)
-            yield from self._messages(program, beside, Identities(table.groups, firsts))
+            messages = messages_file.read(options.messages) if options.messages else None
+            program, groups = Program.find(options.program, options.timeout), Identities((), {})
+            yield from self._standard_input(program) if messages is None else ()
+        yield from self._messages(program, messages, groups)
 
     def _standard_input(self, program: Program) -> Iterator[List[str]]:
         """The telegrams of standard input, which are decoded as they come."""
@@ -116,16 +111,12 @@ class _Shown:
                 group = by_position(group, {number: form["n_pig"] for number, form in forms.items()})
             first = group.aspects[0].rows[0].number
             firsts.update({first: forms[first]} if first in forms else {})
-            yield from self._group(group, forms, answers)
+            rows = {row.number: row for row in group.rows()}
+            for number, here in places_of_rows(group, forms).items():
+                if number in answers:
+                    heading = describe_balise(group, rows[number])
+                    yield self._block(heading, rows[number].telegram, answers[number], telegram_refused, lambda _: here)
         return firsts
-
-    def _group(self, group: Group, forms: Mapping[int, Form], answers: Mapping[int, Answer]) -> Iterator[List[str]]:
-        """The telegrams of a group in the order of the table."""
-        rows = {row.number: row for row in group.rows()}
-        for number, here in places_of_rows(group, forms).items():
-            if number in answers:
-                row, of_row = rows[number], partial(_given, here)
-                yield self._block(describe_balise(group, row), row.telegram, answers[number], telegram_refused, of_row)
 
     def _messages(self, program: Program, messages: Optional[Messages], groups: Identities) -> Iterator[List[str]]:
         read = messages.messages if messages else ()

@@ -58,8 +58,7 @@ def picture_of(
     for index, aspect in enumerate(group.aspects):
         if only in (None, aspect.name):
             title = f"aspect {quoted(aspect.name)}" if aspect.name else "in every aspect"
-            of_aspect = [finding for finding in findings if (finding.aspect or 0) == index]
-            contents += _contents(title, [forms[row.number] for row in aspect.rows], of_aspect)
+            contents += _contents(title, [forms[row.number] for row in aspect.rows], short_profiles(findings, index))
     return draw(group.name, contents, kilometres(group), titled)
 
 
@@ -72,12 +71,13 @@ def picture_of_message(
     ):
         return None
     lrbg = f"NID_C {form['nid_c']}, NID_BG {form['nid_bg']}"
-    return draw(title, _contents(f"metres from the group of NID_LRBG ({lrbg})", [form], findings), where, titled)
+    contents = _contents(f"metres from the group of NID_LRBG ({lrbg})", [form], short_profiles(findings))
+    return draw(title, contents, where, titled)
 
 
-def _contents(title: str, forms: Sequence[Form], findings: Sequence[Finding]) -> List[Content]:
+def _contents(title: str, forms: Sequence[Form], short: Sequence[Finding]) -> List[Content]:
     """What these telegrams say of places from their own group, and from the group of a packet 136."""
-    contents = [Content(title, forms, short_profiles(findings))]
+    contents = [Content(title, forms, short)]
     if any(infill(forms, direction) for direction in DIRECTIONS):
         contents.append(Content(f"{title}, infill: metres from the group of packet 136", forms, infill=True))
     return contents

@@ -19,9 +19,10 @@ Edges = Optional[Tuple[int, int]]
 """From where to where a rectangle was drawn, in tenths of a pixel."""
 
 
-def short_profiles(findings: Sequence[Finding]) -> Tuple[Finding, ...]:
-    """F10 to F13 of these findings."""
-    return tuple(finding for finding in findings if 10 <= finding.rule <= 13 and finding.direction)
+def short_profiles(findings: Sequence[Finding], aspect: int = 0) -> Sequence[Finding]:
+    """F10 to F13 of an aspect, or of a message."""
+    of_aspect = (finding for finding in findings if (finding.aspect or 0) == aspect)
+    return [finding for finding in of_aspect if 10 <= finding.rule <= 13 and finding.direction]
 
 
 def profile_number(finding: Finding) -> int:

@@ -146,9 +146,8 @@ def _bands(line: Line, stations: Sequence[BaliseGroup], aspect: Optional[str]) -
         if any(ways):
             at, index = place_of(station), station.group.aspects.index(shown)
             ends = [at + far * (station.along(each.direction) or 1) for each in ways for far in reach(each)]
-            of_group = line.findings.get(station.group.name, ())
-            findings = [finding for finding in of_group if (finding.aspect or 0) == index]
-            yield Band(station, shown.name, ways, min([at, *ends]), max([at, *ends]), short_profiles(findings))
+            short = short_profiles(line.findings.get(station.group.name, ()), index)
+            yield Band(station, shown.name, ways, min([at, *ends]), max([at, *ends]), short)
 
 
 def _arcs(links: Links, track: str, aspect: Optional[str]) -> Iterator[Arc]:

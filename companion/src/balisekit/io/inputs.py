@@ -6,7 +6,7 @@ import os
 import stat
 from dataclasses import dataclass
 
-from balisekit.errors import TableError
+from balisekit.errors import TableError, faults_of
 
 
 class InputPath(str):
@@ -32,26 +32,20 @@ class Input:
 
 def read(path: str) -> Input:
     """The file of this path. A folder, a device, a pipe and a file that is being written are refused."""
-    try:
-        before = os.stat(path)
-        if not stat.S_ISREG(before.st_mode):
-            raise _fault(path, "it is a folder" if stat.S_ISDIR(before.st_mode) else "it is a device or pipe, no file")
-        if before.st_size > GREATEST:
-            raise _fault(path, f"it has {before.st_size:,} bytes, more than {GREATEST:,}: divide it into several files")
-        with open(path, "rb") as file:
-            content = file.read()
-        after = os.stat(path)
-    except OSError as error:
-        why = "standard input is not read: name a file" if path == "-" else error.strerror or str(error)
-        raise _fault(path, why) from error
-    except ValueError as error:  # a NUL in the path
-        raise _fault(path, str(error)) from error
-    if (before.st_size, before.st_mtime_ns) != (after.st_size, after.st_mtime_ns) or len(content) != after.st_size:
-        raise _fault(path, "the file is being written")
+    with faults_of(path):
+        try:
+            before = os.stat(path)
+            if not stat.S_ISREG(before.st_mode):
+                raise TableError(f"it is a {'folder' if stat.S_ISDIR(before.st_mode) else 'device or pipe, no file'}")
+            if before.st_size > GREATEST:
+                many = f"it has {before.st_size:,} bytes, more than {GREATEST:,}"
+                raise TableError(f"{many}: divide it into several files")
+            with open(path, "rb") as file:
+                content = file.read()
+            after = os.stat(path)
+        except (OSError, ValueError) as error:  # ValueError for a NUL in the path
+            why = getattr(error, "strerror", None) or str(error)
+            raise TableError("standard input is not read: name a file" if path == "-" else why) from error
+        if (before.st_size, before.st_mtime_ns) != (after.st_size, after.st_mtime_ns) or len(content) != after.st_size:
+            raise TableError("the file is being written")
     return Input(path, content)
-
-
-def _fault(path: str, why: str) -> TableError:
-    fault = TableError(why)
-    fault.path = path
-    return fault

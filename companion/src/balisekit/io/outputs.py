@@ -3,15 +3,19 @@ from __future__ import annotations
 
 import json
 import os
+import shutil
 import signal
 import stat
 import sys
 from contextlib import contextmanager
+from tempfile import SpooledTemporaryFile
 from typing import Iterable, Iterator, List, Mapping, Optional, Sequence, Union
 
 from balisekit.errors import NoAnswer, TableError
 
 INPUT = "it is an input: an output never replaces one"
+IN_MEMORY = 1 << 24
+"""The bytes for standard output that are kept in memory until they are complete. More of them are in a file."""
 NO_FILE = "no file can be written there: it is a folder, a device, a pipe or a loop of links"
 
 
@@ -25,6 +29,9 @@ class Output:
         self.path, self.always_new = path, always_new
         self.target = os.path.realpath(path)
         self._temporary = self._created = ""
+
+    def __str__(self) -> str:
+        return "standard output" if self.is_standard_output else self.path
 
     @property
     def is_standard_output(self) -> bool:
@@ -71,11 +78,14 @@ class Output:
             raise NoAnswer(f"{self.path}: it is a mount point, which cannot be replaced: name a new file")
 
     def write(self, pieces: Iterable[Union[str, bytes]]) -> None:
-        """Writes the content. It is at its path once `place` is called."""
+        """Writes the content: to standard output once it is complete, and to the path once `place` is called."""
         encoded = (piece if isinstance(piece, bytes) else piece.encode("utf-8", "backslashreplace") for piece in pieces)
         if self.is_standard_output:
-            sys.stdout.flush()
-            sys.stdout.buffer.writelines(encoded)
+            with SpooledTemporaryFile(IN_MEMORY) as content:
+                content.writelines(encoded)
+                content.seek(0)
+                sys.stdout.flush()
+                shutil.copyfileobj(content, sys.stdout.buffer)
             sys.stdout.buffer.flush()
             return
         self._temporary = os.path.join(os.path.dirname(self.target), f".balisekit-{os.urandom(6).hex()}")
@@ -141,8 +151,7 @@ def check_outputs(outputs: Sequence[Output], inputs: Sequence[str], force: bool)
         output.check(inputs, force)
         target = output.path if output.is_standard_output else output.target
         if target in targets:
-            named = "standard output is" if output.is_standard_output else f"{output.path}: it is"
-            raise TableError(f"{named} named twice")
+            raise TableError(f"{output}{'' if output.is_standard_output else ': it'} is named twice")
         targets.append(target)
 
 

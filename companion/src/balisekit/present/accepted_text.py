@@ -1,7 +1,8 @@
 """What is said of accepted findings: in words, as JSON, and as entries for those that are open."""
 from __future__ import annotations
 
-from typing import Any, Dict, Iterator, List, Optional
+from itertools import repeat
+from typing import Any, Dict, Iterator, List, Optional, Tuple
 
 from balisekit.io import csv_writing
 from balisekit.rules import findings_on_correct_data
@@ -16,10 +17,9 @@ def accepted_words(entry: Entry) -> str:
     return f"accepted: {clean(entry.reason)} ({clean(entry.who)}, {entry.date}{until})"
 
 
-def closing_lines(judged: Judged, last: str) -> Iterator[str]:
-    """What ends the answer of `check`, whose last line without entries this is."""
-    yield from fault_lines(judged)
-    yield from verdict_lines(judged, last)
+def with_entries(checked: Checked, judged: Optional[Judged]) -> Iterator[Tuple[Place, Optional[Entry]]]:
+    """Each finding, and the entry that accepts it."""
+    return zip(checked.findings, judged.by_finding if judged else repeat(None))
 
 
 def fault_lines(judged: Judged) -> Iterator[str]:
@@ -32,7 +32,12 @@ def fault_lines(judged: Judged) -> Iterator[str]:
             f"note: entries without a sha256: {unsigned}. They accept nothing, since nobody knows which telegrams were "
             "looked at: --propose writes new ones"
         )
-    unnamed = sum(UNNAMED in key for key, entry in zip(keys(judged.checked), judged.by_finding) if entry is None)
+    yield from unnamed_lines(judged.checked, judged)
+
+
+def unnamed_lines(checked: Checked, judged: Optional[Judged]) -> Iterator[str]:
+    """How many open findings no entry can name."""
+    unnamed = sum(UNNAMED in key for key, (_, entry) in zip(keys(checked), with_entries(checked, judged)) if not entry)
     if unnamed:
         yield f"note: {unnamed} open findings are of messages without a name of their own, so that no entry names them"
 
@@ -69,14 +74,8 @@ def as_json(judged: Judged) -> Dict[str, Any]:
 
 def entry_json(entry: Entry) -> Dict[str, Any]:
     """An entry for other tools."""
-    return {
-        "row": entry.row,
-        "reason": entry.reason,
-        "who": entry.who,
-        "date": str(entry.date or ""),
-        "until": str(entry.until or ""),
-        "sha256": entry.sha256,
-    }
+    texts = {name: str(getattr(entry, name) or "") for name in ("reason", "who", "date", "until", "sha256")}
+    return {"row": entry.row, **texts}
 
 
 def proposal(checked: Checked, judged: Optional[Judged]) -> str:
@@ -84,8 +83,6 @@ def proposal(checked: Checked, judged: Optional[Judged]) -> str:
 
     An entry of other data that fits a finding gives its reason.
     """
-    accepting = judged.by_finding if judged else (None,) * len(checked.findings)
-    former = judged.former if judged else accepting
     reasons = findings_on_correct_data.reasons()
     del reasons["pair controlled"]
     findings: Dict[Key, List[Place]] = {}
@@ -93,7 +90,8 @@ def proposal(checked: Checked, judged: Optional[Judged]) -> str:
         findings.setdefault(key, []).append(place)
     rows: Dict[Key, List[str]] = {}
     fits = findings_on_correct_data.rows_of(checked.findings, checked)
-    for key, row, entry, known in zip(keys(checked), fits, accepting, former):
+    former = judged.former if judged else repeat(None)
+    for key, row, (_, entry), known in zip(keys(checked), fits, with_entries(checked, judged), former):
         if entry is None and UNNAMED not in key and key not in rows:
             reason = known.reason if known else reasons.get(row, "")
             rows[key] = [*key, reason, "", "", "", checksum(findings[key])]

@@ -3,15 +3,16 @@ from __future__ import annotations
 
 from typing import Any, Dict, Optional
 
+from balisekit.engine.program import Record
 from balisekit.io.outputs import Json, encode
 from balisekit.present import accepted_text
 from balisekit.present.check_text import finding_words, last_line
 from balisekit.present.refusals import message_refused, telegram_refused
 from balisekit.rules.accepted import Judged
 from balisekit.rules.aspect_counts import groups_by_aspects
-from balisekit.rules.checking import AcceptedMessage, Checked, LeftOut, Place, Refused, RefusedMessage
+from balisekit.rules.checking import Checked, LeftOut, Place, Refused, RefusedMessage
 from balisekit.rules.remarks import remarks
-from balisekit.tables.model import Row
+from balisekit.tables.model import Message, Row
 
 
 def as_json(checked: Checked, judged: Optional[Judged] = None) -> Dict[str, Any]:
@@ -27,30 +28,25 @@ def as_json(checked: Checked, judged: Optional[Judged] = None) -> Dict[str, Any]
             "path": table.path,
             "sha256": table.sha256,
             "encoding": table.encoding,
-            "passed_over": list(table.passed_over),
-            "notes": list(table.notes),
+            "passed_over": table.passed_over,
+            "notes": table.notes,
         },
         "messages": {"path": messages.path, "sha256": messages.sha256} if messages else None,
-        "counts": _counts(checked),
-        "telegrams": (_with_form(_row(one.row), one.record.line) for one in checked.accepted.decoded()),
-        "read_messages": list(map(_message, checked.accepted_messages)),
-        "refused": list(map(_refused, checked.refused)),
-        "refused_messages": list(map(_refused_message, checked.refused_messages)),
-        "left_out": list(map(_left_out, checked.left_out)),
+        "counts": {
+            "telegrams": len(table.rows),
+            "groups": len(table.groups),
+            "aspects": [{"aspects": count, "groups": len(groups)} for count, groups in groups_by_aspects(table)],
+            "look": list(remarks(table)),
+            "not_looked_at": checked.not_looked_at,
+            "messages_not_looked_at": checked.messages_not_looked_at,
+        },
+        "telegrams": (_with_form(_row(one.row), one.record) for one in checked.accepted.decoded()),
+        "read_messages": (_with_form(_message(one.message), one.record) for one in checked.accepted_messages),
+        "refused": map(_refused, checked.refused),
+        "refused_messages": map(_refused_message, checked.refused_messages),
+        "left_out": map(_left_out, checked.left_out),
         "kept": [group.name for group in checked.kept],
-        "findings": list(map(_finding, checked.findings)),
-    }
-
-
-def _counts(checked: Checked) -> Dict[str, Any]:
-    table = checked.table
-    return {
-        "telegrams": len(table.rows),
-        "groups": len(table.groups),
-        "aspects": [{"aspects": count, "groups": len(groups)} for count, groups in groups_by_aspects(table)],
-        "look": list(remarks(table)),
-        "not_looked_at": checked.not_looked_at,
-        "messages_not_looked_at": checked.messages_not_looked_at,
+        "findings": map(_finding, checked.findings),
     }
 
 
@@ -66,14 +62,13 @@ def _row(row: Row) -> Dict[str, Any]:
     }
 
 
-def _with_form(members: Dict[str, Any], line: str) -> Json:
+def _message(message: Message) -> Dict[str, Any]:
+    return {"line_of_file": message.number, "name": message.name}
+
+
+def _with_form(members: Dict[str, Any], record: Record) -> Json:
     """An object with the program's line as its last member."""
-    return Json(f'{encode(members)[:-1]},"form":{line}}}')
-
-
-def _message(accepted: AcceptedMessage) -> Json:
-    message = accepted.message
-    return _with_form({"line_of_file": message.number, "name": message.name}, accepted.record.line)
+    return Json(f'{encode(members)[:-1]},"form":{record.line}}}')
 
 
 def _refused(refused: Refused) -> Dict[str, Any]:
@@ -88,8 +83,7 @@ def _refused(refused: Refused) -> Dict[str, Any]:
 
 def _refused_message(refused: RefusedMessage) -> Dict[str, Any]:
     return {
-        "line_of_file": refused.message.number,
-        "name": refused.message.name,
+        **_message(refused.message),
         "text": refused.refusal.text,
         "line": refused.refusal.line,
         "sentence": message_refused(refused.message.text, refused.refusal),

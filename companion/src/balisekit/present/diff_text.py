@@ -1,14 +1,16 @@
 """The answer of `diff` in words and as JSON."""
 from __future__ import annotations
 
-from typing import Any, Dict, Iterator, List
+from datetime import datetime
+from typing import Any, Dict, Iterator, Sequence
 
 from balisekit.compare.releases import Changed, Difference
+from balisekit.io import clock
 from balisekit.present import NOT_PROVED
-from balisekit.present.check_text import finding_words
-from balisekit.present.refusals import not_looked_at, refused_lines
+from balisekit.present.check_text import finding_lines, finding_words, head_line
+from balisekit.present.pages import pieces
+from balisekit.present.refusals import not_looked_at, refused, refused_lines
 from balisekit.rules.checking import Checked
-from balisekit.tables.names import clean
 
 ABOUT = f"pairs and differences are found by balisekit; {NOT_PROVED}"
 
@@ -16,23 +18,23 @@ ABOUT = f"pairs and differences are found by balisekit; {NOT_PROVED}"
 def lines(found: Difference) -> Iterator[str]:
     """The answer in words."""
     for word, side in (("old", found.old), ("new", found.new)):
-        table = side.checked.table
-        yield f"{word}: {clean(table.path)}: {len(table.rows)} telegrams of {len(table.groups)} groups"
+        yield f"{word}: {head_line(side.checked.table)}"
     yield ABOUT
     yield from (f"note: {note}" for note in found.notes)
     yield from not_compared(found)
-    for word, some in (("removed", found.groups_removed), ("added", found.groups_added)):
-        yield from (f"group {word}: {words}" for words in some)
-    for word, some in (("removed", found.removed), ("added", found.added)):
-        yield from (f"{word}: {words}" for words in some)
+    lists: Dict[str, Sequence[str]] = {
+        "group removed": found.groups_removed,
+        "group added": found.groups_added,
+        "removed": found.removed,
+        "added": found.added,
+    }
+    yield from (f"{title}: {words}" for title, telegrams in lists.items() for words in telegrams)
     for changed in found.changed:
         yield f"changed: {where(changed)}"
         yield from (f"    {change}" for change in changed.changes)
     yield from (f"changed in fill or case alone: {where(changed)}" for changed in found.respelled)
-    for word, places in (("gone", found.findings_gone), ("new", found.findings_new)):
-        for place in places:
-            yield f"finding {word}: {finding_words(place)}"
-            yield f"    program: {place.finding.line}"
+    yield from (line for place in found.findings_gone for line in finding_lines(place, "finding gone: "))
+    yield from (line for place in found.findings_new for line in finding_lines(place, "finding new: "))
     yield f"unchanged: {found.unchanged}, SHA-256 {found.sha256}"
     yield last_line(found)
 
@@ -66,31 +68,48 @@ def as_json(found: Difference) -> Dict[str, Any]:
         "status": found.status,
         "last_line": last_line(found),
         "not_proved": ABOUT,
-        **{
-            word: {
-                "path": side.checked.table.path,
-                "sha256": side.checked.table.sha256,
-                "verdict": side.checked.verdict.line if side.checked.verdict and side.checked.whole else None,
-            }
-            for word, side in (("old", found.old), ("new", found.new))
-        },
-        "notes": list(found.notes),
-        "refused": list(not_compared(found)),
-        "groups_added": list(found.groups_added),
-        "groups_removed": list(found.groups_removed),
-        "added": list(found.added),
-        "removed": list(found.removed),
-        "changed": [_changed_json(one) for one in found.changed],
-        "in_fill_or_case_alone": [_changed_json(one) for one in found.respelled],
+        "old": _side_json(found.old.checked),
+        "new": _side_json(found.new.checked),
+        "notes": found.notes,
+        "refused": not_compared(found),
+        "groups_added": found.groups_added,
+        "groups_removed": found.groups_removed,
+        "added": found.added,
+        "removed": found.removed,
+        "changed": map(_changed_json, found.changed),
+        "in_fill_or_case_alone": map(_changed_json, found.respelled),
         "unchanged": {"count": found.unchanged, "sha256": found.sha256},
-        "findings_new": [{"words": finding_words(one), "line": one.finding.line} for one in found.findings_new],
-        "findings_gone": [{"words": finding_words(one), "line": one.finding.line} for one in found.findings_gone],
+        "findings_new": ({"words": finding_words(place), "line": place.finding.line} for place in found.findings_new),
+        "findings_gone": ({"words": finding_words(place), "line": place.finding.line} for place in found.findings_gone),
     }
 
 
-def _changed_json(one: Changed) -> Dict[str, Any]:
-    changes: List[Dict[str, str]] = [dict(vars(change)) for change in one.changes]
-    return {"words": one.words, "row_old": one.old, "row_new": one.new, "changes": changes}
+def _side_json(checked: Checked) -> Dict[str, Any]:
+    verdict = checked.verdict.line if checked.verdict and checked.whole else None
+    return {"path": checked.table.path, "sha256": checked.table.sha256, "verdict": verdict}
+
+
+def _changed_json(changed: Changed) -> Dict[str, Any]:
+    changes = [vars(change) for change in changed.changes]
+    return {"words": changed.words, "row_old": changed.old, "row_new": changed.new, "changes": changes}
+
+
+def page(found: Difference, now: datetime) -> Iterator[str]:
+    """The answer as a page in the style of the report."""
+    return pieces(
+        "diff.html",
+        ["page.css"],
+        date=clock.stamp(now),
+        found=found,
+        sides=(("old", found.old.checked), ("new", found.new.checked)),
+        refused=refused,
+        not_looked_at=not_looked_at,
+        finding_words=finding_words,
+        verdict=verdict,
+        where=where,
+        last_line=last_line(found),
+        not_proved=ABOUT,
+    )
 
 
 def verdict(checked: Checked) -> str:

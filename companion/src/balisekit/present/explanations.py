@@ -7,9 +7,8 @@ from __future__ import annotations
 import json
 import re
 import textwrap
-from dataclasses import dataclass
 from pathlib import Path
-from typing import Dict, Iterator, Sequence
+from typing import Dict, Iterable, Iterator, Sequence
 
 from balisekit.rules.rule import Rule
 
@@ -19,39 +18,30 @@ HEADS = ("What it says", "How urgent", "Usual cause", "How to correct it")
 """The paragraphs that `--explain` shows."""
 
 
-@dataclass(frozen=True)
-class Explanation:
-    """The paragraphs of the page about one rule."""
+def explanations() -> Dict[int, Dict[str, str]]:
+    """The paragraphs on each finding, by its number: `name`, `says`, `urgent`, `cause`, `happens`, `remedy`."""
+    text = Path(__file__).with_name("findings.json").read_text("utf-8")
+    return {int(rule): parts for rule, parts in json.loads(text).items()}
 
-    rule: int
-    name: str
-    says: str
-    urgent: str
-    cause: str
-    happens: str
-    remedy: str
+
+def finding_pages(rules: Iterable[int]) -> Iterator[str]:
+    """What FINDINGS.md says of each of these findings, as lines of text."""
+    known = explanations()
+    for rule in sorted(set(rules)):
+        page = known[rule]
+        yield from _wrapped(f"F{rule}: {page['name']}", [page[key] for key in ("says", "urgent", "cause", "remedy")])
+
+
+def rule_pages(rules: Iterable[Rule]) -> Iterator[str]:
+    """What the page of each of these rules says, as lines of text."""
+    for rule in rules:
+        yield from _wrapped(f"{rule.name}: {rule.title}", [_plain(rule.parts.get(head, "")) for head in HEADS])
 
 
 def _plain(text: str) -> str:
     """The text in one line, without the marks of links, emphasis and lists."""
     line = " ".join(re.sub(r"^- ", "", text, flags=re.MULTILINE).split())
     return re.sub(r"\[([^]]+)\]\([^)]+\)", r"\1", line).replace("*", "")
-
-
-def explanations() -> Dict[int, Explanation]:
-    """The paragraphs on each finding, by its number."""
-    text = Path(__file__).with_name("findings.json").read_text("utf-8")
-    return {int(rule): Explanation(int(rule), **parts) for rule, parts in json.loads(text).items()}
-
-
-def lines(label: str, one: Explanation) -> Iterator[str]:
-    """What is said of a finding, as lines of text."""
-    return _wrapped(f"{label}: {one.name}", (one.says, one.urgent, one.cause, one.remedy))
-
-
-def rule_lines(rule: Rule) -> Iterator[str]:
-    """What the page of a rule says, as lines of text."""
-    return _wrapped(f"{rule.name}: {rule.title}", [_plain(rule.parts.get(head, "")) for head in HEADS])
 
 
 def _wrapped(title: str, texts: Sequence[str]) -> Iterator[str]:

@@ -6,17 +6,18 @@ from __future__ import annotations
 
 import xml.etree.ElementTree as ElementTree
 from collections import Counter
-from typing import Dict, Iterator, List, NamedTuple, Optional, Sequence, Tuple
+from typing import Dict, Iterator, List, NamedTuple, Optional, Tuple
 
 from balisekit.present import NOT_PROVED
-from balisekit.present.accepted_text import accepted_words
+from balisekit.present.accepted_text import accepted_words, with_entries
+from balisekit.present.check_text import before_last, closing_lines, finding_lines, finding_words
 from balisekit.present.refusals import message_refused, refused
 from balisekit.rules.accepted import Entry, Judged
 from balisekit.rules.checking import Checked, Place
 from balisekit.tables.names import clean, describe_message
 
-Findings = List[Tuple[str, Place, Optional[Entry]]]
-"""Findings of one group or message: in words, and the entry that accepts each."""
+Findings = List[Tuple[Place, Optional[Entry]]]
+"""Findings of one group or message, and the entry that accepts each."""
 
 
 class Case(NamedTuple):
@@ -29,9 +30,9 @@ class Case(NamedTuple):
     text: str = ""
 
 
-def document(checked: Checked, judged: Optional[Judged], words: Dict[int, str], out: Sequence[str]) -> bytes:
-    """The file. `words` has each finding in words, by its number; `out` has the lines of the suite's output."""
-    cases = [*_groups_and_messages(checked, judged, words), *_entries(judged)]
+def document(checked: Checked, judged: Optional[Judged]) -> bytes:
+    """The file. The output of its suite is what `check` says before its last line, and that line."""
+    cases = list(_cases(checked, judged))
     counts = Counter(case.result for case in cases)
     names = {"failures": "failure", "errors": "error", "skipped": "skipped"}
     numbers = {"tests": str(len(cases)), **{name: str(counts[result]) for name, result in names.items()}}
@@ -41,18 +42,21 @@ def document(checked: Checked, judged: Optional[Judged], words: Dict[int, str], 
         element = ElementTree.SubElement(suite, "testcase", {"classname": case.kind, "name": case.name, "time": "0"})
         if case.result:
             ElementTree.SubElement(element, case.result, {"message": case.why, "type": case.result}).text = case.text
+    out = [*before_last(checked.table), closing_lines(checked, judged)[-1]]
     ElementTree.SubElement(suite, "system-out").text = "\n".join([*map(clean, out), NOT_PROVED])
     written: bytes = ElementTree.tostring(top, "utf-8", xml_declaration=True)
     return written + b"\n"
 
 
-def _groups_and_messages(checked: Checked, judged: Optional[Judged], words: Dict[int, str]) -> Iterator[Case]:
+def _cases(checked: Checked, judged: Optional[Judged]) -> Iterator[Case]:
     findings: Dict[object, Findings] = {}
-    entries = judged.by_finding if judged else (None,) * len(checked.findings)
-    for number, (place, entry) in enumerate(zip(checked.findings, entries)):
+    for place, entry in with_entries(checked, judged):
         about = place.group.name if place.group else place.message.number if place.message else None
-        findings.setdefault(about, []).append((words[number], place, entry))
-    telegrams = _refused(checked)
+        findings.setdefault(about, []).append((place, entry))
+    telegrams: Dict[str, str] = {}
+    for telegram, item in zip(checked.refused, refused(checked)):
+        words = telegrams.get(telegram.row.group, "")
+        telegrams[telegram.row.group] = f"{words}{item.sentence}\n    program: {item.program}\n"
     left_out = {skipped.group.name: skipped.why for skipped in checked.left_out}
     for group in checked.table.groups:
         if group.name in left_out:
@@ -65,30 +69,21 @@ def _groups_and_messages(checked: Checked, judged: Optional[Judged], words: Dict
     for bad in checked.refused_messages:
         why = message_refused(bad.message.text, bad.refusal)
         yield Case("message", describe_message(bad.message), "error", why, f"program: {bad.refusal.text}")
-
-
-def _entries(judged: Optional[Judged]) -> Iterator[Case]:
-    for entry, why in judged.faults if judged else ():
-        path = clean(judged.entries.path) if judged else ""
-        yield Case("accepted", f"row {entry.row}", "failure", why, f"{path}: {why}")
+    for fault, why in judged.faults if judged else ():
+        yield Case(
+            "accepted", f"row {fault.row}", "failure", why, f"{clean(judged.entries.path) if judged else ''}: {why}"
+        )
 
 
 def _case(kind: str, name: str, findings: Findings) -> Case:
     """A group or message that was checked: its open findings, else its accepted ones."""
-    still_open = [(words, place) for words, place, entry in findings if entry is None]
+    still_open = [place for place, entry in findings if entry is None]
     if still_open:
-        lines = [f"{words}\n    program: {place.finding.line}" for words, place in still_open]
-        why = f"{len(still_open)} open: {still_open[0][1].finding.line}"
-        return Case(kind, name, "failure", why, "\n".join(lines))
+        why = f"{len(still_open)} open: {still_open[0].finding.line}"
+        return Case(
+            kind, name, "failure", why, "\n".join(line for place in still_open for line in finding_lines(place))
+        )
     if findings:
-        reasons = dict.fromkeys(accepted_words(entry) for _, _, entry in findings if entry)
-        return Case(kind, name, "skipped", "; ".join(reasons), "\n".join(words for words, _, _ in findings))
+        reasons = dict.fromkeys(accepted_words(entry) for _, entry in findings if entry)
+        return Case(kind, name, "skipped", "; ".join(reasons), "\n".join(finding_words(place) for place, _ in findings))
     return Case(kind, name)
-
-
-def _refused(checked: Checked) -> Dict[str, str]:
-    """The refused telegrams of each group, in words."""
-    found: Dict[str, str] = {}
-    for bad, item in zip(checked.refused, refused(checked)):
-        found[bad.row.group] = found.get(bad.row.group, "") + f"{item.sentence}\n    program: {item.program}\n"
-    return found

@@ -3,8 +3,10 @@ from __future__ import annotations
 
 from typing import Any, Dict, Iterator
 
-from balisekit.present import NOT_PROVED, explanations as explain
-from balisekit.present.refusals import not_looked_at, refused_lines
+from balisekit.present import NOT_PROVED
+from balisekit.present.check_text import head_line
+from balisekit.present.explanations import rule_pages
+from balisekit.present.refusals import not_looked_at, refused_counts, refused_lines
 from balisekit.rules.checking import Checked
 from balisekit.rules.links import Links
 from balisekit.rules.rule import Remark, Result, Rule
@@ -23,16 +25,14 @@ def status_of(checked: Checked, links: Links) -> int:
 def lines(checked: Checked, links: Links, explained: bool = False) -> Iterator[str]:
     """The answer in words."""
     table = checked.table
-    yield f"{clean(table.path)}: {len(table.rows)} telegrams of {len(table.groups)} groups"
+    yield head_line(table)
     yield from passed_over(table)
     yield ABOUT
     yield from (f"note: {clean(note)}" for note in (*table.notes, *links.notes))
     yield from refused_lines(checked)
     yield from map(_words, links.remarks)
     if explained:
-        for rule, result in links.results.items():
-            if result.found:
-                yield from explain.rule_lines(rule)
+        yield from rule_pages(rule for rule, result in links.results.items() if result.found)
     yield last_line(checked, links)
 
 
@@ -42,46 +42,41 @@ def _words(remark: Remark) -> str:
 
 def last_line(checked: Checked, links: Links) -> str:
     """How many were found and by which rules, and what each rule has compared. It is never a yes."""
-    rows, groups = len(checked.table.rows), len(checked.table.groups)
-    parts = [f"{len(checked.refused)} of {rows} telegrams refused"] if checked.refused else []
-    if checked.messages and checked.refused_messages:
-        parts.append(f"{len(checked.refused_messages)} of {len(checked.messages.messages)} messages refused")
-    parts += not_looked_at(checked)
-    where = "the rest" if parts else f"{groups} groups"
+    parts = [count for count in refused_counts(checked) if not count.startswith("0 ")] + not_looked_at(checked)
+    where = "the rest" if parts else f"{len(checked.table.groups)} groups"
     parts += [_empty(rule, links.results[rule]) for rule in links.empty]
-    said = f"links: {_counts(links)} in {where}; compared: {', '.join(_compared(links))}"
-    return f"INCOMPLETE: {', '.join(parts)}; {said}" if parts else said
-
-
-def _counts(links: Links) -> str:
-    """How much each rule has found."""
     counts = [f"{rule.name} {len(result.found)}" for rule, result in links.results.items() if result.found]
-    return f"{len(links.remarks)} found ({', '.join(counts)})" if counts else "none found of L1 to L9"
+    found = f"{len(links.remarks)} found ({', '.join(counts)})" if counts else "none found of L1 to L9"
+    compared = ", ".join(_compared(rule, result) for rule, result in links.results.items())
+    said = f"links: {found} in {where}; compared: {compared}"
+    return f"INCOMPLETE: {', '.join(parts)}; {said}" if parts else said
 
 
 def _empty(rule: Rule, result: Result) -> str:
     """Why a rule has compared nothing."""
     reasons = [f"{why}: {count}" for why, count in result.not_looked_at.items() if count]
-    return f"{rule.name} compared none of {result.skipped} {rule.looks_at} ({', '.join(reasons)})"
+    return f"{rule.name} compared none of {_things(rule, result.skipped)} ({', '.join(reasons)})"
 
 
-def _compared(links: Links) -> Iterator[str]:
-    """What each rule has compared, and of how many things if there are more."""
-    for rule, result in links.results.items():
-        total = result.looked_at + result.skipped
-        of_all = f" of {total}" if result.skipped else ""
-        yield f"{rule.name} {result.looked_at}{of_all} {rule.looks_at[:-1] if total == 1 else rule.looks_at}"
+def _compared(rule: Rule, result: Result) -> str:
+    """What a rule has compared, and of how many things if there are more."""
+    of_how_many = f"{result.looked_at} of " if result.skipped else ""
+    return f"{rule.name} {of_how_many}{_things(rule, result.looked_at + result.skipped)}"
 
 
-def as_json(checked: Checked, links: Links, status: int) -> Dict[str, Any]:
+def _things(rule: Rule, count: int) -> str:
+    return f"{count} {rule.looks_at[:-1] if count == 1 else rule.looks_at}"
+
+
+def as_json(checked: Checked, links: Links) -> Dict[str, Any]:
     """All of the answer for other tools."""
     table = checked.table
     return {
-        "status": status,
+        "status": status_of(checked, links),
         "last_line": last_line(checked, links),
         "not_proved": ABOUT,
         "program": {"path": checked.program.path, "sha256": checked.program.sha256},
-        "table": {"path": table.path, "sha256": table.sha256, "passed_over": list(table.passed_over)},
+        "table": {"path": table.path, "sha256": table.sha256, "passed_over": table.passed_over},
         "counts": {
             "telegrams": len(table.rows),
             "groups": len(table.groups),
@@ -89,17 +84,18 @@ def as_json(checked: Checked, links: Links, status: int) -> Dict[str, Any]:
             "refused_messages": len(checked.refused_messages),
             "not_looked_at": checked.not_looked_at,
         },
-        "rules": {
-            rule.name: {
-                "looks_at": rule.looks_at,
-                "found": len(result.found),
-                "looked_at": result.looked_at,
-                "not_looked_at": {why: count for why, count in result.not_looked_at.items() if count},
-            }
-            for rule, result in links.results.items()
-        },
+        "rules": {rule.name: _rule_json(rule, result) for rule, result in links.results.items()},
         "notes": [*table.notes, *links.notes],
-        "found": [_remark_json(remark) for remark in links.remarks],
+        "found": map(_remark_json, links.remarks),
+    }
+
+
+def _rule_json(rule: Rule, result: Result) -> Dict[str, Any]:
+    return {
+        "looks_at": rule.looks_at,
+        "found": len(result.found),
+        "looked_at": result.looked_at,
+        "not_looked_at": {why: count for why, count in result.not_looked_at.items() if count},
     }
 
 

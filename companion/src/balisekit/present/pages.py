@@ -9,6 +9,7 @@ from pathlib import Path
 from typing import Any, Iterator, List, Sequence, Tuple
 
 from balisekit.io.optional_packages import needed
+from balisekit.tables.names import clean
 
 PIECES = 100
 """So many pieces of a page become one."""
@@ -29,7 +30,7 @@ def pieces(template: str, styles: Sequence[str], **values: Any) -> Iterator[str]
         trim_blocks=True,
         lstrip_blocks=True,
     )
-    environment.filters["svg"] = svg
+    environment.filters.update(svg=svg, clean=clean)
     style = "".join((TEMPLATES / name).read_text("utf-8") for name in styles)
     page = environment.get_template(template).stream(style=Markup(style), style_hash=_hash(style), **values)
     page.enable_buffering(PIECES)

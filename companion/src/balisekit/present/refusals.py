@@ -65,6 +65,14 @@ def not_looked_at(checked: Checked) -> List[str]:
     return [f"{count} {what} not looked at" for count, what in counts if count]
 
 
+def refused_counts(checked: Checked) -> List[str]:
+    """How many telegrams, and how many messages if there are any, were refused."""
+    counts = [f"{len(checked.refused)} of {len(checked.table.rows)} telegrams refused"]
+    if checked.messages and checked.refused_messages:
+        counts.append(f"{len(checked.refused_messages)} of {len(checked.messages.messages)} messages refused")
+    return counts
+
+
 def telegram_refused(digits: str, refusal: Refusal) -> str:
     """A refused telegram in a sentence."""
     if refusal.text == "wrong size":

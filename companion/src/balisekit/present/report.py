@@ -1,9 +1,8 @@
 """What a report is made of: the cover, the findings, and a block for each group and message."""
 from __future__ import annotations
 
-from dataclasses import dataclass
 from datetime import datetime
-from typing import Dict, Iterator, List, Mapping, Optional, Sequence, Tuple
+from typing import Dict, Iterable, Iterator, List, Mapping, NamedTuple, Optional, Sequence, Tuple
 
 from balisekit import __version__
 from balisekit.drawing.group import picture_of, picture_of_message
@@ -14,9 +13,8 @@ from balisekit.etcs.places import Identities, places_of_rows
 from balisekit.etcs.variables import Form
 from balisekit.io import clock
 from balisekit.present import NOT_PROVED
-from balisekit.present.accepted_text import accepted_words, fault_lines, verdict_lines
-from balisekit.present.check_text import finding_words, last_line
-from balisekit.present.headings import headings
+from balisekit.present.accepted_text import accepted_words, fault_lines, with_entries
+from balisekit.present.check_text import closing_lines, finding_words, headings
 from balisekit.present.refusals import RefusedInput, not_looked_at, refused
 from balisekit.present.telegram_text import text
 from balisekit.rules.accepted import Judged
@@ -27,8 +25,7 @@ from balisekit.tables.model import Group
 from balisekit.tables.names import clean, describe_balise, describe_group, describe_message, describe_rows, passed_over
 
 
-@dataclass(frozen=True)
-class Telegram:
+class Telegram(NamedTuple):
     """A telegram or message of a block."""
 
     id: str
@@ -39,8 +36,7 @@ class Telegram:
     """The program's words, if it has refused the telegram."""
 
 
-@dataclass(frozen=True)
-class ListedFinding:
+class ListedFinding(NamedTuple):
     """A finding, and its places in the page."""
 
     finding: Finding
@@ -55,8 +51,7 @@ class ListedFinding:
     """What is above it in the list of findings, if it is the first of several of one rule about one group."""
 
 
-@dataclass(frozen=True)
-class Block:
+class Block(NamedTuple):
     """A group, or a message."""
 
     id: str
@@ -65,23 +60,24 @@ class Block:
     left_out: str
     picture: Optional[Picture]
     findings: Sequence[ListedFinding]
-    telegrams: Sequence[Telegram]
+    telegrams: Iterable[Telegram]
 
 
 def cover(checked: Checked, judged: Optional[Judged], now: datetime) -> Dict[str, object]:
     """The content of the first page."""
-    table, program, verdict = checked.table, checked.program, last_line(checked)
+    table, program = checked.table, checked.program
     about = [("file", clean(program.path)), ("SHA-256", program.sha256)]
     about += [(key, value) for key, value in program.about.items() if key != "program"]
     about += [] if program.about else [("version", "not a released program")]
+    at_fault = list(fault_lines(judged)) if judged else []
     return {
         "date": clock.stamp(now),
         "inputs": list(_inputs(checked, judged)),
         "program": about,
         "version": __version__,
         "not_proved": NOT_PROVED,
-        "verdict": list(verdict_lines(judged, verdict)) if judged else [verdict],
-        "at_fault": list(fault_lines(judged)) if judged else [],
+        "verdict": closing_lines(checked, judged)[len(at_fault) :],
+        "at_fault": at_fault,
         "refused": list(refused(checked)),
         "left_out": [(describe_group(left_out.group), clean(left_out.why)) for left_out in checked.left_out],
         "aspects": aspects_found(table),
@@ -92,30 +88,27 @@ def cover(checked: Checked, judged: Optional[Judged], now: datetime) -> Dict[str
 
 def _inputs(checked: Checked, judged: Optional[Judged]) -> Iterator[Tuple[str, str, str]]:
     """Name, SHA-256 and content of each input."""
-    table, messages = checked.table, checked.messages
+    table, messages, entries = checked.table, checked.messages, judged.entries if judged else None
     content = f"{len(table.rows)} telegrams of {len(table.groups)} groups; {table.encoding}"
     yield clean(table.path), table.sha256, content
     if messages:
         yield clean(messages.path), messages.sha256, f"{len(messages.messages)} radio messages"
-    if judged:
-        entries = judged.entries
+    if entries:
         yield clean(entries.path), entries.sha256, f"{len(entries.entries)} entries of accepted findings"
 
 
 def listed_findings(checked: Checked, judged: Optional[Judged] = None) -> List[ListedFinding]:
     """Each finding with the entry that accepts it. Open and accepted ones have headings of their own."""
     ids = {group.name: f"g{index}" for index, group in enumerate(checked.table.groups)}
-    entries = judged.by_finding if judged else (None,) * len(checked.findings)
-    above: Dict[int, str] = {}
-    for is_open in (True, False):
-        numbers = [number for number, entry in enumerate(entries) if (entry is None) == is_open]
-        above.update(zip(numbers, headings([checked.findings[number] for number in numbers])))
+    items = list(with_entries(checked, judged))
+    still_open, accepted = ([place for place, entry in items if bool(entry) == kind] for kind in (False, True))
+    of_open, of_accepted = headings(still_open), headings(accepted)
     findings = []
-    for number, (place, entry) in enumerate(zip(checked.findings, entries)):
+    for place, entry in items:
         block = f"m{place.message.number}" if place.message else ids[place.group.name] if place.group else ""
         target = f"r{place.row.number}" if place.row else block
-        accepted = accepted_words(entry) if entry else ""
-        findings.append(ListedFinding(place.finding, finding_words(place), block, target, accepted, above[number]))
+        words, heading = accepted_words(entry) if entry else "", next(of_accepted if entry else of_open)
+        findings.append(ListedFinding(place.finding, finding_words(place), block, target, words, heading))
     return findings
 
 
@@ -129,19 +122,17 @@ def blocks(checked: Checked, forms: Mapping[int, Form], findings: Sequence[Liste
     items = {item.id: item for item in refused(checked)}
     for index, original in enumerate(checked.table.groups):
         id, group = f"g{index}", kept.get(original.name, original)
-        of_group = by_block.get(id, [])
-        picture = None
-        if all(row.number in forms for row in group.rows()):
-            picture = picture_of(group, forms, [listed.finding for listed in of_group])
-        telegrams = list(_telegrams(group, forms, items))
-        yield Block(id, clean(group.name), _where(group), left_out.get(group.name, ""), picture, of_group, telegrams)
+        of_group, why = by_block.get(id, []), left_out.get(group.name, "")
+        whole = all(row.number in forms for row in group.rows())
+        picture = picture_of(group, forms, [listed.finding for listed in of_group]) if whole else None
+        yield Block(id, clean(group.name), _where(group), why, picture, of_group, _telegrams(group, forms, items))
     identities = Identities(checked.table.groups, forms)
     for message in checked.accepted_messages:
         yield _message(message, by_block.get(f"m{message.message.number}", []), identities)
     for bad in checked.refused_messages:
-        id, heading = f"m{bad.message.number}", f"message of {describe_message(bad.message)}"
-        telegram = Telegram("", items[id].sentence, clean(bad.message.text), refused=items[id].program)
-        yield Block(id, heading, "", "refused", None, (), [telegram])
+        item, heading = items[f"m{bad.message.number}"], f"message of {describe_message(bad.message)}"
+        telegram = Telegram("", item.sentence, clean(bad.message.text), refused=item.program)
+        yield Block(item.id, heading, "", "refused", None, (), [telegram])
 
 
 def _message(item: AcceptedMessage, findings: Sequence[ListedFinding], identities: Identities) -> Block:
@@ -166,10 +157,11 @@ def _telegrams(group: Group, forms: Mapping[int, Form], items: Mapping[str, Refu
     """Each row once, in the order of the table."""
     rows = {row.number: row for row in group.rows()}
     for number, here in places_of_rows(group, forms).items():
-        id, digits = f"r{number}", clean(rows[number].telegram)
+        row, id = rows[number], f"r{number}"
+        heading, digits = describe_balise(group, row), clean(row.telegram)
         if id in items:
             yield Telegram(id, items[id].sentence, digits, refused=items[id].program)
         elif number in forms:
-            yield Telegram(id, describe_balise(group, rows[number]), digits, text(forms[number], here))
+            yield Telegram(id, heading, digits, text(forms[number], here))
         else:
-            yield Telegram(id, f"{describe_balise(group, rows[number])}: not looked at", digits)
+            yield Telegram(id, f"{heading}: not looked at", digits)

@@ -97,18 +97,19 @@ def _lines(label: str, depth: int, form: Values, path: str, around: Around, note
 
 def text_of(line: Line) -> str:
     """The line as text, broken where it is too long. A break never parts a name from its raw value."""
-    first, values = _label(line.depth, line.label), "  ".join(line.texts)
-    lines = [first + values] if len(first) + len(values) <= WIDTH else _broken(first, line.texts)
-    note, indent = f"= {line.note}", " " * LABEL_WIDTH
+    lines, indent = [_label(line.depth, line.label) + "".join(line.texts[:1])], " " * LABEL_WIDTH
+    for value in line.texts[1:]:
+        if len(lines[-1]) + 2 + len(value) > WIDTH:
+            lines.append(indent + value)
+        else:
+            lines[-1] += f"  {value}"
+    note = f"= {line.note}"
     if line.note and len(lines[-1]) + 2 + len(note) <= WIDTH:
         lines[-1] += f"  {note}"
-    elif line.note:  # (textwrap is slow, and most notes need one line)
-        short = LABEL_WIDTH + len(note) <= WIDTH
-        lines += (
-            [indent + note]
-            if short
-            else textwrap.wrap(note, WIDTH, initial_indent=indent, subsequent_indent=indent + "  ")
-        )
+    elif line.note and LABEL_WIDTH + len(note) <= WIDTH:  # (textwrap is slow, and most notes need one line)
+        lines.append(indent + note)
+    elif line.note:
+        lines += textwrap.wrap(note, WIDTH, initial_indent=indent, subsequent_indent=indent + "  ")
     return "\n".join(lines)
 
 
@@ -117,19 +118,6 @@ def _label(depth: int, label: str) -> str:
     """What stands before the values of a line."""
     text = f"{'  ' * depth}{label}"
     return f"{text:<{LABEL_WIDTH}}" if len(text) < LABEL_WIDTH else f"{text} "
-
-
-def _broken(last: str, values: Sequence[str]) -> List[str]:
-    """The values behind the beginning of a line, on as many lines as they need."""
-    lines: List[str] = []
-    fresh = True
-    for value in values:
-        if not fresh and len(last) + 2 + len(value) > WIDTH:
-            lines.append(last)
-            last, fresh = " " * LABEL_WIDTH, True
-        last += value if fresh else f"  {value}"
-        fresh = False
-    return [*lines, last]
 
 
 def text(form: Form, here: Here = Here()) -> str:
