@@ -66,8 +66,7 @@ def _group(checked: Checked, aspect: Optional[str]) -> Picture:
     """The picture of the only group of a table."""
     for item in refused(checked):
         raise TableError(str(item))
-    forms = {number: accepted.form for number, accepted in checked.accepted.items()}
-    return picture_of(checked.kept[0], forms, [place.finding for place in checked.findings], True, aspect)
+    return picture_of(checked.kept[0], checked.accepted, [place.finding for place in checked.findings], True, aspect)
 
 
 def _message(checked: Checked) -> Picture:
@@ -76,8 +75,7 @@ def _message(checked: Checked) -> Picture:
         raise TableError(str(item))
     message = checked.accepted_messages[0]
     heading = f"message of {describe_message(message.message)}"
-    forms = {number: accepted.form for number, accepted in checked.accepted.items()}
-    here = Identities(checked.table.groups, forms).here(message.form)
+    here = Identities(checked.table.groups, checked.accepted).here(message.form)
     findings = [place.finding for place in checked.findings if place.message is not None]
     picture = picture_of_message(heading, message.form, findings, here.kilometres, titled=True)
     if picture is None:

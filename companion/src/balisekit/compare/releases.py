@@ -61,7 +61,7 @@ class Side:
         """Has the program decode those of these telegrams that can be read."""
         accepted = self.checked.accepted
         numbers = {row.number for row in rows if row.number in accepted and row.number not in self.records}
-        self.records.update((telegram.row.number, telegram.record) for telegram in accepted.decoded(sorted(numbers)))
+        self.records.update((row.number, record) for row, record in accepted.decoded(sorted(numbers)))
 
     def sent(self, row: Row) -> Sent:
         """A telegram that has been decoded."""

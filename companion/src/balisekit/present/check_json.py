@@ -32,7 +32,7 @@ def as_json(checked: Checked, judged: Optional[Judged] = None) -> Dict[str, Any]
         },
         "messages": {"path": messages.path, "sha256": messages.sha256} if messages else None,
         "counts": _counts(checked),
-        "telegrams": (_with_form(_row(one.row), one.record.line) for one in checked.accepted.decoded()),
+        "telegrams": (_with_form(_row(row), record.line) for row, record in checked.accepted.decoded()),
         "read_messages": list(map(_message, checked.accepted_messages)),
         "refused": list(map(_refused, checked.refused)),
         "refused_messages": list(map(_refused_message, checked.refused_messages)),

@@ -229,7 +229,7 @@ def _key(place: Place, checked: Checked, names: Mapping[str, int]) -> Key:
     finding = place.finding
     identity: Tuple[str, str] = ("", "")
     if place.group is not None:
-        form = checked.accepted[place.group.aspects[0].rows[0].number].form
+        form = checked.accepted[place.group.aspects[0].rows[0].number]
         identity = (str(form["nid_c"]), str(form["nid_bg"]))
     message = ""
     if place.message is not None:

@@ -3,6 +3,7 @@ from __future__ import annotations
 
 import json
 from dataclasses import dataclass
+from functools import cached_property
 from typing import Any, Dict, Iterable, Iterator, List, Mapping, NamedTuple, Optional, Sequence, Set, Tuple, TypeVar
 
 from balisekit.engine.grammar import Finding, Refusal, Verdict
@@ -21,42 +22,31 @@ Answer = TypeVar("Answer")
 Thing = TypeVar("Thing")
 
 
-@dataclass(frozen=True)
-class Accepted:
-    """A row whose telegram the program has read."""
+class Telegrams(Mapping[int, Form]):
+    """The records of the telegrams that the program can read, by the number of their rows.
 
-    row: Row
-    record: Record
-
-    @property
-    def form(self) -> Form:
-        """The program's JSON."""
-        return self.record.form
-
-
-class Telegrams(Mapping[int, Accepted]):
-    """The telegrams that the program can read, by the number of their rows.
-
-    `check` needs no record for its verdict. So the telegrams are decoded when the first record is asked for.
+    `check` needs no record for its verdict. So the telegrams are decoded when the first record is asked for, and their
+    lines of JSON are kept: the objects of them all take much memory.
     """
 
     def __init__(self, program: Program, rows: Sequence[Row]) -> None:
         self._program = program
         self._rows = {row.number: row for row in rows}
-        self._records: Dict[int, Accepted] = {}
 
-    def decoded(self, numbers: Optional[Iterable[int]] = None) -> Iterator[Accepted]:
+    @cached_property
+    def _records(self) -> Mapping[int, Record]:
+        return {row.number: record for row, record in self.decoded()}
+
+    def decoded(self, numbers: Optional[Iterable[int]] = None) -> Iterator[Tuple[Row, Record]]:
         """The records of these rows, or of all rows. They are decoded now, and not kept."""
         rows = list(self._rows.values()) if numbers is None else [self._rows[number] for number in numbers]
         for row, answer in zip(rows, self._program.decode([row.telegram for row in rows])):
             if isinstance(answer, Refusal):
                 raise self._program.no_answer("decode", f"it refuses what it has read: {answer.line}")
-            yield Accepted(row, answer)
+            yield row, answer
 
-    def __getitem__(self, number: int) -> Accepted:
-        if not self._records and self._rows:
-            self._records = {accepted.row.number: accepted for accepted in self.decoded()}
-        return self._records[number]
+    def __getitem__(self, number: int) -> Form:
+        return self._records[number].form
 
     def __iter__(self) -> Iterator[int]:
         return iter(self._rows)
@@ -312,7 +302,7 @@ def _sort_out(
 
 def _by_position(groups: Sequence[Group], accepted: Telegrams) -> Tuple[Group, ...]:
     """The groups with the balises of each aspect in the order of N_PIG."""
-    positions = {telegram.row.number: telegram.form["n_pig"] for telegram in accepted.decoded()}
+    positions = {row.number: record.form["n_pig"] for row, record in accepted.decoded()}
     return tuple(by_position(group, positions) for group in groups)
 
 
@@ -336,7 +326,7 @@ class _Names:
                 group, aspect, row = self._site(finding)
                 rows = [group.aspects[0].rows[0], *aspect.rows] if finding.rule < 4 else [row or aspect.rows[0]]
                 needed.update(row.number for row in rows)
-        self._records = {telegram.row.number: telegram.record for telegram in accepted.decoded(sorted(needed))}
+        self._records = {row.number: record for row, record in accepted.decoded(sorted(needed))}
         self._forms: Dict[int, Form] = {}
         self._first: List[Group] = list(self._first_groups()) if identities else []
 

@@ -32,7 +32,7 @@ def rows_of(places: Sequence[Place], checked: Checked) -> Iterator[str]:
             yield _message(place, messages[place.message.number])
         elif place.group is not None:
             yield _group(
-                place, [[checked.accepted[row.number].form for row in aspect.rows] for aspect in place.group.aspects]
+                place, [[checked.accepted[row.number] for row in aspect.rows] for aspect in place.group.aspects]
             )
 
 

@@ -30,10 +30,10 @@ def find(line: Line, options: Options) -> Result:
         Remark(
             "L7",
             each.location,
-            f"the {PROFILES[each.number]} is open, and an authority rests on it: it has no end mark",
+            f"the {PROFILES[each.packet.number]} is open, and an authority rests on it: it has no end mark",
         )
         for each in profiles
-        if each.is_open
+        if each.packet.is_open
     ]
     return Result(found, len(profiles))
 

@@ -32,7 +32,7 @@ def find(line: Line, options: Options) -> Result:
         Remark(
             "L8",
             each.location,
-            f"the {PROFILES[each.number]} under an authority begins at {metres(each.begin)}: "
+            f"the {PROFILES[each.packet.number]} under an authority begins at {metres(each.packet.begin)}: "
             "the track before it has none",
         )
         for each in profiles
