@@ -128,6 +128,14 @@ class Line:
         return self.passages.chains
 
     @cached_property
+    def alike(self) -> Sequence[Sequence[Chain]]:
+        """The chains, and together those of one group in one direction whose links are the same."""
+        alike: Dict[Tuple[Optional[int], str, int], List[Chain]] = {}
+        for chain in self.chains:
+            alike.setdefault((chain.sender and chain.sender.number, chain.direction, id(chain.links)), []).append(chain)
+        return list(alike.values())
+
+    @cached_property
     def infill_links(self) -> Mapping[str, int]:
         """How many links come after a packet 136, by that reason: rules do not look at them."""
         links = [link for chain in self.passages.infill_chains for link in chain.links if link.known]

@@ -7,7 +7,7 @@ from __future__ import annotations
 import json
 import re
 from dataclasses import dataclass, field
-from functools import lru_cache
+from functools import cached_property, lru_cache
 from typing import Dict, Iterable, Iterator, List, Mapping, NamedTuple, Optional, Sequence, Set, Tuple
 
 from balisekit.engine.program import Record
@@ -24,8 +24,11 @@ HOLDING = ((1,), (0,), (0, 1))
 """By Q_DIR: in which directions a packet holds, by their places in DIRECTIONS."""
 DUPLICATE = (2, 1)
 """By direction: the M_DUP of a balise that is passed behind the one whose duplicate it is."""
-RECORD = re.compile(r'\{"m_dup":(\d),.*?"nid_bg":(\d+),("nid_c":(\d+),"packets":\[.*\]),"q_link":(\d)')
-"""A record of a telegram: what rules need of its header, and NID_C with the packets once more as one text."""
+RECORD = re.compile(
+    r'\{"m_dup":(\d),"m_mcount":\d+,"m_version":\d+,"n_pig":(\d),"n_total":\d,"nid_bg":(\d+),("nid_c":(\d+),.*\]),'
+    r'"q_link":(\d)'
+)
+"""The record of a telegram: the keys of its header, and NID_C with the packets as one text."""
 KEPT = 1 << 12
 """So many of these texts are kept with what they say."""
 
@@ -46,7 +49,7 @@ class Link:
     target: Optional[BaliseGroup] = None
     """The group of the table with this identity."""
 
-    @property
+    @cached_property
     def known(self) -> bool:
         """Whether it names a group: NID_BG 16,383 says that the group is not known yet."""
         return self.identity[1] != NOT_KNOWN
@@ -106,7 +109,7 @@ class Chain(NamedTuple):
 
 
 class Profile(NamedTuple):
-    """A gradient or static speed profile that is given with a movement authority."""
+    """A gradient or static speed profile that is given with a movement authority, and is open or late."""
 
     location: Location
     packet: Packet
@@ -137,6 +140,9 @@ class Passages:
     infill_chains: List[Chain] = field(default_factory=list)
     """The packets 5 that are passed after a packet 136: they count from another group."""
     profiles: List[Profile] = field(default_factory=list)
+    """Those that are open or late."""
+    profile_count: int = 0
+    """How many profiles are given with an authority."""
     one_way: List[OneWayPacket] = field(default_factory=list)
     """Of single balises with Q_LINK 0."""
     headers: int = 0
@@ -176,23 +182,26 @@ class Passages:
     def _add(self, aspects: Iterable[Passed], sender: Optional[BaliseGroup], message: Optional[Message] = None) -> None:
         """Takes the aspects of one group, or a message. What rows of several aspects say is kept once."""
         known: Set[Tuple[int, int, str]] = set()
-        profiles: Dict[Tuple[int, int, str], Profile] = {}
-        group = None if message else sender
+        profiles: Dict[Tuple[int, int, str], Tuple[Optional[Row], Packet, bool]] = {}
+
+        def at(row: Optional[Row], packet: Packet, direction: str) -> Location:
+            return Location(None if message else sender, row, message, packet.place, direction)
+
         for direction, packets, chains in (part for passed in aspects for part in self._parts(passed)):
             at_once = {packet.number for _, packet in packets if packet.begin == 0}
-            has_authority = not at_once.isdisjoint(AUTHORITIES)
+            compared = () if at_once.isdisjoint(AUTHORITIES) else PROFILES
             for row, packet in packets:
                 key = row.number if row else 0, packet.place, direction
                 if packet.number == LINKING and key not in known:
                     known.add(key)
-                    location = Location(group, row, message, packet.place, direction)
-                    chains.append(Chain(location, sender, direction, packet.links))
-                elif packet.number in PROFILES and has_authority:
-                    is_late = packet.number not in at_once
-                    if key not in profiles or is_late and not profiles[key].is_late:
-                        location = Location(group, row, message, packet.place, direction)
-                        profiles[key] = Profile(location, packet, is_late)
-        self.profiles += profiles.values()
+                    chains.append(Chain(at(row, packet, direction), sender, direction, packet.links))
+                elif packet.number in compared:
+                    is_late = packet.number not in at_once or key in profiles and profiles[key][2]
+                    profiles[key] = row, packet, is_late
+        self.profile_count += len(profiles)
+        for (_, _, direction), (row, packet, is_late) in profiles.items():
+            if is_late or packet.is_open:
+                self.profiles.append(Profile(at(row, packet, direction), packet, is_late))
 
     def _parts(self, passed: Passed) -> Iterator[Tuple[str, Sequence[Tuple[Optional[Row], Packet]], List[Chain]]]:
         """What is passed in each direction before a packet 136, and behind it, and where the chains of it belong."""
@@ -219,7 +228,7 @@ def contents_of(telegrams: Iterable[Tuple[Row, Record]]) -> Iterator[Tuple[Row, 
     """What rules compare of telegrams. Many have the same packets, which are read once then."""
     packets = lru_cache(KEPT)(lambda text: _packets(json.loads(f"{{{text}}}")))
     for row, record in telegrams:
-        duplicate, nid_bg, text, nid_c, linked = RECORD.findall(record.line)[0]
+        duplicate, _, nid_bg, text, nid_c, linked = RECORD.findall(record.line)[0]
         yield row, Content((int(nid_c), int(nid_bg)), linked == "1", int(duplicate), *packets(text))
 
 

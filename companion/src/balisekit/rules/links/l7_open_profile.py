@@ -25,17 +25,16 @@ from balisekit.rules.rule import Options, Remark, Result, Rule
 
 def find(line: Line, options: Options) -> Result:
     """Looks at each profile that is given with an authority, those after a packet 136 too."""
-    profiles = line.passages.profiles
     found = [
         Remark(
             "L7",
             each.location,
             f"the {PROFILES[each.packet.number]} is open, and an authority rests on it: it has no end mark",
         )
-        for each in profiles
+        for each in line.passages.profiles
         if each.packet.is_open
     ]
-    return Result(found, len(profiles))
+    return Result(found, line.passages.profile_count)
 
 
 RULE = Rule("L7", "profiles", __doc__ or "", find)

@@ -27,7 +27,6 @@ from balisekit.rules.rule import Options, Remark, Result, Rule
 
 def find(line: Line, options: Options) -> Result:
     """Looks at each profile that is given with an authority, those after a packet 136 too."""
-    profiles = line.passages.profiles
     found = [
         Remark(
             "L8",
@@ -35,10 +34,10 @@ def find(line: Line, options: Options) -> Result:
             f"the {PROFILES[each.packet.number]} under an authority begins at {metres(each.packet.begin)}: "
             "the track before it has none",
         )
-        for each in profiles
+        for each in line.passages.profiles
         if each.is_late
     ]
-    return Result(found, len(profiles))
+    return Result(found, line.passages.profile_count)
 
 
 RULE = Rule("L8", "profiles", __doc__ or "", find)
