@@ -27,7 +27,7 @@ from typing import (
 from balisekit.compare.telegrams import Change, differences
 from balisekit.engine.program import Record
 from balisekit.etcs.variables import Form
-from balisekit.rules.checking import Checked, Place, findings_of
+from balisekit.rules.checking import Checked, Place, report_on
 from balisekit.tables.grouping import EVERY
 from balisekit.tables.model import Group, Message, Row, Table
 from balisekit.tables.names import clean, describe_identity, quoted
@@ -309,7 +309,7 @@ def _findings_in_order(answer: Difference, pairs: Pairs[Group]) -> Sequence[Plac
     if kept == list(new.kept):
         return new.findings
     answer.notes.append(OTHER_ORDER)
-    _, findings = findings_of(new.program, kept, new.accepted_messages, new.accepted)
+    findings = report_on(replace(new, kept=tuple(kept))).findings
     return [
         *(place for place in new.findings if place.finding.rule not in BY_ORDER),
         *(place for place in findings if place.finding.rule in BY_ORDER),
