@@ -5,29 +5,16 @@ Groups are paired by their identity, telegrams by aspect and position. So the or
 from __future__ import annotations
 
 import hashlib
-import re
 from collections import Counter, deque
+from collections.abc import Callable, Hashable, Iterable, Iterator, Mapping, Sequence
 from dataclasses import dataclass, field, replace
-from typing import (
-    Callable,
-    Deque,
-    Dict,
-    Hashable,
-    Iterable,
-    Iterator,
-    List,
-    Mapping,
-    NamedTuple,
-    Optional,
-    Sequence,
-    Tuple,
-    TypeVar,
-)
+from typing import Deque, Dict, List, NamedTuple, Optional, Tuple, TypeVar
 
 from balisekit.compare.telegrams import Change, differences
 from balisekit.engine.program import Record
 from balisekit.etcs.variables import Form
 from balisekit.rules.checking import Checked, Place, report_on
+from balisekit.rules.passages import RECORD
 from balisekit.tables.grouping import EVERY
 from balisekit.tables.model import Group, Message, Row, Table
 from balisekit.tables.names import clean, describe_identity, quoted
@@ -37,10 +24,6 @@ Pairs = List[Tuple[Thing, Thing]]
 Known = Tuple[Hashable, Group]
 Sent = Tuple[int, str, Record]
 """A telegram or message: its row or line, its digits, and what the program has decoded."""
-HEAD = re.compile(
-    r'\{"m_dup":\d,"m_mcount":\d+,"m_version":\d+,"n_pig":(\d),"n_total":\d,"nid_bg":(\d+),"nid_c":(\d+),'
-)
-"""How each record of a telegram begins."""
 BY_ORDER = (3, 14, 15, 16)
 """The rules whose findings depend on the order of groups or aspects: one is compared with an earlier one."""
 OTHER_ORDER = (
@@ -69,7 +52,8 @@ class Side:
 
     def head(self, row: Row) -> Tuple[int, ...]:
         """N_PIG, NID_BG and NID_C of a telegram."""
-        return tuple(map(int, HEAD.findall(self.records[row.number].line)[0]))
+        _, n_pig, nid_bg, _, nid_c, _ = RECORD.findall(self.records[row.number].line)[0]
+        return int(n_pig), int(nid_bg), int(nid_c)
 
     def first(self, group: Group) -> Optional[Row]:
         """The first telegram of a group that could be read. It has the identity of the group."""
@@ -356,7 +340,6 @@ def _without(keyed: Keyed, others: Keyed) -> Iterator[Place]:
     """The findings of one release that the other one has not."""
     counted = Counter(key for key, _ in others)
     for key, place in keyed:
-        if counted[key]:
-            counted[key] -= 1
-        else:
+        counted[key] -= 1
+        if counted[key] < 0:
             yield place

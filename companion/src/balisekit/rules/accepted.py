@@ -19,6 +19,7 @@ from balisekit.io.csv_writing import plain
 from balisekit.rules.checking import Checked, Place
 from balisekit.tables import csv as csv_file
 from balisekit.tables.cells import headings
+from balisekit.tables.names import BLANK
 
 FIELDS = ("rule", "nid_c", "nid_bg", "message", "aspect", "balise", "packet", "direction")
 """What says which finding is meant."""
@@ -35,8 +36,6 @@ VALUES = {
 """An expression for the values of a column, and what any other one is."""
 UNNAMED = "\0"
 """Instead of the name of a message that has none, or `*`, or that of another message. No entry is about it."""
-INVISIBLE = "\u115f\u1160\u3164\uffa0"
-"""Letters without ink."""
 EARLIEST = datetime.date(2000, 1, 1)
 ONE_DAY = datetime.timedelta(days=1)
 """By so much the day of a signature may be after that of the run, which is by universal time."""
@@ -192,7 +191,7 @@ def _value(name: str, value: str) -> str:
 
 def _is_text(value: str) -> bool:
     """Whether there is anything to read."""
-    return any(letter.isalnum() and letter not in INVISIBLE for letter in value)
+    return any(letter.isalnum() and not BLANK.match(letter) for letter in value)
 
 
 def _date(name: str, value: str) -> Optional[datetime.date]:

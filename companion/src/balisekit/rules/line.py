@@ -161,15 +161,8 @@ class Line:
 def _balise_group(number: int, group: Group, contents: Mapping[int, Content]) -> BaliseGroup:
     rows = {row.number: row for row in group.rows()}
     first = next((contents[row] for row in rows if row in contents), None)
-    where = kilometres(group)
-    return BaliseGroup(
-        number,
-        group,
-        len(group.aspects[0].rows),
-        first and first.identity,
-        first and first.linked,
-        where.group,
-        where.rising,
-        next((row.track for row in rows.values() if row.track), ""),
-        tuple(sorted(rows.keys() - contents.keys())) if len(contents) < len(rows) else (),
-    )
+    identity, linked = (first.identity, first.linked) if first else (None, None)
+    balises, where = len(group.aspects[0].rows), kilometres(group)
+    track = next((row.track for row in rows.values() if row.track), "")
+    unread = tuple(sorted(rows.keys() - contents.keys())) if len(contents) < len(rows) else ()
+    return BaliseGroup(number, group, balises, identity, linked, where.group, where.rising, track, unread)

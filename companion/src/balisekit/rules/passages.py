@@ -69,6 +69,10 @@ class Packet(NamedTuple):
     """Of a profile: whether it has no end mark."""
 
 
+OneWay = Tuple[int, str]
+"""The number of the first packet that holds in one direction only, and that direction."""
+
+
 class Content(NamedTuple):
     """What rules compare of a telegram or message."""
 
@@ -78,8 +82,7 @@ class Content(NamedTuple):
     """M_DUP."""
     packets: Tuple[Sequence[Packet], ...]
     """Those that hold in each of the DIRECTIONS. Packet 0 has none, and is none of them."""
-    one_way: Optional[Tuple[int, str]]
-    """The number of the first packet that holds in one direction only, and that direction."""
+    one_way: Optional[OneWay]
 
     @classmethod
     def of(cls, form: Form) -> Content:
@@ -117,14 +120,6 @@ class Profile(NamedTuple):
     """Whether the track before it has no other profile of its kind, in an aspect at least."""
 
 
-class OneWayPacket(NamedTuple):
-    """The first packet of a single balise that holds in one direction only."""
-
-    location: Location
-    number: int
-    direction: str
-
-
 Passed = Sequence[Tuple[Optional[Row], Content]]
 """The balises of an aspect with their telegrams, or a message, which has no row."""
 
@@ -143,8 +138,8 @@ class Passages:
     """Those that are open or late."""
     profile_count: int = 0
     """How many profiles are given with an authority."""
-    one_way: List[OneWayPacket] = field(default_factory=list)
-    """Of single balises with Q_LINK 0."""
+    one_way: List[Tuple[Location, OneWay]] = field(default_factory=list)
+    """Where it is, of single balises with Q_LINK 0."""
     headers: int = 0
     """How many telegrams have been read."""
     unknown: List[Location] = field(default_factory=list)
@@ -166,7 +161,7 @@ class Passages:
         if group.balises == 1 and not group.linked:
             first = [aspect.rows[0] for aspect in group.group.aspects if aspect.rows[0].number in contents]
             found = ((Location(group, row), contents[row.number].one_way) for row in first)
-            self.one_way += [OneWayPacket(location, *packet) for location, packet in found if packet][:1]
+            self.one_way += [(location, packet) for location, packet in found if packet][:1]
 
     def add_message(self, message: Message, form: Form) -> None:
         """Takes a message 3. All groups have been taken before."""
@@ -189,15 +184,17 @@ class Passages:
 
         for direction, packets, chains in (part for passed in aspects for part in self._parts(passed)):
             at_once = {packet.number for _, packet in packets if packet.begin == 0}
-            compared = () if at_once.isdisjoint(AUTHORITIES) else PROFILES
+            compared = (LINKING,) if at_once.isdisjoint(AUTHORITIES) else (LINKING, *PROFILES)
             for row, packet in packets:
+                if packet.number not in compared:
+                    continue
                 key = row.number if row else 0, packet.place, direction
-                if packet.number == LINKING and key not in known:
-                    known.add(key)
-                    chains.append(Chain(at(row, packet, direction), sender, direction, packet.links))
-                elif packet.number in compared:
+                if packet.number != LINKING:
                     is_late = packet.number not in at_once or key in profiles and profiles[key][2]
                     profiles[key] = row, packet, is_late
+                elif key not in known:
+                    known.add(key)
+                    chains.append(Chain(at(row, packet, direction), sender, direction, packet.links))
         self.profile_count += len(profiles)
         for (_, _, direction), (row, packet, is_late) in profiles.items():
             if is_late or packet.is_open:
@@ -206,22 +203,18 @@ class Passages:
     def _parts(self, passed: Passed) -> Iterator[Tuple[str, Sequence[Tuple[Optional[Row], Packet]], List[Chain]]]:
         """What is passed in each direction before a packet 136, and behind it, and where the chains of it belong."""
         for index, direction in enumerate(DIRECTIONS):
-            if any(content.packets[index] for _, content in passed):
-                own: List[Tuple[Optional[Row], Packet]] = []
-                part = own
-                infill: List[Tuple[Optional[Row], Packet]] = []
-                for place, (row, content) in enumerate(passed if direction == NOMINAL else reversed(passed)):
-                    if place == 0 or content.duplicate != DUPLICATE[index]:
-                        for packet in content.packets[index]:
-                            part = infill if packet.number == INFILL else part
-                            part.append((row, packet))
+            own: List[Tuple[Optional[Row], Packet]] = []
+            infill: List[Tuple[Optional[Row], Packet]] = []
+            part = own
+            for place, (row, content) in enumerate(passed if direction == NOMINAL else reversed(passed)):
+                if place == 0 or content.duplicate != DUPLICATE[index]:
+                    for packet in content.packets[index]:
+                        part = infill if packet.number == INFILL else part
+                        part.append((row, packet))
+            if own:
                 yield direction, own, self.chains
-                if infill:
-                    yield direction, infill, self.infill_chains
-
-
-Packets = Tuple[Tuple[List[Packet], List[Packet]], Optional[Tuple[int, str]]]
-"""Of a content: the packets by direction, and the first one that holds in one direction only."""
+            if infill:
+                yield direction, infill, self.infill_chains
 
 
 def contents_of(telegrams: Iterable[Tuple[Row, Record]]) -> Iterator[Tuple[Row, Content]]:
@@ -232,10 +225,10 @@ def contents_of(telegrams: Iterable[Tuple[Row, Record]]) -> Iterator[Tuple[Row, 
         yield row, Content((int(nid_c), int(nid_bg)), linked == "1", int(duplicate), *packets(text))
 
 
-def _packets(form: Form) -> Packets:
+def _packets(form: Form) -> Tuple[Tuple[Sequence[Packet], ...], Optional[OneWay]]:
     """The packets that rules compare, by direction, and the first one of all that holds in one direction only."""
-    own: Tuple[List[Packet], List[Packet]] = ([], [])
-    one_way = None
+    own: Tuple[List[Packet], ...] = ([], [])
+    one_way: Optional[OneWay] = None
     for place, packet in enumerate(form["packets"]):
         number, direction = packet["nid_packet"], packet.get("q_dir", 2)
         if direction != 2 and one_way is None:

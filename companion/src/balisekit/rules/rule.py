@@ -48,22 +48,23 @@ class Result:
 
     @classmethod
     def of_chains(cls, line: Line, look_at: Callable[[Chain], Iterator[Union[Remark, str, None]]]) -> Result:
-        """Looks at the links of all chains: for each a remark, None if there is nothing, or why it cannot be looked at.
+        """Looks at all chains: for each link `look_at` gives a remark, None if all is well, or why it is not compared.
 
-        What telegrams of a group repeat is looked at once. A link for which the reason is empty is not counted.
+        That reason is empty if there is nothing to compare. What telegrams of a group repeat is looked at once.
         """
         skipped = Counter(line.infill_links)
         found: List[Remark] = []
         looked_at = 0
         for chains in line.alike:
-            for answer in look_at(chains[0]):
+            for link, answer in zip(chains[0].links, look_at(chains[0])):
                 if isinstance(answer, str):
-                    skipped[answer] += len(chains) * bool(answer)
+                    if answer:
+                        skipped[answer] += len(chains) * link.known
                     continue
                 looked_at += len(chains)
                 if answer:
-                    link = answer.location.link
-                    found += [replace(answer, location=chain.location._replace(link=link)) for chain in chains]
+                    place = answer.location.link
+                    found += [replace(answer, location=chain.location._replace(link=place)) for chain in chains]
         return cls(found, looked_at, skipped)
 
     @property

@@ -19,7 +19,7 @@ Example. The reverse link of group B names group 5, and the table has no group 5
 """
 from __future__ import annotations
 
-from typing import Iterator, Optional
+from typing import Iterator, Union
 
 from balisekit.rules.line import Line
 from balisekit.rules.passages import Chain
@@ -32,11 +32,11 @@ def find(line: Line, options: Options) -> Result:
     return Result.of_chains(line, _look_at)
 
 
-def _look_at(chain: Chain) -> Iterator[Optional[Remark]]:
+def _look_at(chain: Chain) -> Iterator[Union[Remark, str, None]]:
     for link in chain.links:
-        if link.target is not None:
-            yield None
-        elif link.known:
+        if link.target is not None or not link.known:
+            yield None if link.known else ""
+        else:
             sentence = f"{describe_identity(link.identity)} is linked, and no group of the table has that identity"
             yield Remark("L1", chain.at(link), sentence)
 

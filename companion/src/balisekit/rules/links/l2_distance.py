@@ -53,7 +53,7 @@ def _compare(chain: Chain, tolerance: Decimal) -> Iterator[Union[Remark, str, No
         here = link.target
         why = incomparable(base, here)
         if base is None or here is None or why:
-            yield why if link.known else ""
+            yield why
             continue
         wanted = ((here.km or ZERO) - (base.km or ZERO)) * DECIMETRES
         if along is None:

@@ -39,9 +39,9 @@ def _look_at(chain: Chain) -> Iterator[Union[Remark, str, None]]:
     for link in chain.links:
         here = link.target
         if sender is None or here is None:
-            yield NOT_IN_TABLE if link.known else ""
+            yield NOT_IN_TABLE
         elif here.balises == 1:
-            continue
+            yield ""
         elif here.rising is None or along is None:
             yield "no direction along the kilometres"
         elif here.track != sender.track:

@@ -25,12 +25,9 @@ from balisekit.rules.rule import Options, Remark, Result, Rule
 
 def find(line: Line, options: Options) -> Result:
     """Looks at each profile that is given with an authority, those after a packet 136 too."""
+    sentence = "the {} is open, and an authority rests on it: it has no end mark"
     found = [
-        Remark(
-            "L7",
-            each.location,
-            f"the {PROFILES[each.packet.number]} is open, and an authority rests on it: it has no end mark",
-        )
+        Remark("L7", each.location, sentence.format(PROFILES[each.packet.number]))
         for each in line.passages.profiles
         if each.packet.is_open
     ]

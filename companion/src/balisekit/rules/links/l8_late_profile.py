@@ -27,13 +27,9 @@ from balisekit.rules.rule import Options, Remark, Result, Rule
 
 def find(line: Line, options: Options) -> Result:
     """Looks at each profile that is given with an authority, those after a packet 136 too."""
+    sentence = "the {} under an authority begins at {}: the track before it has none"
     found = [
-        Remark(
-            "L8",
-            each.location,
-            f"the {PROFILES[each.packet.number]} under an authority begins at {metres(each.packet.begin)}: "
-            "the track before it has none",
-        )
+        Remark("L8", each.location, sentence.format(PROFILES[each.packet.number], metres(each.packet.begin)))
         for each in line.passages.profiles
         if each.is_late
     ]

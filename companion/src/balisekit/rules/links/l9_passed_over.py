@@ -41,7 +41,7 @@ def _look_at(line: Line, chain: Chain) -> Iterator[Union[Remark, str, None]]:
         after = link.target
         why = incomparable(before, after)
         if before is None or after is None or why:
-            yield why if link.known else ""
+            yield why
         else:
             groups, count = line.linked[before.track].between(before, after, chain)
             yield _remark(chain, before, after, groups, count) if groups else None
