@@ -4,7 +4,7 @@ from __future__ import annotations
 import json
 from dataclasses import dataclass, replace
 from functools import cached_property, lru_cache
-from typing import Any, Dict, Iterable, Iterator, List, Mapping, Optional, Sequence, Set, Tuple, TypeVar
+from typing import Dict, Iterable, Iterator, List, Mapping, Optional, Sequence, Set, Tuple, TypeVar
 
 from balisekit.engine.grammar import Finding, Refusal, Verdict
 from balisekit.engine.program import Program, Record, Report
@@ -17,7 +17,7 @@ from balisekit.tables.model import Aspect, Group, Message, Messages, Row, Table
 GREATEST_REFUSED = 10_000
 """After so many refused telegrams the others are not tried."""
 ALL_HELP = f"go on after {GREATEST_REFUSED:,} refused telegrams or messages"
-ENCODE = json.JSONEncoder(separators=(",", ":")).encode
+ENCODE = json.JSONEncoder().encode
 Answer = TypeVar("Answer")
 Thing = TypeVar("Thing")
 
@@ -196,9 +196,9 @@ def document(groups: Sequence[Group], messages: Iterable[Message]) -> Iterator[s
     """The document that is handed to `check`, in pieces."""
     yield '{"groups":['
     for index, group in enumerate(groups):
-        aspects: List[Any] = [{"balises": [row.telegram for row in aspect.rows]} for aspect in group.aspects]
-        form = aspects[0] if len(aspects) == 1 else {"aspects": aspects}
-        yield ("," if index else "") + "\n" + ENCODE(form)
+        texts = [",".join([ENCODE(row.telegram) for row in aspect.rows]) for aspect in group.aspects]
+        form = '{"balises":[' + ']},{"balises":['.join(texts) + "]}"
+        yield ("," if index else "") + "\n" + (form if len(texts) == 1 else f'{{"aspects":[{form}]}}')
     yield '\n],"messages":['
     for index, message in enumerate(messages):
         yield ("," if index else "") + "\n" + ENCODE(message.text)
@@ -273,18 +273,21 @@ def _with(report: Report, readable: Checked) -> Checked:
     return replace(readable, verdict=report.verdict, findings=tuple(map(names.place, report.findings)))
 
 
+def _head(group: Group) -> Row:
+    return group.aspects[0].rows[0]
+
+
 class _Names:
     """What the numbers of findings stand for in the table. NoAnswer is raised for what was not handed in."""
 
     def __init__(self, readable: Checked, findings: Sequence[Finding]) -> None:
         self._readable = readable
-        self._heads = {group.name: group.aspects[0].rows[0] for group in readable.kept}
         of_identity = any(finding.rule == 14 for finding in findings)
-        rows = list(self._heads.values()) if of_identity else []
+        rows = list(map(_head, readable.kept)) if of_identity else []
         for finding in findings:
             if finding.message is None and (finding.rule < 4 or finding.packet is not None):
                 group, aspect, row = self._site(finding)
-                rows += [self._heads[group.name], *aspect.rows] if finding.rule < 4 else [row or aspect.rows[0]]
+                rows += [_head(group), *aspect.rows] if finding.rule < 4 else [row or aspect.rows[0]]
         numbers = sorted({row.number for row in rows})
         self._records = {row.number: record for row, record in readable.accepted.decoded(numbers)}
         self._form = lru_cache(maxsize=None)(lambda row: self._records[row].form)
@@ -294,7 +297,7 @@ class _Names:
         """For each group the first group with the same identity."""
         first: Dict[Tuple[int, int], Group] = {}
         for group in self._readable.kept:
-            form = self._records[self._heads[group.name].number].form
+            form = self._records[_head(group).number].form
             yield first.setdefault((form["nid_c"], form["nid_bg"]), group)
 
     def place(self, finding: Finding) -> Place:
@@ -312,7 +315,7 @@ class _Names:
             raise self._no_answer(finding)
         words = ""
         if finding.rule < 4:
-            forms = {row.number: self._form(row.number) for row in (self._heads[group.name], *aspect.rows)}
+            forms = {row.number: self._form(row.number) for row in (_head(group), *aspect.rows)}
             words = differs(finding.rule, group, aspect.rows, finding.balise or 0, forms)
         return Place(finding, group, name, row, earlier=earlier, differs=words)
 

@@ -6,7 +6,7 @@ whoever has read them: a line of 100,000 rows is asked for each record once.
 from __future__ import annotations
 
 from bisect import bisect_left, bisect_right
-from dataclasses import dataclass
+from dataclasses import dataclass, field
 from decimal import Decimal
 from functools import cached_property
 from itertools import islice
@@ -22,7 +22,6 @@ from balisekit.tables.model import Group, Message, Row
 
 AFTER_INFILL = "after packet 136"
 END = (None, None)
-Messages = Sequence[Tuple[Message, Form]]
 
 
 @dataclass(frozen=True)
@@ -62,22 +61,16 @@ class LinkedGroups:
         return list(islice(others, min(count, 3))), count
 
 
+@dataclass(eq=False)
 class Line:
     """All groups of a table in its order, and what can be asked of them. Each answer is worked out when it is asked."""
 
-    def __init__(
-        self,
-        groups: Sequence[Group],
-        forms: Mapping[int, Form] = {},
-        messages: Messages = (),
-        findings: Mapping[str, Sequence[Finding]] = {},
-    ) -> None:
-        self.table_groups = groups
-        self.forms = forms
-        """The telegrams that the program has read, by their rows."""
-        self.findings = findings
-        """What the program has found of a group, by the group's name."""
-        self._messages = messages
+    table_groups: Sequence[Group]
+    forms: Mapping[int, Form] = field(default_factory=dict)
+    """The telegrams that the program has read, by their rows."""
+    messages: Sequence[Tuple[Message, Form]] = ()
+    findings: Mapping[str, Sequence[Finding]] = field(default_factory=dict)
+    """What the program has found of a group, by the group's name."""
 
     @classmethod
     def of(cls, checked: Checked) -> Line:
@@ -102,7 +95,7 @@ class Line:
                 own[row.number] = content
                 row, content = next(contents, END)
             passages.add_group(_balise_group(number, group, own), own)
-        for message, form in self._messages:
+        for message, form in self.messages:
             if form["nid_message"] == 3:
                 passages.add_message(message, form)
         passages.name_targets()

@@ -8,7 +8,7 @@ from typing import Dict, Iterator, List, Tuple
 from balisekit.rules.line import Line
 from balisekit.rules.location import BaliseGroup, Identity
 from balisekit.rules.passages import Chain
-from balisekit.tables.names import clean, describe_group, kilometre, listed, quoted
+from balisekit.tables.names import clean, describe_group, listed, quoted
 
 SHOWN = 20
 """So many notes with one reason are written, and the others are counted."""
@@ -79,10 +79,9 @@ def _line_ends(line: Line) -> Iterator[str]:
         if len(links) >= LEAST:
             last = line.along[track][-1 if is_high else 0]
             groups = list(dict.fromkeys(links))
-            km = "" if last.km is None else f" (km {kilometre(last.km)})"
             where = f" of track {quoted(track)}" if track else ""
             yield (
-                f"{len(links)} links lead beyond {clean(last.group.name)}{km}, the group with the "
+                f"{len(links)} links lead beyond {last}, the group with the "
                 f"{'greatest' if is_high else 'least'} kilometre{where}, to NID_BG "
                 f"{listed([str(number) for _, number in groups], NAMED)}: if the table is a part of a "
                 "line, that is why L1 names them"
