@@ -17,7 +17,7 @@ from balisekit.rules.checking import Checked, Place, report_on
 from balisekit.rules.passages import RECORD
 from balisekit.tables.grouping import EVERY
 from balisekit.tables.model import Group, Message, Row, Table
-from balisekit.tables.names import clean, describe_identity, quoted
+from balisekit.tables.names import clean, describe_identity, describe_message, quoted
 
 Thing = TypeVar("Thing")
 Pairs = List[Tuple[Thing, Thing]]
@@ -266,7 +266,7 @@ def _compare_messages(answer: Difference) -> None:
 
 
 def _message(message: Message) -> str:
-    return f"message of line {message.number}" + (f"  {clean(message.name)}" if message.name else "")
+    return f"message of {describe_message(message)}"
 
 
 def _compare_findings(answer: Difference, pairs: Pairs[Group]) -> None:
@@ -312,16 +312,14 @@ Keyed = List[Tuple[Hashable, Place]]
 
 def _keyed(side: Side, findings: Sequence[Place], numbers: Mapping[str, int]) -> Keyed:
     """Each finding with what it is about."""
-    records: Dict[Optional[Message], Record] = {
-        accepted.message: accepted.record for accepted in side.checked.accepted_messages
-    }
+    messages = side.checked.accepted_messages
+    records: Dict[Optional[Message], Record] = {accepted.message: accepted.record for accepted in messages}
     side.decode(place.row for place in findings if place.row and place.finding.packet is not None)
     keyed: Keyed = []
     for place in findings:
         finding, packet = place.finding, None
-        subject = (
-            numbers.get(place.group.name, place.group.name) if place.group else place.message and place.message.name
-        )
+        name = place.group.name if place.group else place.message and place.message.name
+        subject = numbers.get(place.group.name, name) if place.group else name
         if finding.packet is not None:
             record = side.records[place.row.number] if place.row else records[place.message]
             packet = _packet(record.form, finding.packet)
