@@ -61,8 +61,7 @@ def _group(checked: Checked, aspect: Optional[str]) -> Picture:
     """The picture of the only group of a table."""
     for item in refused(checked):
         raise TableError(str(item))
-    findings = [place.finding for place in checked.findings]
-    return picture_of(checked.kept[0], Line.of(checked).forms, findings, True, aspect)
+    return picture_of(checked.kept[0], checked.accepted, [place.finding for place in checked.findings], True, aspect)
 
 
 def _message(checked: Checked) -> Picture:
@@ -71,7 +70,7 @@ def _message(checked: Checked) -> Picture:
         raise TableError(str(item))
     message = checked.accepted_messages[0]
     heading = f"message of {describe_message(message.message)}"
-    here = Identities(checked.table.groups, Line.of(checked).forms).here(message.form)
+    here = Identities(checked.table.groups, checked.accepted).here(message.form)
     findings = [place.finding for place in checked.findings if place.message is not None]
     picture = picture_of_message(heading, message.form, findings, here.kilometres, titled=True)
     if picture is None:

@@ -5,42 +5,25 @@ Groups are paired by their identity, telegrams by aspect and position. So the or
 from __future__ import annotations
 
 import hashlib
-import re
 from collections import Counter, deque
+from collections.abc import Callable, Hashable, Iterable, Iterator, Mapping, Sequence
 from dataclasses import dataclass, field, replace
-from typing import (
-    Callable,
-    Deque,
-    Dict,
-    Hashable,
-    Iterable,
-    Iterator,
-    List,
-    Mapping,
-    NamedTuple,
-    Optional,
-    Sequence,
-    Tuple,
-    TypeVar,
-)
+from typing import Deque, Dict, List, NamedTuple, Optional, Tuple, TypeVar
 
 from balisekit.compare.telegrams import Change, differences
 from balisekit.engine.program import Record
 from balisekit.etcs.variables import Form
-from balisekit.rules.checking import Checked, Place, findings_of
+from balisekit.rules.checking import Checked, Place, report_on
+from balisekit.rules.passages import RECORD
 from balisekit.tables.grouping import EVERY
 from balisekit.tables.model import Group, Message, Row, Table
-from balisekit.tables.names import clean, describe_identity, quoted
+from balisekit.tables.names import clean, describe_identity, describe_message, quoted
 
 Thing = TypeVar("Thing")
 Pairs = List[Tuple[Thing, Thing]]
 Known = Tuple[Hashable, Group]
 Sent = Tuple[int, str, Record]
 """A telegram or message: its row or line, its digits, and what the program has decoded."""
-HEAD = re.compile(
-    r'\{"m_dup":\d,"m_mcount":\d+,"m_version":\d+,"n_pig":(\d),"n_total":\d,"nid_bg":(\d+),"nid_c":(\d+),'
-)
-"""How each record of a telegram begins."""
 BY_ORDER = (3, 14, 15, 16)
 """The rules whose findings depend on the order of groups or aspects: one is compared with an earlier one."""
 OTHER_ORDER = (
@@ -61,7 +44,7 @@ class Side:
         """Has the program decode those of these telegrams that can be read."""
         accepted = self.checked.accepted
         numbers = {row.number for row in rows if row.number in accepted and row.number not in self.records}
-        self.records.update((telegram.row.number, telegram.record) for telegram in accepted.decoded(sorted(numbers)))
+        self.records.update((row.number, record) for row, record in accepted.decoded(sorted(numbers)))
 
     def sent(self, row: Row) -> Sent:
         """A telegram that has been decoded."""
@@ -69,7 +52,8 @@ class Side:
 
     def head(self, row: Row) -> Tuple[int, ...]:
         """N_PIG, NID_BG and NID_C of a telegram."""
-        return tuple(map(int, HEAD.findall(self.records[row.number].line)[0]))
+        _, n_pig, nid_bg, _, nid_c, _ = RECORD.findall(self.records[row.number].line)[0]
+        return int(n_pig), int(nid_bg), int(nid_c)
 
     def first(self, group: Group) -> Optional[Row]:
         """The first telegram of a group that could be read. It has the identity of the group."""
@@ -282,7 +266,7 @@ def _compare_messages(answer: Difference) -> None:
 
 
 def _message(message: Message) -> str:
-    return f"message of line {message.number}" + (f"  {clean(message.name)}" if message.name else "")
+    return f"message of {describe_message(message)}"
 
 
 def _compare_findings(answer: Difference, pairs: Pairs[Group]) -> None:
@@ -309,7 +293,7 @@ def _findings_in_order(answer: Difference, pairs: Pairs[Group]) -> Sequence[Plac
     if kept == list(new.kept):
         return new.findings
     answer.notes.append(OTHER_ORDER)
-    _, findings = findings_of(new.program, kept, new.accepted_messages, new.accepted)
+    findings = report_on(replace(new, kept=tuple(kept))).findings
     return [
         *(place for place in new.findings if place.finding.rule not in BY_ORDER),
         *(place for place in findings if place.finding.rule in BY_ORDER),
@@ -328,16 +312,14 @@ Keyed = List[Tuple[Hashable, Place]]
 
 def _keyed(side: Side, findings: Sequence[Place], numbers: Mapping[str, int]) -> Keyed:
     """Each finding with what it is about."""
-    records: Dict[Optional[Message], Record] = {
-        accepted.message: accepted.record for accepted in side.checked.accepted_messages
-    }
+    messages = side.checked.accepted_messages
+    records: Dict[Optional[Message], Record] = {accepted.message: accepted.record for accepted in messages}
     side.decode(place.row for place in findings if place.row and place.finding.packet is not None)
     keyed: Keyed = []
     for place in findings:
         finding, packet = place.finding, None
-        subject = (
-            numbers.get(place.group.name, place.group.name) if place.group else place.message and place.message.name
-        )
+        name = place.group.name if place.group else place.message and place.message.name
+        subject = numbers.get(place.group.name, name) if place.group else name
         if finding.packet is not None:
             record = side.records[place.row.number] if place.row else records[place.message]
             packet = _packet(record.form, finding.packet)
@@ -356,7 +338,6 @@ def _without(keyed: Keyed, others: Keyed) -> Iterator[Place]:
     """The findings of one release that the other one has not."""
     counted = Counter(key for key, _ in others)
     for key, place in keyed:
-        if counted[key]:
-            counted[key] -= 1
-        else:
+        counted[key] -= 1
+        if counted[key] < 0:
             yield place

@@ -80,9 +80,8 @@ def _packet_pairs(old: Sequence[Values], new: Sequence[Values]) -> List[Pair]:
     gone, come = list(range(len(old))), list(range(len(new)))
     for key in PACKET_KEYS:
         for value in dict.fromkeys([*(key(old[was]) for was in gone), *(key(new[now]) for now in come)]):
-            was_items, now_items = [was for was in gone if key(old[was]) == value], [
-                was for was in come if key(new[was]) == value
-            ]
+            was_items = [place for place in gone if key(old[place]) == value]
+            now_items = [place for place in come if key(new[place]) == value]
             for was, now in align([old[place] for place in was_items], [new[place] for place in now_items]):
                 if was is not None and now is not None:
                     pairs.append((was_items[was], now_items[now]))

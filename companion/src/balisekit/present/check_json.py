@@ -40,7 +40,7 @@ def as_json(checked: Checked, judged: Optional[Judged] = None) -> Dict[str, Any]
             "not_looked_at": checked.not_looked_at,
             "messages_not_looked_at": checked.messages_not_looked_at,
         },
-        "telegrams": (_with_form(_row(one.row), one.record) for one in checked.accepted.decoded()),
+        "telegrams": (_with_form(_row(row), record) for row, record in checked.accepted.decoded()),
         "read_messages": (_with_form(_message(one.message), one.record) for one in checked.accepted_messages),
         "refused": map(_refused, checked.refused),
         "refused_messages": map(_refused_message, checked.refused_messages),

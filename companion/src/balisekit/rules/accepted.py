@@ -13,22 +13,29 @@ from collections import Counter
 from dataclasses import dataclass
 from typing import Dict, Iterable, Iterator, List, Mapping, Optional, Sequence, Tuple
 
-from balisekit.errors import TableError, TableErrors
+from balisekit.errors import TableError, TableErrors, faults_of
 from balisekit.io import inputs
 from balisekit.io.csv_writing import plain
 from balisekit.rules.checking import Checked, Place
 from balisekit.tables import csv as csv_file
 from balisekit.tables.cells import headings
+from balisekit.tables.names import BLANK
 
 FIELDS = ("rule", "nid_c", "nid_bg", "message", "aspect", "balise", "packet", "direction")
 """What says which finding is meant."""
 NEEDED = (*FIELDS, "reason", "who", "date")
 COLUMNS = (*NEEDED, "until", "sha256")
 ANY = "*"
+NUMBER = ("|[0-9]{1,6}", "no whole number")
+VALUES = {
+    "rule": ("F([1-9]|1[0-6])", "none of F1 to F16"),
+    **dict.fromkeys(("nid_c", "nid_bg", "balise", "packet"), NUMBER),
+    "direction": ("|nominal|reverse", "neither nominal nor reverse"),
+    "sha256": ("|[0-9a-f]{64}", "no SHA-256: --propose writes it"),
+}
+"""An expression for the values of a column, and what any other one is."""
 UNNAMED = "\0"
 """Instead of the name of a message that has none, or `*`, or that of another message. No entry is about it."""
-INVISIBLE = "\u115f\u1160\u3164\uffa0"
-"""Letters without ink."""
 EARLIEST = datetime.date(2000, 1, 1)
 ONE_DAY = datetime.timedelta(days=1)
 """By so much the day of a signature may be after that of the run, which is by universal time."""
@@ -128,14 +135,8 @@ class Judged:
 def read(path: str) -> Entries:
     """The entries of this file. TableError or TableErrors is raised if it cannot be read."""
     file = inputs.read(path)
-    try:
-        sheet = csv_file.read(file.content, COLUMNS, NEEDED)
-        entries = _entries(sheet.rows)
-    except (TableError, TableErrors) as error:
-        for fault in error.faults if isinstance(error, TableErrors) else [error]:
-            fault.path = path
-        raise
-    return Entries(path, file.sha256, entries)
+    with faults_of(path):
+        return Entries(path, file.sha256, _entries(csv_file.read(file.content, COLUMNS, NEEDED).rows))
 
 
 def _entries(rows: Sequence[Sequence[str]]) -> Tuple[Entry, ...]:
@@ -169,40 +170,28 @@ def _entry(number: int, heading: Sequence[str], cells: Sequence[str]) -> Entry:
     for name, value in values.items():
         if "\n" in value or "\r" in value:
             raise TableError("a line end stands in the cell", column=name)
-    key = tuple(_field(name, values[name]) for name in FIELDS)
+    key = tuple(_value(name, values[name]) for name in FIELDS)
     if {"", ANY} & set(key[1:3]) and key[3] in ("", ANY):
         why = "an entry is about one group, by nid_c and nid_bg, or about one message, by its name"
         raise TableError(why, column="message" if key[1:3] == ("", "") else "nid_c")
-    date, until = _date("date", values["date"]), _date("until", values["until"])
-    return Entry(number, key, values["reason"], values["who"], date, until, _checksum(values["sha256"]))
+    dates = _date("date", values["date"]), _date("until", values["until"])
+    return Entry(number, key, values["reason"], values["who"], *dates, _value("sha256", values["sha256"]))
 
 
-def _field(name: str, value: str) -> str:
-    """What an entry says of one of the fields, as findings say it."""
-    if name in ("message", "aspect") or value == ANY and name != "rule":
+def _value(name: str, value: str) -> str:
+    """A value as findings have it."""
+    if name not in VALUES or value == ANY and name not in ("rule", "sha256"):
         return value
-    if name == "rule":
-        if not re.fullmatch("F([1-9]|1[0-6])", value.upper()):
-            raise TableError(f"{value[:40] or 'nothing'} is none of F1 to F16", column=name)
-        return value.upper()
-    if name == "direction":
-        if value.lower() not in ("", "nominal", "reverse"):
-            raise TableError(f"{value[:40]} is neither nominal nor reverse", column=name)
-        return value.lower()
-    if value and not re.fullmatch("[0-9]{1,6}", value):
-        raise TableError(f"{value[:40]} is no whole number", column=name)
-    return str(int(value)) if value else ""
-
-
-def _checksum(value: str) -> str:
-    if value and not re.fullmatch("[0-9a-f]{64}", value.lower()):
-        raise TableError(f"{value[:40]} is no SHA-256: --propose writes it", column="sha256")
-    return value.lower()
+    expression, what = VALUES[name]
+    written = value.upper() if name == "rule" else value.lower()
+    if not re.fullmatch(expression, written):
+        raise TableError(f"{value[:40] or 'nothing'} is {what}", column=name)
+    return written.lstrip("0") or "0" if written and VALUES[name] == NUMBER else written
 
 
 def _is_text(value: str) -> bool:
     """Whether there is anything to read."""
-    return any(letter.isalnum() and letter not in INVISIBLE for letter in value)
+    return any(letter.isalnum() and not BLANK.match(letter) for letter in value)
 
 
 def _date(name: str, value: str) -> Optional[datetime.date]:
@@ -213,10 +202,8 @@ def _date(name: str, value: str) -> Optional[datetime.date]:
             return datetime.date.fromisoformat(value)
     except ValueError:
         pass
-    raise TableError(
-        f"{value[:40]} is no date: write it as 2026-11-26; a spreadsheet changes it unless the column is " "text",
-        column=name,
-    )
+    why = f"{value[:40]} is no date: write it as 2026-11-26; a spreadsheet changes it unless the column is text"
+    raise TableError(why, column=name)
 
 
 def keys(checked: Checked) -> List[Key]:
@@ -229,7 +216,7 @@ def _key(place: Place, checked: Checked, names: Mapping[str, int]) -> Key:
     finding = place.finding
     identity: Tuple[str, str] = ("", "")
     if place.group is not None:
-        form = checked.accepted[place.group.aspects[0].rows[0].number].form
+        form = checked.accepted[place.group.aspects[0].rows[0].number]
         identity = (str(form["nid_c"]), str(form["nid_bg"]))
     message = ""
     if place.message is not None:
@@ -263,8 +250,7 @@ def _texts(place: Place) -> List[str]:
 
 def judge(checked: Checked, entries: Entries, day: datetime.date) -> Judged:
     """Which findings are accepted on this day, and which entries are at fault."""
-    by_mask = _by_mask(entries.entries)
-    about = [list(_about(key, by_mask)) for key in keys(checked)]
+    about = list(_entries_about(keys(checked), entries.entries))
     fitting: Dict[int, List[Place]] = {}
     for place, fits in zip(checked.findings, about):
         for entry in fits:
@@ -280,19 +266,12 @@ def judge(checked: Checked, entries: Entries, day: datetime.date) -> Judged:
     return Judged(checked, entries, tuple(by_finding), tuple(at_fault), tuple(former))
 
 
-Masks = Mapping[Tuple[bool, ...], Mapping[Key, Sequence[Entry]]]
-
-
-def _by_mask(entries: Iterable[Entry]) -> Masks:
-    """The entries by which of their fields are `*`, and by their fields."""
-    found: Dict[Tuple[bool, ...], Dict[Key, List[Entry]]] = {}
+def _entries_about(wanted: Iterable[Key], entries: Iterable[Entry]) -> Iterator[List[Entry]]:
+    """The entries about each finding, looked up by which of their fields are `*`, and by the others."""
+    by_mask: Dict[Tuple[bool, ...], Dict[Key, List[Entry]]] = {}
     for entry in entries:
         mask = tuple(field == ANY for field in entry.key)
-        found.setdefault(mask, {}).setdefault(entry.key, []).append(entry)
-    return found
-
-
-def _about(key: Key, by_mask: Masks) -> Iterator[Entry]:
-    """The entries about a finding."""
-    for mask, some in by_mask.items():
-        yield from some.get(tuple(ANY if any_field else field for any_field, field in zip(mask, key)), ())
+        by_mask.setdefault(mask, {}).setdefault(entry.key, []).append(entry)
+    for key in wanted:
+        masked = ((tuple(ANY if any_ else own for any_, own in zip(mask, key)), some) for mask, some in by_mask.items())
+        yield [entry for own, some in masked for entry in some.get(own, ())]

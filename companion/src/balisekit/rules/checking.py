@@ -2,8 +2,9 @@
 from __future__ import annotations
 
 import json
-from dataclasses import dataclass
-from typing import Any, Dict, Iterable, Iterator, List, Mapping, NamedTuple, Optional, Sequence, Set, Tuple, TypeVar
+from dataclasses import dataclass, replace
+from functools import cached_property, lru_cache
+from typing import Dict, Iterable, Iterator, List, Mapping, Optional, Sequence, Set, Tuple, TypeVar
 
 from balisekit.engine.grammar import Finding, Refusal, Verdict
 from balisekit.engine.program import Program, Record, Report
@@ -16,47 +17,36 @@ from balisekit.tables.model import Aspect, Group, Message, Messages, Row, Table
 GREATEST_REFUSED = 10_000
 """After so many refused telegrams the others are not tried."""
 ALL_HELP = f"go on after {GREATEST_REFUSED:,} refused telegrams or messages"
-ENCODE = json.JSONEncoder(separators=(",", ":")).encode
+ENCODE = json.JSONEncoder().encode
 Answer = TypeVar("Answer")
 Thing = TypeVar("Thing")
 
 
-@dataclass(frozen=True)
-class Accepted:
-    """A row whose telegram the program has read."""
+class Telegrams(Mapping[int, Form]):
+    """The records of the telegrams that the program can read, by the number of their rows.
 
-    row: Row
-    record: Record
-
-    @property
-    def form(self) -> Form:
-        """The program's JSON."""
-        return self.record.form
-
-
-class Telegrams(Mapping[int, Accepted]):
-    """The telegrams that the program can read, by the number of their rows.
-
-    `check` needs no record for its verdict. So the telegrams are decoded when the first record is asked for.
+    `check` needs no record for its verdict. So the telegrams are decoded when the first record is asked for, and their
+    lines of JSON are kept: the objects of them all take much memory.
     """
 
     def __init__(self, program: Program, rows: Sequence[Row]) -> None:
         self._program = program
         self._rows = {row.number: row for row in rows}
-        self._records: Dict[int, Accepted] = {}
 
-    def decoded(self, numbers: Optional[Iterable[int]] = None) -> Iterator[Accepted]:
+    @cached_property
+    def _records(self) -> Mapping[int, Record]:
+        return {row.number: record for row, record in self.decoded()}
+
+    def decoded(self, numbers: Optional[Iterable[int]] = None) -> Iterator[Tuple[Row, Record]]:
         """The records of these rows, or of all rows. They are decoded now, and not kept."""
         rows = list(self._rows.values()) if numbers is None else [self._rows[number] for number in numbers]
         for row, answer in zip(rows, self._program.decode([row.telegram for row in rows])):
             if isinstance(answer, Refusal):
                 raise self._program.no_answer("decode", f"it refuses what it has read: {answer.line}")
-            yield Accepted(row, answer)
+            yield row, answer
 
-    def __getitem__(self, number: int) -> Accepted:
-        if not self._records and self._rows:
-            self._records = {accepted.row.number: accepted for accepted in self.decoded()}
-        return self._records[number]
+    def __getitem__(self, number: int) -> Form:
+        return self._records[number].form
 
     def __iter__(self) -> Iterator[int]:
         return iter(self._rows)
@@ -133,18 +123,21 @@ class Checked:
     messages: Optional[Messages]
     accepted: Telegrams
     """By the number of the row."""
-    refused: Tuple[Refused, ...]
-    not_looked_at: int
-    """How many rows were not tried, after too many refused ones."""
-    left_out: Tuple[LeftOut, ...]
     kept: Tuple[Group, ...]
     """The groups that were handed to `check`, in the order of the document."""
     accepted_messages: Tuple[AcceptedMessage, ...]
     """The messages that were handed to `check`, in the order of the document."""
-    refused_messages: Tuple[RefusedMessage, ...]
-    verdict: Optional[Verdict]
+    refused: Tuple[Refused, ...] = ()
+    left_out: Tuple[LeftOut, ...] = ()
+    refused_messages: Tuple[RefusedMessage, ...] = ()
+    verdict: Optional[Verdict] = None
     """The program's first line, if it was asked."""
-    findings: Tuple[Place, ...]
+    findings: Tuple[Place, ...] = ()
+
+    @property
+    def not_looked_at(self) -> int:
+        """How many rows were not tried, after too many refused ones."""
+        return len(self.table.rows) - len(self.accepted) - len(self.refused)
 
     @property
     def messages_not_looked_at(self) -> int:
@@ -178,75 +171,34 @@ def check(
     """
     radio = messages.messages if messages else ()
     report = None if by_position else program.check(document(table.groups, radio))
-    verdict: Optional[Verdict] = None
-    places: Tuple[Place, ...] = ()
     if isinstance(report, Report):
-        parts = _all_readable(program, table, radio)
-        verdict, places = report.verdict, _places(program, report, parts.kept, parts.messages, parts.accepted)
-    else:
-        parts = _readable(program, table, radio, by_position, everything)
-        if parts.kept or parts.messages or not (parts.refused or parts.refused_messages):
-            verdict, places = findings_of(program, parts.kept, parts.messages, parts.accepted)
-    return Checked(
-        program,
-        table,
-        messages,
-        parts.accepted,
-        parts.refused,
-        len(table.rows) - len(parts.accepted) - len(parts.refused),
-        parts.left_out,
-        parts.kept,
-        parts.messages,
-        parts.refused_messages,
-        verdict,
-        places,
-    )
-
-
-def findings_of(
-    program: Program, kept: Sequence[Group], messages: Sequence[AcceptedMessage], accepted: Telegrams
-) -> Tuple[Verdict, Tuple[Place, ...]]:
-    """What the program reports of groups and messages whose telegrams it has read."""
-    report = program.check(document(kept, [accepted_message.message for accepted_message in messages]))
-    if isinstance(report, Refusal):
-        raise program.no_answer("check", f"it refuses what `decode` has read: {report.line}")
-    return report.verdict, _places(program, report, kept, messages, accepted)
-
-
-class _Parts(NamedTuple):
-    """What can be read of a table, and what cannot."""
-
-    accepted: Telegrams
-    refused: Tuple[Refused, ...]
-    kept: Tuple[Group, ...]
-    left_out: Tuple[LeftOut, ...]
-    messages: Tuple[AcceptedMessage, ...]
-    refused_messages: Tuple[RefusedMessage, ...]
-
-
-def _all_readable(program: Program, table: Table, radio: Sequence[Message]) -> _Parts:
-    """The parts of a table whose document the program has read."""
-    records = program.readable_messages([message.text for message in radio])
-    messages = tuple(map(AcceptedMessage, radio, records))
-    return _Parts(Telegrams(program, table.rows), (), table.groups, (), messages, ())
-
-
-def _readable(program: Program, table: Table, radio: Sequence[Message], by_position: bool, everything: bool) -> _Parts:
-    """The parts of a table each of whose telegrams and messages is tried."""
+        read = tuple(map(AcceptedMessage, radio, program.readable_messages([message.text for message in radio])))
+        return _with(report, Checked(program, table, messages, Telegrams(program, table.rows), table.groups, read))
     accepted, refused = _try_rows(program, table.rows, everything)
     left_out, kept = _sort_out(table.groups, accepted, {one.row.number for one in refused})
     if by_position:
         kept = _by_position(kept, accepted)
-    return _Parts(accepted, refused, kept, left_out, *_try_messages(program, radio, everything))
+    read, refused_messages = _try_messages(program, radio, everything)
+    readable = Checked(program, table, messages, accepted, kept, read, refused, left_out, refused_messages)
+    return report_on(readable) if kept or read or readable.whole else readable
+
+
+def report_on(readable: Checked) -> Checked:
+    """The same with what the program reports of its groups and messages, all of which it has read."""
+    messages = [accepted.message for accepted in readable.accepted_messages]
+    report = readable.program.check(document(readable.kept, messages))
+    if isinstance(report, Refusal):
+        raise readable.program.no_answer("check", f"it refuses what `decode` has read: {report.line}")
+    return _with(report, readable)
 
 
 def document(groups: Sequence[Group], messages: Iterable[Message]) -> Iterator[str]:
     """The document that is handed to `check`, in pieces."""
     yield '{"groups":['
     for index, group in enumerate(groups):
-        aspects: List[Any] = [{"balises": [row.telegram for row in aspect.rows]} for aspect in group.aspects]
-        form = aspects[0] if len(aspects) == 1 else {"aspects": aspects}
-        yield ("," if index else "") + "\n" + ENCODE(form)
+        texts = [",".join([ENCODE(row.telegram) for row in aspect.rows]) for aspect in group.aspects]
+        form = '{"balises":[' + ']},{"balises":['.join(texts) + "]}"
+        yield ("," if index else "") + "\n" + (form if len(texts) == 1 else f'{{"aspects":[{form}]}}')
     yield '\n],"messages":['
     for index, message in enumerate(messages):
         yield ("," if index else "") + "\n" + ENCODE(message.text)
@@ -282,14 +234,10 @@ def _try_rows(program: Program, rows: Sequence[Row], everything: bool) -> Tuple[
 def _try_messages(
     program: Program, radio: Sequence[Message], everything: bool
 ) -> Tuple[Tuple[AcceptedMessage, ...], Tuple[RefusedMessage, ...]]:
-    accepted: List[AcceptedMessage] = []
-    refused: List[RefusedMessage] = []
-    answers = program.messages([message.text for message in radio], greatest_refused(everything))
-    for message, answer in zip(radio, answers):
-        if isinstance(answer, Refusal):
-            refused.append(RefusedMessage(message, answer))
-        else:
-            accepted.append(AcceptedMessage(message, answer))
+    texts = [message.text for message in radio]
+    answers = list(zip(radio, program.messages(texts, greatest_refused(everything))))
+    accepted = (AcceptedMessage(message, answer) for message, answer in answers if isinstance(answer, Record))
+    refused = (RefusedMessage(message, answer) for message, answer in answers if isinstance(answer, Refusal))
     return tuple(accepted), tuple(refused)
 
 
@@ -299,11 +247,11 @@ def _sort_out(
     """The groups with a row that was not accepted, and the others."""
     left_out, kept = [], []
     for group in groups:
-        numbers = [row.number for row in group.rows()]
-        bad = sorted({number for number in numbers if number in refused})
+        numbers = {row.number for row in group.rows()}
+        bad = sorted(numbers & refused)
         if bad:
             left_out.append(LeftOut(group, f"refused: row{'s' if len(bad) > 1 else ''} {', '.join(map(str, bad))}"))
-        elif all(number in accepted for number in numbers):
+        elif numbers <= accepted.keys():
             kept.append(group)
         else:
             left_out.append(LeftOut(group, "not looked at"))
@@ -312,45 +260,50 @@ def _sort_out(
 
 def _by_position(groups: Sequence[Group], accepted: Telegrams) -> Tuple[Group, ...]:
     """The groups with the balises of each aspect in the order of N_PIG."""
-    positions = {telegram.row.number: telegram.form["n_pig"] for telegram in accepted.decoded()}
+    positions = {row.number: record.form["n_pig"] for row, record in accepted.decoded()}
     return tuple(by_position(group, positions) for group in groups)
+
+
+def _with(report: Report, readable: Checked) -> Checked:
+    """The same with this report, and what the numbers of each finding stand for."""
+    counts = (report.verdict.groups, report.verdict.messages)
+    if report.verdict.yes and counts != (len(readable.kept), len(readable.accepted_messages)):
+        raise readable.program.no_answer("check", f"it has counted otherwise: {report.verdict.line}")
+    names = _Names(readable, report.findings)
+    return replace(readable, verdict=report.verdict, findings=tuple(map(names.place, report.findings)))
+
+
+def _head(group: Group) -> Row:
+    return group.aspects[0].rows[0]
 
 
 class _Names:
     """What the numbers of findings stand for in the table. NoAnswer is raised for what was not handed in."""
 
-    def __init__(
-        self,
-        program: Program,
-        kept: Sequence[Group],
-        messages: Sequence[AcceptedMessage],
-        accepted: Telegrams,
-        findings: Sequence[Finding],
-    ) -> None:
-        self._program, self._kept, self._messages = program, kept, messages
-        identities = any(finding.rule == 14 for finding in findings)
-        needed: Set[int] = set()
-        needed.update(group.aspects[0].rows[0].number for group in kept if identities)
+    def __init__(self, readable: Checked, findings: Sequence[Finding]) -> None:
+        self._readable = readable
+        of_identity = any(finding.rule == 14 for finding in findings)
+        rows = list(map(_head, readable.kept)) if of_identity else []
         for finding in findings:
             if finding.message is None and (finding.rule < 4 or finding.packet is not None):
                 group, aspect, row = self._site(finding)
-                rows = [group.aspects[0].rows[0], *aspect.rows] if finding.rule < 4 else [row or aspect.rows[0]]
-                needed.update(row.number for row in rows)
-        self._records = {telegram.row.number: telegram.record for telegram in accepted.decoded(sorted(needed))}
-        self._forms: Dict[int, Form] = {}
-        self._first: List[Group] = list(self._first_groups()) if identities else []
+                rows += [_head(group), *aspect.rows] if finding.rule < 4 else [row or aspect.rows[0]]
+        numbers = sorted({row.number for row in rows})
+        self._records = {row.number: record for row, record in readable.accepted.decoded(numbers)}
+        self._form = lru_cache(maxsize=None)(lambda row: self._records[row].form)
+        self._first = list(self._first_groups()) if of_identity else []
 
     def _first_groups(self) -> Iterator[Group]:
         """For each group the first group with the same identity."""
         first: Dict[Tuple[int, int], Group] = {}
-        for group in self._kept:
-            form = self._records[group.aspects[0].rows[0].number].form
+        for group in self._readable.kept:
+            form = self._records[_head(group).number].form
             yield first.setdefault((form["nid_c"], form["nid_bg"]), group)
 
     def place(self, finding: Finding) -> Place:
         """What one finding is about."""
         if finding.message is not None:
-            accepted = self._at(self._messages, finding.message, finding)
+            accepted = self._at(self._readable.accepted_messages, finding.message, finding)
             self._look_at_packet(accepted.record, finding)
             return Place(finding, message=accepted.message)
         group, aspect, row = self._site(finding)
@@ -360,22 +313,18 @@ class _Names:
         earlier = self._first[finding.group or 0] if finding.rule == 14 else None
         if earlier is group:
             raise self._no_answer(finding)
-        return Place(finding, group, name, row, earlier=earlier, differs=self._differs(finding, group, aspect))
-
-    def _differs(self, finding: Finding, group: Group, aspect: Aspect) -> str:
-        if finding.rule > 3:
-            return ""
-        for row in (group.aspects[0].rows[0], *aspect.rows):
-            if row.number not in self._forms:
-                self._forms[row.number] = self._records[row.number].form
-        return differs(finding.rule, group, aspect.rows, finding.balise or 0, self._forms)
+        words = ""
+        if finding.rule < 4:
+            forms = {row.number: self._form(row.number) for row in (_head(group), *aspect.rows)}
+            words = differs(finding.rule, group, aspect.rows, finding.balise or 0, forms)
+        return Place(finding, group, name, row, earlier=earlier, differs=words)
 
     def _site(self, finding: Finding) -> Tuple[Group, Aspect, Optional[Row]]:
         """The group, the aspect and the balise of a finding.
 
         It names an aspect if and only if it is about one of several. F15 and F16 are about groups with several.
         """
-        group = self._at(self._kept, finding.group or 0, finding)
+        group = self._at(self._readable.kept, finding.group or 0, finding)
         several, of_one = len(group.aspects) > 1, finding.aspect is not None
         if several < (finding.rule in (15, 16)) or of_one != several and (of_one or finding.rule not in (14, 16)):
             raise self._no_answer(finding)
@@ -392,15 +341,4 @@ class _Names:
         return things[index]
 
     def _no_answer(self, finding: Finding) -> NoAnswer:
-        return self._program.no_answer("check", f"it names what was not handed to it: {finding.line}")
-
-
-def _places(
-    program: Program, report: Report, kept: Sequence[Group], messages: Sequence[AcceptedMessage], accepted: Telegrams
-) -> Tuple[Place, ...]:
-    """What the numbers of each finding stand for."""
-    counts = (report.verdict.groups, report.verdict.messages)
-    if report.verdict.yes and counts != (len(kept), len(messages)):
-        raise program.no_answer("check", f"it has counted otherwise: {report.verdict.line}")
-    names = _Names(program, kept, messages, accepted, report.findings)
-    return tuple(map(names.place, report.findings))
+        return self._readable.program.no_answer("check", f"it names what was not handed to it: {finding.line}")

@@ -15,13 +15,11 @@ SAME = ("m_version", "nid_c", "nid_bg", "q_link")
 
 
 def differs(rule: int, group: Group, rows: Sequence[Row], balise: int, forms: Mapping[int, Form]) -> str:
-    """What is wrong with this balise of an aspect with these rows. Other rules than F1 to F3 have no words here."""
+    """What is wrong with this balise of an aspect with these rows, by F1, F2 or F3."""
     form = forms[rows[balise].number]
     if rule == 1:
         return f"N_PIG is {form['n_pig']}, and the table has it as balise {balise}"
-    if rule == 2:
-        return _total(form["n_total"] + 1, rows, forms)
-    return _unlike(form, group, forms) if rule == 3 else ""
+    return _total(form["n_total"] + 1, rows, forms) if rule == 2 else _unlike(form, group, forms)
 
 
 def _balises(count: int) -> str:

@@ -5,9 +5,8 @@ whoever has read them: a line of 100,000 rows is asked for each record once.
 """
 from __future__ import annotations
 
-import json
 from bisect import bisect_left, bisect_right
-from dataclasses import dataclass
+from dataclasses import dataclass, field
 from decimal import Decimal
 from functools import cached_property
 from itertools import islice
@@ -16,18 +15,13 @@ from typing import Dict, Iterator, List, Mapping, Optional, Sequence, Tuple
 from balisekit.engine.grammar import Finding
 from balisekit.etcs.geometry import kilometres
 from balisekit.etcs.variables import Form
-from balisekit.rules.checking import Accepted, Checked
+from balisekit.rules.checking import Checked, Telegrams
 from balisekit.rules.location import NOT_KNOWN, BaliseGroup, Identity
-from balisekit.rules.passages import Chain, Passages
+from balisekit.rules.passages import Chain, Content, Passages, contents_of
 from balisekit.tables.model import Group, Message, Row
 
 AFTER_INFILL = "after packet 136"
-PART = 500
-"""So many records are read at once."""
-NO_FORM: Form = {}
-END: Tuple[Optional[Row], Form] = (None, NO_FORM)
-NO_FINDINGS: Mapping[str, Sequence[Finding]] = {}
-Messages = Sequence[Tuple[Message, Form]]
+END = (None, None)
 
 
 @dataclass(frozen=True)
@@ -67,24 +61,16 @@ class LinkedGroups:
         return list(islice(others, min(count, 3))), count
 
 
+@dataclass(eq=False)
 class Line:
     """All groups of a table in its order, and what can be asked of them. Each answer is worked out when it is asked."""
 
-    def __init__(
-        self,
-        groups: Sequence[Group],
-        forms: Mapping[int, Form] = {},
-        messages: Messages = (),
-        findings: Mapping[str, Sequence[Finding]] = NO_FINDINGS,
-        decoded: Optional[Iterator[Accepted]] = None,
-    ) -> None:
-        self.table_groups = groups
-        self.forms = forms
-        """The telegrams that the program has read, by their rows."""
-        self.findings = findings
-        """What the program has found of a group, by the group's name."""
-        self._messages = messages
-        self._decoded = decoded
+    table_groups: Sequence[Group]
+    forms: Mapping[int, Form] = field(default_factory=dict)
+    """The telegrams that the program has read, by their rows."""
+    messages: Sequence[Tuple[Message, Form]] = ()
+    findings: Mapping[str, Sequence[Finding]] = field(default_factory=dict)
+    """What the program has found of a group, by the group's name."""
 
     @classmethod
     def of(cls, checked: Checked) -> Line:
@@ -96,34 +82,33 @@ class Line:
             if place.group is not None:
                 findings.setdefault(place.group.name, []).append(place.finding)
         messages = [(each.message, each.form) for each in checked.accepted_messages]
-        return cls(groups, _Forms(checked.accepted), messages, findings, checked.accepted.decoded())
+        return cls(groups, checked.accepted, messages, findings)
 
     @cached_property
     def passages(self) -> Passages:
         """What the telegrams and messages give a train: the one pass over all of them."""
-        passages = Passages()
-        for number, (group, forms) in enumerate(zip(self.table_groups, self._forms_of_groups())):
-            passages.add_group(_balise_group(number, group, forms), forms)
-        for message, form in self._messages:
+        passages, contents = Passages(), self._contents()
+        row, content = next(contents, END)
+        for number, group in enumerate(self.table_groups):
+            own: Dict[int, Content] = {}
+            while row is not None and content is not None and row.group == group.name:
+                own[row.number] = content
+                row, content = next(contents, END)
+            passages.add_group(_balise_group(number, group, own), own)
+        for message, form in self.messages:
             if form["nid_message"] == 3:
                 passages.add_message(message, form)
         passages.name_targets()
         return passages
 
-    def _forms_of_groups(self) -> Iterator[Dict[int, Form]]:
-        """The telegrams of each group, by their rows. Those of a table are decoded here, and not kept."""
-        if self._decoded is None:
-            for group in self.table_groups:
-                yield {row.number: self.forms[row.number] for row in group.rows() if row.number in self.forms}
+    def _contents(self) -> Iterator[Tuple[Optional[Row], Optional[Content]]]:
+        """What rules compare of each telegram, in the order of the table. Those of a table are decoded here."""
+        if isinstance(self.forms, Telegrams):
+            yield from contents_of(self.forms.decoded())
             return
-        telegrams = _forms_of(self._decoded)
-        row, form = next(telegrams, END)
-        for group in self.table_groups:
-            forms = {}
-            while row is not None and row.group == group.name:
-                forms[row.number] = form
-                row, form = next(telegrams, END)
-            yield forms
+        for row in (row for group in self.table_groups for row in group.rows()):
+            if row.number in self.forms:
+                yield row, Content.of(self.forms[row.number])
 
     @property
     def groups(self) -> Sequence[BaliseGroup]:
@@ -134,6 +119,14 @@ class Line:
     def chains(self) -> Sequence[Chain]:
         """Each packet 5 once in each direction in which it holds, without those that are passed after a packet 136."""
         return self.passages.chains
+
+    @cached_property
+    def alike(self) -> Sequence[Sequence[Chain]]:
+        """The chains, and together those of one group in one direction whose links are the same."""
+        alike: Dict[Tuple[Optional[int], str, int], List[Chain]] = {}
+        for chain in self.chains:
+            alike.setdefault((chain.sender and chain.sender.number, chain.direction, id(chain.links)), []).append(chain)
+        return list(alike.values())
 
     @cached_property
     def infill_links(self) -> Mapping[str, int]:
@@ -158,41 +151,11 @@ class Line:
         return {track: LinkedGroups.of(groups) for track, groups in self.along.items()}
 
 
-class _Forms(Mapping[int, Form]):
-    """The records of telegrams, each read from its text when it is asked for: all at once take much memory."""
-
-    def __init__(self, accepted: Mapping[int, Accepted]) -> None:
-        self._accepted = accepted
-
-    def __getitem__(self, row: int) -> Form:
-        return self._accepted[row].form
-
-    def __iter__(self) -> Iterator[int]:
-        return iter(self._accepted)
-
-    def __len__(self) -> int:
-        return len(self._accepted)
-
-
-def _forms_of(decoded: Iterator[Accepted]) -> Iterator[Tuple[Optional[Row], Form]]:
-    """Each row with its record. Many records are read at once, which is quicker than one after the other."""
-    for part in iter(lambda: list(islice(decoded, PART)), []):
-        forms: List[Form] = json.loads(f"[{','.join(telegram.record.line for telegram in part)}]")
-        yield from zip((telegram.row for telegram in part), forms)
-
-
-def _balise_group(number: int, group: Group, forms: Mapping[int, Form]) -> BaliseGroup:
+def _balise_group(number: int, group: Group, contents: Mapping[int, Content]) -> BaliseGroup:
     rows = {row.number: row for row in group.rows()}
-    first = next((forms[row] for row in rows if row in forms), None)
-    where = kilometres(group)
-    return BaliseGroup(
-        number,
-        group,
-        len(group.aspects[0].rows),
-        None if first is None else (first["nid_c"], first["nid_bg"]),
-        None if first is None else bool(first["q_link"]),
-        where.group,
-        where.rising,
-        next((row.track for row in rows.values() if row.track), ""),
-        tuple(sorted(row for row in rows if row not in forms)) if len(forms) < len(rows) else (),
-    )
+    first = next((contents[row] for row in rows if row in contents), None)
+    identity, linked = (first.identity, first.linked) if first else (None, None)
+    balises, where = len(group.aspects[0].rows), kilometres(group)
+    track = next((row.track for row in rows.values() if row.track), "")
+    unread = tuple(sorted(rows.keys() - contents.keys())) if len(contents) < len(rows) else ()
+    return BaliseGroup(number, group, balises, identity, linked, where.group, where.rising, track, unread)

@@ -4,10 +4,14 @@ Distances are balisekit's own sums of the program's numbers, in whole decimetres
 """
 from __future__ import annotations
 
+import json
+import re
 from dataclasses import dataclass, field
-from typing import Dict, Iterator, List, Mapping, NamedTuple, Optional, Sequence, Set, Tuple
+from functools import cached_property, lru_cache
+from typing import Dict, Iterable, Iterator, List, Mapping, NamedTuple, Optional, Sequence, Set, Tuple
 
-from balisekit.etcs.geometry import DIRECTIONS, ELEMENT_KEYS, INFILL, NOMINAL, REVERSE, is_silent
+from balisekit.engine.program import Record
+from balisekit.etcs.geometry import DIRECTIONS, ELEMENT_KEYS, INFILL, NOMINAL, REVERSE
 from balisekit.etcs.variables import Form, unit_dm
 from balisekit.rules.location import NOT_KNOWN, BaliseGroup, Identity, Location
 from balisekit.tables.model import Message, Row
@@ -18,10 +22,15 @@ PROFILES = {21: "gradient profile", 27: "speed profile"}
 COMPARED = {LINKING, *AUTHORITIES, *PROFILES, INFILL}
 HOLDING = ((1,), (0,), (0, 1))
 """By Q_DIR: in which directions a packet holds, by their places in DIRECTIONS."""
-Packet = Tuple[int, int, Form]
-"""Its place in the telegram, its number, and its form."""
-Key = Tuple[int, int, str]
-"""Row, packet and direction: what tells the packets of a group that its aspects do not repeat."""
+DUPLICATE = (2, 1)
+"""By direction: the M_DUP of a balise that is passed behind the one whose duplicate it is."""
+RECORD = re.compile(
+    r'\{"m_dup":(\d),"m_mcount":\d+,"m_version":\d+,"n_pig":(\d),"n_total":\d,"nid_bg":(\d+),("nid_c":(\d+),.*\]),'
+    r'"q_link":(\d)'
+)
+"""The record of a telegram: the keys of its header, and NID_C with the packets as one text."""
+KEPT = 1 << 12
+"""So many of these texts are kept with what they say."""
 
 
 @dataclass
@@ -40,10 +49,46 @@ class Link:
     target: Optional[BaliseGroup] = None
     """The group of the table with this identity."""
 
-    @property
+    @cached_property
     def known(self) -> bool:
         """Whether it names a group: NID_BG 16,383 says that the group is not known yet."""
         return self.identity[1] != NOT_KNOWN
+
+
+class Packet(NamedTuple):
+    """A packet that rules compare."""
+
+    place: int
+    """In its telegram or message, counted from 0."""
+    number: int
+    links: Tuple[Link, ...] = ()
+    """Of a packet 5. Telegrams with the same packets share them."""
+    begin: int = 0
+    """Of a profile: where its first element lies."""
+    is_open: bool = False
+    """Of a profile: whether it has no end mark."""
+
+
+OneWay = Tuple[int, str]
+"""The number of the first packet that holds in one direction only, and that direction."""
+
+
+class Content(NamedTuple):
+    """What rules compare of a telegram or message."""
+
+    identity: Identity
+    linked: bool
+    duplicate: int
+    """M_DUP."""
+    packets: Tuple[Sequence[Packet], ...]
+    """Those that hold in each of the DIRECTIONS. Packet 0 has none, and is none of them."""
+    one_way: Optional[OneWay]
+
+    @classmethod
+    def of(cls, form: Form) -> Content:
+        """That of a record."""
+        identity = form["nid_c"], form["nid_bg"]
+        return cls(identity, bool(form.get("q_link")), form.get("m_dup", 0), *_packets(form))
 
 
 class Chain(NamedTuple):
@@ -67,25 +112,16 @@ class Chain(NamedTuple):
 
 
 class Profile(NamedTuple):
-    """A gradient or static speed profile that is given with a movement authority."""
+    """A gradient or static speed profile that is given with a movement authority, and is open or late."""
 
     location: Location
-    number: int
-    """21 or 27."""
-    begin: int
-    """Where its first element lies."""
-    is_open: bool
-    """Whether it has no end mark."""
+    packet: Packet
     is_late: bool
     """Whether the track before it has no other profile of its kind, in an aspect at least."""
 
 
-class OneWayPacket(NamedTuple):
-    """The first packet of a single balise that holds in one direction only."""
-
-    location: Location
-    number: int
-    direction: str
+Passed = Sequence[Tuple[Optional[Row], Content]]
+"""The balises of an aspect with their telegrams, or a message, which has no row."""
 
 
 @dataclass
@@ -99,38 +135,38 @@ class Passages:
     infill_chains: List[Chain] = field(default_factory=list)
     """The packets 5 that are passed after a packet 136: they count from another group."""
     profiles: List[Profile] = field(default_factory=list)
-    one_way: List[OneWayPacket] = field(default_factory=list)
-    """Of single balises with Q_LINK 0."""
+    """Those that are open or late."""
+    profile_count: int = 0
+    """How many profiles are given with an authority."""
+    one_way: List[Tuple[Location, OneWay]] = field(default_factory=list)
+    """Where it is, of single balises with Q_LINK 0."""
     headers: int = 0
     """How many telegrams have been read."""
     unknown: List[Location] = field(default_factory=list)
     """The telegrams whose header has NID_BG 16,383."""
 
-    def add_group(self, group: BaliseGroup, forms: Mapping[int, Form]) -> None:
+    def add_group(self, group: BaliseGroup, contents: Mapping[int, Content]) -> None:
         """Takes a group and its telegrams that could be read, by their rows."""
         self.groups.append(group)
         if group.identity is not None and group.identity[1] != NOT_KNOWN:
             self.by_identity.setdefault(group.identity, group)
-        self.headers += len(forms)
-        unknown = [number for number, form in forms.items() if form["nid_bg"] == NOT_KNOWN]
-        rows = {row.number: row for row in group.group.rows()} if unknown else {}
-        self.unknown += [Location(group, rows[number]) for number in unknown]
-        reader = _Reader(self, group)
-        packets = {number: _packets(form) for number, form in forms.items()}
-        for aspect in group.group.aspects:
-            if not group.unread or all(row.number in forms for row in aspect.rows):
-                numbers = [row.number for row in aspect.rows]
-                telegrams = [forms[number] for number in numbers]
-                reader.read(telegrams, [packets[number] for number in numbers], aspect.rows)
-        reader.finish()
+        self.headers += len(contents)
+        unknown = {number for number, content in contents.items() if content.identity[1] == NOT_KNOWN}
+        rows = {row.number: row for row in group.group.rows() if row.number in unknown} if unknown else {}
+        self.unknown += [Location(group, row) for row in rows.values()]
+        aspects = [aspect.rows for aspect in group.group.aspects]
+        if group.unread:
+            aspects = [rows for rows in aspects if all(row.number in contents for row in rows)]
+        self._add([[(row, contents[row.number]) for row in rows] for rows in aspects], group)
         if group.balises == 1 and not group.linked:
-            self._add_one_way(group, forms)
+            first = [aspect.rows[0] for aspect in group.group.aspects if aspect.rows[0].number in contents]
+            found = ((Location(group, row), contents[row.number].one_way) for row in first)
+            self.one_way += [(location, packet) for location, packet in found if packet][:1]
 
     def add_message(self, message: Message, form: Form) -> None:
         """Takes a message 3. All groups have been taken before."""
-        reader = _Reader(self, self.by_identity.get((form["nid_c"], form["nid_bg"])), message)
-        reader.read([form], [_packets(form)], ())
-        reader.finish()
+        content = Content.of(form)
+        self._add([[(None, content)]], self.by_identity.get(content.identity), message)
 
     def name_targets(self) -> None:
         """Puts its group of the table into each link. All groups have been taken before."""
@@ -138,96 +174,79 @@ class Passages:
             for link in chain.links:
                 link.target = self.by_identity.get(link.identity)
 
-    def _add_one_way(self, group: BaliseGroup, forms: Mapping[int, Form]) -> None:
-        for aspect in group.group.aspects:
-            row = aspect.rows[0]
-            for packet in forms[row.number]["packets"] if row.number in forms else ():
-                if packet.get("q_dir", 2) != 2:
-                    direction = NOMINAL if packet["q_dir"] == 1 else REVERSE
-                    self.one_way.append(OneWayPacket(Location(group, row), packet["nid_packet"], direction))
-                    return
+    def _add(self, aspects: Iterable[Passed], sender: Optional[BaliseGroup], message: Optional[Message] = None) -> None:
+        """Takes the aspects of one group, or a message. What rows of several aspects say is kept once."""
+        known: Set[Tuple[int, int, str]] = set()
+        profiles: Dict[Tuple[int, int, str], Tuple[Optional[Row], Packet, bool]] = {}
 
+        def at(row: Optional[Row], packet: Packet, direction: str) -> Location:
+            return Location(None if message else sender, row, message, packet.place, direction)
 
-class _Reader:
-    """Reads the aspects of one group, or a message. What rows of several aspects say is kept once."""
+        for direction, packets, chains in (part for passed in aspects for part in self._parts(passed)):
+            at_once = {packet.number for _, packet in packets if packet.begin == 0}
+            compared = (LINKING,) if at_once.isdisjoint(AUTHORITIES) else (LINKING, *PROFILES)
+            for row, packet in packets:
+                if packet.number not in compared:
+                    continue
+                key = row.number if row else 0, packet.place, direction
+                if packet.number != LINKING:
+                    is_late = packet.number not in at_once or key in profiles and profiles[key][2]
+                    profiles[key] = row, packet, is_late
+                elif key not in known:
+                    known.add(key)
+                    chains.append(Chain(at(row, packet, direction), sender, direction, packet.links))
+        self.profile_count += len(profiles)
+        for (_, _, direction), (row, packet, is_late) in profiles.items():
+            if is_late or packet.is_open:
+                self.profiles.append(Profile(at(row, packet, direction), packet, is_late))
 
-    def __init__(self, passages: Passages, sender: Optional[BaliseGroup], message: Optional[Message] = None) -> None:
-        self._passages, self._sender, self._message = passages, sender, message
-        self._chains: Set[Key] = set()
-        self._profiles: Dict[Key, Tuple[Optional[Row], int, int, bool]] = {}
-        self._late: Set[Key] = set()
-
-    def read(self, forms: Sequence[Form], packets: Sequence[Tuple[List[Packet], ...]], rows: Sequence[Row]) -> None:
-        """Takes what these telegrams, or the message, give in both directions."""
+    def _parts(self, passed: Passed) -> Iterator[Tuple[str, Sequence[Tuple[Optional[Row], Packet]], List[Chain]]]:
+        """What is passed in each direction before a packet 136, and behind it, and where the chains of it belong."""
         for index, direction in enumerate(DIRECTIONS):
-            if any(own[index] for own in packets):
-                self._read(direction, forms, [own[index] for own in packets], rows)
-
-    def _read(
-        self, direction: str, forms: Sequence[Form], packets: Sequence[List[Packet]], rows: Sequence[Row]
-    ) -> None:
-        is_infill = has_authority = False
-        profiles: List[Tuple[Key, Optional[Row], Form]] = []
-        for balise in range(len(forms)) if direction == NOMINAL else range(len(forms) - 1, -1, -1):
-            if not packets[balise] or forms[balise].get("m_dup", 0) and is_silent(forms, balise, direction):
-                continue
-            row = rows[balise] if rows else None
-            for place, number, packet in packets[balise]:
-                key = (row.number if row else 0, place, direction)
-                if number in PROFILES:
-                    profiles.append((key, row, packet))
-                elif number == LINKING:
-                    self._add_chain(key, row, forms[balise]["nid_c"], packet, is_infill)
-                elif number in AUTHORITIES:
-                    has_authority = True
-                elif not is_infill:  # (what follows a packet 136 counts from another group, and is by itself)
-                    self._add_profiles(profiles if has_authority else ())
-                    is_infill, has_authority, profiles = True, False, []
-        self._add_profiles(profiles if has_authority else ())
-
-    def _add_chain(self, key: Key, row: Optional[Row], country: int, packet: Form, is_infill: bool) -> None:
-        if key not in self._chains:
-            self._chains.add(key)
-            chains = self._passages.infill_chains if is_infill else self._passages.chains
-            chains.append(Chain(self._at(key, row), self._sender, key[2], tuple(_links(packet, country))))
-
-    def _add_profiles(self, profiles: Sequence[Tuple[Key, Optional[Row], Form]]) -> None:
-        """Takes profiles that are given with an authority."""
-        begins = [_begin(packet) for _, _, packet in profiles]
-        covered = {packet["nid_packet"] for (_, _, packet), (begin, _) in zip(profiles, begins) if begin <= 0}
-        for (key, row, packet), (begin, is_open) in zip(profiles, begins):
-            if key not in self._profiles:
-                self._profiles[key] = (row, packet["nid_packet"], begin, is_open)
-            if packet["nid_packet"] not in covered:
-                self._late.add(key)
-
-    def _at(self, key: Key, row: Optional[Row]) -> Location:
-        return Location(None if self._message else self._sender, row, self._message, key[1], key[2])
-
-    def finish(self) -> None:
-        """Keeps the profiles. One of a telegram that several aspects have is late if it is late in one of them."""
-        self._passages.profiles += [
-            Profile(self._at(key, row), number, begin, is_open, key in self._late)
-            for key, (row, number, begin, is_open) in self._profiles.items()
-        ]
+            own: List[Tuple[Optional[Row], Packet]] = []
+            infill: List[Tuple[Optional[Row], Packet]] = []
+            part = own
+            for place, (row, content) in enumerate(passed if direction == NOMINAL else reversed(passed)):
+                if place == 0 or content.duplicate != DUPLICATE[index]:
+                    for packet in content.packets[index]:
+                        part = infill if packet.number == INFILL else part
+                        part.append((row, packet))
+            if own:
+                yield direction, own, self.chains
+            if infill:
+                yield direction, infill, self.infill_chains
 
 
-def _packets(form: Form) -> Tuple[List[Packet], List[Packet]]:
-    """The packets of a telegram or message that rules compare, by direction. Packet 0 has none, and is none of them."""
-    own: Tuple[List[Packet], List[Packet]] = ([], [])
+def contents_of(telegrams: Iterable[Tuple[Row, Record]]) -> Iterator[Tuple[Row, Content]]:
+    """What rules compare of telegrams. Many have the same packets, which are read once then."""
+    packets = lru_cache(KEPT)(lambda text: _packets(json.loads(f"{{{text}}}")))
+    for row, record in telegrams:
+        duplicate, _, nid_bg, text, nid_c, linked = RECORD.findall(record.line)[0]
+        yield row, Content((int(nid_c), int(nid_bg)), linked == "1", int(duplicate), *packets(text))
+
+
+def _packets(form: Form) -> Tuple[Tuple[Sequence[Packet], ...], Optional[OneWay]]:
+    """The packets that rules compare, by direction, and the first one of all that holds in one direction only."""
+    own: Tuple[List[Packet], ...] = ([], [])
+    one_way: Optional[OneWay] = None
     for place, packet in enumerate(form["packets"]):
-        if packet["nid_packet"] in COMPARED:
-            for direction in HOLDING[packet["q_dir"]]:
-                own[direction].append((place, packet["nid_packet"], packet))
-    return own
+        number, direction = packet["nid_packet"], packet.get("q_dir", 2)
+        if direction != 2 and one_way is None:
+            one_way = number, NOMINAL if direction == 1 else REVERSE
+        if number in COMPARED:
+            links = tuple(_links(packet, form["nid_c"])) if number == LINKING else ()
+            begin, is_open = _begin(packet) if number in PROFILES else (0, False)
+            content = Packet(place, number, links, begin, is_open)
+            for index in HOLDING[direction]:
+                own[index].append(content)
+    return own, one_way
 
 
 def _begin(packet: Form) -> Tuple[int, bool]:
     """Where the first element of a profile lies, and whether the profile is open."""
     distance, value, end_mark = ELEMENT_KEYS[packet["nid_packet"]]
     elements = packet["elements"]
-    is_open = elements[-1][value] != end_mark and all(each[value] != end_mark for each in elements)
-    return elements[0][distance] * unit_dm(packet), is_open
+    return elements[0][distance] * unit_dm(packet), all(each[value] != end_mark for each in elements)
 
 
 def _links(packet: Form, country: int) -> Iterator[Link]:

@@ -4,13 +4,15 @@ Each rule has a file of its own, whose docstring is its page. A rule is baliseki
 """
 from __future__ import annotations
 
-from dataclasses import dataclass, field
+from collections import Counter
+from dataclasses import dataclass, field, replace
 from decimal import Decimal
 from functools import cached_property
-from typing import Callable, Dict, Mapping, Optional, Sequence
+from typing import Callable, Dict, Iterator, List, Mapping, Optional, Sequence, Union
 
 from balisekit.rules.line import Line
 from balisekit.rules.location import BaliseGroup, Location
+from balisekit.rules.passages import Chain
 
 REFUSED = "refused"
 
@@ -43,6 +45,27 @@ class Result:
     found: Sequence[Remark]
     looked_at: int
     not_looked_at: Mapping[str, int] = field(default_factory=dict)
+
+    @classmethod
+    def of_chains(cls, line: Line, look_at: Callable[[Chain], Iterator[Union[Remark, str, None]]]) -> Result:
+        """Looks at all chains: for each link `look_at` gives a remark, None if all is well, or why it is not compared.
+
+        That reason is empty if there is nothing to compare. What telegrams of a group repeat is looked at once.
+        """
+        skipped = Counter(line.infill_links)
+        found: List[Remark] = []
+        looked_at = 0
+        for chains in line.alike:
+            for link, answer in zip(chains[0].links, look_at(chains[0])):
+                if isinstance(answer, str):
+                    if answer:
+                        skipped[answer] += len(chains) * link.known
+                    continue
+                looked_at += len(chains)
+                if answer:
+                    place = answer.location.link
+                    found += [replace(answer, location=chain.location._replace(link=place)) for chain in chains]
+        return cls(found, looked_at, skipped)
 
     @property
     def skipped(self) -> int:

@@ -6,31 +6,20 @@ from functools import cached_property
 from typing import Mapping, Sequence, Tuple
 
 from balisekit.rules.line import Line
-from balisekit.rules.links import (
-    l1_unknown_group,
-    l2_distance,
-    l3_orientation,
-    l4_unlinked_group,
-    l5_single_balise,
-    l6_unknown_identity,
-    l7_open_profile,
-    l8_late_profile,
-    l9_passed_over,
-)
+from balisekit.rules.links.l1_unknown_group import RULE as L1
+from balisekit.rules.links.l2_distance import RULE as L2
+from balisekit.rules.links.l3_orientation import RULE as L3
+from balisekit.rules.links.l4_unlinked_group import RULE as L4
+from balisekit.rules.links.l5_single_balise import RULE as L5
+from balisekit.rules.links.l6_unknown_identity import RULE as L6
+from balisekit.rules.links.l7_open_profile import RULE as L7
+from balisekit.rules.links.l8_late_profile import RULE as L8
+from balisekit.rules.links.l9_passed_over import RULE as L9
 from balisekit.rules.links.notes import notes_on
 from balisekit.rules.rule import Options, Remark, Result, Rule
 
-L1, L2, L3, L4, L5, L6, L7, L8, L9 = RULES = (
-    l1_unknown_group.RULE,
-    l2_distance.RULE,
-    l3_orientation.RULE,
-    l4_unlinked_group.RULE,
-    l5_single_balise.RULE,
-    l6_unknown_identity.RULE,
-    l7_open_profile.RULE,
-    l8_late_profile.RULE,
-    l9_passed_over.RULE,
-)
+RULES = (L1, L2, L3, L4, L5, L6, L7, L8, L9)
+__all__ = ["L2", "RULES", "Links", "compare"]
 
 
 @dataclass(frozen=True)

@@ -19,24 +19,26 @@ Example. The reverse link of group B names group 5, and the table has no group 5
 """
 from __future__ import annotations
 
+from typing import Iterator, Union
+
 from balisekit.rules.line import Line
+from balisekit.rules.passages import Chain
 from balisekit.rules.rule import Options, Remark, Result, Rule
 from balisekit.tables.names import describe_identity
 
 
 def find(line: Line, options: Options) -> Result:
     """Looks for each identity that a link names."""
-    links = [(chain, link) for chain in line.chains for link in chain.links if link.known]
-    found = [
-        Remark(
-            "L1",
-            chain.at(link),
-            f"{describe_identity(link.identity)} is linked, and no group of the table has that identity",
-        )
-        for chain, link in links
-        if link.target is None
-    ]
-    return Result(found, len(links), line.infill_links)
+    return Result.of_chains(line, _look_at)
+
+
+def _look_at(chain: Chain) -> Iterator[Union[Remark, str, None]]:
+    for link in chain.links:
+        if link.target is not None or not link.known:
+            yield None if link.known else ""
+        else:
+            sentence = f"{describe_identity(link.identity)} is linked, and no group of the table has that identity"
+            yield Remark("L1", chain.at(link), sentence)
 
 
 RULE = Rule("L1", "links", __doc__ or "", find)

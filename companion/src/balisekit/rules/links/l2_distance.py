@@ -23,9 +23,8 @@ anew at group B, so that there is one line.
 """
 from __future__ import annotations
 
-from collections import Counter
 from decimal import Decimal
-from typing import Counter as Counted, Iterator, Optional
+from typing import Iterator, Union
 
 from balisekit.rules.line import Line
 from balisekit.rules.location import incomparable
@@ -39,13 +38,11 @@ ZERO = Decimal()
 
 def find(line: Line, options: Options) -> Result:
     """Compares each link to a group of the table."""
-    skipped: Counted[str] = Counter(line.infill_links)
-    compared = [each for chain in line.chains for each in _compare(chain, options.tolerance, skipped)]
-    return Result([each for each in compared if each], len(compared), skipped)
+    return Result.of_chains(line, lambda chain: _compare(chain, options.tolerance))
 
 
-def _compare(chain: Chain, tolerance: Decimal, skipped: Counted[str]) -> Iterator[Optional[Remark]]:
-    """For each link that is compared the remark, or None. After a wrong distance the sum begins anew.
+def _compare(chain: Chain, tolerance: Decimal) -> Iterator[Union[Remark, str, None]]:
+    """After a wrong distance the sum begins anew.
 
     If the direction of the sender along the kilometres is not known, the first link that is compared shows it.
     """
@@ -56,7 +53,7 @@ def _compare(chain: Chain, tolerance: Decimal, skipped: Counted[str]) -> Iterato
         here = link.target
         why = incomparable(base, here)
         if base is None or here is None or why:
-            skipped[why] += link.known
+            yield why
             continue
         wanted = ((here.km or ZERO) - (base.km or ZERO)) * DECIMETRES
         if along is None:

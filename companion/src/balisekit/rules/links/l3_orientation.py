@@ -19,42 +19,42 @@ Example. Group B faces the other way, and the link of group A says that it is pa
 """
 from __future__ import annotations
 
-from collections import Counter
-from typing import Counter as Counted
+from typing import Iterator, Union
 
 from balisekit.etcs.geometry import NOMINAL, REVERSE
 from balisekit.rules.line import Line
 from balisekit.rules.location import NOT_IN_TABLE
+from balisekit.rules.passages import Chain
 from balisekit.rules.rule import Options, Remark, Result, Rule
 
 
 def find(line: Line, options: Options) -> Result:
     """Compares each link to a group of two or more balises."""
-    skipped: Counted[str] = Counter(line.infill_links)
-    found, looked_at = [], 0
-    for chain in line.chains:
-        sender = chain.sender
-        along = sender.along(chain.direction) if sender else None
-        for link in chain.links:
-            here = link.target
-            if sender is None or here is None:
-                skipped[NOT_IN_TABLE] += link.known
-            elif here.balises == 1:
-                continue
-            elif here.rising is None or along is None:
-                skipped["no direction along the kilometres"] += 1
-            elif here.track != sender.track:
-                skipped["another track"] += 1
-            else:
-                looked_at += 1
-                if (here.rising == along) != link.nominal:
-                    announced, wanted = (NOMINAL, REVERSE) if link.nominal else (REVERSE, NOMINAL)
-                    sentence = (
-                        f"Q_LINKORIENTATION says that {here} is passed in {announced} direction, "
-                        f"and by the order of its balises along the track it is passed in {wanted} direction"
-                    )
-                    found.append(Remark("L3", chain.at(link), sentence, here))
-    return Result(found, looked_at, skipped)
+    return Result.of_chains(line, _look_at)
+
+
+def _look_at(chain: Chain) -> Iterator[Union[Remark, str, None]]:
+    sender = chain.sender
+    along = sender.along(chain.direction) if sender else None
+    for link in chain.links:
+        here = link.target
+        if sender is None or here is None:
+            yield NOT_IN_TABLE
+        elif here.balises == 1:
+            yield ""
+        elif here.rising is None or along is None:
+            yield "no direction along the kilometres"
+        elif here.track != sender.track:
+            yield "another track"
+        elif (here.rising == along) == link.nominal:
+            yield None
+        else:
+            announced, wanted = (NOMINAL, REVERSE) if link.nominal else (REVERSE, NOMINAL)
+            sentence = (
+                f"Q_LINKORIENTATION says that {here} is passed in {announced} direction, "
+                f"and by the order of its balises along the track it is passed in {wanted} direction"
+            )
+            yield Remark("L3", chain.at(link), sentence, here)
 
 
 RULE = Rule("L3", "links", __doc__ or "", find)

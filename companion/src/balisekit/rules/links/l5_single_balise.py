@@ -31,12 +31,12 @@ def find(line: Line, options: Options) -> Result:
     found = [
         Remark(
             "L5",
-            each.location,
-            f"the group has one balise and Q_LINK 0, and packet {each.number} ({packet_name(each.number, True)}) holds "
-            f"in {each.direction} direction alone: a train cannot tell its direction by it",
-            each.location.group,
+            location,
+            f"the group has one balise and Q_LINK 0, and packet {number} ({packet_name(number, True)}) holds in "
+            f"{direction} direction alone: a train cannot tell its direction by it",
+            location.group,
         )
-        for each in line.passages.one_way
+        for location, (number, direction) in line.passages.one_way
     ]
     return Result(found, len(single) - unread, {REFUSED: unread})
 

@@ -25,17 +25,13 @@ from balisekit.rules.rule import Options, Remark, Result, Rule
 
 def find(line: Line, options: Options) -> Result:
     """Looks at each profile that is given with an authority, those after a packet 136 too."""
-    profiles = line.passages.profiles
+    sentence = "the {} is open, and an authority rests on it: it has no end mark"
     found = [
-        Remark(
-            "L7",
-            each.location,
-            f"the {PROFILES[each.number]} is open, and an authority rests on it: it has no end mark",
-        )
-        for each in profiles
-        if each.is_open
+        Remark("L7", each.location, sentence.format(PROFILES[each.packet.number]))
+        for each in line.passages.profiles
+        if each.packet.is_open
     ]
-    return Result(found, len(profiles))
+    return Result(found, line.passages.profile_count)
 
 
 RULE = Rule("L7", "profiles", __doc__ or "", find)

@@ -27,18 +27,13 @@ from balisekit.rules.rule import Options, Remark, Result, Rule
 
 def find(line: Line, options: Options) -> Result:
     """Looks at each profile that is given with an authority, those after a packet 136 too."""
-    profiles = line.passages.profiles
+    sentence = "the {} under an authority begins at {}: the track before it has none"
     found = [
-        Remark(
-            "L8",
-            each.location,
-            f"the {PROFILES[each.number]} under an authority begins at {metres(each.begin)}: "
-            "the track before it has none",
-        )
-        for each in profiles
+        Remark("L8", each.location, sentence.format(PROFILES[each.packet.number], metres(each.packet.begin)))
+        for each in line.passages.profiles
         if each.is_late
     ]
-    return Result(found, len(profiles))
+    return Result(found, line.passages.profile_count)
 
 
 RULE = Rule("L8", "profiles", __doc__ or "", find)

@@ -21,37 +21,40 @@ Example. Group A links group C alone, and group B stands between them.
 """
 from __future__ import annotations
 
-from collections import Counter
-from typing import Counter as Counted
+from typing import Iterator, Sequence, Union
 
 from balisekit.rules.line import Line
-from balisekit.rules.location import incomparable
+from balisekit.rules.location import BaliseGroup, incomparable
+from balisekit.rules.passages import Chain
 from balisekit.rules.rule import Options, Remark, Result, Rule
 from balisekit.tables.names import listed
 
 
 def find(line: Line, options: Options) -> Result:
     """Looks between each two neighbours of a packet 5, the group that sends it first."""
-    skipped: Counted[str] = Counter(line.infill_links)
-    found, looked_at = [], 0
-    for chain in line.chains:
-        stops = [chain.sender, *(link.target for link in chain.links)]
-        for before, after, link in zip(stops, stops[1:], chain.links):
-            why = incomparable(before, after)
-            if before is None or after is None or why:
-                skipped[why] += link.known
-                continue
-            looked_at += 1
+    return Result.of_chains(line, lambda chain: _look_at(line, chain))
+
+
+def _look_at(line: Line, chain: Chain) -> Iterator[Union[Remark, str, None]]:
+    before = chain.sender
+    for link in chain.links:
+        after = link.target
+        why = incomparable(before, after)
+        if before is None or after is None or why:
+            yield why
+        else:
             groups, count = line.linked[before.track].between(before, after, chain)
-            if groups:
-                words = ("has", "stands", "is", "it") if count == 1 else ("have", "stand", "are", "them")
-                names = listed(list(map(str, groups)), len(groups), count)
-                sentence = (
-                    f"{names} {words[0]} Q_LINK 1 and {words[1]} between {before} and "
-                    f"{after}, and {words[2]} not linked: a train that uses linking passes {words[3]} over"
-                )
-                found.append(Remark("L9", chain.location, sentence, groups[0]))
-    return Result(found, looked_at, skipped)
+            yield _remark(chain, before, after, groups, count) if groups else None
+        before = after
+
+
+def _remark(chain: Chain, before: BaliseGroup, after: BaliseGroup, groups: Sequence[BaliseGroup], count: int) -> Remark:
+    words = ("has", "stands", "is", "it") if count == 1 else ("have", "stand", "are", "them")
+    sentence = (
+        f"{listed(list(map(str, groups)), len(groups), count)} {words[0]} Q_LINK 1 and {words[1]} between {before} and "
+        f"{after}, and {words[2]} not linked: a train that uses linking passes {words[3]} over"
+    )
+    return Remark("L9", chain.location, sentence, groups[0])
 
 
 RULE = Rule("L9", "pairs", __doc__ or "", find)

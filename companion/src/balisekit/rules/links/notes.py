@@ -3,12 +3,12 @@ from __future__ import annotations
 
 from collections import Counter
 from decimal import Decimal
-from typing import Counter as Counted, Dict, Iterator, List, Tuple
+from typing import Dict, Iterator, List, Tuple
 
 from balisekit.rules.line import Line
 from balisekit.rules.location import BaliseGroup, Identity
 from balisekit.rules.passages import Chain
-from balisekit.tables.names import clean, describe_group, kilometre, listed, quoted
+from balisekit.tables.names import clean, describe_group, listed, quoted
 
 SHOWN = 20
 """So many notes with one reason are written, and the others are counted."""
@@ -24,7 +24,7 @@ End = Tuple[str, bool]
 
 def notes_on(line: Line) -> Iterator[str]:
     """Notes on groups, on links, and on the ends of tracks."""
-    counted: Counted[str] = Counter()
+    counted: Counter[str] = Counter()
     for about, why in _all(line):
         counted[why] += 1
         if counted[why] <= SHOWN:
@@ -72,17 +72,16 @@ def _not_compared(chain: Chain) -> Iterator[Note]:
 def _line_ends(line: Line) -> Iterator[str]:
     """A note for each end of a track over which several links lead: in a part of a line each of them is an L1."""
     beyond: Dict[End, List[Identity]] = {}
-    for chain in line.chains:
-        for end, identity in _beyond(line, chain):
-            beyond.setdefault(end, []).append(identity)
+    for chains in line.alike:
+        for end, identity in _beyond(line, chains[0]):
+            beyond.setdefault(end, []).extend([identity] * len(chains))
     for (track, is_high), links in beyond.items():
         if len(links) >= LEAST:
             last = line.along[track][-1 if is_high else 0]
             groups = list(dict.fromkeys(links))
-            km = "" if last.km is None else f" (km {kilometre(last.km)})"
             where = f" of track {quoted(track)}" if track else ""
             yield (
-                f"{len(links)} links lead beyond {clean(last.group.name)}{km}, the group with the "
+                f"{len(links)} links lead beyond {last}, the group with the "
                 f"{'greatest' if is_high else 'least'} kilometre{where}, to NID_BG "
                 f"{listed([str(number) for _, number in groups], NAMED)}: if the table is a part of a "
                 "line, that is why L1 names them"

@@ -19,10 +19,8 @@ from balisekit.rules.line import Line
 from balisekit.rules.location import Location
 from balisekit.rules.rule import Options, Remark, Result, Rule
 from balisekit.tables.model import Row
-from balisekit.tables.names import quoted
+from balisekit.tables.names import BLANK, quoted
 
-INVISIBLE = re.compile("[\u034f\u115f\u1160\u2800\u3164\uffa0\ufe00-\ufe0f\U000e0100-\U000e01ef]")
-"""Characters without ink that are of no category of such ones."""
 LOOK_ALIKE = str.maketrans(
     "АВЕЅЗІЈКМНОРСТУХаеѕіјорсухԁԛԝΑΒΕΖΗΙΚΜΝΟΡΤΥΧοѵ‐‑‒–—−", "ABES3IJKMHOPCTYXaesijopcyxdqwABEZHIKMNOPTYXov------"
 )
@@ -59,7 +57,7 @@ def _folded(name: str) -> str:
 def _look(name: str) -> str:
     """What is seen of a name."""
     seen = [each for each in unicodedata.normalize("NFKC", name) if unicodedata.category(each) not in ("Cc", "Cf")]
-    return _folded(INVISIBLE.sub("", "".join(seen)).translate(LOOK_ALIKE)).strip()
+    return _folded(BLANK.sub("", "".join(seen)).translate(LOOK_ALIKE)).strip()
 
 
 def _differing(one: str, other: str) -> str:
