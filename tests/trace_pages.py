@@ -6,7 +6,8 @@ sizes of a layout, or `rows LAYOUT`, `rows LAYOUT to VARIABLE`, `rows LAYOUT aft
 import re
 
 from runner import TOP
-from trace_specs import Stopped, merged
+from trace_schemas import Schema, as_json
+from trace_specs import Stopped
 from trace_table import COUNTED, END_MARK, shown, widths
 
 FORMATS, PAGE = TOP / "docs/FORMATS.md", TOP / "docs/TRACE.md"
@@ -124,4 +125,6 @@ def made_texts(trace):
             raise Stopped(f"the text before the part {found[2]} does not name SUBSET-026, {' '.join(sections)}")
         return found[1] + PARTS[kind](trace, words) + found[3]
 
-    return {path: PART.sub(made, text) for path, text in texts.items()}
+    schemas = {"telegram": Schema(trace).telegram(), "message": Schema(trace).messages()}
+    return {**{path: PART.sub(made, text) for path, text in texts.items()},
+            **{TOP / f"schemas/{name}.json": f"{as_json(form)}\n" for name, form in schemas.items()}}
