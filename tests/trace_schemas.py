@@ -18,7 +18,8 @@ NEEDED = {"message 3": [15], "message 136": [0, 1]}
 
 def number(rows):
     """What a key may have: the numbers of its variable, or of the variables that share it."""
-    names = ", ".join(it.variable + (" if {} is {}".format(*it.when.split(" ", 1)) if rows[1:] else "") for it in rows)
+    when = [" if {} is {}".format(*it.when.split(" ", 1)) if it.when and rows[1:] else "" for it in rows]
+    names = ", ".join(it.variable + condition for it, condition in zip(rows, when))
     form = {"description": f"{names}: {rows[0].meaning}" if not rows[1:] else names, "type": "integer"}
     spans = rows[0].spans()
     if rows[1:] or len(spans) == 1:

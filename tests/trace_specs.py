@@ -16,12 +16,7 @@ COMBINING = {*"variable number ranges names flag fixed empty then before if_ther
 CHOOSING = ("last", "either")
 COUNTED, EACH = "counted", "each"
 NAME = r"[A-Z]\w*_\w+"
-UNITS = {"in steps of 5 km/h": "5 km/h", "in seconds": "s", "in metres of height per 1,000 metres": "‰",
-         "in units of 10 ms": "10 ms", "in metres": "m"}
-# The words of constructors that are not their names in small letters. Those of Q_LENGTH are numbers.
-WORDS = {"V2_0": "2.0", "V2_1": "2.1", "Single": "no duplicate", "TenCentimetres": "10 cm", "Metre": "1 m",
-         "TenMetres": "10 m", "Ntc": "level NTC", **{f"L{it}": f"level {it}" for it in range(4)},
-         **{f"Q{it}": "" for it in range(4)}}
+FAULTS = {"Downlink": "down-link", "MessageKind": "message kind", "WrongVersion": "version"}
 
 
 class Stopped(Exception):
@@ -47,8 +42,8 @@ class Field:
     width: int = 0
     numbers: object = ()  # the spans that are read, or `counted`: only the count of what is read
     fault: str = "spare"  # what any other number is refused as
-    when: tuple = ()  # `each` of a list's items, or the names and numbers of what has to be before it
-    values: tuple = ()  # the words of numbers by the names of constructors
+    when: tuple = ()  # `each` of a list's items, or the names of a variable and the number that it has to have
+    values: tuple = ()  # numbers with the names of their constructors
 
 
 # Definitions
@@ -66,8 +61,7 @@ class Definition:
 
     def is_tracked(self):
         """Whether it is a layout or a variable, or gives one."""
-        result = self.type.split("→")[-1].strip()
-        return result == "Variable" or result.startswith("Format ")
+        return self.type.split("→")[-1].split()[0] in ("Variable", "Format")
 
     def parts(self):
         """The parameters and the body of its only equation."""
@@ -79,8 +73,7 @@ class Definition:
         found = re.match(rf"{NAME}(?:(?:, | and ){NAME})*", self.comment)
         if found:
             return tuple(re.findall(NAME, found[0]))
-        is_variable = re.match(r"(nid|[a-z])_", self.name) and not self.name.startswith("with_")
-        return (self.name.upper(),) if is_variable else ()
+        return (self.name.upper(),) if re.match(r"(nid|[a-z])_", self.name) else ()
 
 
 class Specs:
@@ -105,8 +98,8 @@ class Specs:
                 self.comments.setdefault(name, []).append(said)
         pattern = r"(?m)((?:^--.*\n)*)^abbrev pub (\S+) : (.+(?:\n[ \t]+.*)*)((?:\n(?!abbrev|pub|--|use|\n).*)*)"
         for comment, name, *texts in re.findall(pattern, text):
-            name, texts = name.strip("◌"), [re.sub(r"\s+", " ", it).strip() for it in texts]
             comment = " ".join(it.lstrip("- ") for it in comment.splitlines())
+            name, texts = name.strip("◌"), [re.sub(r"\s+", " ", it).strip() for it in texts]
             self.definitions[place, name] = Definition(place, name, comment, *texts)
 
     def find(self, place, name):
@@ -145,22 +138,6 @@ def parted(term):
     return term if isinstance(term, list) else [term]
 
 
-def under(condition, fields):
-    """The fields that are there only under a condition."""
-    return [replace(it, when=(condition, *it.when)) for it in fields]
-
-
-def fault(kind):
-    """The text of a fault."""
-    words = {"Downlink": "down-link", "MessageKind": "message kind", "WrongVersion": "version"}
-    return words.get(kind, kind.lower())
-
-
-def words_of(constructor):
-    """What a constructor's name says."""
-    return WORDS.get(constructor, re.sub("(?<=[a-z])(?=[A-Z])", " ", constructor).lower())
-
-
 class Reader:
     """Evaluates terms of specs/ to lists of fields, and keeps which definitions it has used."""
 
@@ -172,16 +149,17 @@ class Reader:
         found = self.specs.find(place, name)
         if not found:
             raise Stopped(f"{place}: nothing is known of {name}")
-        self.used.add((found.place, found.name))
         return found
 
-    def term(self, text, place, given=()):
-        """The term of a text in this file, with what is given in the place of names."""
+    def body(self, found, given=()):
+        """The term of a definition's body, with what is given in the place of its parameters."""
+        self.used.add((found.place, found.name))
+        parameters, text = found.parts()
         tokens = re.findall(r"[()\[\]{}λ]|[^\s()\[\]{}λ]+", text)
         term = parse(tokens)
         if tokens:
-            raise Stopped(f"{place}: a term has another form: {text[:80]}")
-        return self.closed(term, place, dict(given))
+            raise Stopped(f"{found.place}: {found.name} has another form: {text[:80]}")
+        return self.closed(term, found.place, dict(zip(parameters, given)))
 
     def closed(self, term, place, given):
         """The term with the definitions that its names mean."""
@@ -199,13 +177,9 @@ class Reader:
 
     def expand(self, found, given=()):
         """The fields of a definition. A single one has the names of the outermost definition that has some."""
-        self.used.add((found.place, found.name))
-        if found.type.endswith("Variable"):
-            return [self.named_variable(found)]
         self.qualifiers.append(iter(re.findall(r"\bQ_\w+", found.comment)))
-        parameters, body = found.parts()
-        is_record = body.startswith("record")
-        fields = self.recorded(found) if is_record else self.fields(self.term(body, found.place, zip(parameters, given)))
+        is_record = found.parts()[1].startswith("record")
+        fields = self.recorded(found) if is_record else self.fields(self.body(found, given))
         self.qualifiers.pop()
         choices = re.findall(rf"({NAME}) if (?:(Q_\w+) is|it is) (\d+(?: or \d+)*)", found.comment)
         if choices:
@@ -213,79 +187,56 @@ class Reader:
         return [replace(fields[0], names=found.names())] if len(fields) == 1 and found.names() else fields
 
     def recorded(self, found):
-        """A layout that a record states by its table of fields."""
+        """A layout that a record states by its table of fields: one variable, whose rows add up to its width."""
+        self.used.add((found.place, found.name))
         table = re.search(r"fields = (\w+);", found.text)
-        fields = self.definition(found.place, table[1]).parts()[1] if table else ""
-        widths = [int(it) for it in re.findall(r"one \((?:plain|free) (\d+)\)", fields)]
-        if not widths or re.sub(r"one \(\w+ \d+\)", "", fields).strip(" ▹"):
+        text = self.definition(found.place, table[1]).parts()[1] if table else ""
+        widths = re.findall(r"one \((?:plain|free) (\d+)\)", text)
+        if re.sub(r"one \(\w+ \d+\)", "", text).strip(" ▹") or not widths:
             raise Stopped(f"{found.place}: the fields of {found.name} have another form")
-        return self.make_number(sum(widths))
+        return self.make_number(sum(map(int, widths)))
 
     def fields(self, term):
         """The fields of a term of type Format."""
         head, *rest = parted(term)
-        if isinstance(head, Definition):
-            return self.expand(head, rest)
-        making = getattr(self, f"make_{head}", None)
-        if not making:
+        making = None if isinstance(head, Definition) else getattr(self, f"make_{head}", None)
+        if not making and not isinstance(head, Definition):
             raise Stopped(f"nothing is known of {head}")
-        return making(*rest)
-
-    # Variables
+        return making(*rest) if making else self.expand(head, rest)
 
     def variable(self, term):
         """The variable that a term is, without a name if the term is no name."""
         head, *rest = parted(term)
-        if head in ("plain", "free"):
-            return self.make_number(rest[0])[0]
+        if isinstance(head, Definition):
+            is_record = head.parts()[1].startswith("record")
+            made = self.stated(head) if is_record else self.variable(self.body(head))
+            return replace(made, names=head.names()) if head.names() else made
         if head == "ranged":
             width, last, start = map(int, rest)
-            spans = [(0, last), (start, 2**width - 1)]
-            return Field((), width, merged(spans[: 2 if start < 2**width else 1]))
+            return Field((), width, merged([(0, last), (start, 2**width - 1)][: 2 if start < 2**width else 1]))
         if head == "naming":  # it allows the numbers of its values alone
-            values = [(int(it), name) for name, it in re.findall(r"\.(\w+) = (\d+)", rest[1].text)]
-            self.used.add((rest[1].place, rest[1].name))
-            return Field((), int(rest[0]), merged((it, it) for it, _ in values), fault(rest[3]), values=tuple(values))
-        return self.named_variable(head)
+            values = tuple((int(it), name) for name, it in re.findall(r"\.(\w+) = (\d+)", rest[1].text))
+            numbers = merged((it, it) for it, _ in values)
+            return Field((), int(rest[0]), numbers, FAULTS.get(rest[3], rest[3].lower()), values=values)
+        return self.make_number(rest[0])[0]
 
-    def named_variable(self, found):
-        """The variable of a definition."""
-        parameters, body = found.parts()
-        self.used.add((found.place, found.name))
-        made = self.stated(body, found.place) if body.startswith("record") else self.variable(self.term(body, found.place))
-        return replace(made, names=found.names()) if found.names() else made
-
-    def stated(self, body, place, given=""):
+    def stated(self, found, before="0"):
         """The variable that a record states: width, allows, refusal."""
-        found = re.fullmatch(r"record \{ width = (\d+); allows = (.*?); refusal = (\w+); closes = (\w+);? \}", body)
-        if not found:
-            raise Stopped(f"{place}: a variable has another form: {body[:80]}")
-        width, test = int(found[1]), found[2].replace("(before + 13)", given)
-        why = "the end mark" if found[4] == "true" else fault(found[3])
-        return Field((), width, merged((it, it) for it in self.allowed(test, width, place)), why)
-
-    def allowed(self, test, width, place):
-        """The numbers for which a test of a variable holds."""
-        every = set(range(2**width))
+        self.used.add((found.place, found.name))
+        form = r"record \{ width = (\d+); allows = (.*?); refusal = (\w+); closes = (\w+);? \}"
+        parts = re.fullmatch(form, found.parts()[1])
+        test = parts[2].replace("(before + 13)", str(int(before) + 13)) if parts else ""
         least, other = re.fullmatch(r"λ \w\. nat_le (\d+) \w", test), re.fullmatch(r"λ n\. not \(n == (\d+)\)", test)
-        if least:
-            return {it for it in every if it >= int(least[1])}
-        if other:
-            return every - {int(other[1])}
-        if test == "λ _. true":
-            return every
         if test.endswith(".allows"):
-            term = test[: -len(".allows")]
-            return {int(it) for it in self.choice(self.term(term, place)) if it.isdigit()}
-        found = self.definition(place, test)
-        outer = re.fullmatch(r"\w+ n = not \(([\w.]+) n \|\| \(n == (\d+)\)\)", found.text)
-        if not outer:
-            raise Stopped(f"{place}: the numbers of {test} have another form")
-        if outer[1].endswith(".allows"):
-            known = self.allowed(outer[1], width, found.place)
+            known = self.choice([self.definition(found.place, re.match(r"\(?(\w+)", test)[1]), "n"])
+            spans = merged((int(it), int(it)) for it in known)
+        elif least or other or test == "λ _. true":
+            last, gap = 2 ** int(parts[1]) - 1, int(other[1]) if other else -1
+            spans = merged((it, it) for it in range(int(least[1]) if least else 0, last + 1) if it != gap)
         else:
-            known = map(int, re.findall(r"n == (\d+)", self.definition(found.place, outer[1]).text))
-        return every - {int(outer[2]), *known}
+            raise Stopped(f"{found.place}: the variable {found.name} has another form")
+        why = "the end mark" if parts[4] == "true" else FAULTS.get(parts[3], parts[3].lower())
+        return Field(found.names(), int(parts[1]), spans, why)
 
     # The combinators, by their names
 
@@ -299,7 +250,8 @@ class Reader:
         return self.make_number(1)
 
     def make_fixed(self, width, value, why):
-        return [Field((), int(width), ((int(value), int(value)),) if value.isdigit() else COUNTED, fault(why))]
+        numbers = ((int(value), int(value)),) if value.isdigit() else COUNTED
+        return [Field((), int(width), numbers, FAULTS.get(why, why.lower()))]
 
     def make_names(self, variable, *_):
         return [self.variable(variable)]
@@ -313,27 +265,25 @@ class Reader:
     make_before = make_then
 
     def make_if_there(self, item):
-        bit = replace(self.named_variable(self.definition("etcs_bits/layout/Format", "qualifier")),
-                      names=(next(self.qualifiers[-1], "a qualifier that no comment names"),))
-        return [bit, *under((bit.names, "1"), self.fields(item))]
+        names = (next(self.qualifiers[-1], "a qualifier that no comment names"),)
+        bit = replace(self.variable(self.definition("etcs_bits/layout/Format", "qualifier")), names=names)
+        return [bit, *(replace(it, when=((names, "1"), *it.when)) for it in self.fields(item))]
 
     def make_several(self, item):
-        count = self.named_variable(self.definition("etcs_bits/layout/Format", "n_iter"))
-        return [count, *under(EACH, self.fields(item))]
+        count = self.variable(self.definition("etcs_bits/layout/Format", "n_iter"))
+        return [count, *(replace(it, when=(EACH, *it.when)) for it in self.fields(item))]
 
     def make_behind_length(self, _, item):
-        length = self.named_variable(self.definition("etcs_bits/layout/Combined", "l_packet"))
+        length = self.variable(self.definition("etcs_bits/layout/Combined", "l_packet"))
         return [replace(length, numbers=COUNTED, fault="length"), *self.fields(item)]
 
     def make_kept_bits(self, before):
-        found = self.definition("etcs_bits/layout/Combined", "l_kept")
-        length = self.stated(found.parts()[1], found.place, str(int(before) + 13))
-        return [replace(length, names=found.names()), Field(("body",))]
+        return [self.stated(self.definition("etcs_bits/layout/Combined", "l_kept"), before), Field(("body",))]
 
     def make_named(self, layout, _, parts, *more):
-        fields = self.fields(layout)
-        constructors = re.findall(r"\w+ \(?\w+\.(\w+)(?: \w+\))? = (.*?)(?= \w+ \(?\w+\.|$)", parts.text) if parts else []
-        numbers = list(self.branches)
+        fields, numbers = self.fields(layout), list(self.branches)
+        text = parts.text if parts else ""
+        constructors = re.findall(r"\w+ \(?\w+\.(\w+)(?: \w+\))? = (.*?)(?= \w+ \(?\w+\.|$)", text)
         if len(constructors) == len(numbers) and "other" not in numbers:
             values = tuple((int(numbers[it.count("inr")]), name) for name, it in constructors)
             fields[0] = replace(fields[0], values=values)
@@ -342,6 +292,15 @@ class Reader:
     def make_struct(self, _, layout):
         return self.fields(layout)
 
+    def make_chosen(self, variable, choice, *_):
+        """A number, and each field that it decides after the numbers that have it."""
+        first, branches, after = self.variable(variable), self.choice(choice), {}
+        for number, fields in branches.items():
+            for it in fields:
+                after.setdefault(it, []).append(number)
+        self.branches = {number: [first, *fields] for number, fields in branches.items()}
+        return [first, *(replace(it, when=((first.names, " or ".join(numbers)), *it.when)) for it, numbers in after.items())]
+
     def choice(self, term):
         """The layouts of a choice by their numbers; that of all other numbers is called 'other'."""
         head, *rest = parted(term)
@@ -349,16 +308,4 @@ class Reader:
             return {rest[0]: self.fields(rest[1]), **(self.choice(rest[2]) if head == "either" else {})}
         if (head.place, head.name) == ("etcs_bits/layout/Format", "others"):
             return {"other": self.fields(rest[1])}
-        parameters, body = head.parts()
-        self.used.add((head.place, head.name))
-        return self.choice(self.term(body, head.place, zip(parameters, rest)))
-
-    def make_chosen(self, variable, choice, *_):
-        """A number, and each field that it decides after the numbers that have it."""
-        first, branches, after = self.named_variable(variable), self.choice(choice), {}
-        for number, fields in branches.items():
-            for it in fields:
-                after.setdefault(it, []).append(number)
-        self.branches = {number: [first, *fields] for number, fields in branches.items()}
-        decided = [replace(it, when=((first.names, " or ".join(numbers)), *it.when)) for it, numbers in after.items()]
-        return [first, *decided]
+        return self.choice(self.body(head, rest))
