@@ -1,14 +1,13 @@
 """What is made of the table of variables: for tests/trace.
 
-A part of a page between `<!-- made: WHAT -->` and `<!-- /made -->` is made. WHAT is `trace`, or `bits LAYOUT` for the
-sizes of a layout, or `rows LAYOUT`, `rows LAYOUT to VARIABLE`, `rows LAYOUT after VARIABLE` for its variables and sizes.
+A part of a page between `<!-- made: WHAT -->` and `<!-- /made -->` is made. WHAT is `trace`, or `bits LAYOUT` for how
+many bits a layout has, or `rows LAYOUT`, `rows LAYOUT to VARIABLE`, `rows LAYOUT after VARIABLE` for its variables too.
 """
 import re
 
 from runner import TOP
 from trace_schemas import Schema, as_json
-from trace_specs import Stopped
-from trace_table import COUNTED, END_MARK, shown, widths
+from trace_table import COUNTED, END_MARK, Stopped, shown, widths
 
 FORMATS, PAGE = TOP / "docs/FORMATS.md", TOP / "docs/TRACE.md"
 COUNTING = [TOP / "README.md", TOP / "docs/SAFETY.md", PAGE]
@@ -47,14 +46,15 @@ def numbers_text(row):
 
 def trace_part(trace, _):
     """The rows that a person compares."""
-    head = ["Layouts", "Variable", "Bits", "Only if", "Numbers", "Unit", "Section", "In no definition", "Doubt", "Compared"]
+    head = ["Layouts", "Variable", "Bits", "Only if", "Numbers", "Unit", "Section", "In no definition", "Doubt"]
     rows = []
     for row in trace.rows:
         numbers, unit = trace.unstated(row) if row.variable else ((), "")
-        rows.append([row.layouts, row.variable or row.meaning, row.bits, row.when, numbers_text(row), row.unit, row.section,
-                     ", ".join(filter(None, [spans_text(numbers), unit])), row.doubt,
-                     f"{row.compared}, {row.date}" if row.compared else ""])
-    return table(head, rows)
+        only_here = ", ".join(filter(None, [spans_text(numbers), unit]))
+        compared = f"{row.compared}, {row.date}" if row.compared else ""
+        rows.append([row.layouts, row.variable or row.meaning, row.bits, row.when, numbers_text(row), row.unit,
+                     row.section, only_here, row.doubt, compared])
+    return table([*head, "Compared"], rows)
 
 
 def places(rows):
@@ -78,8 +78,8 @@ def rows_part(trace, words):
     for row, place in zip(rows, places(rows)):
         when = "only if {} is {}: ".format(*row.when.split(" ", 1)) if row.when else ""
         lines.append([row.variable, place, row.bits or "the rest", when + row.meaning, numbers_text(row)])
-        items = [it for it in rows[: rows.index(row)] if it.key.startswith(f"{row.key}/")] if row.key.endswith("[]") else []
-        if items:
+        items = [it for it in rows[: rows.index(row)] if it.key.startswith(f"{row.key}/")]
+        if items and row.key.endswith("[]"):
             names = f"{items[0].variable} to {items[-1].variable}"
             lines.append([names, "next", shown(*widths(items)), "each further one, as the first", ""])
     border = next((place for place, it in enumerate(lines, 1) if it[0] == variable), 0)

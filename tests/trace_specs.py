@@ -8,30 +8,14 @@ import re
 from dataclasses import dataclass, replace
 
 from runner import TOP
+from trace_table import COUNTED, EACH, Stopped, merged
 
 CRATES = ("etcs_bits", "etcs_profile", "etcs_packet", "etcs_telegram", "etcs_radio")
 # Definitions that make a layout or a variable of others; they are none of the standard's.
-COMBINING = {*"variable number ranges names flag fixed empty then before if_there several behind_length kept_bits chosen "
-              "named struct plain free only ranged naming".split()}
-CHOOSING = ("last", "either")
-COUNTED, EACH = "counted", "each"
+COMBINING = {*"variable number ranges names flag fixed empty then before if_there several behind_length".split(),
+             *"kept_bits chosen named struct plain free only ranged naming last either".split()}
 NAME = r"[A-Z]\w*_\w+"
 FAULTS = {"Downlink": "down-link", "MessageKind": "message kind", "WrongVersion": "version"}
-
-
-class Stopped(Exception):
-    """What was read has a form that is not known here, and why."""
-
-
-def merged(spans):
-    """Numbers as spans in order that do not touch."""
-    found = []
-    for first, last in sorted(spans):
-        if found and first <= found[-1][1] + 1:
-            found[-1] = (found[-1][0], max(last, found[-1][1]))
-        else:
-            found.append((first, last))
-    return tuple(found)
 
 
 @dataclass(frozen=True)
@@ -44,6 +28,22 @@ class Field:
     fault: str = "spare"  # what any other number is refused as
     when: tuple = ()  # `each` of a list's items, or the names of a variable and the number that it has to have
     values: tuple = ()  # numbers with the names of their constructors
+
+
+def number(width):
+    """A variable of all numbers of this width."""
+    return Field((), int(width), ((0, 2 ** int(width) - 1),))
+
+
+def numbered(width, numbers, why, **more):
+    """A variable of these numbers."""
+    spans = numbers if numbers == COUNTED else merged((int(it), int(it)) for it in numbers)
+    return Field((), int(width), spans, FAULTS.get(why, why.lower()), **more)
+
+
+def under(condition, fields):
+    """The fields if they are there only under a condition."""
+    return [replace(it, when=(condition, *it.when)) for it in fields]
 
 
 # Definitions
@@ -59,14 +59,18 @@ class Definition:
     type: str
     text: str
 
-    def is_tracked(self):
-        """Whether it is a layout or a variable, or gives one."""
-        return self.type.split("→")[-1].split()[0] in ("Variable", "Format")
+    def kind(self):
+        """Of which type it is, or what it gives."""
+        return self.type.split("→")[-1].split()[0]
 
     def parts(self):
         """The parameters and the body of its only equation."""
-        head, _, body = self.text.partition("=")
-        return head.split()[1:], body.strip()
+        head, _, body = self.text.partition(" = ")
+        return head.split()[1:], body
+
+    def words(self):
+        """The words of its body."""
+        return re.findall(r"\w+", self.parts()[1])
 
     def names(self):
         """The variables that it is named by: those with which its comment begins, or itself."""
@@ -143,6 +147,23 @@ class Reader:
 
     def __init__(self):
         self.specs, self.used, self.qualifiers, self.branches = Specs(), set(), [], {}
+        count, kept = ("etcs_bits/layout/Format", "n_iter"), ("etcs_bits/layout/Combined", "l_kept")
+        self.combinators = {
+            "number": lambda width: [number(width)],
+            "flag": lambda: [number(1)],
+            "ranges": lambda *rest: [self.variable(["ranged", *rest])],
+            "names": lambda variable, *_: [self.variable(variable)],
+            "fixed": lambda width, value, why: [numbered(width, [value] if value.isdigit() else COUNTED, why)],
+            "empty": lambda: [],
+            **dict.fromkeys(("then", "before"), lambda first, second: self.fields(first) + self.fields(second)),
+            "if_there": self.if_there,
+            "several": lambda item: [self.variable(self.definition(*count)), *under(EACH, self.fields(item))],
+            "behind_length": self.behind_length,
+            "kept_bits": lambda before: [self.stated(self.definition(*kept), before), Field(("body",))],
+            "chosen": self.chosen,
+            "named": self.named,
+            "struct": lambda _, layout: self.fields(layout),
+        }
 
     def definition(self, place, name):
         """A definition that has to be there."""
@@ -168,41 +189,33 @@ class Reader:
             return [*parted(head), *rest]
         if term is None or term in given:
             return given.get(term)
-        return term if term in (*COMBINING, *CHOOSING) else self.specs.find(place, term) or term
-
-    def branches_of(self, place, name, *given):
-        """The layouts that a number decides, by that number."""
-        self.expand(self.definition(place, name), given)
-        return self.branches
+        return term if term in COMBINING else self.specs.find(place, term) or term
 
     def expand(self, found, given=()):
         """The fields of a definition. A single one has the names of the outermost definition that has some."""
         self.qualifiers.append(iter(re.findall(r"\bQ_\w+", found.comment)))
-        is_record = found.parts()[1].startswith("record")
-        fields = self.recorded(found) if is_record else self.fields(self.body(found, given))
+        table = re.search(r"record \{ fields = (\w+);", found.text)
+        if table:  # a variable in several rows
+            widths = re.findall(r"one \((?:plain|free) (\d+)\)", self.definition(found.place, table[1]).text)
+            fields = [number(sum(map(int, widths)))]
+        else:
+            fields = self.fields(self.body(found, given))
         self.qualifiers.pop()
+        # a field with a name for each number of another variable
         choices = re.findall(rf"({NAME}) if (?:(Q_\w+) is|it is) (\d+(?: or \d+)*)", found.comment)
         if choices:
-            return [replace(fields[0], names=(name,), when=(((choices[0][1],), numbers),)) for name, _, numbers in choices]
+            other = (choices[0][1],)
+            return [replace(fields[0], names=(it,), when=((other, numbers),)) for it, _, numbers in choices]
         return [replace(fields[0], names=found.names())] if len(fields) == 1 and found.names() else fields
-
-    def recorded(self, found):
-        """A layout that a record states by its table of fields: one variable, whose rows add up to its width."""
-        self.used.add((found.place, found.name))
-        table = re.search(r"fields = (\w+);", found.text)
-        text = self.definition(found.place, table[1]).parts()[1] if table else ""
-        widths = re.findall(r"one \((?:plain|free) (\d+)\)", text)
-        if re.sub(r"one \(\w+ \d+\)", "", text).strip(" ▹") or not widths:
-            raise Stopped(f"{found.place}: the fields of {found.name} have another form")
-        return self.make_number(sum(map(int, widths)))
 
     def fields(self, term):
         """The fields of a term of type Format."""
         head, *rest = parted(term)
-        making = None if isinstance(head, Definition) else getattr(self, f"make_{head}", None)
-        if not making and not isinstance(head, Definition):
+        if isinstance(head, Definition):
+            return self.expand(head, rest)
+        if head not in self.combinators:
             raise Stopped(f"nothing is known of {head}")
-        return making(*rest) if making else self.expand(head, rest)
+        return self.combinators[head](*rest)
 
     def variable(self, term):
         """The variable that a term is, without a name if the term is no name."""
@@ -216,9 +229,8 @@ class Reader:
             return Field((), width, merged([(0, last), (start, 2**width - 1)][: 2 if start < 2**width else 1]))
         if head == "naming":  # it allows the numbers of its values alone
             values = tuple((int(it), name) for name, it in re.findall(r"\.(\w+) = (\d+)", rest[1].text))
-            numbers = merged((it, it) for it, _ in values)
-            return Field((), int(rest[0]), numbers, FAULTS.get(rest[3], rest[3].lower()), values=values)
-        return self.make_number(rest[0])[0]
+            return numbered(rest[0], [it for it, _ in values], rest[3], values=values)
+        return number(rest[0])
 
     def stated(self, found, before="0"):
         """The variable that a record states: width, allows, refusal."""
@@ -228,59 +240,30 @@ class Reader:
         test = parts[2].replace("(before + 13)", str(int(before) + 13)) if parts else ""
         least, other = re.fullmatch(r"λ \w\. nat_le (\d+) \w", test), re.fullmatch(r"λ n\. not \(n == (\d+)\)", test)
         if test.endswith(".allows"):
-            known = self.choice([self.definition(found.place, re.match(r"\(?(\w+)", test)[1]), "n"])
-            spans = merged((int(it), int(it)) for it in known)
+            numbers = self.choice([self.definition(found.place, re.match(r"\(?(\w+)", test)[1]), "n"])
         elif least or other or test == "λ _. true":
-            last, gap = 2 ** int(parts[1]) - 1, int(other[1]) if other else -1
-            spans = merged((it, it) for it in range(int(least[1]) if least else 0, last + 1) if it != gap)
+            gap = int(other[1]) if other else -1
+            numbers = [it for it in range(int(least[1]) if least else 0, 2 ** int(parts[1])) if it != gap]
         else:
             raise Stopped(f"{found.place}: the variable {found.name} has another form")
-        why = "the end mark" if parts[4] == "true" else FAULTS.get(parts[3], parts[3].lower())
-        return Field(found.names(), int(parts[1]), spans, why)
+        why = "the end mark" if parts[4] == "true" else parts[3]
+        return replace(numbered(parts[1], numbers, why), names=found.names())
 
-    # The combinators, by their names
+    # The combinators, by their names. A layout is a list of fields.
 
-    def make_number(self, width):
-        return [Field((), int(width), ((0, 2 ** int(width) - 1),))]
-
-    def make_ranges(self, *rest):
-        return [self.variable(["ranged", *rest])]
-
-    def make_flag(self):
-        return self.make_number(1)
-
-    def make_fixed(self, width, value, why):
-        numbers = ((int(value), int(value)),) if value.isdigit() else COUNTED
-        return [Field((), int(width), numbers, FAULTS.get(why, why.lower()))]
-
-    def make_names(self, variable, *_):
-        return [self.variable(variable)]
-
-    def make_empty(self):
-        return []
-
-    def make_then(self, first, second):
-        return self.fields(first) + self.fields(second)
-
-    make_before = make_then
-
-    def make_if_there(self, item):
+    def if_there(self, item):
+        """A qualifier, whose name is the next one in the comment above, and what follows it if it is 1."""
         names = (next(self.qualifiers[-1], "a qualifier that no comment names"),)
         bit = replace(self.variable(self.definition("etcs_bits/layout/Format", "qualifier")), names=names)
-        return [bit, *(replace(it, when=((names, "1"), *it.when)) for it in self.fields(item))]
+        return [bit, *under((names, "1"), self.fields(item))]
 
-    def make_several(self, item):
-        count = self.variable(self.definition("etcs_bits/layout/Format", "n_iter"))
-        return [count, *(replace(it, when=(EACH, *it.when)) for it in self.fields(item))]
-
-    def make_behind_length(self, _, item):
+    def behind_length(self, _, item):
+        """L_PACKET, and the fields that it counts."""
         length = self.variable(self.definition("etcs_bits/layout/Combined", "l_packet"))
         return [replace(length, numbers=COUNTED, fault="length"), *self.fields(item)]
 
-    def make_kept_bits(self, before):
-        return [self.stated(self.definition("etcs_bits/layout/Combined", "l_kept"), before), Field(("body",))]
-
-    def make_named(self, layout, _, parts, *more):
+    def named(self, layout, _, parts, *more):
+        """The fields of a layout; a number that a choice begins with has the constructors that `parts` tells apart."""
         fields, numbers = self.fields(layout), list(self.branches)
         text = parts.text if parts else ""
         constructors = re.findall(r"\w+ \(?\w+\.(\w+)(?: \w+\))? = (.*?)(?= \w+ \(?\w+\.|$)", text)
@@ -289,22 +272,20 @@ class Reader:
             fields[0] = replace(fields[0], values=values)
         return fields
 
-    def make_struct(self, _, layout):
-        return self.fields(layout)
-
-    def make_chosen(self, variable, choice, *_):
+    def chosen(self, variable, choice, *_):
         """A number, and each field that it decides after the numbers that have it."""
         first, branches, after = self.variable(variable), self.choice(choice), {}
-        for number, fields in branches.items():
+        for one, fields in branches.items():
             for it in fields:
-                after.setdefault(it, []).append(number)
-        self.branches = {number: [first, *fields] for number, fields in branches.items()}
-        return [first, *(replace(it, when=((first.names, " or ".join(numbers)), *it.when)) for it, numbers in after.items())]
+                after.setdefault(it, []).append(one)
+        self.branches = {one: [first, *fields] for one, fields in branches.items()}
+        decided = (under((first.names, " or ".join(numbers)), [it])[0] for it, numbers in after.items())
+        return [first, *decided]
 
     def choice(self, term):
         """The layouts of a choice by their numbers; that of all other numbers is called 'other'."""
         head, *rest = parted(term)
-        if head in CHOOSING:
+        if head in ("last", "either"):
             return {rest[0]: self.fields(rest[1]), **(self.choice(rest[2]) if head == "either" else {})}
         if (head.place, head.name) == ("etcs_bits/layout/Format", "others"):
             return {"other": self.fields(rest[1])}

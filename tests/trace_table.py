@@ -18,8 +18,8 @@ from collections import namedtuple
 from itertools import groupby
 
 from runner import TOP
-from trace_specs import COUNTED, EACH, Stopped
 
+COUNTED, EACH = "counted", "each"
 TABLE = TOP / "docs/assurance/trace.csv"
 COLUMNS = "layouts variable bits numbers fault when key unit meaning section doubt compared date sum".split()
 LONGEST_PACKET = 8191
@@ -27,6 +27,21 @@ END_MARK = "packet 255"  # no definition of a layout has it: NID_PACKET says tha
 NOTES = ("compared", "date", "sum")
 Span = namedtuple("Span", "first last words")
 NUMBERS = re.compile(r"(\d+)(?: to (\d+))?(?: (.+))?")
+
+
+class Stopped(Exception):
+    """What was read has a form that is not known here, and why."""
+
+
+def merged(spans):
+    """Numbers as spans in order that do not touch."""
+    found = []
+    for first, last in sorted(spans):
+        if found and first <= found[-1][1] + 1:
+            found[-1] = (found[-1][0], max(last, found[-1][1]))
+        else:
+            found.append((first, last))
+    return tuple(found)
 
 
 class Row(namedtuple("Row", COLUMNS)):
