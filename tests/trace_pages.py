@@ -17,7 +17,8 @@ PART = re.compile(r"(<!-- made: (.*?) -->\n).*?(<!-- /made -->)", re.DOTALL)
 
 def table(head, rows):
     """A table of a page."""
-    return "\n".join("| " + " | ".join(it) + " |" for it in (head, ["---"] * len(head), *rows)) + "\n"
+    lines = ["| " + " | ".join(it) + " |\n" for it in (head, *rows)]
+    return "".join([lines[0], "|" + "---|" * len(head) + "\n", *lines[1:]])
 
 
 def spans_text(spans):
@@ -39,8 +40,7 @@ def refused_text(row):
 def numbers_text(row):
     """The numbers that are read, with their meanings, and those that are not."""
     unit = {"": "", "Q_SCALE": " units"}.get(row.unit, f" × {row.unit}" if row.unit[:1].isdigit() else f" {row.unit}")
-    read = [f"{shown(it.first, it.last)}{' is' * it.words[:1].isdigit()} {it.words}" if it.words
-            else f"{shown(it.first, it.last)}{unit}" for it in row.spans()]
+    read = [shown(it.first, it.last) + (f" = {it.words}" if it.words else unit) for it in row.spans()]
     return "; ".join(filter(None, ["the count" if row.numbers == COUNTED else "", *read, refused_text(row)]))
 
 
