@@ -1,13 +1,14 @@
 """What is made of the table of variables: for tests/trace.
 
 A part of a page between `<!-- made: WHAT -->` and `<!-- /made -->` is made. WHAT is `trace`, or `bits LAYOUT` for how
-many bits a layout has, or `rows LAYOUT`, `rows LAYOUT to VARIABLE`, `rows LAYOUT after VARIABLE` for its variables too.
+many bits a layout has, or `rows LAYOUT`, `rows LAYOUT to VARIABLE`, `rows LAYOUT after VARIABLE` for its variables too,
+or `keys packet`, `keys train packet`, `keys message` for their JSON.
 """
 import re
 
 from runner import TOP
 from trace_schemas import Schema, as_json
-from trace_table import COUNTED, END_MARK, Stopped, shown, widths
+from trace_table import COUNTED, END_MARK, Stopped, is_optional, members, shown, widths
 
 FORMATS, PAGE = TOP / "docs/FORMATS.md", TOP / "docs/TRACE.md"
 COUNTING = [TOP / "README.md", TOP / "docs/SAFETY.md", PAGE]
@@ -96,7 +97,37 @@ def bits_part(trace, layout):
     return f"{name} has {' to '.join(f'{it:,}' for it in sorted({*widths(trace.layouts[layout])}))} bits.\n"
 
 
-PARTS = {"trace": trace_part, "rows": rows_part, "bits": bits_part}
+def keys_part(trace, kind):
+    """The keys of the JSON of packets or messages, and of the objects inside."""
+    found = {}
+    for layout, rows in trace.layouts.items():
+        name, _, number = layout.rpartition(" ")
+        if name == kind and layout != END_MARK:
+            add_keys(found, "any other" if number == "other" else number, number, rows)
+    return table([kind.removeprefix("train ").capitalize(), "Keys of its object, in the order in which they are written"],
+                 found.items())
+
+
+def add_keys(found, name, number, rows, prefix="", given=""):
+    """Adds a row for an object, and one for each kind of object inside."""
+    keys, inner = {"packets": "packets"} if rows[0].variable == "NID_MESSAGE" else {}, []
+    for key, own in members(rows, prefix).items():
+        items, text = [it for it in own if it.key.startswith(f"{prefix}{key}/")], key
+        if items:
+            one = key.removesuffix("s[]").replace("_", " ")
+            article, least = "an" if one[0] in "aeiou" else "a", int(own[0] in items)
+            text = key.replace("[]", f" ({least} to {least + 31})")
+            inner.append((f"{article} {one}", number, items, f"{prefix}{key}/", "" if "[]" in key else own[0].when))
+        elif " " not in own[0].key and key != own[0].variable.lower():
+            text = f"{key} ({' or '.join(it.variable for it in own)})"
+        keys[key] = "[{}: if {} is {}]".format(text, *own[0].when.split(" ", 1)) if is_optional(own, given) else text
+    line = ", ".join(keys[it] for it in sorted(keys))
+    found[name if found.get(name, line) == line else f"{name} of {number}"] = line
+    for one in inner:
+        add_keys(found, *one)
+
+
+PARTS = {"trace": trace_part, "rows": rows_part, "bits": bits_part, "keys": keys_part}
 
 
 def made_texts(trace):
@@ -117,11 +148,11 @@ def made_texts(trace):
         kind, _, words = found[2].partition(" ")
         before = found.string[: found.start()].rpartition("\n#")[2]
         layout = re.sub(" (to|after) .*", "", words)
-        if kind not in PARTS or layout and layout not in trace.layouts:
+        if kind not in PARTS or kind in ("rows", "bits") and layout not in trace.layouts:
             raise Stopped(f"nothing is known of the part {found[2]}")
         sections = {it.section for it in trace.rows if layout in it.names() and not it.variable}
         is_named = all(re.search(rf"SUBSET-026, {re.escape(it)}(?!\.?\d)", before) for it in sections)
-        if not is_named and " to " not in words:
+        if kind == "rows" and not is_named and " to " not in words:
             raise Stopped(f"the text before the part {found[2]} does not name SUBSET-026, {' '.join(sections)}")
         return found[1] + PARTS[kind](trace, words) + found[3]
 

@@ -1,7 +1,7 @@
 """The JSON schemas of telegrams and radio messages, made of the table of variables: for tests/trace."""
 import json
 
-from trace_table import END_MARK, LONGEST_PACKET
+from trace_table import END_MARK, LONGEST_PACKET, is_optional, members
 
 DRAFT = "https://json-schema.org/draft/2020-12/schema"
 TITLE = "A {0}, as balisecheck decode{1} writes it and balisecheck encode{1} reads it"
@@ -79,20 +79,17 @@ class Schema:
 
     def object(self, rows, prefix="", layout="", first=None, given="", **more):
         """The schema of an object, under a given condition: that of each member, in the order of the bits."""
-        properties, members, conditions = dict(first or {}), {}, []
+        properties, conditions = dict(first or {}), []
         required = list(properties)
-        for row in rows:
-            inner = row.key[len(prefix):]
-            for key in inner.split(" ") if " " in inner else [inner.partition("/")[0]]:
-                members.setdefault(key, []).append(row)
-        for key, own in members.items():
+        for key, own in members(rows, prefix).items():
             name = key.removesuffix("[]")
-            if not key or name in properties:
+            if name in properties:
                 continue
             properties[name] = self.value(key, own, f"{prefix}{key}/", layout)
-            is_always = "[]" in key or own[0].when in ("", given) or own[1:] and own[0].key == own[1].key
-            required += [name] if is_always else []
-            conditions += [] if is_always else filter(None, [after(own[0], rows)])
+            if not is_optional(own, given):
+                required.append(name)
+            elif after(own[0], rows):
+                conditions.append(after(own[0], rows))
         form = {**more, "type": "object", "properties": properties, "required": required, "additionalProperties": False}
         return {**form, **(conditions[0] if len(conditions) == 1 else {"allOf": conditions} if conditions else {})}
 

@@ -127,6 +127,23 @@ def each(items):
     return [(row, (EACH, *when)) for row, when in items]
 
 
+def members(rows, prefix=""):
+    """The keys of the object at a path, in the order of the bits, each with the rows that belong to it."""
+    found = {}
+    for row in rows:
+        inner = row.key[len(prefix):]
+        for key in inner.split(" ") if " " in inner else [inner.partition("/")[0]]:
+            found.setdefault(key, []).append(row)
+    found.pop("", None)
+    return found
+
+
+def is_optional(rows, given=""):
+    """Whether an object lacks the key of these rows unless an earlier variable has a number; `given` is known to hold."""
+    shared = rows[1:] and rows[0].key == rows[1].key
+    return bool(rows[0].when) and rows[0].when != given and not shared and not rows[-1].key.endswith("[]")
+
+
 def widths(rows):
     """The least and the greatest number of bits of a layout."""
     least = most = 0
