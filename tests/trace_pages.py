@@ -104,8 +104,8 @@ def keys_part(trace, kind):
         name, _, number = layout.rpartition(" ")
         if name == kind and layout != END_MARK:
             add_keys(found, "any other" if number == "other" else number, number, rows)
-    return table([kind.removeprefix("train ").capitalize(), "Keys of its object, in the order in which they are written"],
-                 found.items())
+    head = [kind.removeprefix("train ").capitalize(), "Keys of its object, in the order in which they are written"]
+    return table(head, found.items())
 
 
 def add_keys(found, name, number, rows, prefix="", given=""):

@@ -139,7 +139,7 @@ def members(rows, prefix=""):
 
 
 def is_optional(rows, given=""):
-    """Whether an object lacks the key of these rows unless an earlier variable has a number; `given` is known to hold."""
+    """Whether the key of these rows is there only under a condition, other than the one that is given."""
     shared = rows[1:] and rows[0].key == rows[1].key
     return bool(rows[0].when) and rows[0].when != given and not shared and not rows[-1].key.endswith("[]")
 
