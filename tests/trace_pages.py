@@ -60,7 +60,7 @@ def trace_part(trace, _):
 
 def places(rows):
     """The first bit of each row, as far as nothing of varying size comes before it."""
-    found, begun, at, is_inside = [], {}, 0, False
+    found, begun, at, is_inside = [], {}, 0, False  # begun: lists that are counted before, and NC_CDDIFF for NC_DIFF
     for row in rows:
         was_inside, is_inside = is_inside, any(row.key.startswith(f"{it}/") for it in begun)
         is_other = sum(row.key == it.key != "" for it in rows) > 1 and bool(row.when)

@@ -1,6 +1,7 @@
 """The table of variables, docs/assurance/trace.csv: its rows, the layouts that they belong to, and its words.
 
-A row is about a variable of one or more layouts, in the order of the bits, or, without a variable, about a layout:
+A row is about a variable of one or more layouts, in the order of the bits, or, without a variable, about a layout or a
+rule of findings:
 
 - `numbers`: those that are read, with the meaning of each; `counted` if only the count of what is read is.
 - `fault`: what any other number is refused as.
@@ -54,6 +55,10 @@ class Row(namedtuple("Row", COLUMNS)):
         kind, _, numbers = self.layouts.partition("s ") if ", " in self.layouts else (self.layouts, "", "")
         return [f"{kind} {it}" for it in numbers.split(", ")] if numbers else [kind]
 
+    def is_rule(self):
+        """Whether it is about a rule of findings, and not about bits."""
+        return self.layouts.startswith("rule ")
+
     def spans(self):
         """The numbers that are read, with their words."""
         found = [NUMBERS.fullmatch(it) for it in self.numbers.split("; ")] if self.numbers not in ("", COUNTED) else []
@@ -96,6 +101,7 @@ def write_rows(rows):
 
 def layouts_of(rows):
     """The rows of variables of each layout that the table has."""
+    rows = [it for it in rows if not it.is_rule()]
     found = {name: [] for it in rows if not it.variable for name in it.names()}
     for row in rows:
         for name in row.names():
