@@ -4,6 +4,7 @@ Nothing here is judged: bits are read that are a telegram, a message or a packet
 """
 import json
 import re
+import runpy
 import sys
 from collections import namedtuple
 from itertools import groupby
@@ -164,8 +165,13 @@ def check_cases(trace, tests):
     tests.equal("the layouts in packets.txt", {*met.values()}, wanted)
     text = re.search(r"(?s)\nLAYOUTS = \((.*?)\)", (TOP / "tests/documents.py").read_text(encoding="utf-8"))
     tests.equal("LAYOUTS of tests/documents.py", {met.get(it) for it in re.findall('"(.*?)"', text[1])}, wanted)
-    header = [(it.variable.lower(), int(it.bits)) for it in trace.layouts["header"]][1:]
-    tests.equal("HEADER of tests/cases.py", [it[:2] for it in cases.HEADER], header)
+    header = [(it.variable.lower(), int(it.bits)) for it in trace.layouts["header"]]
+    tests.equal("HEADER of tests/cases.py", [it[:2] for it in cases.HEADER], header[1:])
+    documents = runpy.run_path(str(TOP / "bench/documents.py"))
+    tests.equal("HEADER of bench/documents.py", [it[:2] for it in documents["HEADER"]], header)
+    for digits in documents["pair"](0, documents["ANY_MESSAGE"]):
+        numbers = [it["nid_packet"] for it in telegram(trace.layouts, digits).form()["packets"]]
+        tests.equal(f"bench/documents.py, {digits}", numbers, [12, 21, 27])
 
 
 def samples(trace):
