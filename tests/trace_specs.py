@@ -68,10 +68,6 @@ class Definition:
         head, _, body = self.text.partition(" = ")
         return head.split()[1:], body
 
-    def words(self):
-        """The words of its body."""
-        return re.findall(r"\w+", self.parts()[1])
-
     def names(self):
         """The variables that it is named by: those with which its comment begins, or itself."""
         found = re.match(rf"{NAME}(?:(?:, | and ){NAME})*", self.comment)
