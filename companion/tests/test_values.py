@@ -50,7 +50,7 @@ def _numbers(schema: Any, whole: Any) -> Iterator[int]:
     if "const" in schema:
         yield schema["const"]
     yield from schema.get("enum", [])
-    for part in schema.get("anyOf", []):
+    for part in schema.get("oneOf", []):
         yield from _numbers(part, whole)
     if "minimum" in schema:
         least, greatest = schema["minimum"], schema["maximum"]
