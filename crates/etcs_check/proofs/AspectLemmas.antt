@@ -15,7 +15,7 @@ use Rattle.etcs_group.proofs.MixtureLemmas.{mixtures_are_decided}
 use Rattle.etcs_check.specs.Soundness.{IsSoundGroup, IsSoundControlled, first_aspect}
 use Rattle.etcs_check.specs.Findings.{has_counter, is_counter_taken, mark_differs}
 use Rattle.etcs_check.specs.Aspects.{all_at, is_steady, has_aspect_counter, is_ambiguous}
-use Rattle.etcs_check.specs.Harm.{GroupWidePart}
+use Rattle.etcs_check.specs.Harm.{GroupPart}
 use Rattle.etcs_packet.specs.declared.run.Run.{Run}
 use Rattle.etcs_check.specs.Laws.{SoundMixturesAreDecided}
 use Rattle.etcs_check.specs.declared.finding.Rule.{Rule}
@@ -159,7 +159,7 @@ fresh-says aspects a u fresh k q t lt ht low same = elim (and_cases (ltb u.heade
 -- Each part of a group: of the group as a whole, and of each aspect.
 abbrev pub HasGroupParts : Type 0 → List (List Telegram) → Type 0
 HasGroupParts new aspects =
-    ((rule : Rule) (run : Option Run) (b k : Option ℕ) → GroupWidePart new aspects rule run b k)
+    ((rule : Rule) (run : Option Run) (b k : Option ℕ) → GroupPart new aspects rule run b k)
     × ((a : ℕ) (group : List Telegram) → At aspects a group → HasAspectParts aspects a group)
 
 module _ (new : Type 0) (aspects : List (List Telegram)) (controlled : IsControlled aspects) (parts : HasGroupParts new aspects) where
@@ -228,7 +228,7 @@ module _ (aspects : List (List Telegram)) (controlled : IsControlled aspects) (s
   pub group_parts : (new : Type 0) → new → HasGroupParts new aspects
   group_parts new is_new = (whole, aspect_parts)
     where
-      whole : (rule : Rule) (run : Option Run) (b k : Option ℕ) → GroupWidePart new aspects rule run b k
+      whole : (rule : Rule) (run : Option Run) (b k : Option ℕ) → GroupPart new aspects rule run b k
       whole rules.IdentityUsed None None None = is_new
       whole rules.NotToldApart None (Some b) None = λ many. (sound.one many).fixed_or_switched b
       whole rule run b k = tt

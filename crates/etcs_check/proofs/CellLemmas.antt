@@ -17,8 +17,8 @@ use Rattle.etcs_radio.specs.declared.message.Message.TheVariants as messages
 use Rattle.etcs_group.specs.Group.{Telegrams, Aspects}
 use Rattle.etcs_group.specs.Places.{At}
 use Rattle.etcs_check.specs.Aspects.{is_ambiguous, is_used, site_spot}
-use Rattle.etcs_check.specs.Line.{none_and, directions, cells_at, cells_of, group_cells, message_cells, group_findings, message_findings, group_at, group_list, message_at, message_list, findings}
-use Rattle.etcs_check.specs.Facts.{passes_at, packets_alone, packets_at, speech_of, speech_in, is_short_profile, packet_fact, aspect_fact, whole_fact, group_fact, message_fact, fact_at, States}
+use Rattle.etcs_check.specs.Line.{none_and, directions, rules_at, cells_at, cells_of, group_cells, message_cells, group_findings, message_findings, group_at, group_list, message_at, message_list, findings}
+use Rattle.etcs_check.specs.Facts.{passes_at, packets_alone, packets_at, speech_of, speech_in, is_short_profile, packet_fact, aspect_fact, whole_fact, group_fact, message_fact, fact_at, StatesFact}
 use Rattle.etcs_check.specs.Findings.{all_rules, balise_fact, finding_of, for_each, is_unmodelled, pair_differs}
 use Rattle.etcs_check.specs.Laws.{FindingsAreTheFactsInOrder}
 use Rattle.etcs_check.specs.Order.{site_order, site_place, rule_number, direction_order, none_first, order_of, is_of, by_rule, IsListOf}
@@ -73,19 +73,19 @@ module _ (spot : Spot) (count : ℕ) (packets : Option ℕ → List TrackPacket)
       let f = rising rule_number all_rules 1 refl i rule at in
       fact_block cell_order (to_rule run b k) n (rule_number rule) [] true (finding_of rule spot run b k) (f ∙ sym e) refl)
 
-  packets_block : (run : Option Run) (b : Option ℕ) → IsBlock cell_order (to_packet run b) 0 (0 + length (none_and (length (packets b)))) (flat_map (λ k. map (λ rule. finding_of rule spot run b k) all_rules) (none_and (length (packets b))))
-  packets_block run b = blocks cell_order (to_packet run b) (λ k. map (λ rule. finding_of rule spot run b k) all_rules) (none_and (length (packets b))) 0 (λ i n k e at.
+  packets_block : (run : Option Run) (b : Option ℕ) → IsBlock cell_order (to_packet run b) 0 (0 + length (none_and (length (packets b)))) (flat_map (rules_at spot run b) (none_and (length (packets b))))
+  packets_block run b = blocks cell_order (to_packet run b) (rules_at spot run b) (none_and (length (packets b))) 0 (λ i n k e at.
       let f = none_rising (length (packets b)) i k at in
       under cell_order (to_packet run b) n (none_first k) (f ∙ sym e) (cell_block run b k))
 
-  balises_block : (run : Option Run) → IsBlock cell_order (to_balise run) 0 (0 + length (none_and count)) (flat_map (λ b. flat_map (λ k. map (λ rule. finding_of rule spot run b k) all_rules) (none_and (length (packets b)))) (none_and count))
-  balises_block run = blocks cell_order (to_balise run) (λ b. flat_map (λ k. map (λ rule. finding_of rule spot run b k) all_rules) (none_and (length (packets b)))) (none_and count) 0 (λ i n b e at.
+  balises_block : (run : Option Run) → IsBlock cell_order (to_balise run) 0 (0 + length (none_and count)) (flat_map (λ b. flat_map (rules_at spot run b) (none_and (length (packets b)))) (none_and count))
+  balises_block run = blocks cell_order (to_balise run) (λ b. flat_map (rules_at spot run b) (none_and (length (packets b)))) (none_and count) 0 (λ i n b e at.
       let f = none_rising count i b at in
       under cell_order (to_balise run) n (none_first b) (f ∙ sym e) (packets_block run b))
 
   spot_block : IsBlock cell_order to_aspect (none_first spot.aspect) (suc (none_first spot.aspect)) (cells_at spot count packets)
   spot_block = under cell_order to_aspect (none_first spot.aspect) (none_first spot.aspect) refl
-      (blocks cell_order to_direction (λ run. flat_map (λ b. flat_map (λ k. map (λ rule. finding_of rule spot run b k) all_rules) (none_and (length (packets b)))) (none_and count)) directions 0 (λ i n run e at.
+      (blocks cell_order to_direction (λ run. flat_map (λ b. flat_map (rules_at spot run b) (none_and (length (packets b)))) (none_and count)) directions 0 (λ i n run e at.
       under cell_order to_direction n (direction_order run) (rising direction_order directions 0 refl i run at ∙ sym e) (balises_block run)))
 
 -- ---- sorted by rule
@@ -189,9 +189,9 @@ cell_listed spot count packets rule run b k h g =
     let p = in_range count b h in
     let q = in_range (length (packets b)) k g in
     let r = rules-listed (λ rule. finding_of rule spot run b k ∷ []) rule f (0, refl) in
-    let s = at-flat_map (λ k. map (λ rule. finding_of rule spot run b k) all_rules) (none_and (length (packets b))) q.0 k r.0 f q.1 r.1 in
-    let t = at-flat_map (λ b. flat_map (λ k. map (λ rule. finding_of rule spot run b k) all_rules) (none_and (length (packets b)))) (none_and count) p.0 b s.0 f p.1 s.1 in
-    at-flat_map (λ run. flat_map (λ b. flat_map (λ k. map (λ rule. finding_of rule spot run b k) all_rules) (none_and (length (packets b)))) (none_and count)) directions d.0 run t.0 f d.1 t.1
+    let s = at-flat_map (rules_at spot run b) (none_and (length (packets b))) q.0 k r.0 f q.1 r.1 in
+    let t = at-flat_map (λ b. flat_map (rules_at spot run b) (none_and (length (packets b)))) (none_and count) p.0 b s.0 f p.1 s.1 in
+    at-flat_map (λ run. flat_map (λ b. flat_map (rules_at spot run b) (none_and (length (packets b)))) (none_and count)) directions d.0 run t.0 f d.1 t.1
 
 -- a place at which something passes a test is one of the list, and a balise with a packet is one of the group
 place_of : {X : Type 0} (xs : List X) (i : ℕ) (test : X → Bool) → passes_at xs i test ≡ true → i < length xs
@@ -341,7 +341,7 @@ module _ (groups : List Aspects) (messages : List Message) where
       (sorted_block (sites.Message i) (message_block (sites.Message i) m) (of_message (sites.Message i) m)))) in
       (joined order_of [] {low = 0} {mid = 1} {high = 2} (omega arith) (omega arith) first second).ordered
 
-  pub each_fact_is_listed : (f : Finding) → States groups messages f → IsListed f (findings groups messages)
+  pub each_fact_is_listed : (f : Finding) → StatesFact groups messages f → IsListed f (findings groups messages)
   each_fact_is_listed f h = at f.site refl h
     where
       at : (s : Site) → f.site ≡ s → fact_at groups messages s f ≡ true → IsListed f (findings groups messages)
@@ -354,7 +354,7 @@ module _ (groups : List Aspects) (messages : List Message) where
           let l = each-listed message_at messages i r.0 f r.1 (message_listed (sites.Message i) r.0 f e r.2) in
           At-append_right (group_list groups) (message_list messages) l.0 f l.1
 
-  pub findings_state : (i : ℕ) (f : Finding) → At (findings groups messages) i f → States groups messages f
+  pub findings_state : (i : ℕ) (f : Finding) → At (findings groups messages) i f → StatesFact groups messages f
   findings_state i f h = elim (At-append_cases (group_list groups) (message_list messages) i f h) [
     | inl p ↦
         let r = each-at (group_at groups) groups i f p in

@@ -11,7 +11,7 @@ use Rattle.etcs_group.specs.Controlled.{IsControlled}
 use Rattle.etcs_check.specs.Aspects.{is_used}
 use Rattle.etcs_check.specs.Identities.{HasIdentity, identity_number}
 use Rattle.etcs_check.specs.Line.{findings, group_findings, group_list, message_at}
-use Rattle.etcs_check.specs.LineChecker.{HasChecked, Kept, TakesGroups, TakesMessages}
+use Rattle.etcs_check.specs.LineChecker.{CheckerState, HasChecked, TakesGroups, TakesMessages}
 use Rattle.etcs_check.specs.declared.finding.Finding.{Finding}
 use Rattle.etcs_check.specs.declared.finding.Site.TheVariants as sites
 use Rattle.etcs_check.proofs.IdentityLemmas.{kept_and, used-among}
@@ -25,7 +25,7 @@ pub unless_refused : {A E : Type 0} (r : Result A E) (P : Type 0) → is_err r �
 unless_refused (Ok x) P fine p = p
 unless_refused (Err e) P fine p = absurd (both_ways _ fine refl)
 
-taken : (old new : Kept) (g : List (List Telegram)) → IsControlled g → HasIdentity g
+taken : (old new : CheckerState) (g : List (List Telegram)) → IsControlled g → HasIdentity g
     → new.about_groups ≡ old.about_groups ++ group_findings (sites.Group old.groups) (contains nat_cmp old.identities (identity_number g)) g → new.about_messages ≡ old.about_messages
     → new.groups ≡ old.groups + 1 → new.messages ≡ old.messages → ((n : ℕ) → contains nat_cmp new.identities n ≡ (eqb (identity_number g) n || contains nat_cmp old.identities n))
     → TakesGroups old (g ∷ []) new
@@ -43,14 +43,14 @@ taken old new g controlled numbered found others count counted kept gs ms was =
     }
 
 -- a checker takes a group, where its identity and findings are known of an equal one
-pub group_taken : (old new : Kept) (h g : List (List Telegram)) → h ≡ g → IsControlled h → HasIdentity h
+pub group_taken : (old new : CheckerState) (h g : List (List Telegram)) → h ≡ g → IsControlled h → HasIdentity h
     → new.about_groups ≡ old.about_groups ++ group_findings (sites.Group old.groups) (contains nat_cmp old.identities (identity_number h)) h → new.about_messages ≡ old.about_messages
     → new.groups ≡ old.groups + 1 → new.messages ≡ old.messages → ((n : ℕ) → contains nat_cmp new.identities n ≡ (eqb (identity_number h) n || contains nat_cmp old.identities n))
     → TakesGroups old (g ∷ []) new
 group_taken old new h g is controlled numbered found others count counted kept =
     subst (λ x. TakesGroups old (x ∷ []) new) is (taken old new h controlled numbered found others count counted kept)
 
-pub message_taken : (old new : Kept) (m : Message) → new.about_messages ≡ old.about_messages ++ message_at old.messages m → new.about_groups ≡ old.about_groups
+pub message_taken : (old new : CheckerState) (m : Message) → new.about_messages ≡ old.about_messages ++ message_at old.messages m → new.about_groups ≡ old.about_groups
     → new.messages ≡ old.messages + 1 → new.groups ≡ old.groups → ((n : ℕ) → contains nat_cmp new.identities n ≡ contains nat_cmp old.identities n) → TakesMessages old (m ∷ []) new
 message_taken old new m found others count counted kept gs ms was = record {
   about_groups = others ∙ was.about_groups;
@@ -65,22 +65,22 @@ message_taken old new m found others count counted kept gs ms was = record {
 
 -- ---- what it has found
 
-pub held_findings : (held kept : Kept) (found : List Finding) (gs : List (List (List Telegram))) (ms : List Message) → held ≡ kept → found ≡ held.about_groups ++ held.about_messages → HasChecked kept gs ms → found ≡ findings gs ms
+pub held_findings : (held kept : CheckerState) (found : List Finding) (gs : List (List (List Telegram))) (ms : List Message) → held ≡ kept → found ≡ held.about_groups ++ held.about_messages → HasChecked kept gs ms → found ≡ findings gs ms
 held_findings held kept found gs ms same all was =
     all ∙ ap₂ ◌++◌ (ap (λ k. k.about_groups) same ∙ was.about_groups ∙ append-nil (group_list gs)) (ap (λ k. k.about_messages) same ∙ was.about_messages)
 
 -- ---- none, and others after some
 
-pub no_groups : (kept : Kept) → TakesGroups kept [] kept
+pub no_groups : (kept : CheckerState) → TakesGroups kept [] kept
 no_groups kept gs ms was = subst (λ l. HasChecked kept l ms) (sym (append-nil gs)) was
 
-pub no_messages : (kept : Kept) → TakesMessages kept [] kept
+pub no_messages : (kept : CheckerState) → TakesMessages kept [] kept
 no_messages kept gs ms was = subst (λ l. HasChecked kept gs l) (sym (append-nil ms)) was
 
-pub more_groups : (was kept is : Kept) (xs ys : List (List (List Telegram))) → TakesGroups was xs kept → TakesGroups kept ys is → TakesGroups was (xs ++ ys) is
+pub more_groups : (was kept is : CheckerState) (xs ys : List (List (List Telegram))) → TakesGroups was xs kept → TakesGroups kept ys is → TakesGroups was (xs ++ ys) is
 more_groups was kept is xs ys first then gs ms so =
     subst (λ l. HasChecked is l ms) (append_assoc gs xs ys) (then (gs ++ xs) ms (first gs ms so))
 
-pub more_messages : (was kept is : Kept) (xs ys : List Message) → TakesMessages was xs kept → TakesMessages kept ys is → TakesMessages was (xs ++ ys) is
+pub more_messages : (was kept is : CheckerState) (xs ys : List Message) → TakesMessages was xs kept → TakesMessages kept ys is → TakesMessages was (xs ++ ys) is
 more_messages was kept is xs ys first then gs ms so =
     subst (λ l. HasChecked is gs l) (append_assoc ms xs ys) (then gs (ms ++ xs) (first gs ms so))

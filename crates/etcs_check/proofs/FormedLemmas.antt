@@ -14,13 +14,13 @@ use Rattle.etcs_group.specs.Group.{named_by, partner_of, AreAlike}
 use Rattle.etcs_group.proofs.PlaceLemmas.{one_at}
 use Rattle.etcs_group.proofs.MarkLemmas.{partner-says, partner-is}
 use Rattle.etcs_check.specs.Duplicates.{same_identity}
-use Rattle.etcs_check.specs.Findings.{is_unlike, is_outside, differs_from, is_unanswered, first_counter, counter_differs}
+use Rattle.etcs_check.specs.Findings.{header_differs, is_outside, differs_from, is_unanswered, first_counter, counter_differs}
 use Rattle.etcs_check.proofs.NumberLemmas.{version_same, same_identity-says, same_identity-is}
 use Rattle.etcs_check.specs.Harm.{IsFirstCounted}
 
 -- ---- equal headers
 
-pub alike-says : (t first : Telegram) → is_unlike (Some first) t ≡ false → AreAlike t first
+pub alike-says : (t first : Telegram) → header_differs (Some first) t ≡ false → AreAlike t first
 alike-says t first h =
     let p = and_parts (eqb (version_number t.header.version) (version_number first.header.version)) _ (not-false _ h) in
     let q = and_parts (same_identity t.header.identity first.header.identity) (beq t.header.linked first.header.linked) p.1 in
@@ -30,7 +30,7 @@ alike-says t first h =
       linked = (booleans_Decides t.header.linked first.header.linked).0 q.1;
     }
 
-alike-is : (t first : Telegram) → AreAlike t first → is_unlike (Some first) t ≡ false
+alike-is : (t first : Telegram) → AreAlike t first → header_differs (Some first) t ≡ false
 alike-is t first a =
     not_from_true _ (and_from _ _ (eq-eqb _ _ (ap version_number a.version))
     (and_from _ _ (same_identity-is _ _ a.identity) ((booleans_Decides t.header.linked first.header.linked).1 a.linked)))
@@ -79,10 +79,10 @@ counter-says group t one lt = elim (and_cases (ltb t.header.counter 254) (differ
 -- ---- a part that holds, so no fact
 
 -- a telegram like balise 0 of aspect 0, if there is one
-pub alike_first : (first : List Telegram) (t : Telegram) → ((f : Telegram) → At first 0 f → AreAlike t f) → is_unlike (slice_get first 0) t ≡ false
+pub alike_first : (first : List Telegram) (t : Telegram) → ((f : Telegram) → At first 0 f → AreAlike t f) → header_differs (slice_get first 0) t ≡ false
 alike_first first t h = go (slice_get first 0) refl
   where
-    go : (o : Option Telegram) → slice_get first 0 ≡ o → is_unlike o t ≡ false
+    go : (o : Option Telegram) → slice_get first 0 ≡ o → header_differs o t ≡ false
     go None e = refl
     go (Some f) e = alike-is t f (h f e)
 

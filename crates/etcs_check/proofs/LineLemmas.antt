@@ -20,7 +20,7 @@ use Rattle.etcs_group.specs.Controlled.{IsControlled}
 use Rattle.etcs_check.specs.Aspects.{is_used}
 use Rattle.etcs_check.specs.Facts.{aspect_fact, whole_fact, group_fact, message_fact, fact_at}
 use Rattle.etcs_check.specs.Findings.{each_from}
-use Rattle.etcs_check.specs.Harm.{IsLong, IsNew, GroupWidePart, PacketsPart, MessagePart, NamesAspect}
+use Rattle.etcs_check.specs.Harm.{IsLong, IsNew, GroupPart, PacketsPart, MessagePart, NamesAspect}
 use Rattle.etcs_check.specs.Laws.{AreControlled, NoFindingMeansSoundLine}
 use Rattle.etcs_check.specs.Line.{group_findings, group_at, group_list, message_at, message_list, findings}
 use Rattle.etcs_check.specs.Profiles.{gradient_reach, speed_reach}
@@ -45,7 +45,7 @@ module _ (new : Type 0) (used : Bool) (aspects : List (List Telegram)) (controll
   pub silent_sound : (used ≡ false → new) → HasNoGroupFact used aspects → IsSoundControlled aspects × new
   silent_sound is_new none = (sound_group new aspects controlled (whole, λ a group at rule run b k. aspect_holds aspects a group rule run b k (aspect_silent a group at rule run b k)), whole rules.IdentityUsed None None None)
     where
-      whole : (rule : Rule) (run : Option Run) (b k : Option ℕ) → GroupWidePart new aspects rule run b k
+      whole : (rule : Rule) (run : Option Run) (b k : Option ℕ) → GroupPart new aspects rule run b k
       whole rule run b k = whole_holds new used aspects controlled is_new rule run b k (or_parts (whole_fact used aspects rule run b k) _ (none rule None run b k)).0
 
       name : (a : ℕ) → (aspect : Option ℕ) × NamesAspect aspects a aspect

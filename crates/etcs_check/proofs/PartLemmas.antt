@@ -15,10 +15,10 @@ use Rattle.etcs_group.specs.Packets.{is_silent, said_by}
 use Rattle.etcs_group.specs.Controlled.{IsControlled}
 use Rattle.etcs_check.specs.Profiles.{gradient_reach, speed_reach}
 use Rattle.etcs_check.specs.Soundness.{first_aspect}
-use Rattle.etcs_check.specs.Findings.{is_unlike, mark_differs, balise_fact, pair_differs, is_unmodelled}
+use Rattle.etcs_check.specs.Findings.{header_differs, mark_differs, balise_fact, pair_differs, is_unmodelled}
 use Rattle.etcs_check.specs.Aspects.{is_ambiguous}
 use Rattle.etcs_check.specs.Facts.{passes_at, packets_at, speech_of, speech_in, is_short_profile, packet_fact, aspect_fact, whole_fact, message_fact}
-use Rattle.etcs_check.specs.Harm.{AspectPart, GroupWidePart, PacketsPart, MessagePart, IsLongAt}
+use Rattle.etcs_check.specs.Harm.{AspectPart, GroupPart, PacketsPart, MessagePart, IsLongAt}
 use Rattle.etcs_check.specs.declared.finding.Rule.{Rule}
 use Rattle.etcs_check.specs.declared.finding.Rule.TheVariants as rules
 use Rattle.etcs_check.proofs.FactLemmas.{passes_as, failing, packet_stands, packet_as, profile_as, none_short}
@@ -58,7 +58,7 @@ module _ (aspects : List (List Telegram)) (a : ℕ) (group : List Telegram) wher
   pub aspect_holds : (rule : Rule) (run : Option Run) (b k : Option ℕ) → aspect_fact (first_aspect aspects) (take a aspects) group rule run b k ≡ false → AspectPart aspects a group rule run b k
   aspect_holds rules.PositionWrong None (Some b) None none = λ t here. eqb-true _ _ (not-false _ (at rules.PositionWrong b none t here))
   aspect_holds rules.TotalWrong None (Some b) None none = λ t here. eqb-true _ _ (not-false _ (at rules.TotalWrong b none t here))
-  aspect_holds rules.HeaderDiffers None (Some b) None none = λ t first here at0. alike-says t first (ap (λ o. is_unlike o t) (sym at0) ∙ at rules.HeaderDiffers b none t here)
+  aspect_holds rules.HeaderDiffers None (Some b) None none = λ t first here at0. alike-says t first (ap (λ o. header_differs o t) (sym at0) ∙ at rules.HeaderDiffers b none t here)
   aspect_holds rules.MarkOutside None (Some b) None none = λ t here. inside-says group b t here (at rules.MarkOutside b none t here)
   aspect_holds rules.MarkUnanswered None (Some b) None none = answered-says group b (at rules.MarkUnanswered b none)
   aspect_holds rules.CounterUnfit None (Some b) None none = λ t here. eqb-false _ _ (at rules.CounterUnfit b none t here)
@@ -107,13 +107,13 @@ module _ (aspects : List (List Telegram)) (a : ℕ) (group : List Telegram) wher
 -- ---- a group as a whole
 
 module _ (new : Type 0) (used : Bool) (aspects : List (List Telegram)) (controlled : IsControlled aspects) where
-  pub whole_holds : (used ≡ false → new) → (rule : Rule) (run : Option Run) (b k : Option ℕ) → whole_fact used aspects rule run b k ≡ false → GroupWidePart new aspects rule run b k
+  pub whole_holds : (used ≡ false → new) → (rule : Rule) (run : Option Run) (b k : Option ℕ) → whole_fact used aspects rule run b k ≡ false → GroupPart new aspects rule run b k
   whole_holds is_new rules.IdentityUsed None None None none = is_new none
   whole_holds is_new rules.NotToldApart None (Some b) None none = λ many.
       told_place aspects controlled many b (λ f at. sym (passes_as (first_aspect aspects) b (is_ambiguous aspects b) f at) ∙ none)
   whole_holds is_new rule run b k none = tt
 
-  pub whole_unbroken : (new → used ≡ false) → (rule : Rule) (run : Option Run) (b k : Option ℕ) → GroupWidePart new aspects rule run b k → whole_fact used aspects rule run b k ≡ false
+  pub whole_unbroken : (new → used ≡ false) → (rule : Rule) (run : Option Run) (b k : Option ℕ) → GroupPart new aspects rule run b k → whole_fact used aspects rule run b k ≡ false
   whole_unbroken unused rules.IdentityUsed None None None part = unused part
   whole_unbroken unused rules.NotToldApart None (Some b) None part = failing (first_aspect aspects) b (is_ambiguous aspects b) (λ t at. untold-is aspects controlled b t at part)
   whole_unbroken unused rule run b k part = refl

@@ -14,10 +14,10 @@ use Rattle.etcs_group.specs.Group.{Telegrams, Aspects}
 use Rattle.etcs_group.specs.Packets.{is_silent, said_by}
 use Rattle.etcs_group.specs.Places.{At}
 use Rattle.etcs_check.specs.Aspects.{is_ambiguous, site_spot}
-use Rattle.etcs_check.specs.Line.{none_and, directions, cells_at, cells_of, group_cells}
+use Rattle.etcs_check.specs.Line.{none_and, directions, rules_at, cells_at, cells_of, group_cells}
 use Rattle.etcs_check.specs.Walk.{unmodelled_at, unmodelled_in, ambiguous_at, pair_at}
 use Rattle.etcs_check.specs.Facts.{passes_at, packets_at, packets_alone, speech_in, is_short_profile, packet_fact, aspect_fact, whole_fact, fact_of_aspect, group_fact}
-use Rattle.etcs_check.specs.Findings.{all_rules, balise_fact, finding_of, for_each, for_directions, is_short_said, is_unmodelled, lacks, noted, pair_differs}
+use Rattle.etcs_check.specs.Findings.{all_rules, balise_fact, finding_of, for_each, for_directions, is_said_and_short, is_unmodelled, lacks, noted, pair_differs}
 use Rattle.etcs_check.specs.Profiles.{gradient_reach, speed_reach}
 use Rattle.etcs_check.specs.Soundness.{first_aspect}
 use Rattle.etcs_check.specs.declared.finding.Finding.{Finding}
@@ -57,9 +57,6 @@ each_place p f xs =
 
 -- ---- what a walk over the cells of a spot finds, where it is known at each place
 
-abbrev pub about : Spot → Option Run → Option ℕ → Option ℕ → List Finding
-about spot run b k = map (λ rule. finding_of rule spot run b k) all_rules
-
 pub record Leaves (p : Finding → Bool) (spot : Spot) (group : Telegrams) : Type 0 where
   pub lead : List Finding
   pub own : ℕ → Telegram → List Finding
@@ -67,22 +64,22 @@ pub record Leaves (p : Finding → Bool) (spot : Spot) (group : Telegrams) : Typ
   pub said : Run → List Finding
   pub pair : Run → ℕ → Telegram → List Finding
   pub profile : Run → ℕ → Telegram → ℕ → TrackPacket → List Finding
-  pub at_none : filter p (about spot None None None) ≡ lead
-  pub at_balise : (b : ℕ) (t : Telegram) → At group b t → filter p (about spot None (Some b) None) ≡ own b t
-  pub at_packet : (b : ℕ) (t : Telegram) (k : ℕ) (q : TrackPacket) → At group b t → At t.packets k q → filter p (about spot None (Some b) (Some k)) ≡ packet b k q
-  pub at_said : (run : Run) → filter p (about spot (Some run) None None) ≡ said run
-  pub at_pair : (run : Run) (b : ℕ) (t : Telegram) → At group b t → filter p (about spot (Some run) (Some b) None) ≡ pair run b t
-  pub at_profile : (run : Run) (b : ℕ) (t : Telegram) (k : ℕ) (q : TrackPacket) → At group b t → At t.packets k q → filter p (about spot (Some run) (Some b) (Some k)) ≡ profile run b t k q
+  pub at_none : filter p (rules_at spot None None None) ≡ lead
+  pub at_balise : (b : ℕ) (t : Telegram) → At group b t → filter p (rules_at spot None (Some b) None) ≡ own b t
+  pub at_packet : (b : ℕ) (t : Telegram) (k : ℕ) (q : TrackPacket) → At group b t → At t.packets k q → filter p (rules_at spot None (Some b) (Some k)) ≡ packet b k q
+  pub at_said : (run : Run) → filter p (rules_at spot (Some run) None None) ≡ said run
+  pub at_pair : (run : Run) (b : ℕ) (t : Telegram) → At group b t → filter p (rules_at spot (Some run) (Some b) None) ≡ pair run b t
+  pub at_profile : (run : Run) (b : ℕ) (t : Telegram) (k : ℕ) (q : TrackPacket) → At group b t → At t.packets k q → filter p (rules_at spot (Some run) (Some b) (Some k)) ≡ profile run b t k q
 
 module _ (p : Finding → Bool) (spot : Spot) (group : Telegrams) (leaves : Leaves p spot group) where
   -- a balise, and then its packets
-  at_place : (run : Option Run) (b : ℕ) (t : Telegram) → At group b t → (own : List Finding) (each : ℕ → TrackPacket → List Finding) → filter p (about spot run (Some b) None) ≡ own
-      → ((k : ℕ) (q : TrackPacket) → At t.packets k q → filter p (about spot run (Some b) (Some k)) ≡ each k q)
-      → filter p (flat_map (about spot run (Some b)) (none_and (length (packets_at group (Some b))))) ≡ own ++ for_each t.packets each
+  at_place : (run : Option Run) (b : ℕ) (t : Telegram) → At group b t → (own : List Finding) (each : ℕ → TrackPacket → List Finding) → filter p (rules_at spot run (Some b) None) ≡ own
+      → ((k : ℕ) (q : TrackPacket) → At t.packets k q → filter p (rules_at spot run (Some b) (Some k)) ≡ each k q)
+      → filter p (flat_map (rules_at spot run (Some b)) (none_and (length (packets_at group (Some b))))) ≡ own ++ for_each t.packets each
   at_place run b t at own each e h =
-      ap (λ l. filter p (flat_map (about spot run (Some b)) (none_and (length l)))) (packets_as group b t at)
-      ∙ each_place p (about spot run (Some b)) t.packets
-      ∙ ap₂ ◌++◌ e (for_each-same (λ k q. filter p (about spot run (Some b) (Some k))) each t.packets h)
+      ap (λ l. filter p (flat_map (rules_at spot run (Some b)) (none_and (length l)))) (packets_as group b t at)
+      ∙ each_place p (rules_at spot run (Some b)) t.packets
+      ∙ ap₂ ◌++◌ e (for_each-same (λ k q. filter p (rules_at spot run (Some b) (Some k))) each t.packets h)
 
   abbrev pub direction_walk : Run → List Finding
   direction_walk run = leaves.said run ++ for_each group (λ b t. leaves.pair run b t ++ for_each t.packets (leaves.profile run b t))
@@ -90,17 +87,17 @@ module _ (p : Finding → Bool) (spot : Spot) (group : Telegrams) (leaves : Leav
   abbrev pub alone_walk : List Finding
   alone_walk = leaves.lead ++ for_each group (λ b t. leaves.own b t ++ for_each t.packets (leaves.packet b))
 
-  in_direction : (run : Run) → filter p (flat_map (λ b. flat_map (about spot (Some run) b) (none_and (length (packets_at group b)))) (none_and (length group))) ≡ direction_walk run
-  in_direction run = each_place p (λ b. flat_map (about spot (Some run) b) (none_and (length (packets_at group b)))) group
+  in_direction : (run : Run) → filter p (flat_map (λ b. flat_map (rules_at spot (Some run) b) (none_and (length (packets_at group b)))) (none_and (length group))) ≡ direction_walk run
+  in_direction run = each_place p (λ b. flat_map (rules_at spot (Some run) b) (none_and (length (packets_at group b)))) group
       ∙ ap₂ ◌++◌ (leaves.at_said run) (for_each-same _ _ group (λ b t at. at_place (Some run) b t at (leaves.pair run b t) (leaves.profile run b t) (leaves.at_pair run b t at) (λ k q at'. leaves.at_profile run b t k q at at')))
 
-  in_none : filter p (flat_map (λ b. flat_map (about spot None b) (none_and (length (packets_at group b)))) (none_and (length group))) ≡ alone_walk
-  in_none = each_place p (λ b. flat_map (about spot None b) (none_and (length (packets_at group b)))) group
+  in_none : filter p (flat_map (λ b. flat_map (rules_at spot None b) (none_and (length (packets_at group b)))) (none_and (length group))) ≡ alone_walk
+  in_none = each_place p (λ b. flat_map (rules_at spot None b) (none_and (length (packets_at group b)))) group
       ∙ ap₂ ◌++◌ leaves.at_none (for_each-same _ _ group (λ b t at. at_place None b t at (leaves.own b t) (leaves.packet b) (leaves.at_balise b t at) (λ k q at'. leaves.at_packet b t k q at at')))
 
   pub walk_of_cells : filter p (cells_of spot group) ≡ alone_walk ++ for_directions direction_walk
   walk_of_cells =
-      let cells = λ (run : Option Run). flat_map (λ b. flat_map (about spot run b) (none_and (length (packets_at group b)))) (none_and (length group)) in
+      let cells = λ (run : Option Run). flat_map (λ b. flat_map (rules_at spot run b) (none_and (length (packets_at group b)))) (none_and (length group)) in
       filter-flat_map p cells directions
       ∙ (λ i. in_none i ++ (in_direction runs.Nominal i ++ (in_direction runs.Reverse i ++ [])))
       ∙ ap (λ l. alone_walk ++ (direction_walk runs.Nominal ++ l)) (append-nil (direction_walk runs.Reverse))
@@ -117,8 +114,8 @@ lack_test said rules.NoSpeed = lacks speed_reach said
 lack_test said rule = false
 
 abbrev pub short_test : List TrackPacket → Run → Bool → TrackPacket → Rule → Bool
-short_test said run silent q rules.GradientShort = is_short_said gradient_reach said run silent q
-short_test said run silent q rules.SpeedShort = is_short_said speed_reach said run silent q
+short_test said run silent q rules.GradientShort = is_said_and_short gradient_reach said run silent q
+short_test said run silent q rules.SpeedShort = is_said_and_short speed_reach said run silent q
 short_test said run silent q rule = false
 
 abbrev pub lacks_noted : Spot → Run → List TrackPacket → List Finding
@@ -126,21 +123,21 @@ lacks_noted spot run said = noted (lacks gradient_reach said) (finding_of rules.
     ++ noted (lacks speed_reach said) (finding_of rules.NoSpeed spot (Some run) None None)
 
 abbrev pub shorts_noted : Spot → Run → List TrackPacket → Bool → Option ℕ → ℕ → TrackPacket → List Finding
-shorts_noted spot run said silent b k q = noted (is_short_said gradient_reach said run silent q) (finding_of rules.GradientShort spot (Some run) b (Some k))
-    ++ noted (is_short_said speed_reach said run silent q) (finding_of rules.SpeedShort spot (Some run) b (Some k))
+shorts_noted spot run said silent b k q = noted (is_said_and_short gradient_reach said run silent q) (finding_of rules.GradientShort spot (Some run) b (Some k))
+    ++ noted (is_said_and_short speed_reach said run silent q) (finding_of rules.SpeedShort spot (Some run) b (Some k))
 
 module _ (p : Finding → Bool) (spot : Spot) where
-  pub packet_leaf : (b : Option ℕ) (k : ℕ) (q : TrackPacket) → ((rule : Rule) → p (finding_of rule spot None b (Some k)) ≡ unmodelled_test q rule) → filter p (about spot None b (Some k)) ≡ unmodelled_at spot b k q
+  pub packet_leaf : (b : Option ℕ) (k : ℕ) (q : TrackPacket) → ((rule : Rule) → p (finding_of rule spot None b (Some k)) ≡ unmodelled_test q rule) → filter p (rules_at spot None b (Some k)) ≡ unmodelled_at spot b k q
   packet_leaf b k q same = filter-rules p (λ rule. finding_of rule spot None b (Some k)) (unmodelled_test q) same all_rules ∙ append-nil _
 
-  pub said_leaf : (run : Run) (said : List TrackPacket) → ((rule : Rule) → p (finding_of rule spot (Some run) None None) ≡ lack_test said rule) → filter p (about spot (Some run) None None) ≡ lacks_noted spot run said
+  pub said_leaf : (run : Run) (said : List TrackPacket) → ((rule : Rule) → p (finding_of rule spot (Some run) None None) ≡ lack_test said rule) → filter p (rules_at spot (Some run) None None) ≡ lacks_noted spot run said
   said_leaf run said same = filter-rules p (λ rule. finding_of rule spot (Some run) None None) (lack_test said) same all_rules
       ∙ ap (λ l. noted (lacks gradient_reach said) (finding_of rules.NoGradient spot (Some run) None None) ++ l) (append-nil _)
 
   pub profile_leaf : (run : Run) (said : List TrackPacket) (silent : Bool) (b : Option ℕ) (k : ℕ) (q : TrackPacket) → ((rule : Rule) → p (finding_of rule spot (Some run) b (Some k)) ≡ short_test said run silent q rule)
-      → filter p (about spot (Some run) b (Some k)) ≡ shorts_noted spot run said silent b k q
+      → filter p (rules_at spot (Some run) b (Some k)) ≡ shorts_noted spot run said silent b k q
   profile_leaf run said silent b k q same = filter-rules p (λ rule. finding_of rule spot (Some run) b (Some k)) (short_test said run silent q) same all_rules
-      ∙ ap (λ l. noted (is_short_said gradient_reach said run silent q) (finding_of rules.GradientShort spot (Some run) b (Some k)) ++ l) (append-nil _)
+      ∙ ap (λ l. noted (is_said_and_short gradient_reach said run silent q) (finding_of rules.GradientShort spot (Some run) b (Some k)) ++ l) (append-nil _)
 
 -- ---- an aspect
 
@@ -172,13 +169,13 @@ module _ (first : Telegrams) (before : Aspects) (group : Telegrams) where
   says_profile run b t k q at at' rules.SpeedShort = profile_as speed_reach group run b k t q at at'
   says_profile run b t k q at at' rule = refl
 
-  -- no rule of an aspect is about no place
+  -- no rule of an aspect is rules_at no place
   pub says_none : (rule : Rule) → aspect_fact first before group rule None None None ≡ false
   says_none rules.PositionWrong = refl
   says_none rule = refl
 
   -- a test that says the same of each place but none
-  abbrev pub leaves_of : (p : Finding → Bool) (spot : Spot) (lead : List Finding) → filter p (about spot None None None) ≡ lead
+  abbrev pub leaves_of : (p : Finding → Bool) (spot : Spot) (lead : List Finding) → filter p (rules_at spot None None None) ≡ lead
       → ((rule : Rule) (b : ℕ) (k : Option ℕ) → p (finding_of rule spot None (Some b) k) ≡ aspect_fact first before group rule None (Some b) k)
       → ((rule : Rule) (run : Run) (b k : Option ℕ) → p (finding_of rule spot (Some run) b k) ≡ aspect_fact first before group rule (Some run) b k) → Leaves p spot group
   leaves_of p spot lead none alone directed = record {
@@ -216,23 +213,23 @@ module _ (p : Finding → Bool) (spot : Spot) (packets : List TrackPacket) (same
   profile_says run k q at rules.SpeedShort = passes_as packets k (is_short_profile speed_reach (speech_in packets) run None) q at
   profile_says run k q at rule = refl
 
-  cells_in : (run : Option Run) → filter p (flat_map (about spot run None) (none_and (length packets)) ++ []) ≡ filter p (about spot run None None) ++ for_each packets (λ k q. filter p (about spot run None (Some k)))
-  cells_in run = ap (filter p) (append-nil (flat_map (about spot run None) (none_and (length packets)))) ∙ each_place p (about spot run None) packets
+  cells_in : (run : Option Run) → filter p (flat_map (rules_at spot run None) (none_and (length packets)) ++ []) ≡ filter p (rules_at spot run None None) ++ for_each packets (λ k q. filter p (rules_at spot run None (Some k)))
+  cells_in run = ap (filter p) (append-nil (flat_map (rules_at spot run None) (none_and (length packets)))) ∙ each_place p (rules_at spot run None) packets
 
   abbrev pub packets_walk : Run → List Finding
   packets_walk run = lacks_noted spot run (filter (holds run) packets) ++ for_each packets (shorts_noted spot run (filter (holds run) packets) false None)
 
-  none_walk : filter p (flat_map (about spot None None) (none_and (length packets)) ++ []) ≡ unmodelled_in spot None packets
+  none_walk : filter p (flat_map (rules_at spot None None) (none_and (length packets)) ++ []) ≡ unmodelled_in spot None packets
   none_walk = cells_in None ∙ ap₂ ◌++◌ (filter-rules p (λ rule. finding_of rule spot None None None) (λ rule. false) (λ rule. same rule None None None ∙ no_rule rule) all_rules)
       (for_each-same _ (unmodelled_at spot None) packets (λ k q at. packet_leaf p spot None k q (λ rule. same rule None None (Some k) ∙ packet_says k q at rule)))
 
-  run_walk : (run : Run) → filter p (flat_map (about spot (Some run) None) (none_and (length packets)) ++ []) ≡ packets_walk run
+  run_walk : (run : Run) → filter p (flat_map (rules_at spot (Some run) None) (none_and (length packets)) ++ []) ≡ packets_walk run
   run_walk run = cells_in (Some run) ∙ ap₂ ◌++◌ (said_leaf p spot run (filter (holds run) packets) (λ rule. same rule (Some run) None None ∙ said_says run rule))
       (for_each-same _ (shorts_noted spot run (filter (holds run) packets) false None) packets (λ k q at. profile_leaf p spot run (filter (holds run) packets) false None k q (λ rule. same rule (Some run) None (Some k) ∙ profile_says run k q at rule)))
 
   pub walk_of_packets : filter p (cells_at spot 0 (packets_alone packets)) ≡ unmodelled_in spot None packets ++ for_directions packets_walk
   walk_of_packets =
-      filter-flat_map p (λ run. flat_map (about spot run None) (none_and (length packets)) ++ []) directions
+      filter-flat_map p (λ run. flat_map (rules_at spot run None) (none_and (length packets)) ++ []) directions
       ∙ (λ i. none_walk i ++ (run_walk runs.Nominal i ++ (run_walk runs.Reverse i ++ [])))
       ∙ ap (λ l. unmodelled_in spot None packets ++ (packets_walk runs.Nominal ++ l)) (append-nil (packets_walk runs.Reverse))
 
@@ -271,7 +268,7 @@ module _ (used : Bool) (aspects : Aspects) (site : Site) where
     few_directed rules.PositionWrong run b k = few_is rules.PositionWrong (Some run) b k
     few_directed rule run b k = few_is rule (Some run) b k
 
-    pub few_none : filter of_group (about (site_spot site) None None None) ≡ identity
+    pub few_none : filter of_group (rules_at (site_spot site) None None None) ≡ identity
     few_none = filter-rules of_group (λ rule. finding_of rule (site_spot site) None None None) identity_test same all_rules ∙ append-nil identity
       where
         silent : (rule : Rule) → (not (ltb 1 (length aspects)) && fact_of_aspect aspects 0 rule None None None) ≡ false

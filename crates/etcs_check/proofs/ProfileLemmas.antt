@@ -17,7 +17,7 @@ use Rattle.etcs_packet.specs.Track.{track_number}
 use Rattle.etcs_packet.specs.declared.track.TrackPacket.TheVariants as packets
 use Rattle.etcs_check.specs.Profiles.{gradient_reach, speed_reach, limit_of, Reaches, HasProfiles}
 use Rattle.etcs_check.specs.Harm.{HasProfile, IsLong, IsLongAt}
-use Rattle.etcs_check.specs.Findings.{lacks, lies_past, goes_past, is_short, is_short_said}
+use Rattle.etcs_check.specs.Findings.{lacks, lies_past, goes_past, is_short, is_said_and_short}
 use Rattle.etcs_check.proofs.MemberLemmas.{said-site, site-said}
 
 some_is : {X : Type 0} (o : Option X) (x : X) → o ≡ Some x → is_some o ≡ true
@@ -100,11 +100,11 @@ profiles-long reach packets h j p at r has i a limit at_a is = (h i a limit at_a
 not_short : {silent held short : Bool} → silent ≡ false → held ≡ true → (not silent && (held && short)) ≡ false → short ≡ false
 not_short e f h = rw (e, f) at h
 
-pub at-long : (reach : TrackPacket → Option Reach) (said : List TrackPacket) (run : Run) (silent : Bool) (p : TrackPacket) → is_short_said reach said run silent p ≡ false
+pub at-long : (reach : TrackPacket → Option Reach) (said : List TrackPacket) (run : Run) (silent : Bool) (p : TrackPacket) → is_said_and_short reach said run silent p ≡ false
     → silent ≡ false → holds run p ≡ true → IsLong reach said p
 at-long reach said run silent p short speaks held = short-says reach said p (not_short speaks held short)
 
-pub long-at : (reach : TrackPacket → Option Reach) (said : List TrackPacket) (run : Run) (silent : Bool) (p : TrackPacket) → (silent ≡ false → holds run p ≡ true → IsLong reach said p) → is_short_said reach said run silent p ≡ false
+pub long-at : (reach : TrackPacket → Option Reach) (said : List TrackPacket) (run : Run) (silent : Bool) (p : TrackPacket) → (silent ≡ false → holds run p ≡ true → IsLong reach said p) → is_said_and_short reach said run silent p ≡ false
 long-at reach said run silent p long = elim (cases_Bool silent) [
   | inl mute ↦ and_left _ _ (not_from_true _ mute)
   | inr speaks ↦ elim (cases_Bool (holds run p)) [

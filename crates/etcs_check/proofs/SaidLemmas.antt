@@ -19,7 +19,7 @@ use Rattle.etcs_telegram.specs.Record.{Telegram}
 use Rattle.etcs_check.specs.Findings.{lies_past, goes_past, is_short, lacks}
 use Rattle.etcs_check.specs.Profiles.{limit_of, gradient_reach, speed_reach}
 use Rattle.etcs_check.specs.Said.{greater, is_before, nothing, both, by_one, said_in}
-use Rattle.etcs_check.specs.declared.walk.Said.{Said}
+use Rattle.etcs_check.specs.declared.said.Said.{Said}
 use Rattle.etcs_check.proofs.NoteLemmas.{drop_at}
 
 -- ---- sums, which may be made in any order

@@ -7,11 +7,11 @@ use Rattle.etcs_group.specs.Places.{At}
 use Rattle.etcs_check.specs.Harm.{Hurts}
 use Rattle.etcs_check.specs.Laws.{AreControlled, NamesTheUnsound}
 use Rattle.etcs_check.specs.Line.{findings, group_list, message_list}
-use Rattle.etcs_check.specs.Facts.{States}
+use Rattle.etcs_check.specs.Order.{IsListOf}
 use Rattle.etcs_check.specs.Soundness.{IsSoundLine}
 use Rattle.etcs_check.specs.declared.finding.Finding.{Finding}
 use Rattle.etcs_check.proofs.LineLemmas.{no_finding_means_sound_line}
-use Rattle.etcs_check.proofs.CellLemmas.{each_fact_is_listed}
+use Rattle.etcs_check.proofs.CellLemmas.{findings_are_the_facts_in_order}
 use Rattle.etcs_check.proofs.HarmLemmas.{findings_are_facts}
 use Rattle.etcs_check.proofs.NamedLemmas.{unnamed_means_sound}
 
@@ -22,18 +22,18 @@ findings_noted none some all gs groups ms messages empty first then are others =
     then ∙ ap (λ l. l ++ message_list ms) (first ∙ ap (λ l. l ++ group_list gs) empty) ∙ ap₂ findings are others
 
 module _ (groups : List (List (List Telegram))) (messages : List Message) (found : List Finding) (is : found ≡ findings groups messages) where
-  -- each fact has its finding
-  pub found_all : (f : Finding) → States groups messages f → (i : ℕ) × At found i f
-  found_all f fact = let r = each_fact_is_listed groups messages f fact in (r.0, subst (λ l. At l r.0 f) (sym is) r.1)
+  -- each fact has its finding, in order
+  pub found_list : IsListOf groups messages found
+  found_list = (findings_are_the_facts_in_order groups messages found).0 is
 
   module _ (controlled : AreControlled groups) where
     -- there is no finding if and only if the line is sound
     pub found_sound : (found ≡ []) ↔ IsSoundLine groups messages
     found_sound = let law = no_finding_means_sound_line groups messages controlled in (λ none. law.0 (sym is ∙ none), λ sound. is ∙ law.1 sound)
 
-    -- each finding is a fact, and hurts
-    pub found_facts : (i : ℕ) (f : Finding) → At found i f → States groups messages f × Hurts groups messages f
-    found_facts i f at = let r = findings_are_facts groups messages i f (subst (λ l. At l i f) is at) in (r.0, r.1 controlled)
+    -- each finding hurts
+    pub found_hurts : (i : ℕ) (f : Finding) → At found i f → Hurts groups messages f
+    found_hurts i f at = (findings_are_facts groups messages i f (subst (λ l. At l i f) is at)).1 controlled
 
     -- each names its group or its message
     pub found_unnamed : NamesTheUnsound groups messages found

@@ -11,7 +11,7 @@ use Rattle.etcs_radio.specs.declared.message.Message.TheVariants as messages
 use Rattle.etcs_group.specs.Group.{Telegrams, Aspects}
 use Rattle.etcs_group.specs.Packets.{is_silent, said_by}
 use Rattle.etcs_check.specs.Aspects.{is_used, is_ambiguous}
-use Rattle.etcs_check.specs.Findings.{balise_fact, pair_differs, is_unmodelled, lacks, is_short_said}
+use Rattle.etcs_check.specs.Findings.{balise_fact, pair_differs, is_unmodelled, lacks, is_said_and_short}
 use Rattle.etcs_check.specs.Profiles.{gradient_reach, speed_reach}
 use Rattle.etcs_check.specs.Soundness.{first_aspect}
 use Rattle.etcs_check.specs.declared.finding.Finding.{Finding}
@@ -27,24 +27,25 @@ passes_at xs i test = option_map_or test (slice_get xs i) false
 -- ---- packets, and what is said
 
 -- Who speaks: the balises of an aspect, each by its place, or a message, by no place. `packets` are those of a
--- speaker, `said` are those that are said in a running direction, by all that speak.
+-- speaker, `silent` says whether it is silent in a running direction, and `said` are the packets that all speakers say
+-- in that direction.
 pub record Speech : Type 0 where
   pub packets : Option ℕ → List TrackPacket
-  pub is_mute : Run → Option ℕ → Bool
+  pub silent : Run → Option ℕ → Bool
   pub said : Run → List TrackPacket
 
 abbrev pub packets_at : Telegrams → Option ℕ → List TrackPacket
 packets_at group (Some b) = option_map_or (λ t. t.packets) (slice_get group b) []
 packets_at group None = []
 
-abbrev pub is_mute_at : Telegrams → Run → Option ℕ → Bool
-is_mute_at group run (Some b) = passes_at group b (λ t. is_silent run t.header.dup (length group) b)
-is_mute_at group run None = false
+abbrev pub is_silent_at : Telegrams → Run → Option ℕ → Bool
+is_silent_at group run (Some b) = passes_at group b (λ t. is_silent run t.header.dup (length group) b)
+is_silent_at group run None = false
 
 abbrev pub speech_of : Telegrams → Speech
 speech_of group = record {
   packets = packets_at group;
-  is_mute = is_mute_at group;
+  silent = is_silent_at group;
   said = λ run. said_by run group;
 }
 
@@ -55,13 +56,13 @@ packets_alone packets None = packets
 abbrev pub speech_in : List TrackPacket → Speech
 speech_in packets = record {
   packets = packets_alone packets;
-  is_mute = λ run b. false;
+  silent = λ run b. false;
   said = λ run. filter (holds run) packets;
 }
 
 -- F11 and F13 of a packet of this speaker
 abbrev pub is_short_profile : (TrackPacket → Option Reach) → Speech → Run → Option ℕ → TrackPacket → Bool
-is_short_profile reach speech run b p = is_short_said reach (speech.said run) run (speech.is_mute run b) p
+is_short_profile reach speech run b p = is_said_and_short reach (speech.said run) run (speech.silent run b) p
 
 abbrev pub packet_fact : Speech → Rule → Option Run → Option ℕ → Option ℕ → Bool
 packet_fact speech rules.NotModelled None b (Some k) = passes_at (speech.packets b) k is_unmodelled
@@ -117,5 +118,5 @@ abbrev pub is_fact : List Aspects → List Message → Finding → Bool
 is_fact groups messages f = fact_at groups messages f.site f
 
 -- a finding states a fact
-abbrev pub States : List Aspects → List Message → Finding → Type 0
-States groups messages f = IsTrue (is_fact groups messages f)
+abbrev pub StatesFact : List Aspects → List Message → Finding → Type 0
+StatesFact groups messages f = IsTrue (is_fact groups messages f)

@@ -36,9 +36,9 @@ is_miscounted group t = not ((t.header.total + 1) == length group)
 
 -- F3: the telegram's version, identity or link flag is not that of the other one. It is no fact where
 -- there is no other one.
-abbrev pub is_unlike : Option Telegram → Telegram → Bool
-is_unlike None t = false
-is_unlike (Some u) t =
+abbrev pub header_differs : Option Telegram → Telegram → Bool
+header_differs None t = false
+header_differs (Some u) t =
     not ((version_number t.header.version == version_number u.header.version)
     && (same_identity t.header.identity u.header.identity && beq t.header.linked u.header.linked))
 
@@ -89,7 +89,7 @@ is_counter_taken before t =
 abbrev pub balise_fact : Telegrams → Aspects → Telegrams → Rule → ℕ → Telegram → Bool
 balise_fact first before group rules.PositionWrong b t = is_misplaced b t
 balise_fact first before group rules.TotalWrong b t = is_miscounted group t
-balise_fact first before group rules.HeaderDiffers b t = is_unlike (slice_get first 0) t
+balise_fact first before group rules.HeaderDiffers b t = header_differs (slice_get first 0) t
 balise_fact first before group rules.MarkOutside b t = is_outside (length group) t.header.dup b
 balise_fact first before group rules.MarkUnanswered b t = is_unanswered group (partner_of group b) b
 balise_fact first before group rules.CounterUnfit b t = is_unfit t
@@ -135,8 +135,8 @@ is_short reach packets p = option_map_or (λ r. list_any (goes_past r) packets) 
 
 -- F11 and F13: the speaker is not silent, the packet holds, and it is a profile that ends before a supervised
 -- location that is said
-abbrev pub is_short_said : (TrackPacket → Option Reach) → List TrackPacket → Run → Bool → TrackPacket → Bool
-is_short_said reach said run silent p = not silent && (holds run p && is_short reach said p)
+abbrev pub is_said_and_short : (TrackPacket → Option Reach) → List TrackPacket → Run → Bool → TrackPacket → Bool
+is_said_and_short reach said run silent p = not silent && (holds run p && is_short reach said p)
 
 -- ---- lists of findings
 

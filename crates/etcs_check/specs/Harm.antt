@@ -139,14 +139,14 @@ AspectPart aspects a group rules.NotToldApart None (Some b) None =
     → t.header.counter < 254 → t.header.counter ≢ u.header.counter
 AspectPart aspects a group rule run b k = ⊤
 
--- The part of a controlled group as a whole; `new` says that no earlier group has its identity.
-abbrev pub GroupWidePart : Type 0 → Aspects → Rule → Option Run → Option ℕ → Option ℕ → Type 0
+-- The part of a controlled group as a whole. `new` is the proposition that no earlier group has its identity.
+abbrev pub GroupPart : Type 0 → Aspects → Rule → Option Run → Option ℕ → Option ℕ → Type 0
 -- distinct, of the line
-GroupWidePart new aspects rules.IdentityUsed None None None = new
+GroupPart new aspects rules.IdentityUsed None None None = new
 -- fixed or switched
-GroupWidePart new aspects rules.NotToldApart None (Some b) None =
+GroupPart new aspects rules.NotToldApart None (Some b) None =
     1 < length aspects → IsFixed aspects b ⊎ IsSwitched aspects b
-GroupWidePart new aspects rule run b k = ⊤
+GroupPart new aspects rule run b k = ⊤
 
 -- the part of the packets of a message 3, at a running direction and a packet
 abbrev pub PacketsPart : List TrackPacket → Rule → Option Run → Option ℕ → Option ℕ → Type 0
@@ -174,7 +174,7 @@ NamesAspect aspects a named = (1 < length aspects → named ≡ Some a) × (leng
 -- aspect that is named does not, and its readings are hurt.
 abbrev pub HurtsGroup : Type 0 → Aspects → Rule → Option ℕ → Option Run → Option ℕ → Option ℕ → Type 0
 HurtsGroup new aspects rule aspect run b k =
-    ((aspect ≡ None) × (GroupWidePart new aspects rule run b k → ⊥))
+    ((aspect ≡ None) × (GroupPart new aspects rule run b k → ⊥))
     ⊎ ((a : ℕ) × (group : Telegrams) × At aspects a group × NamesAspect aspects a aspect
     × (AspectPart aspects a group rule run b k → ⊥) × HurtsReadings group rule run b)
 
@@ -202,7 +202,7 @@ Hurts groups messages f = HurtsSite groups messages f f.site
 
 abbrev pub HasPartsAt : List Aspects → List Message → Finding → Site → Type 0
 HasPartsAt groups messages f (sites.Group g) = (aspects : Aspects) → At groups g aspects
-    → (f.aspect ≡ None → GroupWidePart (IsNew groups g aspects) aspects f.rule f.dir f.balise f.packet)
+    → (f.aspect ≡ None → GroupPart (IsNew groups g aspects) aspects f.rule f.dir f.balise f.packet)
     × ((a : ℕ) (group : Telegrams) → At aspects a group → NamesAspect aspects a f.aspect
     → AspectPart aspects a group f.rule f.dir f.balise f.packet)
 HasPartsAt groups messages f (sites.Message i) = (m : Message) → At messages i m → f.aspect ≡ None

@@ -17,7 +17,7 @@ use Rattle.etcs_check.specs.Profiles.{gradient_reach, speed_reach}
 use Rattle.etcs_check.specs.Soundness.{IsSoundGroup, IsSoundControlled, IsSoundMessage, IsSoundLine, group_identity}
 use Rattle.etcs_check.specs.Aspects.{is_used}
 use Rattle.etcs_check.specs.Line.{findings}
-use Rattle.etcs_check.specs.Facts.{group_fact, States}
+use Rattle.etcs_check.specs.Facts.{group_fact, StatesFact}
 use Rattle.etcs_check.specs.Order.{IsListOf}
 use Rattle.etcs_check.specs.Harm.{HasParts, Hurts, IsNew}
 use Rattle.etcs_check.specs.declared.finding.Finding.{Finding}
@@ -78,7 +78,7 @@ UnnamedMeansSound = (groups : List Aspects) (messages : List Message) → AreCon
 abbrev pub FindingsAreFacts : Type 0
 FindingsAreFacts = (groups : List Aspects) (messages : List Message) (i : ℕ) (f : Finding)
     → At (findings groups messages) i f
-    → States groups messages f × (AreControlled groups → Hurts groups messages f)
+    → StatesFact groups messages f × (AreControlled groups → Hurts groups messages f)
 
 -- At each place where a rule has no finding, its part of soundness holds.
 abbrev pub PartsHoldUnlessFound : Type 0
@@ -94,7 +94,7 @@ NothingHurtsASoundLine = (groups : List Aspects) (messages : List Message) (f : 
 -- Each fact has its finding.
 abbrev pub FactsAreFindings : Type 0
 FactsAreFindings = (groups : List Aspects) (messages : List Message) (f : Finding)
-    → States groups messages f → (i : ℕ) × At (findings groups messages) i f
+    → StatesFact groups messages f → (i : ℕ) × At (findings groups messages) i f
 
 -- The list of a line's findings is the one that has each fact once, and nothing else, in order.
 abbrev pub FindingsAreTheFactsInOrder : Type 0

@@ -28,10 +28,14 @@ none_and n = None ∷ map (λ i. Some i) (range_with_len 0 n)
 abbrev pub directions : List (Option Run)
 directions = None ∷ Some runs.Nominal ∷ Some runs.Reverse ∷ []
 
--- each rule at each place of a spot that has so many balises, and these packets at a balise or at none
+-- a finding of each rule, at a running direction, a balise and a packet of a spot
+abbrev pub rules_at : Spot → Option Run → Option ℕ → Option ℕ → List Finding
+rules_at spot run b k = map (λ rule. finding_of rule spot run b k) all_rules
+
+-- For each running direction or none, each of so many balises or none, and each of its packets or none: each rule.
 abbrev pub cells_at : Spot → ℕ → (Option ℕ → List TrackPacket) → List Finding
-cells_at spot count packets = flat_map (λ run. flat_map (λ b. flat_map
-    (λ k. map (λ rule. finding_of rule spot run b k) all_rules) (none_and (length (packets b)))) (none_and count)) directions
+cells_at spot count packets = flat_map (λ run. flat_map (λ b.
+    flat_map (rules_at spot run b) (none_and (length (packets b)))) (none_and count)) directions
 
 -- of an aspect
 abbrev pub cells_of : Spot → Telegrams → List Finding

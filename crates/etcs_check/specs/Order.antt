@@ -9,7 +9,7 @@ use Rattle.etcs_packet.specs.declared.run.Run.TheVariants as runs
 use Rattle.etcs_radio.specs.declared.message.Message.{Message}
 use Rattle.etcs_group.specs.Places.{At}
 use Rattle.etcs_group.specs.Group.{Aspects}
-use Rattle.etcs_check.specs.Facts.{States}
+use Rattle.etcs_check.specs.Facts.{StatesFact}
 use Rattle.etcs_check.specs.Findings.{all_rules}
 use Rattle.etcs_check.specs.declared.finding.Finding.{Finding}
 use Rattle.etcs_check.specs.declared.finding.Rule.{Rule}
@@ -80,7 +80,7 @@ by_rule facts = flat_map (λ rule. filter (is_of rule) facts) all_rules
 -- The list of a line's findings: each states a fact, each fact has its finding, and they stand in strict order,
 -- so each stands once.
 pub record IsListOf (groups : List Aspects) (messages : List Message) (found : List Finding) : Type 0 where
-  pub facts : (i : ℕ) (f : Finding) → At found i f → States groups messages f
-  pub all : (f : Finding) → States groups messages f → (i : ℕ) × At found i f
+  pub facts : (i : ℕ) (f : Finding) → At found i f → StatesFact groups messages f
+  pub all : (f : Finding) → StatesFact groups messages f → (i : ℕ) × At found i f
   pub ordered : (i j : ℕ) (f g : Finding) → i < j → At found i f → At found j g
       → slice_cmp nat_cmp (order_of f) (order_of g) ≡ Less

@@ -1,21 +1,13 @@
 -- What packets say, in one summary: the greatest supervised location of the authorities, and which profiles there are.
--- The kind of a profile is gradient or speed.
 use Rattle.std.specs.Prelude.{ℕ, Bool, ◌||◌, false, max, List, [], ◌∷◌, Option, Some, None, is_some}
 use Rattle.std.specs.Option.{option_map_or}
 use Rattle.etcs_packet.specs.declared.track.TrackPacket.{TrackPacket}
 use Rattle.etcs_profile.specs.declared.reach.Reach.{Reach}
 use Rattle.etcs_check.specs.Findings.{lies_past}
 use Rattle.etcs_check.specs.Profiles.{limit_of, gradient_reach, speed_reach}
-use Rattle.etcs_check.specs.declared.profile_rules.Kind.{Kind}
-use Rattle.etcs_check.specs.declared.profile_rules.Kind.TheVariants as kinds
-use Rattle.etcs_check.specs.declared.walk.Said.{Said}
+use Rattle.etcs_check.specs.declared.said.Said.{Said}
 
--- how far a profile of the kind describes the track, and None for any other packet
-abbrev pub reach_of : Kind → TrackPacket → Option Reach
-reach_of kinds.Gradient = gradient_reach
-reach_of kinds.Speed = speed_reach
-
--- a profile of the kind ends before the location
+-- a profile of the kind, gradient or speed, ends before the location
 abbrev pub is_before : (TrackPacket → Option Reach) → Option ℕ → TrackPacket → Bool
 is_before reach limit p = option_map_or (λ r. option_map_or (lies_past r) limit false) (reach p) false
 

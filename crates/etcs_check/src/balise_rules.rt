@@ -1,17 +1,17 @@
-//! The rules about balises by themselves, about pairs of duplicates, and about packets that are not
-//! modelled.
+//! The rules about balises by themselves, and about packets that are not modelled.
 
-ghost use Rattle.std.specs.Prelude.{◌≡◌, ◌≢◌, ◌<◌, ◌≤◌, ◌+◌, ◌++◌, [], length, slice_get, Some, OnOk, OnErr};
-ghost use Rattle.etcs_telegram.specs.Record.{Telegram};
+ghost use Rattle.std.specs.Prelude.{◌≡◌, ◌≢◌, ◌<◌, ◌≤◌, ◌++◌, [], length, slice_get, Some, IsFalse, OnOk, OnErr};
 ghost use Rattle.etcs_group.specs.Group.{partner_of};
 ghost use Rattle.etcs_check.specs.Duplicates.{same_mark};
-ghost use Rattle.etcs_check.specs.Findings.{are_pair, balise_fact, counter_differs, first_counter, differs_from, is_outside, is_unanswered, is_unlike, is_unmodelled, mark_differs, pair_differs};
-ghost use Rattle.etcs_check.specs.Walk.{are_same_pair, unmodelled_in};
+ghost use Rattle.etcs_check.specs.Findings.{balise_fact, counter_differs, first_counter, differs_from, is_outside, is_unanswered, header_differs, is_unmodelled, mark_differs};
+ghost use Rattle.etcs_check.specs.Walk.{alone_found, balise_found, balise_test, unmodelled_in};
+ghost use Rattle.etcs_check.specs.declared.finding.Spot.{Spot as SomeSpot};
 
-use crate::duplicates::{same_content, same_held};
+use crate::aspects::is_taken;
 use crate::finding::{Finding, Rule, Spot, note};
+use crate::said::packets;
 use etcs_bits::{Dup, Memory};
-use etcs_packet::{Run, TrackPacket};
+use etcs_packet::TrackPacket;
 use etcs_telegram::Telegram;
 
 // The place that the mark of the balise at this place names, if it lies in the group.
@@ -52,19 +52,19 @@ fn is_unanswered(group: &[Telegram], place: usize) -> bool
 }
 
 // Whether a telegram has another version, identity or link flag than this one.
-fn is_unlike(first: &Telegram, telegram: &Telegram) -> bool
-    ensures { result ≡ is_unlike (Some first.now) telegram.now }
+fn header_differs(first: &Telegram, telegram: &Telegram) -> bool
+    ensures { result ≡ header_differs (Some first.now) telegram.now }
 {
     let (this, that) = (&telegram.header, &first.header);
     !(this.version == that.version && this.identity == that.identity && this.linked == that.linked)
 }
 
 // Whether a telegram has another version, identity or link flag than balise 0 of aspect 0.
-fn is_unlike_first(first: &[Telegram], telegram: &Telegram) -> bool
-    ensures { result ≡ is_unlike (slice_get first.now 0) telegram.now }
+fn header_differs_from_first(first: &[Telegram], telegram: &Telegram) -> bool
+    ensures { result ≡ header_differs (slice_get first.now 0) telegram.now }
 {
     match first.get(0) {
-        Some(balise) => is_unlike(balise, telegram),
+        Some(balise) => header_differs(balise, telegram),
         None => false,
     }
 }
@@ -135,7 +135,7 @@ fn counter_differs(group: &[Telegram], telegram: &Telegram) -> bool
 // balise is compared with `first`, aspect 0. Counters of earlier aspects are not looked at. It is inlined
 // because each balise is asked for each rule.
 #[inline(always)]
-pub(crate) fn balise_fact(
+fn balise_fact(
     first: &[Telegram],
     group: &[Telegram],
     rule: Rule,
@@ -150,7 +150,7 @@ pub(crate) fn balise_fact(
     match rule {
         Rule::PositionWrong => header.position.number() as usize != place,
         Rule::TotalWrong => header.total.number() as usize + 1 != group.len(),
-        Rule::HeaderDiffers => is_unlike_first(first, telegram),
+        Rule::HeaderDiffers => header_differs_from_first(first, telegram),
         Rule::MarkOutside => is_outside(group.len(), header.dup, place),
         Rule::MarkUnanswered => is_unanswered(group, place),
         Rule::CounterUnfit => header.counter.number() == 254,
@@ -160,60 +160,90 @@ pub(crate) fn balise_fact(
     }
 }
 
-// Whether a mark names the next balise, and another one the previous balise.
-fn are_pair(first: Dup, second: Dup) -> bool
-    ensures { result ≡ are_pair first second }
+// The rules about a balise by itself.
+const ALONE: [Rule; 9] = [
+    Rule::PositionWrong,
+    Rule::TotalWrong,
+    Rule::HeaderDiffers,
+    Rule::MarkOutside,
+    Rule::MarkUnanswered,
+    Rule::CounterUnfit,
+    Rule::CountersDiffer,
+    Rule::MarksDiffer,
+    Rule::NotToldApart,
+];
+
+// Whether the rule is broken by this telegram. The table has the counters of earlier aspects.
+fn balise_test(
+    first: &[Telegram],
+    table: &[u64],
+    group: &[Telegram],
+    rule: Rule,
+    place: usize,
+    telegram: &Telegram,
+) -> bool
+    requires within { place < length group.now }
+    requires few { length group.now ≤ 8 }
+    requires long { length table.now ≡ 4 }
+    ensures { result ≡ balise_test first.now table.now group.now rule place telegram.now }
 {
-    match (first, second) {
-        (Dup::Next, Dup::Previous) => true,
-        _ => false,
+    match rule {
+        Rule::NotToldApart => is_taken(table, telegram),
+        _ => balise_fact(first, group, rule, place, telegram),
     }
 }
 
-// Whether two neighbours are a pair of duplicates whose packets that hold differ.
-fn pair_differs(first: &Telegram, second: &Telegram, run: Run) -> bool
-    ensures { result ≡ pair_differs run first.now (Some second.now) }
+// Whether the balise breaks a rule about balises by themselves. The rules are named one by one: a loop is slower.
+#[inline(always)]
+fn has_alone(
+    first: &[Telegram],
+    table: &[u64],
+    group: &[Telegram],
+    place: usize,
+    telegram: &Telegram,
+) -> bool
+    requires within { place < length group.now }
+    requires few { length group.now ≤ 8 }
+    requires long { length table.now ≡ 4 }
+    ensures { IsFalse result → (spot : SomeSpot)
+        → alone_found first.now table.now spot group.now place telegram.now ≡ [] }
 {
-    are_pair(first.header.dup, second.header.dup) && !same_held(first, second, run)
+    balise_fact(first, group, Rule::PositionWrong, place, telegram)
+        || balise_fact(first, group, Rule::TotalWrong, place, telegram)
+        || balise_fact(first, group, Rule::HeaderDiffers, place, telegram)
+        || balise_fact(first, group, Rule::MarkOutside, place, telegram)
+        || balise_fact(first, group, Rule::MarkUnanswered, place, telegram)
+        || balise_fact(first, group, Rule::CounterUnfit, place, telegram)
+        || balise_fact(first, group, Rule::CountersDiffer, place, telegram)
+        || balise_fact(first, group, Rule::MarksDiffer, place, telegram)
+        || is_taken(table, telegram)
 }
 
-// Whether the balise at this place and the one after it are a pair of duplicates whose packets that hold
-// differ.
-pub(crate) fn pair_differs_at(group: &[Telegram], run: Run, place: usize) -> bool
-    requires { place < length group.now }
-    ensures { (t : Telegram) → slice_get group.now place ≡ Some t
-        → result ≡ pair_differs run t (slice_get group.now (place + 1)) }
+// Appends a finding for each rule about balises by themselves that the balise breaks.
+fn note_alone(
+    found: &mut Vec<Finding>,
+    spot: Spot,
+    first: &[Telegram],
+    table: &[u64],
+    group: &[Telegram],
+    place: usize,
+    telegram: &Telegram,
+) -> Result<(), Memory>
+    requires within { place < length group.now }
+    requires few { length group.now ≤ 8 }
+    requires long { length table.now ≡ 4 }
+    ensures ok { OnOk result (found.new.items
+        ≡ found.old.items ++ alone_found first.now table.now spot group.now place telegram.now) }
+    ensures memory { OnErr result (alone_found first.now table.now spot group.now place telegram.now ≢ []) }
 {
-    match group.get(place + 1) {
-        Some(second) => pair_differs(&group[place], second, run),
-        None => false,
+    if !has_alone(first, table, group, place, telegram) {
+        return Ok(());
     }
-}
-
-// Whether two neighbours are no pair of duplicates, or have the same packets.
-fn are_same_pair(first: &Telegram, second: &Telegram) -> bool
-    ensures { result ≡ are_same_pair first.now (Some second.now) }
-{
-    !are_pair(first.header.dup, second.header.dup) || same_content(packets(first), packets(second))
-}
-
-// Whether a telegram, which is that of the balise at this place, and the next one are no pair of duplicates,
-// or have the same packets.
-pub(crate) fn are_same_pair_at(group: &[Telegram], place: usize, telegram: &Telegram) -> bool
-    requires { place < length group.now }
-    ensures { result ≡ are_same_pair telegram.now (slice_get group.now (place + 1)) }
-{
-    match group.get(place + 1) {
-        Some(second) => are_same_pair(telegram, second),
-        None => true,
+    'rules: for rule in &ALONE {
+        let fact = balise_test(first, table, group, *rule, place, telegram);
+        note(found, fact, *rule, spot, None, Some(place), None)?;
     }
-}
-
-// The packets of a telegram.
-pub(crate) fn packets(telegram: &Telegram) -> &[TrackPacket]
-    ensures { result.now ≡ telegram.now.packets }
-{
-    &telegram.packets
+    Ok(())
 }
 
 // Whether the meaning of the packet is not modelled.
@@ -250,4 +280,25 @@ pub(crate) fn note_unmodelled(
         )?;
     }
     Ok(())
+}
+
+// Appends the findings about the balise at this place by itself, and about its packets.
+pub(crate) fn note_balise(
+    found: &mut Vec<Finding>,
+    spot: Spot,
+    first: &[Telegram],
+    table: &[u64],
+    group: &[Telegram],
+    place: usize,
+    telegram: &Telegram,
+) -> Result<(), Memory>
+    requires within { place < length group.now }
+    requires few { length group.now ≤ 8 }
+    requires long { length table.now ≡ 4 }
+    ensures ok { OnOk result (found.new.items
+        ≡ found.old.items ++ balise_found first.now table.now spot group.now place telegram.now) }
+    ensures memory { OnErr result (balise_found first.now table.now spot group.now place telegram.now ≢ []) }
+{
+    note_alone(found, spot, first, table, group, place, telegram)?;
+    note_unmodelled(found, spot, Some(place), packets(telegram))
 }

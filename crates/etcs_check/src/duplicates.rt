@@ -1,13 +1,17 @@
-//! Whether the packets of two balises are the same, and whether two telegrams are.
+//! Whether the packets of two balises are the same, whether two telegrams are, and whether pairs of duplicates are.
 
-ghost use Rattle.std.specs.Prelude.{◌≡◌, ◌↔◌, ◌≤◌, ◌<◌, ℕ, length, drop, filter, slice_get, Some, IsTrue};
+ghost use Rattle.std.specs.Prelude.{◌≡◌, ◌↔◌, ◌≤◌, ◌<◌, ◌+◌, ℕ, length, drop, filter, slice_get, Some, IsFalse, IsTrue};
 ghost use Rattle.std.specs.Cmp.Lexicographic.{pointwise};
 ghost use Rattle.etcs_packet.specs.Track.{holds};
 ghost use Rattle.etcs_packet.specs.declared.track.TrackPacket.{TrackPacket};
+ghost use Rattle.etcs_telegram.specs.Record.{Telegram as SomeTelegram};
 ghost use Rattle.etcs_group.specs.Packets.{held_by};
 ghost use Rattle.etcs_check.specs.Duplicates.{same_header, same_held, same_packet, same_size, same_telegram};
+ghost use Rattle.etcs_check.specs.Findings.{are_pair, pair_differs};
+ghost use Rattle.etcs_check.specs.Walk.{ArePairsAlike, are_same_pair};
 
-use etcs_bits::{Same, are_same};
+use crate::said::packets;
+use etcs_bits::{Dup, Same, are_same};
 use etcs_packet::{Run, TrackPacket};
 use etcs_telegram::{Header, Size, Telegram};
 
@@ -54,7 +58,7 @@ fn same_lists(these: &[TrackPacket], those: &[TrackPacket], run: Run) -> bool
 }
 
 // Whether two telegrams have the same packets that hold in the running direction.
-pub(crate) fn same_held(this: &Telegram, that: &Telegram, run: Run) -> bool
+fn same_held(this: &Telegram, that: &Telegram, run: Run) -> bool
     ensures { result ≡ same_held run this.now that.now }
 {
     same_lists(&this.packets, &that.packets, run)
@@ -85,7 +89,7 @@ fn same_size(this: Size, that: Size) -> bool
 }
 
 // Whether two lists have the same packets.
-pub(crate) fn same_content(these: &[TrackPacket], those: &[TrackPacket]) -> bool
+fn same_content(these: &[TrackPacket], those: &[TrackPacket]) -> bool
     ensures { result ≡ pointwise same_packet these.now those.now }
 {
     are_same(these, those)
@@ -106,4 +110,77 @@ pub fn same_packets(this: &Telegram, that: &Telegram, run: Run) -> bool
     ensures { IsTrue result ↔ (held_by run this.now ≡ held_by run that.now) }
 {
     same_held(this, that, run)
+}
+
+// Whether a mark names the next balise, and another one the previous balise.
+fn are_pair(first: Dup, second: Dup) -> bool
+    ensures { result ≡ are_pair first second }
+{
+    match (first, second) {
+        (Dup::Next, Dup::Previous) => true,
+        _ => false,
+    }
+}
+
+// Whether two neighbours are a pair of duplicates whose packets that hold differ.
+fn pair_differs(first: &Telegram, second: &Telegram, run: Run) -> bool
+    ensures { result ≡ pair_differs run first.now (Some second.now) }
+{
+    are_pair(first.header.dup, second.header.dup) && !same_held(first, second, run)
+}
+
+// Whether the balise at this place and the one after it are a pair of duplicates whose packets that hold
+// differ.
+fn pair_differs_at(group: &[Telegram], run: Run, place: usize) -> bool
+    requires { place < length group.now }
+    ensures { (t : SomeTelegram) → slice_get group.now place ≡ Some t
+        → result ≡ pair_differs run t (slice_get group.now (place + 1)) }
+{
+    match group.get(place + 1) {
+        Some(second) => pair_differs(&group[place], second, run),
+        None => false,
+    }
+}
+
+// Whether the balise at this place and the next one are a pair of duplicates whose packets that hold differ. Packets
+// are compared only if some pair of the group is unlike.
+#[inline(always)]
+pub(crate) fn is_pair_unlike(group: &[Telegram], run: Run, unlike: bool, place: usize) -> bool
+    requires within { place < length group.now }
+    requires alike { IsFalse unlike → ArePairsAlike group.now }
+    ensures { (t : SomeTelegram) → slice_get group.now place ≡ Some t
+        → result ≡ pair_differs run t (slice_get group.now (place + 1)) }
+{
+    unlike && pair_differs_at(group, run, place)
+}
+
+// Whether two neighbours are no pair of duplicates, or have the same packets.
+fn are_same_pair(first: &Telegram, second: &Telegram) -> bool
+    ensures { result ≡ are_same_pair first.now (Some second.now) }
+{
+    !are_pair(first.header.dup, second.header.dup) || same_content(packets(first), packets(second))
+}
+
+// Whether a telegram, which is that of the balise at this place, and the next one are no pair of duplicates,
+// or have the same packets.
+fn are_same_pair_at(group: &[Telegram], place: usize, telegram: &Telegram) -> bool
+    requires { place < length group.now }
+    ensures { result ≡ are_same_pair telegram.now (slice_get group.now (place + 1)) }
+{
+    match group.get(place + 1) {
+        Some(second) => are_same_pair(telegram, second),
+        None => true,
+    }
+}
+
+// Whether some balise and the next one are a pair of duplicates with different packets.
+pub(crate) fn has_unlike_pair(group: &[Telegram]) -> bool
+    ensures { IsFalse result → ArePairsAlike group.now }
+{
+    'places: for place in 0..group.len() {
+        if !are_same_pair_at(group, place, &group[place]) {
+            return true;
+        }
+    }
+    false
 }

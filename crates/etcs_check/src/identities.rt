@@ -1,7 +1,7 @@
 //! Identities that were used before: kept by their numbers as groups come, or found in a list of groups by a table of
 //! bits and without memory from the heap.
 
-ghost use Rattle.std.specs.Prelude.{◌≡◌, ℕ, ◌+◌, ◌*◌, ◌^◌, ◌<◌, ◌≤◌, ◌||◌, ◌==◌, length, IsTrue, IsFalse, OnOk, OnErr};
+ghost use Rattle.std.specs.Prelude.{◌≡◌, ℕ, ◌+◌, ◌*◌, ◌^◌, ◌<◌, ◌≤◌, ◌||◌, ◌==◌, false, length, IsTrue, IsFalse, OnOk, OnErr};
 ghost use Rattle.std.specs.BTreeSet.{IsUnchanged, contains};
 ghost use Rattle.std.specs.Ordering.{nat_cmp};
 ghost use Rattle.etcs_check.specs.Identities.{HaveIdentities, HasNoRepeat, HasRepeat, HasIdentity, identity_number, is_marked, number_of_identity};
@@ -42,6 +42,7 @@ pub(crate) fn identity_number(aspects: &[Group]) -> u32
 pub(crate) fn keep(kept: &mut BTreeSet<u32>, number: u32) -> Result<(), Memory>
     ensures ok { OnOk result ((n : ℕ) → contains nat_cmp kept.new n ≡ (number == n || contains nat_cmp kept.old n)) }
     ensures err { OnErr result (IsUnchanged kept.old kept.new) }
+    ensures absent { OnErr result (contains nat_cmp kept.old number ≡ false) }
 {
     match kept.insert(number) {
         Ok(_) => Ok(()),

@@ -17,6 +17,7 @@ pub mod laws;
 mod line;
 mod line_checker;
 mod profile_rules;
+mod said;
 mod walk;
 
 pub use duplicates::same_packets;

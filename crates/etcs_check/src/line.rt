@@ -14,7 +14,7 @@ ghost use Rattle.etcs_check.specs.Harm.{Hurts};
 ghost use Rattle.etcs_check.specs.Identities.{HasIdentity, identity_number};
 ghost use Rattle.etcs_check.specs.Laws.{AreControlled, NamesTheUnsound};
 ghost use Rattle.etcs_check.specs.Line.{findings, group_findings, group_list, message_list};
-ghost use Rattle.etcs_check.specs.Facts.{States};
+ghost use Rattle.etcs_check.specs.Order.{IsListOf};
 ghost use Rattle.etcs_check.specs.Soundness.{IsSoundControlled, IsSoundGroup, IsSoundLine};
 ghost use Rattle.etcs_check.specs.declared.finding.Finding.{Finding};
 ghost use Rattle.etcs_check.specs.declared.finding.Site.TheVariants as sites;
@@ -131,14 +131,13 @@ pub fn check(alloc: Global, line: &Line) -> Result<Vec<Finding>, Memory>
     ensures unnamed { IfOk result
         (λ found. NamesTheUnsound line.now.groups.items line.now.messages.items found.items) }
 
-    // Each finding states a fact, and at its place its own part of soundness does not hold.
-    ensures facts { IfOk result (λ found. (i : ℕ) (f : Finding) → At found.items i f
-        → States line.now.groups.items line.now.messages.items f
-        × Hurts line.now.groups.items line.now.messages.items f) }
+    // Each fact has its finding, nothing else has, and they stand in strict order: none hides another.
+    ensures list { IfOk result
+        (λ found. IsListOf line.now.groups.items line.now.messages.items found.items) }
 
-    // Each fact has its finding: none hides another.
-    ensures all { IfOk result (λ found. (f : Finding)
-        → States line.now.groups.items line.now.messages.items f → (i : ℕ) × At found.items i f) }
+    // At the place of each finding its own part of soundness does not hold.
+    ensures hurts { IfOk result (λ found. (i : ℕ) (f : Finding) → At found.items i f
+        → Hurts line.now.groups.items line.now.messages.items f) }
 
     // What was missed alone decides whether a reading of a sound aspect is accepted. This clause and the
     // next one are laws of the line, whatever is found.

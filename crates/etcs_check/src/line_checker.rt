@@ -8,7 +8,7 @@ ghost use Rattle.etcs_check.specs.Harm.{Hurts};
 ghost use Rattle.etcs_check.specs.Laws.{NamesTheUnsound};
 ghost use Rattle.etcs_check.specs.Line.{findings};
 ghost use Rattle.etcs_check.specs.LineChecker.{HasChecked, HasStill, TakesGroups, TakesMessages};
-ghost use Rattle.etcs_check.specs.Facts.{States};
+ghost use Rattle.etcs_check.specs.Order.{IsListOf};
 ghost use Rattle.etcs_check.specs.Soundness.{IsSoundLine};
 ghost use Rattle.etcs_check.specs.declared.finding.Finding.{Finding as SomeFinding};
 
@@ -58,9 +58,9 @@ pub struct LineChecker {
 }
 
 impl Model for LineChecker {
-    ghost use Rattle.etcs_check.specs.LineChecker.{Kept};
+    ghost use Rattle.etcs_check.specs.LineChecker.{CheckerState};
 
-    ghost Value = { Kept };
+    ghost Value = { CheckerState };
 
     ghost view = { λ c. record { about_groups = c.about_groups.items; about_messages = c.about_messages.items; groups = c.groups; messages = c.messages; identities = c.identities } };
 }
@@ -87,7 +87,8 @@ impl LineChecker {
         ensures too_many { (gs : List Aspects) (ms : List SomeMessage) → HasChecked self.old gs ms
             → IsErrOf result CheckError.TooMany ↔ (length gs ≡ usize.MAX) }
 
-        // A refused group changes nothing.
+        // A refused group changes nothing. Any group can be refused for want of memory: a new identity has to be kept,
+        // and one that is used again is a finding.
         ensures kept { OnErr result (HasStill self.old self.new) }
     {
         let Some(groups) = self.groups.checked_add(1) else {
@@ -162,9 +163,11 @@ impl LineChecker {
         ensures unnamed { IfOk result (λ found. (gs : List Aspects) (ms : List SomeMessage)
             → HasChecked self gs ms → NamesTheUnsound gs ms found.items) }
 
-        // A finding is there if and only if its fact stands, and its own part of soundness does not hold there.
-        ensures facts { IfOk result (λ found. (gs : List Aspects) (ms : List SomeMessage)
-            → HasChecked self gs ms → (f : SomeFinding) → ((i : ℕ) × At found.items i f) ↔ States gs ms f) }
+        // Each fact has its finding, nothing else has, and they stand in strict order: none hides another.
+        ensures list { IfOk result (λ found. (gs : List Aspects) (ms : List SomeMessage)
+            → HasChecked self gs ms → IsListOf gs ms found.items) }
+
+        // At the place of each finding its own part of soundness does not hold.
         ensures hurts { IfOk result (λ found. (gs : List Aspects) (ms : List SomeMessage)
             → HasChecked self gs ms → (i : ℕ) (f : SomeFinding) → At found.items i f → Hurts gs ms f) }
     {

@@ -1,71 +1,132 @@
 //! The rules about movement authorities and the profiles that they need.
 
-ghost use Rattle.std.specs.Prelude.{◌≡◌, ◌<◌, ◌&&◌};
-ghost use Rattle.etcs_packet.specs.Track.{holds};
-ghost use Rattle.etcs_group.specs.Packets.{is_silent};
-ghost use Rattle.etcs_check.specs.Said.{greater, is_before, reach_of};
+ghost use Rattle.std.specs.Prelude.{◌≡◌, ◌≢◌, ◌<◌, ◌++◌, [], length, Some, OnOk, OnErr};
+ghost use Rattle.etcs_check.specs.Findings.{lies_past};
+ghost use Rattle.etcs_check.specs.Walk.{lacks_found, short_at_packet, short_by_balise, short_found};
 
-use etcs_bits::Dup;
+use crate::finding::{Finding, Rule, Spot, note};
+use crate::said::{Said, is_silent, packets};
+use etcs_bits::Memory;
 use etcs_packet::{Run, TrackPacket};
 use etcs_profile::Reach;
 use etcs_telegram::Telegram;
 
-// The kinds of profiles that an authority needs.
-#[derive(Clone, Copy)]
-pub(crate) enum Kind {
-    // Packet 21.
-    Gradient,
-    // Packet 27.
-    Speed,
+// Appends a finding for each kind of profile that is not said beside an authority.
+pub(crate) fn note_lacks(
+    found: &mut Vec<Finding>,
+    spot: Spot,
+    run: Run,
+    said: Said,
+) -> Result<(), Memory>
+    ensures ok { OnOk result (found.new.items ≡ found.old.items ++ lacks_found spot run said) }
+    ensures memory { OnErr result (lacks_found spot run said ≢ []) }
+{
+    let gradient = said.limit.is_some() && !said.has_gradient;
+    note(
+        found,
+        gradient,
+        Rule::NoGradient,
+        spot,
+        Some(run),
+        None,
+        None,
+    )?;
+    let speed = said.limit.is_some() && !said.has_speed;
+    note(found, speed, Rule::NoSpeed, spot, Some(run), None, None)
 }
 
-// How far a packet reaches, if it is a profile of the kind.
-fn reach_of(kind: Kind, packet: &TrackPacket) -> Option<Reach>
-    ensures { result ≡ reach_of kind packet.now }
+// Whether a reach ends before the location.
+fn ends_before(reach: Reach, limit: u64) -> bool
+    ensures { result ≡ lies_past reach limit }
 {
-    match (kind, packet) {
-        (Kind::Gradient, TrackPacket::Gradient(profile)) => Some(profile.reach()),
-        (Kind::Speed, TrackPacket::Speed(profile)) => Some(profile.reach()),
-        _ => None,
+    match reach {
+        Reach::Ends(end) => end < limit,
+        Reach::Open => false,
     }
 }
 
-// The greater of two supervised locations.
-pub(crate) fn greater(this: Option<u64>, that: Option<u64>) -> Option<u64>
-    ensures { result ≡ greater this that }
+// Appends the finding about a packet that is a profile that holds and ends before the location.
+#[inline(always)]
+fn note_early(
+    found: &mut Vec<Finding>,
+    spot: Spot,
+    run: Run,
+    limit: u64,
+    balise: Option<usize>,
+    place: usize,
+    packet: &TrackPacket,
+) -> Result<(), Memory>
+    ensures ok { OnOk result (found.new.items ≡ found.old.items ++ short_at_packet spot run (Some limit) balise place packet.now) }
+    ensures memory { OnErr result (short_at_packet spot run (Some limit) balise place packet.now ≢ []) }
 {
-    match (this, that) {
-        (Some(m), Some(n)) => Some(if m < n { n } else { m }),
-        (Some(m), None) => Some(m),
-        (None, other) => other,
+    match packet {
+        TrackPacket::Gradient(profile) => {
+            let fact = ends_before(profile.reach(), limit) && packet.holds_in(run);
+            note(
+                found,
+                fact,
+                Rule::GradientShort,
+                spot,
+                Some(run),
+                balise,
+                Some(place),
+            )
+        }
+        TrackPacket::Speed(profile) => {
+            let fact = ends_before(profile.reach(), limit) && packet.holds_in(run);
+            note(
+                found,
+                fact,
+                Rule::SpeedShort,
+                spot,
+                Some(run),
+                balise,
+                Some(place),
+            )
+        }
+        _ => Ok(()),
     }
 }
 
-// Whether a profile of the kind ends before the location.
-fn is_before(kind: Kind, limit: Option<u64>, packet: &TrackPacket) -> bool
-    ensures { result ≡ is_before (reach_of kind) limit packet.now }
+// Appends a finding for each profile that holds and ends before the location.
+#[inline(always)]
+pub(crate) fn note_short(
+    found: &mut Vec<Finding>,
+    spot: Spot,
+    run: Run,
+    limit: u64,
+    balise: Option<usize>,
+    packets: &[TrackPacket],
+) -> Result<(), Memory>
+    ensures ok { OnOk result (found.new.items ≡ found.old.items ++ short_found spot run (Some limit) balise packets.now) }
+    ensures memory { OnErr result (short_found spot run (Some limit) balise packets.now ≢ []) }
 {
-    match (reach_of(kind, packet), limit) {
-        (Some(Reach::Ends(reach_dm)), Some(limit_dm)) => reach_dm < limit_dm,
-        _ => false,
+    'places: for place in 0..packets.len() {
+        note_early(found, spot, run, limit, balise, place, &packets[place])?;
     }
+    Ok(())
 }
 
-// Whether the packet holds, and is a profile of the kind that ends before the location.
-pub(crate) fn holds_before(kind: Kind, limit: Option<u64>, run: Run, packet: &TrackPacket) -> bool
-    ensures { result ≡ (holds run packet.now && is_before (reach_of kind) limit packet.now) }
+// Appends the findings about the profiles that the balise at this place says, if an authority is said.
+#[inline(always)]
+pub(crate) fn note_short_by(
+    found: &mut Vec<Finding>,
+    spot: Spot,
+    group: &[Telegram],
+    run: Run,
+    limit: Option<u64>,
+    place: usize,
+    telegram: &Telegram,
+) -> Result<(), Memory>
+    requires within { place < length group.now }
+    ensures ok { OnOk result (found.new.items ≡ found.old.items ++ short_by_balise spot group.now run limit place telegram.now) }
+    ensures memory { OnErr result (short_by_balise spot group.now run limit place telegram.now ≢ []) }
 {
-    packet.holds_in(run) && is_before(kind, limit, packet)
-}
-
-// Whether a balise of a group of this many is passed after the one that its mark names.
-pub(crate) fn is_silent(run: Run, telegram: &Telegram, count: usize, place: usize) -> bool
-    requires { place < count }
-    ensures { result ≡ is_silent run telegram.now.header.dup count place }
-{
-    match (run, telegram.header.dup) {
-        (Run::Nominal, Dup::Previous) => place > 0,
-        (Run::Reverse, Dup::Next) => place + 1 < count,
-        _ => false,
+    if is_silent(run, telegram, group.len(), place) {
+        return Ok(());
+    }
+    match limit {
+        Some(limit) => note_short(found, spot, run, limit, Some(place), packets(telegram)),
+        None => Ok(()),
     }
 }

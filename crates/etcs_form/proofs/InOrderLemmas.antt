@@ -6,7 +6,7 @@ use Rattle.json.specs.Lex.{tokens}
 use Rattle.json.specs.Token.{Token}
 use Rattle.serde_json.specs.Data.{Data}
 use Rattle.serde_json.specs.Read.{of_json}
-use Rattle.etcs_check.specs.LineChecker.{HasChecked, Kept, TakesGroups, TakesMessages}
+use Rattle.etcs_check.specs.LineChecker.{CheckerState, HasChecked, TakesGroups, TakesMessages}
 use Rattle.etcs_form.proofs.DocumentLemmas.{is_json}
 use Rattle.etcs_form.proofs.DocumentTokenLemmas.{each_read, first_more, list_taken, list_values, none_first, object_stands}
 use Rattle.etcs_form.proofs.TokenLemmas.{converted_some, key_stands, then_stand}
@@ -22,12 +22,12 @@ use Rattle.etcs_telegram.specs.Record.{Telegram}
 
 -- ---- lists
 
-module _ {X : Type 0} (Is : Data → X → Type 0) (Takes : Kept → List X → Kept → Type 0) (depth : ℕ) (old : List Token) where
-  pub none_taken : (was : Kept) → Takes was [] was → AreTaken (λ xs. AreFirst Is depth old xs old) Takes was was
+module _ {X : Type 0} (Is : Data → X → Type 0) (Takes : CheckerState → List X → CheckerState → Type 0) (depth : ℕ) (old : List Token) where
+  pub none_taken : (was : CheckerState) → Takes was [] was → AreTaken (λ xs. AreFirst Is depth old xs old) Takes was was
   none_taken was none = record { items = []; read = none_first Is depth old; takes = none }
 
   -- one more was read, and handed to the checker
-  pub one_taken : (was kept is : Kept) (mid new : List Token) → ((xs ys : List X) → Takes was xs kept → Takes kept ys is → Takes was (xs ++ ys) is) → AreTaken (λ xs. AreFirst Is depth old xs mid) Takes was kept
+  pub one_taken : (was kept is : CheckerState) (mid new : List Token) → ((xs ys : List X) → Takes was xs kept → Takes kept ys is → Takes was (xs ++ ys) is) → AreTaken (λ xs. AreFirst Is depth old xs mid) Takes was kept
       → (one : X) → IsFirst Is depth mid one new → Takes kept (one ∷ []) is → AreTaken (λ xs. AreFirst Is depth old xs new) Takes was is
   one_taken was kept is mid new joined so one first takes = record {
     items = so.items ++ one ∷ [];
@@ -36,7 +36,7 @@ module _ {X : Type 0} (Is : Data → X → Type 0) (Takes : Kept → List X → 
   }
 
   -- the list of them
-  pub all_taken : (was is : Kept) (begun ended new : List Token) → 0 < depth → old ≡ Token.begin_array ∷ begun → AreTaken (λ xs. AreFirst Is (depth - 1) begun xs ended) Takes was is → after_end_array ended ≡ Some new
+  pub all_taken : (was is : CheckerState) (begun ended new : List Token) → 0 < depth → old ≡ Token.begin_array ∷ begun → AreTaken (λ xs. AreFirst Is (depth - 1) begun xs ended) Takes was is → after_end_array ended ≡ Some new
       → AreTaken (λ xs. IsFirst (IsList Is) depth old xs new) Takes was is
   all_taken was is begun ended new deep begins so ends = record {
     items = so.items;
@@ -77,7 +77,7 @@ two_stand : (depth : ℕ) (k l : List ℕ) (d e : Data) (old a b c new : List To
 two_stand depth k l d e old a b c new first one second two =
     then_stand depth (k, Some d) ((l, Some e) ∷ []) old b new (key_stands depth k d old a b first one) (key_stands depth l e b c new second two)
 
-module _ (depth : ℕ) (old a b c new : List Token) (was mid kept : Kept) (empty : HasChecked was [] []) where
+module _ (depth : ℕ) (old a b c new : List Token) (was mid kept : CheckerState) (empty : HasChecked was [] []) where
   pub groups_then : read_key old ≡ Some (Some (codes "groups"), a) → AreTaken (λ gs. IsFirst (IsList IsGroup) depth a gs b) TakesGroups was mid → read_key b ≡ Some (Some (codes "messages"), c)
       → AreTaken (λ ms. IsFirst (IsList IsMessage) depth c ms new) TakesMessages mid kept → HasLine depth old kept new
   groups_then named groups second messages =
@@ -110,7 +110,7 @@ module _ (depth : ℕ) (old a b c new : List Token) (was mid kept : Kept) (empty
         };
       }
 
-pub document_taken : (depth : ℕ) (old begun ended : List Token) (kept : Kept) (new : List Token) → 0 < depth → old ≡ Token.begin_object ∷ begun → HasLine (depth - 1) begun kept ended → read_key ended ≡ Some (None, new)
+pub document_taken : (depth : ℕ) (old begun ended : List Token) (kept : CheckerState) (new : List Token) → 0 < depth → old ≡ Token.begin_object ∷ begun → HasLine (depth - 1) begun kept ended → read_key ended ≡ Some (None, new)
     → IsFirst IsChecked depth old kept new
 document_taken depth old begun ended kept new deep begins has ends = record {
   found = object_of has.entries;
@@ -120,7 +120,7 @@ document_taken depth old begun ended kept new deep begins has ends = record {
 
 -- ---- the bytes
 
-pub text_taken : (bytes : List ℕ) (start rest : List Token) (kept : Kept) (c : Summary) → IsUtf8 bytes → start ≡ tokens bytes → rest ≡ [] → IsFirst IsChecked 127 start kept rest
+pub text_taken : (bytes : List ℕ) (start rest : List Token) (kept : CheckerState) (c : Summary) → IsUtf8 bytes → start ≡ tokens bytes → rest ≡ [] → IsFirst IsChecked 127 start kept rest
     → ((gs : List (List (List Telegram))) (ms : List Message) → HasChecked kept gs ms → c ≡ summary (judged (gs, ms))) → summary_of_text bytes ≡ Ok c
 unfolding line_of_text
 text_taken bytes start rest kept c utf8 begins ends one told =

@@ -4,7 +4,7 @@
 use Rattle.std.specs.Prelude.{◌≡◌, ℕ, true, List, [], ◌∷◌, codes, length, Option, Some, Ok}
 use Rattle.json.specs.Token.{Token}
 use Rattle.serde_json.specs.Data.{Data, array, no_items}
-use Rattle.etcs_check.specs.LineChecker.{HasChecked, Kept}
+use Rattle.etcs_check.specs.LineChecker.{CheckerState, HasChecked}
 use Rattle.etcs_form.specs.Document.{aspects_of, group_at, has_count, line_of, message_at, only_values, telegram_at, telegrams_of, values_of}
 use Rattle.etcs_json.specs.Entries.{Entry, object_of}
 use Rattle.etcs_form.specs.Tokens.{HasItems, HasMembers, first_value, items_onto}
@@ -82,20 +82,20 @@ pub record HasGroup (depth : ℕ) (old : List Token) (aspects : Aspects) (new : 
 -- ---- what was handed to a checker
 
 -- Some items are read. A checker that held the one takes them, and holds the other then.
-pub record AreTaken {X : Type 0} (AreRead : List X → Type 0) (Takes : Kept → List X → Kept → Type 0) (was is : Kept) : Type 0 where
+pub record AreTaken {X : Type 0} (AreRead : List X → Type 0) (Takes : CheckerState → List X → CheckerState → Type 0) (was is : CheckerState) : Type 0 where
   pub items : List X
   pub read : AreRead items
   pub takes : Takes was items is
 
 -- The value is the document of a line. A checker holds this that has taken its groups and messages.
-pub record IsChecked (d : Data) (kept : Kept) : Type 0 where
+pub record IsChecked (d : Data) (state : CheckerState) : Type 0 where
   pub groups : List Aspects
   pub messages : List Message
   pub line : line_of d ≡ Ok (groups, messages)
-  pub checked : HasChecked kept groups messages
+  pub checked : HasChecked state groups messages
 
 -- the first members are the members of such a document
-pub record HasLine (depth : ℕ) (old : List Token) (kept : Kept) (new : List Token) : Type 0 where
+pub record HasLine (depth : ℕ) (old : List Token) (state : CheckerState) (new : List Token) : Type 0 where
   pub entries : List Entry
   pub stand : HasMembers depth entries old new
-  pub is : IsChecked (object_of entries) kept
+  pub is : IsChecked (object_of entries) state

@@ -3,7 +3,7 @@ use Rattle.etcs_check.specs.Laws.{AreControlled}
 use Rattle.etcs_check.specs.Line.{findings}
 use Rattle.etcs_check.proofs.AspectLemmas.{aspect_long, sound_mixtures_are_decided}
 use Rattle.etcs_check.proofs.SoundLemmas.{sound_groups_are_decided}
-use Rattle.etcs_check.proofs.SayingLemmas.{findings_noted, found_all, found_facts, found_sound, found_unnamed}
+use Rattle.etcs_check.proofs.SayingLemmas.{findings_noted, found_hurts, found_list, found_sound, found_unnamed}
 use Rattle.etcs_check.proofs.line.check.Goals as goal
 
 -- The list is empty if and only if the line is sound.
@@ -13,19 +13,19 @@ returns-clause-sound c =
     findings_noted _ _ _ _ _ _ _ c.new-found.ensures.items c.in_ok-note_groups.ensures.ok c.in_ok-note_messages.ensures.ok c.deref.ensures.value c.deref-2.ensures.value in
     found_sound _ _ _ is (subst AreControlled c.deref.ensures.value c.in_ok-note_groups.ensures.controlled)
 
--- Each finding of the list is a fact.
-pub returns-clause-facts : goal.returns-clause-facts
-returns-clause-facts c =
+-- Each finding hurts.
+pub returns-clause-hurts : goal.returns-clause-hurts
+returns-clause-hurts c =
     let is : c.note_messages.new.found.items ≡ findings c.args.line.now.groups.items c.args.line.now.messages.items =
     findings_noted _ _ _ _ _ _ _ c.new-found.ensures.items c.in_ok-note_groups.ensures.ok c.in_ok-note_messages.ensures.ok c.deref.ensures.value c.deref-2.ensures.value in
-    found_facts _ _ _ is (subst AreControlled c.deref.ensures.value c.in_ok-note_groups.ensures.controlled)
+    found_hurts _ _ _ is (subst AreControlled c.deref.ensures.value c.in_ok-note_groups.ensures.controlled)
 
--- Each fact has its finding in the list.
-pub returns-clause-all : goal.returns-clause-all
-returns-clause-all c =
+-- Each fact has its finding, in order.
+pub returns-clause-list : goal.returns-clause-list
+returns-clause-list c =
     let is : c.note_messages.new.found.items ≡ findings c.args.line.now.groups.items c.args.line.now.messages.items =
     findings_noted _ _ _ _ _ _ _ c.new-found.ensures.items c.in_ok-note_groups.ensures.ok c.in_ok-note_messages.ensures.ok c.deref.ensures.value c.deref-2.ensures.value in
-    found_all _ _ _ is
+    found_list _ _ _ is
 
 -- Each finding names its group or its message.
 pub returns-clause-unnamed : goal.returns-clause-unnamed

@@ -1,5 +1,5 @@
 use Rattle.etcs_check.proofs.CheckerLemmas.{held_findings}
-use Rattle.etcs_check.proofs.SayingLemmas.{found_all, found_facts, found_sound, found_unnamed}
+use Rattle.etcs_check.proofs.SayingLemmas.{found_hurts, found_list, found_sound, found_unnamed}
 use Rattle.etcs_check.proofs.line_checker.LineChecker.finish.Goals as goal
 
 -- The list has the findings of the line that was taken.
@@ -16,13 +16,11 @@ pub returns-clause-unnamed : goal.returns-clause-unnamed
 returns-clause-unnamed c = λ gs ms was.
     found_unnamed gs ms _ (held_findings _ _ _ gs ms c.self.view_is c.in_ok-append.ensures.ok was) was.controlled
 
--- Each finding is a fact, and each fact has its finding.
-pub returns-clause-facts : goal.returns-clause-facts
-returns-clause-facts c = λ gs ms was f.
-    let is = held_findings _ _ _ gs ms c.self.view_is c.in_ok-append.ensures.ok was in
-    (λ listed. (found_facts gs ms _ is was.controlled listed.0 f listed.1).0, λ fact. found_all gs ms _ is f fact)
+-- Each fact has its finding, in order.
+pub returns-clause-list : goal.returns-clause-list
+returns-clause-list c = λ gs ms was. found_list gs ms _ (held_findings _ _ _ gs ms c.self.view_is c.in_ok-append.ensures.ok was)
 
 -- Each finding hurts.
 pub returns-clause-hurts : goal.returns-clause-hurts
-returns-clause-hurts c = λ gs ms was i f at.
-    (found_facts gs ms _ (held_findings _ _ _ gs ms c.self.view_is c.in_ok-append.ensures.ok was) was.controlled i f at).1
+returns-clause-hurts c = λ gs ms was.
+    found_hurts gs ms _ (held_findings _ _ _ gs ms c.self.view_is c.in_ok-append.ensures.ok was) was.controlled
