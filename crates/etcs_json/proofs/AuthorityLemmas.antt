@@ -1,6 +1,5 @@
 -- How many sections of a movement authority are read.
-use Rattle.std.proofs.Common.{◌≡◌, ◌<◌, ◌≤◌, List, length, Result, Ok, IfOk, subst, arith}
-use Rattle.std.specs.Prelude.{codes}
+use Rattle.std.proofs.Common.{◌≡◌, ◌<◌, ◌≤◌, ℕ, List, length, Result, Ok, IfOk, subst, arith}
 use Rattle.serde_json.specs.Data.{Data}
 use Rattle.etcs_profile.specs.declared.section.Section.{Section}
 use Rattle.etcs_json.specs.Authority.{section}
@@ -14,5 +13,5 @@ few_at r xs few is =
     let few_xs = subst (λ (s : Result (List Section) Fault). IfOk s (λ ys. length ys ≤ 31)) is few in omega (arith, few_xs)
 
 -- at most 31 sections are read
-pub few_sections : (d : Data) (xs : List Section) → at_key (list_of (object section.form).of 0 31) (codes "sections") d ≡ Ok xs → length xs < 32
-few_sections d xs is = few_at _ xs (short_list (object section.form) (codes "sections") 0 31 d) is
+pub few_sections : (name : List ℕ) (d : Data) (xs : List Section) → at_key (list_of (object section.form).of 0 31) name d ≡ Ok xs → length xs < 32
+few_sections name d xs is = few_at _ xs (short_list (object section.form) name 0 31 d) is

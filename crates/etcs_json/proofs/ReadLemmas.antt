@@ -84,6 +84,21 @@ first_and_read P s high name d p has is =
 
 -- ---- members that were read
 
+abbrev ok_as : {A : Type 0} → A → Result A Fault
+ok_as x = Ok x
+
+same_ok : {A : Type 0} (x y : A) → ok_as x ≡ ok_as y → x ≡ y
+same_ok x y is = cc
+
+pair_read : {A B : Type 0} (r : Result A Fault) (s : Result B Fault) (p : A × B) → (r >>= λ x. s >>= λ y. Ok (x, y)) ≡ Ok p → (r ≡ Ok p.0) × (s ≡ Ok p.1)
+pair_read (Err f) s p is = absurd cc
+pair_read (Ok x) (Err f) p is = absurd cc
+pair_read {A = A} {B = B} (Ok x) (Ok y) p is = subst (λ (q : A × B). (ok_as x ≡ ok_as q.0) × (ok_as y ≡ ok_as q.1)) (same_ok (x, y) p is) (refl, refl)
+
+-- of two parts that were read, each was
+pub both_read : {A B : Type 0} (a : Data → Result A Fault) (b : Data → Result B Fault) (d : Data) (p : A × B) → both_of a b d ≡ Ok p → (a d ≡ Ok p.0) × (b d ≡ Ok p.1)
+both_read a b d p is = pair_read (a d) (b d) p is
+
 after : {A B : Type 0} (P : B → Type 0) (r : Result A Fault) (f : A → Result B Fault) → ((x : A) → IfOk (f x) P) → IfOk (r >>= f) P
 after P (Err e) f h = tt
 after P (Ok x) f h = h x

@@ -15,6 +15,7 @@
 mod error;
 mod form;
 pub mod laws;
+mod members;
 mod messages;
 mod node;
 mod packets;

@@ -1,6 +1,7 @@
 //! The form of message 3, the movement authority.
 
 use crate::error::FormError;
+use crate::members::{ListMember, Member, NumberMember, send_members};
 use crate::node::Node;
 use crate::node::packets_form::read_all_at;
 use crate::node::reading::{read_fixed, read_key};
@@ -43,13 +44,14 @@ impl Members for MovementMessage {
 
     fn send_members<S: Sink>(&self, out: &mut S) -> Result<(), Memory> {
         let lrbg = self.lrbg();
-        out.send_key("m_ack", &self.ack())?;
-        out.send_key("nid_bg", &lrbg.group)?;
-        out.send_key("nid_c", &lrbg.country)?;
-        out.send_number("nid_message", 3)?;
-        out.send_list_at("packets", self.packets())?;
-        out.send_key("t_train", &self.time())?;
-        Ok(())
+        send_members!(out;
+            Member("m_ack", &self.ack()),
+            Member("nid_bg", &lrbg.group),
+            Member("nid_c", &lrbg.country),
+            NumberMember("nid_message", 3),
+            ListMember("packets", self.packets()),
+            Member("t_train", &self.time()),
+        )
     }
 
     fn of_members<N: Node>(alloc: Global, node: &N) -> Result<Self, FormError> {

@@ -1,6 +1,7 @@
 //! The form of message 136, the position report.
 
 use crate::error::FormError;
+use crate::members::{ListMember, Member, NumberMember, send_members};
 use crate::node::Node;
 use crate::node::packets_form::read_all_at;
 use crate::node::reading::{read_fixed, read_key};
@@ -34,11 +35,12 @@ impl Members for PositionMessage {
     }
 
     fn send_members<S: Sink>(&self, out: &mut S) -> Result<(), Memory> {
-        out.send_key("nid_engine", &self.engine())?;
-        out.send_number("nid_message", 136)?;
-        out.send_list_at("packets", self.packets())?;
-        out.send_key("t_train", &self.time())?;
-        Ok(())
+        send_members!(out;
+            Member("nid_engine", &self.engine()),
+            NumberMember("nid_message", 136),
+            ListMember("packets", self.packets()),
+            Member("t_train", &self.time()),
+        )
     }
 
     fn of_members<N: Node>(alloc: Global, node: &N) -> Result<Self, FormError> {

@@ -7,6 +7,7 @@ ghost use Rattle.etcs_json.specs.Telegrams.{header};
 
 use crate::error::FormError;
 use crate::form::{Form, InPieces};
+use crate::members::{ListMember, Member, send_members};
 use crate::node::Node;
 use crate::node::packets_form::read_all_at;
 use crate::node::reading::read_key;
@@ -114,17 +115,18 @@ impl Members for Telegram {
 
     fn send_members<S: Sink>(&self, out: &mut S) -> Result<(), Memory> {
         let header = &self.header;
-        out.send_key("m_dup", &header.dup)?;
-        out.send_key("m_mcount", &header.counter)?;
-        out.send_key("m_version", &header.version)?;
-        out.send_key("n_pig", &header.position)?;
-        out.send_key("n_total", &header.total)?;
-        out.send_key("nid_bg", &header.identity.group)?;
-        out.send_key("nid_c", &header.identity.country)?;
-        out.send_list_at("packets", self.packets.as_slice())?;
-        out.send_key("q_link", &header.linked)?;
-        out.send_key("user_bits", &self.size)?;
-        Ok(())
+        send_members!(out;
+            Member("m_dup", &header.dup),
+            Member("m_mcount", &header.counter),
+            Member("m_version", &header.version),
+            Member("n_pig", &header.position),
+            Member("n_total", &header.total),
+            Member("nid_bg", &header.identity.group),
+            Member("nid_c", &header.identity.country),
+            ListMember("packets", self.packets.as_slice()),
+            Member("q_link", &header.linked),
+            Member("user_bits", &self.size),
+        )
     }
 
     fn of_members<N: Node>(alloc: Global, node: &N) -> Result<Self, FormError> {

@@ -10,6 +10,7 @@ ghost use Rattle.etcs_json.specs.Reading.{as_kind, object_with};
 
 use crate::error::FormError;
 use crate::form::{Form, InPieces};
+use crate::members::{ListMember, Member, NumberMember, OptionalMember, send_members};
 use crate::node::Node;
 use crate::node::known_keys::check_keys;
 use crate::node::reading::{read_first, read_fixed, read_key};
@@ -60,13 +61,14 @@ fn packet_number(authority: &Authority) -> u64
 fn send_first<S: Sink>(out: &mut S, authority: &Authority) -> Result<(), Memory>
     ensures { OnOk result (S.takes (first_members authority.now) out.old out.new) }
 {
-    out.send_key_if("danger_point", &authority.danger_point())?;
-    out.send_key("end_speed", &authority.end_speed())?;
-    out.send_key("end_timeout", &authority.end_timeout())?;
-    out.send_key_if("end_timer", &authority.end_timer())?;
-    out.send_key("l_endsection", &authority.l_endsection())?;
-    out.send_number("nid_packet", packet_number(authority))?;
-    Ok(())
+    send_members!(out;
+        OptionalMember("danger_point", &authority.danger_point()),
+        Member("end_speed", &authority.end_speed()),
+        Member("end_timeout", &authority.end_timeout()),
+        OptionalMember("end_timer", &authority.end_timer()),
+        Member("l_endsection", &authority.l_endsection()),
+        NumberMember("nid_packet", packet_number(authority)),
+    )
 }
 
 // Sends the members after NID_PACKET.
@@ -74,13 +76,14 @@ fn send_first<S: Sink>(out: &mut S, authority: &Authority) -> Result<(), Memory>
 fn send_last<S: Sink>(out: &mut S, authority: &Authority) -> Result<(), Memory>
     ensures { OnOk result (S.takes (last_members authority.now) out.old out.new) }
 {
-    out.send_key_if("overlap", &authority.overlap())?;
-    out.send_key("q_dir", &authority.dir())?;
-    out.send_key("q_scale", &authority.scale())?;
-    out.send_key_if("section_timer", &authority.section_timer())?;
-    out.send_list_at("sections", authority.sections())?;
-    out.send_key_if("v_main", &authority.main())?;
-    Ok(())
+    send_members!(out;
+        OptionalMember("overlap", &authority.overlap()),
+        Member("q_dir", &authority.dir()),
+        Member("q_scale", &authority.scale()),
+        OptionalMember("section_timer", &authority.section_timer()),
+        ListMember("sections", authority.sections()),
+        OptionalMember("v_main", &authority.main()),
+    )
 }
 
 // Sends all members.

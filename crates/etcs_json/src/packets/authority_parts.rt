@@ -4,8 +4,8 @@ ghost use Rattle.etcs_json.specs.Beside.{AreRowsAllowed};
 ghost use Rattle.etcs_json.specs.Authority.{danger_point, end_timer, overlap, section, section_timer};
 
 use crate::error::FormError;
+use crate::members::{Member, Optional, OptionalMember, Required, read_record, send_members};
 use crate::node::Node;
-use crate::node::reading::{read_key, read_key_if};
 use crate::record::{Members, Record, prove_allowed};
 use crate::writing::Sink;
 use etcs_bits::Memory;
@@ -27,16 +27,17 @@ impl Members for SectionTimer {
     }
 
     fn send_members<S: Sink>(&self, out: &mut S) -> Result<(), Memory> {
-        out.send_key("d_sectiontimerstoploc", &self.stop)?;
-        out.send_key("t_sectiontimer", &self.time)?;
-        Ok(())
+        send_members!(out;
+            Member("d_sectiontimerstoploc", &self.stop),
+            Member("t_sectiontimer", &self.time),
+        )
     }
 
     fn of_members<N: Node>(alloc: Global, node: &N) -> Result<Self, FormError> {
-        Ok(SectionTimer {
-            time: read_key(alloc, node, "t_sectiontimer")?,
-            stop: read_key(alloc, node, "d_sectiontimerstoploc")?,
-        })
+        read_record!(SectionTimer, alloc, node;
+            Required time "t_sectiontimer",
+            Required stop "d_sectiontimerstoploc",
+        )
     }
 
     fn prove_in_range(&self) {
@@ -59,16 +60,17 @@ impl Members for Section {
     }
 
     fn send_members<S: Sink>(&self, out: &mut S) -> Result<(), Memory> {
-        out.send_key("l_section", &self.length)?;
-        out.send_key_if("section_timer", &self.timer)?;
-        Ok(())
+        send_members!(out;
+            Member("l_section", &self.length),
+            OptionalMember("section_timer", &self.timer),
+        )
     }
 
     fn of_members<N: Node>(alloc: Global, node: &N) -> Result<Self, FormError> {
-        Ok(Section {
-            length: read_key(alloc, node, "l_section")?,
-            timer: read_key_if(alloc, node, "section_timer")?,
-        })
+        read_record!(Section, alloc, node;
+            Required length "l_section",
+            Optional timer "section_timer",
+        )
     }
 
     fn prove_in_range(&self) {
@@ -91,16 +93,17 @@ impl Members for EndTimer {
     }
 
     fn send_members<S: Sink>(&self, out: &mut S) -> Result<(), Memory> {
-        out.send_key("d_endtimerstartloc", &self.start)?;
-        out.send_key("t_endtimer", &self.time)?;
-        Ok(())
+        send_members!(out;
+            Member("d_endtimerstartloc", &self.start),
+            Member("t_endtimer", &self.time),
+        )
     }
 
     fn of_members<N: Node>(alloc: Global, node: &N) -> Result<Self, FormError> {
-        Ok(EndTimer {
-            time: read_key(alloc, node, "t_endtimer")?,
-            start: read_key(alloc, node, "d_endtimerstartloc")?,
-        })
+        read_record!(EndTimer, alloc, node;
+            Required time "t_endtimer",
+            Required start "d_endtimerstartloc",
+        )
     }
 
     fn prove_in_range(&self) {
@@ -123,16 +126,17 @@ impl Members for DangerPoint {
     }
 
     fn send_members<S: Sink>(&self, out: &mut S) -> Result<(), Memory> {
-        out.send_key("d_dp", &self.distance)?;
-        out.send_key("v_releasedp", &self.release_speed)?;
-        Ok(())
+        send_members!(out;
+            Member("d_dp", &self.distance),
+            Member("v_releasedp", &self.release_speed),
+        )
     }
 
     fn of_members<N: Node>(alloc: Global, node: &N) -> Result<Self, FormError> {
-        Ok(DangerPoint {
-            distance: read_key(alloc, node, "d_dp")?,
-            release_speed: read_key(alloc, node, "v_releasedp")?,
-        })
+        read_record!(DangerPoint, alloc, node;
+            Required distance "d_dp",
+            Required release_speed "v_releasedp",
+        )
     }
 
     fn prove_in_range(&self) {
@@ -155,20 +159,21 @@ impl Members for Overlap {
     }
 
     fn send_members<S: Sink>(&self, out: &mut S) -> Result<(), Memory> {
-        out.send_key("d_ol", &self.length)?;
-        out.send_key("d_startol", &self.start)?;
-        out.send_key("t_ol", &self.time)?;
-        out.send_key("v_releaseol", &self.release_speed)?;
-        Ok(())
+        send_members!(out;
+            Member("d_ol", &self.length),
+            Member("d_startol", &self.start),
+            Member("t_ol", &self.time),
+            Member("v_releaseol", &self.release_speed),
+        )
     }
 
     fn of_members<N: Node>(alloc: Global, node: &N) -> Result<Self, FormError> {
-        Ok(Overlap {
-            start: read_key(alloc, node, "d_startol")?,
-            time: read_key(alloc, node, "t_ol")?,
-            length: read_key(alloc, node, "d_ol")?,
-            release_speed: read_key(alloc, node, "v_releaseol")?,
-        })
+        read_record!(Overlap, alloc, node;
+            Required start "d_startol",
+            Required time "t_ol",
+            Required length "d_ol",
+            Required release_speed "v_releaseol",
+        )
     }
 
     fn prove_in_range(&self) {

@@ -1,27 +1,24 @@
 //! L_PACKET and the body that it counts, in the forms of packets whose layout is not known.
 
-ghost use Rattle.std.specs.Prelude.{◌≡◌, ◌+◌, ◌∷◌, ◌≤◌, ◌<◌, [], codes, length, Some, IfOk, OnOk};
+ghost use Rattle.std.specs.Prelude.{◌≡◌, ◌+◌, ◌≤◌, ◌<◌, codes, length, IfOk};
 ghost use Rattle.etcs_json.specs.BodyText.{body_of};
 ghost use Rattle.etcs_json.specs.Fault.{Gives};
 ghost use Rattle.etcs_json.specs.Measured.{is_length, measured_of};
 ghost use Rattle.etcs_json.specs.Reading.{at_key, allowed_number};
-ghost use Rattle.etcs_json.specs.Shape.{number_data};
 
 use crate::error::FormError;
 use crate::node::Node;
 use crate::node::reading::{member, under};
 use crate::packets::body_text::body_in;
-use crate::writing::Sink;
-use etcs_bits::{Bits, Memory};
+use etcs_bits::Bits;
 use std::alloc::Global;
 
-/// Sends the member `l_packet`. `head` is the number of bits before the body.
-pub(crate) fn send_length<S: Sink>(out: &mut S, head: u32, body: &Bits) -> Result<(), Memory>
+/// L_PACKET: how many bits a packet has. `head` is the number of bits before the body.
+pub(crate) fn packet_length(head: u32, body: &Bits) -> u64
     requires { length body.now ≤ 8170 }
-    ensures { OnOk result (S.takes
-        ((codes "l_packet", Some (number_data (head + length body.now))) ∷ []) out.old out.new) }
+    ensures { result ≡ head + length body.now }
 {
-    out.send_number("l_packet", u64::from(head) + body.len() as u64)
+    u64::from(head) + body.len() as u64
 }
 
 // Reads L_PACKET, which counts the `head` bits before the body too.

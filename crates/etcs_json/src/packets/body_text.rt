@@ -8,10 +8,12 @@ ghost use Rattle.etcs_json.specs.BodyText.{are_padded, body_bytes, body_text, by
 ghost use Rattle.etcs_json.specs.Fault.{Gives};
 
 use crate::error::FormError;
+use crate::members::SendMembers;
 use crate::writing::Sink;
 use etcs_bits::{BitSlice, Bits, Memory};
 use hex::FromHexError;
 use std::alloc::Global;
+use std::marker::Model;
 
 // How many bits have little room made for them. A telegram has no longer body.
 const FEW_BITS: usize = 1024;
@@ -65,16 +67,31 @@ fn send_in_room<const BYTES: usize, const DIGITS: usize, S: Sink>(
     out.send_text("body", text)
 }
 
-/// Sends the member `body`. No packet's body has more than 8,170 bits, which are 1,022 bytes.
-pub(crate) fn send_body<S: Sink>(out: &mut S, body: &Bits) -> Result<(), Memory>
-    requires { length body.now ≤ 8170 }
-    ensures { OnOk result (S.takes
-        ((codes "body", Some (string (body_text body.now))) ∷ []) out.old out.new) }
-{
-    if body.len() <= FEW_BITS {
-        send_in_room::<128, 256, S>(out, body)
-    } else {
-        send_in_room::<1022, 2044, S>(out, body)
+/// The member `body`. No packet's body has more than 8,170 bits, which are 1,022 bytes.
+#[derive(Drop)]
+pub(crate) struct BodyMember<'a> {
+    pub(crate) body: &'a Bits,
+}
+
+impl<'a> Model for BodyMember<'a> {
+    ghost use Rattle.std.specs.Prelude.{◌≤◌, Bool, List, length};
+
+    ghost Value = { List Bool };
+
+    ghost view = { λ m. m.body.now };
+
+    ghost invariant = { λ m. length m.body.now ≤ 8170 };
+}
+
+impl SendMembers for BodyMember<'_> {
+    ghost entries = { λ body. (codes "body", Some (string (body_text body))) ∷ [] };
+
+    fn send<S: Sink>(&self, out: &mut S) -> Result<(), Memory> {
+        if self.body.len() <= FEW_BITS {
+            send_in_room::<128, 256, S>(out, self.body)
+        } else {
+            send_in_room::<1022, 2044, S>(out, self.body)
+        }
     }
 }
 

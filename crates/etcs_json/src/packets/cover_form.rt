@@ -4,6 +4,7 @@ ghost use Rattle.etcs_json.specs.Beside.{AreRowsAllowed};
 ghost use Rattle.etcs_json.specs.Cover.{cover_marker};
 
 use crate::error::FormError;
+use crate::members::{Member, NumberMember, send_members};
 use crate::node::Node;
 use crate::node::reading::{read_fixed, read_key};
 use crate::record::{Members, Record, prove_allowed};
@@ -27,9 +28,10 @@ impl Members for CoverMarker {
     }
 
     fn send_members<S: Sink>(&self, out: &mut S) -> Result<(), Memory> {
-        out.send_number("nid_packet", 0)?;
-        out.send_key("nid_vbcmk", &self.marker)?;
-        Ok(())
+        send_members!(out;
+            NumberMember("nid_packet", 0),
+            Member("nid_vbcmk", &self.marker),
+        )
     }
 
     fn of_members<N: Node>(alloc: Global, node: &N) -> Result<Self, FormError> {

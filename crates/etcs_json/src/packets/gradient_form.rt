@@ -4,8 +4,9 @@ ghost use Rattle.etcs_json.specs.Beside.{AreRowsAllowed, packet};
 ghost use Rattle.etcs_json.specs.Profiles.{gradient, gradient_element};
 
 use crate::error::FormError;
+use crate::members::{Member, Required, read_record, send_members};
 use crate::node::Node;
-use crate::node::reading::{read_fixed, read_key};
+use crate::node::reading::read_fixed;
 use crate::packets::profile_form::{read_profile, send_profile};
 use crate::record::{Members, Record, prove_allowed};
 use crate::writing::Sink;
@@ -28,18 +29,19 @@ impl Members for GradientElement {
     }
 
     fn send_members<S: Sink>(&self, out: &mut S) -> Result<(), Memory> {
-        out.send_key("d_gradient", &self.distance)?;
-        out.send_key("g_a", &self.gradient)?;
-        out.send_key("q_gdir", &self.uphill)?;
-        Ok(())
+        send_members!(out;
+            Member("d_gradient", &self.distance),
+            Member("g_a", &self.gradient),
+            Member("q_gdir", &self.uphill),
+        )
     }
 
     fn of_members<N: Node>(alloc: Global, node: &N) -> Result<Self, FormError> {
-        Ok(GradientElement {
-            distance: read_key(alloc, node, "d_gradient")?,
-            uphill: read_key(alloc, node, "q_gdir")?,
-            gradient: read_key(alloc, node, "g_a")?,
-        })
+        read_record!(GradientElement, alloc, node;
+            Required distance "d_gradient",
+            Required uphill "q_gdir",
+            Required gradient "g_a",
+        )
     }
 
     fn prove_in_range(&self) {

@@ -8,6 +8,7 @@ ghost use Rattle.etcs_json.specs.Report.{integrity};
 
 use crate::error::FormError;
 use crate::form::{Form, InPieces};
+use crate::members::ReadMembers;
 use crate::node::Node;
 use crate::node::reading::{check_absent, read_key};
 use crate::packets::number_forms::read_number;
@@ -16,6 +17,7 @@ use etcs_bits::{Distance, Memory, Plain};
 use etcs_radio::{Integrity, Train3};
 use serde_json::Value;
 use std::alloc::Global;
+use std::marker::Model;
 
 /// The number of Q_LENGTH, 0 to 3.
 pub(crate) fn length_number(integrity: Integrity) -> u64
@@ -42,9 +44,9 @@ pub(crate) fn confirmed_length(integrity: Integrity) -> Option<Distance>
     }
 }
 
-/// Reads Q_LENGTH and L_TRAININT. L_TRAININT has to be there at 1 and 2, and nowhere else.
+// Reads Q_LENGTH and L_TRAININT. L_TRAININT has to be there at 1 and 2, and nowhere else.
 #[tactic(auto, using(crate::proofs::KeyedLemmas::length_numbers))]
-pub(crate) fn read_integrity<N: Node>(alloc: Global, node: &N) -> Result<Integrity, FormError>
+fn read_integrity<N: Node>(alloc: Global, node: &N) -> Result<Integrity, FormError>
     ensures { Gives (λ v. v) result (integrity.form.of (N.shows node.now)) }
 {
     let number: Plain<2> = read_key(alloc, node, "q_length")?;
@@ -59,6 +61,31 @@ pub(crate) fn read_integrity<N: Node>(alloc: Global, node: &N) -> Result<Integri
         return Ok(Integrity::Q0);
     }
     Ok(Integrity::Q3)
+}
+
+/// A train's integrity, of the members Q_LENGTH and L_TRAININT.
+#[derive(Drop)]
+pub(crate) struct IntegrityMembers {
+    pub(crate) value: Integrity,
+}
+
+impl Model for IntegrityMembers {
+    ghost use Rattle.etcs_radio.specs.declared.integrity.Integrity.{Integrity};
+
+    ghost Value = { Integrity };
+
+    ghost view = { λ m. m.value };
+}
+
+impl ReadMembers for IntegrityMembers {
+    type Keys = ();
+
+    ghost reads = { λ _. integrity.form.of };
+
+    fn read<N: Node>(alloc: Global, node: &N, _keys: ()) -> Result<Self, FormError> {
+        let value = read_integrity(alloc, node)?;
+        Ok(IntegrityMembers { value })
+    }
 }
 
 #[tactic(auto, unfolding(crate::specs::Reading::allowed_number))]

@@ -7,10 +7,12 @@ ghost use Rattle.etcs_json.specs.KeyedVariables.{number_in};
 ghost use Rattle.etcs_json.specs.Transition.{level};
 
 use crate::error::FormError;
+use crate::members::ReadMembers;
 use crate::node::Node;
 use crate::node::reading::{check_absent, read_key};
 use etcs_bits::{Level, Plain, Ranged};
 use std::alloc::Global;
+use std::marker::Model;
 
 /// The national system of level NTC: NID_NTC, 8 bits.
 #[tactic(auto, unfolding(etcs_bits::specs::layout::Rows::alone))]
@@ -44,5 +46,30 @@ pub(crate) fn read_level<N: Node>(
         2 => Ok(Level::L1),
         3 => Ok(Level::L2),
         _ => Ok(Level::L3),
+    }
+}
+
+/// A level, of the members at the key of its number and at that of NID_NTC.
+#[derive(Drop)]
+pub(crate) struct LevelMembers {
+    pub(crate) value: Level,
+}
+
+impl Model for LevelMembers {
+    ghost use Rattle.etcs_bits.specs.declared.variables.level.Level.{Level};
+
+    ghost Value = { Level };
+
+    ghost view = { λ m. m.value };
+}
+
+impl ReadMembers for LevelMembers {
+    type Keys = &'static str;
+
+    ghost reads = { λ key. (level key.now).form.of };
+
+    fn read<N: Node>(alloc: Global, node: &N, key: &'static str) -> Result<Self, FormError> {
+        let value = read_level(alloc, node, key)?;
+        Ok(LevelMembers { value })
     }
 }

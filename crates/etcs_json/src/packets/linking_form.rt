@@ -4,8 +4,9 @@ ghost use Rattle.etcs_json.specs.Beside.{AreRowsAllowed, packet};
 ghost use Rattle.etcs_json.specs.Profiles.{link, linking};
 
 use crate::error::FormError;
+use crate::members::{Member, Optional, OptionalMember, Required, read_record, send_members};
 use crate::node::Node;
-use crate::node::reading::{read_fixed, read_key, read_key_if};
+use crate::node::reading::read_fixed;
 use crate::packets::profile_form::{read_profile, send_profile};
 use crate::record::{Members, Record, prove_allowed};
 use crate::writing::Sink;
@@ -35,24 +36,25 @@ impl Members for Link {
     }
 
     fn send_members<S: Sink>(&self, out: &mut S) -> Result<(), Memory> {
-        out.send_key("d_link", &self.distance)?;
-        out.send_key("nid_bg", &self.group)?;
-        out.send_key_if("nid_c", &self.country)?;
-        out.send_key("q_linkorientation", &self.nominal)?;
-        out.send_key("q_linkreaction", &self.reaction)?;
-        out.send_key("q_locacc", &self.accuracy)?;
-        Ok(())
+        send_members!(out;
+            Member("d_link", &self.distance),
+            Member("nid_bg", &self.group),
+            OptionalMember("nid_c", &self.country),
+            Member("q_linkorientation", &self.nominal),
+            Member("q_linkreaction", &self.reaction),
+            Member("q_locacc", &self.accuracy),
+        )
     }
 
     fn of_members<N: Node>(alloc: Global, node: &N) -> Result<Self, FormError> {
-        Ok(Link {
-            distance: read_key(alloc, node, "d_link")?,
-            country: read_key_if(alloc, node, "nid_c")?,
-            group: read_key(alloc, node, "nid_bg")?,
-            nominal: read_key(alloc, node, "q_linkorientation")?,
-            reaction: read_key(alloc, node, "q_linkreaction")?,
-            accuracy: read_key(alloc, node, "q_locacc")?,
-        })
+        read_record!(Link, alloc, node;
+            Required distance "d_link",
+            Optional country "nid_c",
+            Required group "nid_bg",
+            Required nominal "q_linkorientation",
+            Required reaction "q_linkreaction",
+            Required accuracy "q_locacc",
+        )
     }
 
     fn prove_in_range(&self) {

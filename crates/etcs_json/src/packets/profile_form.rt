@@ -12,8 +12,10 @@ ghost use Rattle.etcs_json.specs.Variables.{direction, scale};
 
 use crate::error::FormError;
 use crate::form::{Form, InPieces};
+use crate::members::{
+    Member, NonEmpty, NonEmptyMember, NumberMember, ReadMembers, Required, pairs, send_members,
+};
 use crate::node::Node;
-use crate::node::reading::{read_first_and_at, read_key};
 use crate::writing::Sink;
 use etcs_bits::{Dir, Layout, Memory, Scale};
 use etcs_profile::{Elements, Packet};
@@ -22,7 +24,7 @@ use std::alloc::Global;
 /// Sends the members of a packet of elements. `name` is the key of the list of its elements.
 pub(crate) fn send_profile<const N: u32, T: InPieces + Layout, S: Sink>(
     out: &mut S,
-    name: &str,
+    name: &'static str,
     packet: &Packet<N, Elements<T>>,
 ) -> Result<(), Memory>
     ensures { OnOk result (S.takes (
@@ -32,11 +34,12 @@ pub(crate) fn send_profile<const N: u32, T: InPieces + Layout, S: Sink>(
         ∷ (codes "q_scale", Some (scale.to packet.now.1.scale)) ∷ [])
         out.old out.new) }
 {
-    out.send_first_and(name, packet.first(), packet.further())?;
-    out.send_number("nid_packet", u64::from(N))?;
-    out.send_key("q_dir", &packet.dir())?;
-    out.send_key("q_scale", &packet.scale())?;
-    Ok(())
+    send_members!(out;
+        NonEmptyMember(name, packet.first(), packet.further()),
+        NumberMember("nid_packet", u64::from(N)),
+        Member("q_dir", &packet.dir()),
+        Member("q_scale", &packet.scale()),
+    )
 }
 
 // The packet of these elements. It is refused where it has more than 8,191 bits.
@@ -69,8 +72,7 @@ pub(crate) fn read_profile<const K: u32, T: Form + Layout, N: Node>(
     requires { (d : Data) → (x : T) → T.shape.of d ≡ Ok x → T.fit x }
     ensures { Gives (λ p. p) result ((profile name.now T.format T.shape).of (N.shows node.now)) }
 {
-    let dir = read_key(alloc, node, "q_dir")?;
-    let scale = read_key(alloc, node, "q_scale")?;
-    let (first, further) = read_first_and_at(alloc, node, name, 32)?;
+    let found = ReadMembers::read(alloc, node, pairs!("q_dir", "q_scale", name))?;
+    let (Required { value: dir }, (Required { value: scale }, NonEmpty { first, further })) = found;
     packet_of(alloc, dir, scale, first, further)
 }

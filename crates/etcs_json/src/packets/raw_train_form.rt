@@ -9,10 +9,11 @@ ghost use Rattle.etcs_json.specs.Reading.{at_key, allowed_number};
 ghost use Rattle.etcs_json.specs.Variables.{is_allowed};
 
 use crate::error::FormError;
+use crate::members::{NumberMember, send_members};
 use crate::node::Node;
 use crate::node::reading::{member, under};
-use crate::packets::body_form::{read_measured, send_length};
-use crate::packets::body_text::send_body;
+use crate::packets::body_form::{packet_length, read_measured};
+use crate::packets::body_text::BodyMember;
 use crate::record::{Members, Record};
 use crate::writing::Sink;
 use etcs_bits::Memory;
@@ -61,10 +62,12 @@ impl Members for RawTrainPacket {
     }
 
     fn send_members<S: Sink>(&self, out: &mut S) -> Result<(), Memory> {
-        send_body(out, self.body())?;
-        send_length(out, HEAD_BITS, self.body())?;
-        out.send_number("nid_packet", u64::from(self.number()))?;
-        Ok(())
+        let body = self.body();
+        send_members!(out;
+            BodyMember { body },
+            NumberMember("l_packet", packet_length(HEAD_BITS, body)),
+            NumberMember("nid_packet", u64::from(self.number())),
+        )
     }
 
     fn of_members<N: Node>(alloc: Global, node: &N) -> Result<Self, FormError> {

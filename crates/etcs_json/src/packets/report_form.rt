@@ -5,31 +5,49 @@ ghost use Rattle.etcs_radio.specs.Report.{report_of, report_with as what_is_with
 ghost use Rattle.etcs_json.specs.Chosen.{with_number};
 ghost use Rattle.etcs_json.specs.Fault.{Gives};
 ghost use Rattle.etcs_json.specs.Reading.{as_kind, object_with};
-ghost use Rattle.etcs_json.specs.Report.{either_report, identity, situation, state, with_one, with_two};
+ghost use Rattle.etcs_json.specs.Report.{either_report, identity, situation, with_one, with_two};
 ghost use Rattle.etcs_json.specs.ReportSending.{first_members, last_members, middle_members, sent_members};
 
 use crate::error::FormError;
 use crate::form::{Form, InPieces};
+use crate::members::{
+    Member, NumberMember, OptionalMember, ReadMembers, Required, make_record, pairs, send_members,
+};
 use crate::node::Node;
 use crate::node::known_keys::check_keys;
 use crate::node::reading::{read_first, read_fixed, read_key};
-use crate::packets::integrity_form::{confirmed_length, length_number, read_integrity};
-use crate::packets::level_form::{national_system_of, read_level};
+use crate::packets::integrity_form::{IntegrityMembers, confirmed_length, length_number};
+use crate::packets::level_form::{LevelMembers, national_system_of};
 use crate::record::prove_allowed;
 use crate::writing::Sink;
 use crate::writing::building::NewObject;
 use crate::writing::marks::Marks;
-use etcs_bits::{Country, Distance, GroupNumber, Identity, Level, Memory, Plain, Scale};
-use etcs_radio::{Integrity, Report, Train3};
+use etcs_bits::{Country, Distance, GroupNumber, Identity, Memory, Plain, Scale};
+use etcs_radio::{Report, Train3};
 use json::Token;
 use serde_json::Value;
 use std::alloc::Global;
 
 // Whether a train is whole, how it runs, and in which mode and level.
-type State = (Integrity, (Plain<7>, (Train3, (Plain<4>, Level))));
+type State = (
+    IntegrityMembers,
+    (
+        Required<Plain<7>>,
+        (Required<Train3>, (Required<Plain<4>>, LevelMembers)),
+    ),
+);
 
 // Where a train is, as seen from the group that its position report refers to, and its state.
-type Situation = (Distance, (Train3, (Train3, (Distance, (Distance, State)))));
+type Situation = (
+    Required<Distance>,
+    (
+        Required<Train3>,
+        (
+            Required<Train3>,
+            (Required<Distance>, (Required<Distance>, State)),
+        ),
+    ),
+);
 
 // What follows the number in packet 0, and in packet 1.
 type WithOne = (Scale, (Identity, Situation));
@@ -52,31 +70,21 @@ pub(crate) fn read_identity<N: Node>(
     Ok(Identity { country, group })
 }
 
-// Reads the members of a train's state.
-#[tactic(auto, unfolding(crate::specs::Report::state))]
-fn read_state<N: Node>(alloc: Global, node: &N) -> Result<State, FormError>
-    ensures { Gives (λ s. s) result (state.of (N.shows node.now)) }
-{
-    let length = read_integrity(alloc, node)?;
-    let speed = read_key(alloc, node, "v_train")?;
-    let running = read_key(alloc, node, "q_dirtrain")?;
-    let mode = read_key(alloc, node, "m_mode")?;
-    let level = read_level(alloc, node, "m_level")?;
-    Ok((length, (speed, (running, (mode, level)))))
-}
-
 // Reads the members behind the groups.
-#[tactic(auto, unfolding(crate::specs::Report::situation))]
+#[tactic(auto, unfolding(crate::specs::Report::situation, crate::specs::Report::state))]
 fn read_situation<N: Node>(alloc: Global, node: &N) -> Result<Situation, FormError>
     ensures { Gives (λ s. s) result (situation.of (N.shows node.now)) }
 {
-    let distance = read_key(alloc, node, "d_lrbg")?;
-    let orientation = read_key(alloc, node, "q_dirlrbg")?;
-    let side = read_key(alloc, node, "q_dlrbg")?;
-    let over = read_key(alloc, node, "l_doubtover")?;
-    let under = read_key(alloc, node, "l_doubtunder")?;
-    let state = read_state(alloc, node)?;
-    Ok((distance, (orientation, (side, (over, (under, state))))))
+    let state = pairs!((), "v_train", "q_dirtrain", "m_mode", "m_level");
+    let keys = pairs!(
+        "d_lrbg",
+        "q_dirlrbg",
+        "q_dlrbg",
+        "l_doubtover",
+        "l_doubtunder",
+        state
+    );
+    ReadMembers::read(alloc, node, keys)
 }
 
 // The position report of these parts.
@@ -88,23 +96,18 @@ fn report_with(
 ) -> Report
     ensures { result ≡ what_is_with previous scale lrbg situation }
 {
-    let (distance, (orientation, (side, (doubt_over, (doubt_under, state))))) = situation;
-    let (length, (speed, (running, (mode, level)))) = state;
-    Report {
-        scale,
-        lrbg,
-        previous,
-        distance,
-        orientation,
-        side,
-        doubt_over,
-        doubt_under,
-        length,
-        speed,
-        running,
-        mode,
-        level,
-    }
+    make_record!(Report, situation; [scale lrbg previous]
+        Required distance,
+        Required orientation,
+        Required side,
+        Required doubt_over,
+        Required doubt_under,
+        IntegrityMembers length,
+        Required speed,
+        Required running,
+        Required mode,
+        LevelMembers level,
+    )
 }
 
 // Refuses what is no object, and an object with a key that packet 0 does not have.
@@ -217,13 +220,14 @@ pub(crate) fn read_two<N: Node>(alloc: Global, node: &N) -> Result<Report, FormE
 fn send_first<S: Sink>(out: &mut S, report: &Report) -> Result<(), Memory>
     ensures { OnOk result (S.takes (first_members report.now) out.old out.new) }
 {
-    out.send_key("d_lrbg", &report.distance)?;
-    out.send_key("l_doubtover", &report.doubt_over)?;
-    out.send_key("l_doubtunder", &report.doubt_under)?;
-    out.send_key_if("l_trainint", &confirmed_length(report.length))?;
-    out.send_number("m_level", u64::from(report.level.number()))?;
-    out.send_key("m_mode", &report.mode)?;
-    Ok(())
+    send_members!(out;
+        Member("d_lrbg", &report.distance),
+        Member("l_doubtover", &report.doubt_over),
+        Member("l_doubtunder", &report.doubt_under),
+        OptionalMember("l_trainint", &confirmed_length(report.length)),
+        NumberMember("m_level", u64::from(report.level.number())),
+        Member("m_mode", &report.mode),
+    )
 }
 
 // The number of the group before.
@@ -245,13 +249,14 @@ fn previous_country(report: &Report) -> Option<Country>
 fn send_middle<S: Sink>(out: &mut S, report: &Report) -> Result<(), Memory>
     ensures { OnOk result (S.takes (middle_members report.now) out.old out.new) }
 {
-    out.send_key("nid_bg", &report.lrbg.group)?;
-    out.send_key("nid_c", &report.lrbg.country)?;
-    out.send_key_if("nid_ntc", &national_system_of(report.level))?;
-    out.send_number("nid_packet", u64::from(report.number()))?;
-    out.send_key_if("prv_nid_bg", &previous_group(report))?;
-    out.send_key_if("prv_nid_c", &previous_country(report))?;
-    Ok(())
+    send_members!(out;
+        Member("nid_bg", &report.lrbg.group),
+        Member("nid_c", &report.lrbg.country),
+        OptionalMember("nid_ntc", &national_system_of(report.level)),
+        NumberMember("nid_packet", u64::from(report.number())),
+        OptionalMember("prv_nid_bg", &previous_group(report)),
+        OptionalMember("prv_nid_c", &previous_country(report)),
+    )
 }
 
 // Sends the members of the third run: the qualifiers, and the speed.
@@ -259,13 +264,14 @@ fn send_middle<S: Sink>(out: &mut S, report: &Report) -> Result<(), Memory>
 fn send_last<S: Sink>(out: &mut S, report: &Report) -> Result<(), Memory>
     ensures { OnOk result (S.takes (last_members report.now) out.old out.new) }
 {
-    out.send_key("q_dirlrbg", &report.orientation)?;
-    out.send_key("q_dirtrain", &report.running)?;
-    out.send_key("q_dlrbg", &report.side)?;
-    out.send_number("q_length", length_number(report.length))?;
-    out.send_key("q_scale", &report.scale)?;
-    out.send_key("v_train", &report.speed)?;
-    Ok(())
+    send_members!(out;
+        Member("q_dirlrbg", &report.orientation),
+        Member("q_dirtrain", &report.running),
+        Member("q_dlrbg", &report.side),
+        NumberMember("q_length", length_number(report.length)),
+        Member("q_scale", &report.scale),
+        Member("v_train", &report.speed),
+    )
 }
 
 // Sends all members.

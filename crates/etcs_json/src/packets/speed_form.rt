@@ -4,8 +4,9 @@ ghost use Rattle.etcs_json.specs.Beside.{AreRowsAllowed, packet};
 ghost use Rattle.etcs_json.specs.Profiles.{difference, speed_element, speed_profile};
 
 use crate::error::FormError;
+use crate::members::{ListMember, Member, Repeated, Required, read_record, send_members};
 use crate::node::Node;
-use crate::node::reading::{read_fixed, read_items_at, read_key};
+use crate::node::reading::read_fixed;
 use crate::packets::profile_form::{read_profile, send_profile};
 use crate::record::{Members, Record, prove_allowed};
 use crate::writing::Sink;
@@ -28,18 +29,19 @@ impl Members for Difference {
     }
 
     fn send_members<S: Sink>(&self, out: &mut S) -> Result<(), Memory> {
-        out.send_key("nc", &self.category)?;
-        out.send_key("q_diff", &self.kind)?;
-        out.send_key("v_diff", &self.speed)?;
-        Ok(())
+        send_members!(out;
+            Member("nc", &self.category),
+            Member("q_diff", &self.kind),
+            Member("v_diff", &self.speed),
+        )
     }
 
     fn of_members<N: Node>(alloc: Global, node: &N) -> Result<Self, FormError> {
-        Ok(Difference {
-            kind: read_key(alloc, node, "q_diff")?,
-            category: read_key(alloc, node, "nc")?,
-            speed: read_key(alloc, node, "v_diff")?,
-        })
+        read_record!(Difference, alloc, node;
+            Required kind "q_diff",
+            Required category "nc",
+            Required speed "v_diff",
+        )
     }
 
     fn prove_in_range(&self) {
@@ -67,20 +69,21 @@ impl Members for SpeedElement {
     }
 
     fn send_members<S: Sink>(&self, out: &mut S) -> Result<(), Memory> {
-        out.send_key("d_static", &self.distance)?;
-        out.send_list_at("differences", self.differences.as_slice())?;
-        out.send_key("q_front", &self.front)?;
-        out.send_key("v_static", &self.speed)?;
-        Ok(())
+        send_members!(out;
+            Member("d_static", &self.distance),
+            ListMember("differences", self.differences.as_slice()),
+            Member("q_front", &self.front),
+            Member("v_static", &self.speed),
+        )
     }
 
     fn of_members<N: Node>(alloc: Global, node: &N) -> Result<Self, FormError> {
-        Ok(SpeedElement {
-            distance: read_key(alloc, node, "d_static")?,
-            speed: read_key(alloc, node, "v_static")?,
-            front: read_key(alloc, node, "q_front")?,
-            differences: read_items_at(alloc, node, "differences")?,
-        })
+        read_record!(SpeedElement, alloc, node;
+            Required distance "d_static",
+            Required speed "v_static",
+            Required front "q_front",
+            Repeated differences "differences",
+        )
     }
 
     fn prove_in_range(&self) {

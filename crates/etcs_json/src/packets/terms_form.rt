@@ -1,27 +1,48 @@
 //! The members that both movement authorities have after their head.
 
-ghost use Rattle.std.specs.Prelude.{◌≡◌, ◌<◌, codes, length, IfOk};
+ghost use Rattle.std.specs.Prelude.{◌≡◌};
 ghost use Rattle.etcs_profile.specs.Authority.{authority_value};
-ghost use Rattle.etcs_json.specs.Authority.{end_parts, section, terms};
+ghost use Rattle.etcs_json.specs.Authority.{section, terms};
 ghost use Rattle.etcs_json.specs.Fault.{Gives};
 ghost use Rattle.etcs_json.specs.Reading.{at_key, list_of};
 ghost use Rattle.etcs_json.specs.Shape.{object};
 
 use crate::error::FormError;
+use crate::members::{Optional, ReadMembers, Required, read_record};
 use crate::node::Node;
-use crate::node::reading::{read_key, read_key_if, read_list_at};
+use crate::node::reading::read_list_at;
 use etcs_bits::{Dir, Distance, Scale, Speed, Time};
 use etcs_profile::{Authority, DangerPoint, EndTimer, Overlap, Section, SectionTimer};
 use std::alloc::Global;
 use std::marker::Model;
 
-// What follows the end section, as far as it is there.
-#[derive(Clone, Copy)]
-struct EndParts {
-    section_timer: Option<SectionTimer>,
-    end_timer: Option<EndTimer>,
-    danger_point: Option<DangerPoint>,
-    overlap: Option<Overlap>,
+// The sections before the end section, of which there are at most 31.
+#[derive(Drop)]
+struct Sections {
+    value: Vec<Section>,
+}
+
+impl Model for Sections {
+    ghost use Rattle.std.specs.Prelude.{◌<◌, List, length};
+    ghost use Rattle.etcs_profile.specs.declared.section.Section.{Section};
+
+    ghost Value = { List Section };
+
+    ghost view = { λ s. s.value.items };
+
+    ghost invariant = { λ s. length s.value.items < 32 };
+}
+
+impl ReadMembers for Sections {
+    type Keys = &'static str;
+
+    ghost reads = { λ key. at_key (list_of (object section.form).of 0 31) key.now };
+
+    #[tactic(auto, using(crate::proofs::AuthorityLemmas::few_sections))]
+    fn read<N: Node>(alloc: Global, node: &N, key: &'static str) -> Result<Self, FormError> {
+        let value = read_list_at(alloc, node, key, 0, 31)?;
+        Ok(Sections { value })
+    }
 }
 
 /// The conditions of a movement authority, as they are read.
@@ -31,7 +52,10 @@ pub(crate) struct Terms {
     end_timeout: Time,
     sections: Vec<Section>,
     l_endsection: Distance,
-    end: EndParts,
+    section_timer: Option<SectionTimer>,
+    end_timer: Option<EndTimer>,
+    danger_point: Option<DangerPoint>,
+    overlap: Option<Overlap>,
 }
 
 impl Model for Terms {
@@ -41,47 +65,26 @@ impl Model for Terms {
     ghost Value = { TermsValue };
 
     ghost view = { λ t. terms_value t.end_speed t.end_timeout t.sections.items t.l_endsection
-        t.end.section_timer t.end.end_timer t.end.danger_point t.end.overlap };
+        t.section_timer t.end_timer t.danger_point t.overlap };
 
     ghost invariant = { λ t. length t.sections.items < 32 };
 }
 
-// Reads what follows the end section.
-#[tactic(auto, unfolding(crate::specs::Authority::end_parts))]
-fn read_end_parts<N: Node>(alloc: Global, node: &N) -> Result<EndParts, FormError>
-    ensures { Gives (λ e. (e.section_timer, (e.end_timer, (e.danger_point, e.overlap)))) result
-        (end_parts.form.of (N.shows node.now)) }
-{
-    Ok(EndParts {
-        section_timer: read_key_if(alloc, node, "section_timer")?,
-        end_timer: read_key_if(alloc, node, "end_timer")?,
-        danger_point: read_key_if(alloc, node, "danger_point")?,
-        overlap: read_key_if(alloc, node, "overlap")?,
-    })
-}
-
-// Reads the sections before the end section, of which there are at most 31.
-#[tactic(auto, using(crate::proofs::AuthorityLemmas::few_sections))]
-fn read_sections<N: Node>(alloc: Global, node: &N) -> Result<Vec<Section>, FormError>
-    ensures gives { Gives (λ v. v.items) result
-        (at_key (list_of (object section.form).of 0 31) (codes "sections") (N.shows node.now)) }
-    ensures few { IfOk result (λ v. length v.items < 32) }
-{
-    read_list_at(alloc, node, "sections", 0, 31)
-}
-
 /// Reads the conditions.
-#[tactic(auto, unfolding(crate::specs::Authority::terms))]
+#[tactic(auto, unfolding(crate::specs::Authority::terms, crate::specs::Authority::end_parts))]
 pub(crate) fn read_terms<N: Node>(alloc: Global, node: &N) -> Result<Terms, FormError>
     ensures { Gives (λ t. t) result (terms.form.of (N.shows node.now)) }
 {
-    Ok(Terms {
-        end_speed: read_key(alloc, node, "end_speed")?,
-        end_timeout: read_key(alloc, node, "end_timeout")?,
-        sections: read_sections(alloc, node)?,
-        l_endsection: read_key(alloc, node, "l_endsection")?,
-        end: read_end_parts(alloc, node)?,
-    })
+    read_record!(Terms, alloc, node;
+        Required end_speed "end_speed",
+        Required end_timeout "end_timeout",
+        Sections sections "sections",
+        Required l_endsection "l_endsection",
+        Optional section_timer "section_timer",
+        Optional end_timer "end_timer",
+        Optional danger_point "danger_point",
+        Optional overlap "overlap",
+    )
 }
 
 /// The movement authority with these conditions: packet 12 if there is a `main` speed, else packet
@@ -98,10 +101,10 @@ pub(crate) fn authority_of(dir: Dir, scale: Scale, main: Option<Speed>, terms: T
         terms.end_timeout,
         terms.sections,
         terms.l_endsection,
-        terms.end.section_timer,
-        terms.end.end_timer,
-        terms.end.danger_point,
-        terms.end.overlap,
+        terms.section_timer,
+        terms.end_timer,
+        terms.danger_point,
+        terms.overlap,
     );
     match built {
         Ok(authority) => authority,

@@ -4,9 +4,13 @@ ghost use Rattle.etcs_json.specs.Beside.{AreRowsAllowed, packet};
 ghost use Rattle.etcs_json.specs.Transition.{level_order, transition};
 
 use crate::error::FormError;
+use crate::members::{
+    Member, NonEmpty, NonEmptyMember, NumberMember, OptionalMember, ReadMembers, Required, pairs,
+    read_record, send_members,
+};
 use crate::node::Node;
-use crate::node::reading::{read_first_and_at, read_fixed, read_key};
-use crate::packets::level_form::{national_system_of, read_level};
+use crate::node::reading::read_fixed;
+use crate::packets::level_form::{LevelMembers, national_system_of};
 use crate::record::{Members, Record, prove_allowed};
 use crate::writing::Sink;
 use etcs_bits::Memory;
@@ -29,17 +33,19 @@ impl Members for LevelOrder {
 
     fn send_members<S: Sink>(&self, out: &mut S) -> Result<(), Memory> {
         let ntc = national_system_of(self.level);
-        out.send_key("l_ackleveltr", &self.acknowledge)?;
-        out.send_number("m_leveltr", u64::from(self.level.number()))?;
-        out.send_key_if("nid_ntc", &ntc)?;
-        Ok(())
+        let number = u64::from(self.level.number());
+        send_members!(out;
+            Member("l_ackleveltr", &self.acknowledge),
+            NumberMember("m_leveltr", number),
+            OptionalMember("nid_ntc", &ntc),
+        )
     }
 
     fn of_members<N: Node>(alloc: Global, node: &N) -> Result<Self, FormError> {
-        Ok(LevelOrder {
-            level: read_level(alloc, node, "m_leveltr")?,
-            acknowledge: read_key(alloc, node, "l_ackleveltr")?,
-        })
+        read_record!(LevelOrder, alloc, node;
+            LevelMembers level "m_leveltr",
+            Required acknowledge "l_ackleveltr",
+        )
     }
 
     fn prove_in_range(&self) {
@@ -62,20 +68,21 @@ impl Members for Transition {
     }
 
     fn send_members<S: Sink>(&self, out: &mut S) -> Result<(), Memory> {
-        out.send_key("d_leveltr", &self.d_leveltr())?;
-        out.send_number("nid_packet", 41)?;
-        out.send_key("q_dir", &self.dir())?;
-        out.send_key("q_scale", &self.scale())?;
-        out.send_first_and("transitions", self.first(), self.further())?;
-        Ok(())
+        send_members!(out;
+            Member("d_leveltr", &self.d_leveltr()),
+            NumberMember("nid_packet", 41),
+            Member("q_dir", &self.dir()),
+            Member("q_scale", &self.scale()),
+            NonEmptyMember("transitions", self.first(), self.further()),
+        )
     }
 
     fn of_members<N: Node>(alloc: Global, node: &N) -> Result<Self, FormError> {
         read_fixed(alloc, node, "nid_packet", 41)?;
-        let dir = read_key(alloc, node, "q_dir")?;
-        let scale = read_key(alloc, node, "q_scale")?;
-        let d_leveltr = read_key(alloc, node, "d_leveltr")?;
-        let (first, further) = read_first_and_at(alloc, node, "transitions", 32)?;
+        let keys = pairs!("q_dir", "q_scale", "d_leveltr", "transitions");
+        let found = ReadMembers::read(alloc, node, keys)?;
+        let (Required { value: dir }, (Required { value: scale }, rest)) = found;
+        let (Required { value: d_leveltr }, NonEmpty { first, further }) = rest;
         match Transition::new(dir, scale, d_leveltr, first, further) {
             Ok(packet) => Ok(packet),
             Err(_) => Err(FormError::range(alloc)),

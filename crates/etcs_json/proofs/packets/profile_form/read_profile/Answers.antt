@@ -1,8 +1,17 @@
-use Rattle.etcs_json.proofs.ReadLemmas.{first_and_read}
+use Rattle.std.specs.Prelude.{codes}
+use Rattle.etcs_json.specs.Reading.{at_key}
+use Rattle.etcs_json.specs.Shape.{both_of, list_from_one}
+use Rattle.etcs_json.specs.Variables.{direction, scale}
+use Rattle.etcs_json.proofs.ReadLemmas.{both_read, first_and_read}
 use Rattle.etcs_json.proofs.packets.profile_form.read_profile.Goals as goal
 
 -- the list that was read is no longer than it may be, and each element of it fits
 pub returns : goal.returns
 returns g c =
-    let read = first_and_read g.T.Layout.fit g.T.Form.shape 32 c.args.name.now (g.N.Node.shows c.args.node.now) _ c.requires c.in_ok-first.ensures in
-    rw (c.in_ok-dir.ensures, c.in_ok-scale.ensures, c.in_ok-first.ensures) (c.packet_of.ensures read.1 read.0)
+    let d = g.N.Node.shows c.args.node.now in
+    let list = at_key (list_from_one 32 g.T.Form.shape).of c.args.name.now in
+    let scaled = at_key scale.of (codes "q_scale") in
+    let first = both_read (at_key direction.of (codes "q_dir")) (both_of scaled list) d _ (rw (← c.found.view_is) at c.in_ok-found.ensures) in
+    let second = both_read scaled list d _ first.1 in
+    let fits = first_and_read g.T.Layout.fit g.T.Form.shape 32 c.args.name.now d _ c.requires second.1 in
+    rw (first.0, second.0, second.1) (c.packet_of.ensures fits.1 fits.0)

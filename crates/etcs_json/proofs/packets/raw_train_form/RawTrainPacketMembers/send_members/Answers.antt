@@ -1,9 +1,7 @@
 use Rattle.etcs_json.specs.RawTrain.{raw_train_packet}
 use Rattle.etcs_json.proofs.packets.raw_train_form.RawTrainPacketMembers.send_members.Goals as goal
 
--- the members one after the other
+-- what the calls give
 pub returns : goal.returns
 unfolding raw_train_packet
-returns g c = let then = g.met.S.Sink.then in
-    then _ _ _ _ _ (rw c.body.ensures.bits at c.in_ok-send_body.ensures) (then _ _ _ _ _ (rw c.body-2.ensures.bits at c.in_ok-send_length.ensures)
-    (rw (c.from.ensures, c.number.ensures.number) at c.in_ok-send_number.ensures))
+returns g c = rw (c.packet_length.ensures, c.body-body.ensures.bits, c.from.ensures, c.number.ensures.number) at c.send.ensures

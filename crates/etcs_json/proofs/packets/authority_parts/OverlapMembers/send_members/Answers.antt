@@ -1,7 +1,0 @@
-use Rattle.etcs_json.specs.Authority.{overlap}
-use Rattle.etcs_json.proofs.packets.authority_parts.OverlapMembers.send_members.Goals as goal
-
--- the members one after the other
-pub returns : goal.returns
-unfolding overlap
-returns g c = let then = g.met.S.Sink.then in then _ _ _ _ _ c.in_ok-send_key.ensures (then _ _ _ _ _ c.in_ok-send_key-2.ensures (then _ _ _ _ _ c.in_ok-send_key-3.ensures c.in_ok-send_key-4.ensures))

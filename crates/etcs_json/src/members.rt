@@ -1,0 +1,285 @@
+//! Members of an object as one value: nested pairs. A chain of members is then sent or read by one
+//! call, and the proof of the chain is the one of a pair.
+
+ghost use Rattle.std.specs.Prelude.{◌≡◌, ◌∷◌, ◌++◌, [], List, Some, Result, OnOk};
+ghost use Rattle.serde_json.specs.Data.{Data, array};
+ghost use Rattle.etcs_json.specs.Entries.{Entry};
+ghost use Rattle.etcs_json.specs.Fault.{Fault, Gives};
+ghost use Rattle.etcs_json.specs.Reading.{at_key, at_key_if, list_of};
+ghost use Rattle.etcs_json.specs.Shape.{both_of, items_of, list_from_one, number_data, optional as data_if};
+
+use crate::error::FormError;
+use crate::form::{Form, InPieces};
+use crate::node::Node;
+use crate::node::reading::{read_first_and_at, read_items_at, read_key, read_key_if};
+use crate::writing::Sink;
+use etcs_bits::{Items, Memory};
+use std::alloc::Global;
+use std::marker::Model;
+
+// ---- sending
+
+/// Members with their values.
+pub(crate) trait SendMembers {
+    /// The members.
+    ghost entries: { Self → List Entry };
+
+    /// Sends them one after the other. The only error is that memory runs out.
+    fn send<S: Sink>(&self, out: &mut S) -> Result<(), Memory>
+        ensures { OnOk result (S.takes (entries self.now) out.old out.new) };
+}
+
+/// A member.
+#[derive(Drop)]
+pub(crate) struct Member<'a, T>(pub(crate) &'static str, pub(crate) &'a T);
+
+impl<T: InPieces> SendMembers for Member<'_, T> {
+    ghost entries = { λ m. (m.0.now, Some (T.shape.to m.1.now)) ∷ [] };
+
+    #[inline(always)]
+    fn send<S: Sink>(&self, out: &mut S) -> Result<(), Memory> {
+        out.send_key(self.0, self.1)
+    }
+}
+
+/// A member that is left out if there is no value.
+#[derive(Drop)]
+pub(crate) struct OptionalMember<'a, T>(pub(crate) &'static str, pub(crate) &'a Option<T>);
+
+impl<T: InPieces> SendMembers for OptionalMember<'_, T> {
+    ghost entries = { λ m. (m.0.now, data_if T.shape.to m.1.now) ∷ [] };
+
+    #[inline(always)]
+    fn send<S: Sink>(&self, out: &mut S) -> Result<(), Memory> {
+        out.send_key_if(self.0, self.1)
+    }
+}
+
+/// A member that is a number.
+#[derive(Drop)]
+pub(crate) struct NumberMember(pub(crate) &'static str, pub(crate) u64);
+
+impl SendMembers for NumberMember {
+    ghost entries = { λ m. (m.0.now, Some (number_data m.1)) ∷ [] };
+
+    #[inline(always)]
+    fn send<S: Sink>(&self, out: &mut S) -> Result<(), Memory> {
+        out.send_number(self.0, self.1)
+    }
+}
+
+/// A member that is a list.
+#[derive(Drop)]
+pub(crate) struct ListMember<'a, T>(pub(crate) &'static str, pub(crate) &'a [T]);
+
+impl<T: InPieces> SendMembers for ListMember<'_, T> {
+    ghost entries = { λ m. (m.0.now, Some (array (items_of T.shape.to m.1.now))) ∷ [] };
+
+    #[inline(always)]
+    fn send<S: Sink>(&self, out: &mut S) -> Result<(), Memory> {
+        out.send_list_at(self.0, self.1)
+    }
+}
+
+/// A member that is a list, of a first item and further ones.
+#[derive(Drop)]
+pub(crate) struct NonEmptyMember<'a, T>(
+    pub(crate) &'static str,
+    pub(crate) &'a T,
+    pub(crate) &'a [T],
+);
+
+impl<T: InPieces> SendMembers for NonEmptyMember<'_, T> {
+    ghost entries = { λ m. (m.0.now, Some (array (items_of T.shape.to (m.1.now ∷ m.2.now)))) ∷ [] };
+
+    #[inline(always)]
+    fn send<S: Sink>(&self, out: &mut S) -> Result<(), Memory> {
+        out.send_first_and(self.0, self.1, self.2)
+    }
+}
+
+impl<A: SendMembers, B: SendMembers> SendMembers for (A, B) {
+    ghost entries = { λ p. A.entries p.0 ++ B.entries p.1 };
+
+    #[inline(always)]
+    fn send<S: Sink>(&self, out: &mut S) -> Result<(), Memory> {
+        self.0.send(out)?;
+        self.1.send(out)
+    }
+}
+
+// ---- reading
+
+/// Members that are looked for, one after the other.
+pub(crate) trait ReadMembers: Drop {
+    /// Their keys.
+    type Keys: Copy;
+
+    /// What they are read as.
+    ghost reads: { Self.Keys → Data → Result Self Fault };
+
+    /// Reads them.
+    fn read<N: Node>(alloc: Global, node: &N, keys: Self::Keys) -> Result<Self, FormError>
+        ensures { Gives (λ x. x) result (reads keys (N.shows node.now)) };
+}
+
+/// A member that has to be there.
+#[derive(Drop)]
+pub(crate) struct Required<T> {
+    pub(crate) value: T,
+}
+
+impl<T> Model for Required<T> {
+    ghost Value = { T };
+
+    ghost view = { λ m. m.value };
+}
+
+impl<T: Form> ReadMembers for Required<T> {
+    type Keys = &'static str;
+
+    ghost reads = { λ key. at_key T.shape.of key.now };
+
+    #[inline(always)]
+    fn read<N: Node>(alloc: Global, node: &N, key: &'static str) -> Result<Required<T>, FormError> {
+        let value = read_key(alloc, node, key)?;
+        Ok(Required { value })
+    }
+}
+
+/// A member that may be left out.
+#[derive(Drop)]
+pub(crate) struct Optional<T> {
+    pub(crate) value: Option<T>,
+}
+
+impl<T> Model for Optional<T> {
+    ghost use Rattle.std.specs.Prelude.{Option};
+
+    ghost Value = { Option T };
+
+    ghost view = { λ m. m.value };
+}
+
+impl<T: Form> ReadMembers for Optional<T> {
+    type Keys = &'static str;
+
+    ghost reads = { λ key. at_key_if T.shape.of key.now };
+
+    #[inline(always)]
+    fn read<N: Node>(alloc: Global, node: &N, key: &'static str) -> Result<Optional<T>, FormError> {
+        let value = read_key_if(alloc, node, key)?;
+        Ok(Optional { value })
+    }
+}
+
+/// A list of up to 31 items.
+#[derive(Drop)]
+pub(crate) struct Repeated<T> {
+    pub(crate) value: Items<T>,
+}
+
+impl<T> Model for Repeated<T> {
+    ghost Value = { List T };
+
+    ghost view = { λ m. m.value };
+}
+
+impl<T: Form> ReadMembers for Repeated<T> {
+    type Keys = &'static str;
+
+    ghost reads = { λ key. at_key (list_of T.shape.of 0 31) key.now };
+
+    #[inline(always)]
+    fn read<N: Node>(alloc: Global, node: &N, key: &'static str) -> Result<Repeated<T>, FormError> {
+        let value = read_items_at(alloc, node, key)?;
+        Ok(Repeated { value })
+    }
+}
+
+/// A list of from 1 to 32 items: the first, and the further ones.
+#[derive(Drop)]
+pub(crate) struct NonEmpty<T> {
+    pub(crate) first: T,
+    pub(crate) further: Vec<T>,
+}
+
+impl<T> Model for NonEmpty<T> {
+    ghost use Rattle.std.specs.Prelude.{◌<◌, List, length};
+
+    ghost Value = { T × List T };
+
+    ghost view = { λ m. (m.first, m.further.items) };
+
+    ghost invariant = { λ m. length m.further.items < 32 };
+}
+
+impl<T: Form> ReadMembers for NonEmpty<T> {
+    type Keys = &'static str;
+
+    ghost reads = { λ key. at_key (list_from_one 32 T.shape).of key.now };
+
+    #[inline(always)]
+    fn read<N: Node>(alloc: Global, node: &N, key: &'static str) -> Result<NonEmpty<T>, FormError> {
+        let (first, further) = read_first_and_at(alloc, node, key, 32)?;
+        Ok(NonEmpty { first, further })
+    }
+}
+
+impl<A: ReadMembers, B: ReadMembers> ReadMembers for (A, B) {
+    type Keys = (A::Keys, B::Keys);
+
+    ghost reads = { λ keys. both_of (A.reads keys.0) (B.reads keys.1) };
+
+    #[inline(always)]
+    fn read<N: Node>(
+        alloc: Global,
+        node: &N,
+        keys: (A::Keys, B::Keys),
+    ) -> Result<(A, B), FormError> {
+        let first = A::read(alloc, node, keys.0)?;
+        let second = B::read(alloc, node, keys.1)?;
+        Ok((first, second))
+    }
+}
+
+// ---- nested pairs
+
+// These values as nested pairs.
+macro_rules! pairs {
+    ($last:expr) => { $last };
+    ($first:expr, $($more:expr),+) => { ($first, $crate::members::pairs!($($more),+)) };
+}
+
+// Sends members in the byte order of their keys.
+macro_rules! send_members {
+    ($out:ident; $($member:expr),+ $(,)?) => {
+        $crate::members::SendMembers::send(&$crate::members::pairs!($($member),+), $out)
+    };
+}
+
+// The record of the fields that are there, in brackets, and of the members that were read.
+macro_rules! make_record {
+    ($record:ident, $found:ident; [$($done:ident)*] $kind:ident $field:ident $(,)?) => {{
+        let $kind { value: $field } = $found;
+        $record { $($done,)* $field }
+    }};
+    ($record:ident, $found:ident; [$($done:ident)*] $kind:ident $field:ident, $($more:tt)+) => {{
+        let ($kind { value: $field }, rest) = $found;
+        $crate::members::make_record!($record, rest; [$($done)* $field] $($more)+)
+    }};
+}
+
+// Reads the fields of a record, each with its kind and key, in the order in which the keys are looked for.
+macro_rules! read_record {
+    ($record:ident, $alloc:ident, $node:ident; $($kind:ident $field:ident $key:expr),+ $(,)?) => {{
+        let keys = $crate::members::pairs!($($key),+);
+        let found = $crate::members::ReadMembers::read($alloc, $node, keys)?;
+        Ok($crate::members::make_record!($record, found; [] $($kind $field),+))
+    }};
+}
+
+pub(crate) use make_record;
+pub(crate) use pairs;
+pub(crate) use read_record;
+pub(crate) use send_members;
