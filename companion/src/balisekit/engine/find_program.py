@@ -5,8 +5,9 @@ import hashlib
 import os
 import shutil
 import subprocess
+import sys
 from pathlib import Path
-from typing import Dict, Optional
+from typing import Dict, Iterator, Optional
 
 from balisekit.errors import NoAnswer
 
@@ -28,7 +29,8 @@ def find(named: Optional[str]) -> str:
     elif is_clone:
         path = str(script)
     else:
-        path = shutil.which("balisecheck")
+        # (a wheel installs the program beside the interpreter, in a folder that need not be on the path)
+        path = shutil.which("balisecheck", path=os.path.dirname(sys.executable)) or shutil.which("balisecheck")
         if path is None:
             raise NoAnswer("there is no balisecheck on the path: name one by --program or BALISECHECK")
     # (in a clone it is the start script; in a release it is the program itself)
@@ -67,12 +69,20 @@ def checksum(path: str) -> str:
 
 def papers(sha256: str) -> Dict[str, str]:
     """The lines of ABOUT that name the program with this checksum."""
-    for about in sorted(TOP.glob("dist/*/ABOUT")):
+    return next((papers for papers in _all_papers() if sha256 in papers.get("program", "")), {})
+
+
+def released() -> str:
+    """Version and checksums of the program that was released with this balisekit. Empty if there is none."""
+    papers = next(_all_papers(), {})
+    return "balisecheck {version}, sources {sources}, program {program}".format(**papers) if papers else ""
+
+
+def _all_papers() -> Iterator[Dict[str, str]]:
+    """The lines of each ABOUT of a clone, a release or a wheel."""
+    for about in [*sorted(TOP.glob("dist/*/ABOUT")), Path(__file__).parents[1] / "ABOUT"]:
         try:
             lines = about.read_text("utf-8").split("\n")
         except (OSError, UnicodeDecodeError):
             continue
-        papers = dict(line.split(" ", 1) for line in lines if " " in line)
-        if sha256 in papers.get("program", ""):
-            return papers
-    return {}
+        yield dict(line.split(" ", 1) for line in lines if " " in line)
