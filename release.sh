@@ -3,8 +3,8 @@
 #
 #     ./release.sh raise        gives the next program a number of its own, in VERSION and wherever else it stands
 #     ./release.sh store        stores the program in dist/x86_64-linux with its papers, and adds a line to dist/RELEASES
-#     ./release.sh [DIR]        writes the release into DIR, else out/release: tarball, wheel, .deb, SPDX, the logs of the
-#                               gate and of all edits, a README and SHA256SUMS
+#     ./release.sh [DIR]        writes the release into an empty DIR, else out/release: tarball, wheel, .deb, SPDX, the
+#                               logs of the gate and of all edits, a README and SHA256SUMS
 #     ./release.sh --try DIR    the same without the logs, of the program that ./balisecheck would run, and of edits that
 #                               nobody has judged: the names of its files end in -untested
 #
@@ -15,6 +15,8 @@
 set -euo pipefail
 
 cd "$(dirname "${BASH_SOURCE[0]}")"
+room=$(mktemp -d)
+trap 'rm -rf "$room"' EXIT
 dist=dist/x86_64-linux
 version=$(cat VERSION)
 # What is handed out beside the program.
@@ -121,10 +123,8 @@ pack() {
     SOURCE_DATE_EPOCH=$(git log -n 1 --format=%ct)
     export SOURCE_DATE_EPOCH LC_ALL=C TZ=UTC
     umask 022
-    room=$(mktemp -d)
-    trap 'rm -rf "$room"' EXIT
-    rm -rf "$2"
     mkdir -p "$2"
+    [ -z "$(ls -A "$2")" ] || fail "$2 is not empty"
     tree "$1" "$room/$name" "$3" "$4"
     tar -c -C "$room" --sort=name --mtime="@$SOURCE_DATE_EPOCH" --owner=0 --group=0 --numeric-owner --mode=u=rwX,go=rX \
         --format=ustar "$name" | gzip -9n >"$2/$name.tar.gz"
@@ -158,10 +158,8 @@ try() {
     local program commit
     program=${BALISECHECK:-$(BALISECHECK_PATH=1 ./balisecheck)}
     commit=$(git -c user.name=try -c user.email=try stash create)
-    papers=$(mktemp)
-    trap 'rm -rf "$papers" "${room:-}"' EXIT
-    papers "$program" >"$papers"
-    pack "${commit:-HEAD}" "$1" "$program" "$papers" -untested
+    papers "$program" >"$room/ABOUT"
+    pack "${commit:-HEAD}" "$1" "$program" "$room/ABOUT" -untested
     sums "$1"
 }
 
