@@ -53,12 +53,12 @@ class _Once(argparse.Action):
 
 
 class _Version(argparse.Action):
-    """Writes the versions of balisekit and of the program that was released with it, and ends. No program is started."""
+    """Writes the versions of balisekit and of the program that was released with it, and ends. It starts no program."""
 
     def __call__(self, parser: Any, *_: Any) -> None:
-        from balisekit.engine import find_program
+        from balisekit.engine import about
 
-        print(*filter(None, (f"balisekit {__version__}", find_program.released())), sep="\n")
+        print(*filter(None, (f"balisekit {__version__}", about.released())), sep="\n")
         parser.exit()
 
 

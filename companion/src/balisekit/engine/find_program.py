@@ -6,12 +6,12 @@ import os
 import shutil
 import subprocess
 import sys
-from pathlib import Path
-from typing import Dict, Iterator, Optional
+from typing import Dict, Optional
 
+from balisekit.engine import about
 from balisekit.errors import NoAnswer
 
-TOP = Path(__file__).resolve().parents[4]
+TOP = about.TOP
 """The top of the repository, if this is a clone."""
 SECONDS = 10
 """For how long the start script of the clone may take."""
@@ -69,20 +69,4 @@ def checksum(path: str) -> str:
 
 def papers(sha256: str) -> Dict[str, str]:
     """The lines of ABOUT that name the program with this checksum."""
-    return next((papers for papers in _all_papers() if sha256 in papers.get("program", "")), {})
-
-
-def released() -> str:
-    """Version and checksums of the program that was released with this balisekit. Empty if there is none."""
-    papers = next(_all_papers(), {})
-    return "balisecheck {version}, sources {sources}, program {program}".format(**papers) if papers else ""
-
-
-def _all_papers() -> Iterator[Dict[str, str]]:
-    """The lines of each ABOUT of a clone, a release or a wheel."""
-    for about in [*sorted(TOP.glob("dist/*/ABOUT")), Path(__file__).parents[1] / "ABOUT"]:
-        try:
-            lines = about.read_text("utf-8").split("\n")
-        except (OSError, UnicodeDecodeError):
-            continue
-        yield dict(line.split(" ", 1) for line in lines if " " in line)
+    return next((papers for papers in about.all_papers() if sha256 in papers.get("program", "")), {})
