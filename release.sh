@@ -3,15 +3,15 @@
 #
 #     ./release.sh raise        gives the next program a number of its own, in VERSION and wherever else it stands
 #     ./release.sh store        stores the program in dist/x86_64-linux with its papers, and adds a line to dist/RELEASES
-#     ./release.sh [DIR]        writes the release into an empty DIR, else out/release: tarball, wheel, .deb, SPDX, the
-#                               logs of the gate and of all edits, a README and SHA256SUMS
-#     ./release.sh --try DIR    the same without the logs, of the program that ./balisecheck would run, and of edits that
-#                               nobody has judged: the names of its files end in -untested
+#     ./release.sh              writes the release into out/release: tarball, wheel, .deb, SPDX, the logs of the gate and
+#                               of all edits, a README and SHA256SUMS
+#     ./release.sh --try DIR    the same into an empty DIR, without the logs, of the program that ./balisecheck would run,
+#                               and of edits that nobody has judged: the names of its files end in -untested
 #
 # `store` takes the program of these sources that the gate or ./build has left in out/, and tests nothing. A program
-# that differs from the stored one needs a number of its own. So does a release need out/edits of `tests/edits --all`,
-# and out/gate.log and out/edits.log, which are what `.ci/run` and `tests/edits --all` have written. Two runs on one
-# commit give the same bytes. It needs git, python3-hatchling, help2man and dpkg-deb.
+# that differs from the stored one needs a number of its own. A release needs out/edits of `tests/edits --all`, and
+# out/gate.log and out/edits.log, which are what `.ci/run` and `tests/edits --all` have written. Two runs on one commit
+# give the same bytes. They need git, python3-hatchling, help2man and dpkg-deb.
 set -euo pipefail
 
 cd "$(dirname "${BASH_SOURCE[0]}")"
@@ -20,7 +20,7 @@ trap 'rm -rf "$room"' EXIT
 dist=dist/x86_64-linux
 version=$(cat VERSION)
 # What is handed out beside the program.
-handed=(balisecheck.1 balisekit install.sh README.md CHANGELOG.md LICENSE-APACHE LICENSE-MIT THIRD-PARTY.md companion docs
+handed=(dist/RELEASES balisecheck.1 balisekit install.sh README.md CHANGELOG.md LICENSE-APACHE LICENSE-MIT THIRD-PARTY.md companion docs
     schemas examples)
 # Where the number of the program stands.
 numbered=(VERSION balisecheck.1 crates/balisecheck/src/help.rt companion/src/balisekit/__init__.py examples/ci/*.yml)
@@ -147,10 +147,12 @@ release() {
     [ "$(said version "$dist")" = "$version" ] || fail "the stored program is not $version: ./release.sh store"
     are_judged
     is_passed out/gate.log .ci/run
+    grep -qx "== sources $(said sources "$dist")" out/gate.log || fail 'out/gate.log is of other sources: .ci/run | tee out/gate.log'
     is_passed out/edits.log 'tests/edits --all'
-    pack HEAD "$1" "$dist/balisecheck" "$dist/ABOUT" ''
-    cp out/gate.log out/edits.log "$1"
-    sums "$1"
+    rm -rf out/release
+    pack HEAD out/release "$dist/balisecheck" "$dist/ABOUT" ''
+    cp out/gate.log out/edits.log out/release
+    sums out/release
 }
 
 # try DIR: of the files as they stand here, committed or not.
@@ -167,7 +169,6 @@ case "$#:${1:-}" in
 1:raise) raise ;;
 1:store) store ;;
 2:--try) try "$2" ;;
-0:) release out/release ;;
-1:[!-]*) release "$1" ;;
-*) sed -n '4,10s/^#//p' "${BASH_SOURCE[0]}" >&2; exit 1 ;;
+0:) release ;;
+*) fail 'the words are raise, store, --try DIR, or none' ;;
 esac
