@@ -20,8 +20,8 @@ trap 'rm -rf "$room"' EXIT
 dist=dist/x86_64-linux
 version=$(cat VERSION)
 # What is handed out beside the program.
-handed=(dist/RELEASES balisecheck.1 balisekit install.sh README.md CHANGELOG.md LICENSE-APACHE LICENSE-MIT THIRD-PARTY.md companion docs
-    schemas examples)
+handed=(balisecheck.1 balisekit install.sh README.md CHANGELOG.md LICENSE-APACHE LICENSE-MIT THIRD-PARTY.md companion
+    dist/RELEASES docs schemas examples)
 # Where the number of the program stands.
 numbered=(VERSION balisecheck.1 crates/balisecheck/src/help.rt companion/src/balisekit/__init__.py examples/ci/*.yml)
 
@@ -106,33 +106,34 @@ store() {
     echo "stored: commit dist" >&2
 }
 
-# tree COMMIT TO PROGRAM PAPERS: writes what the tarball holds, of which the other files of a release are made.
+# tree TO PROGRAM PAPERS: writes what the tarball holds, of which the other files of a release are made.
 tree() {
-    mkdir -p "$2/$dist"
-    git archive "$1" "${handed[@]}" | tar -x -C "$2"
-    install -m 755 "$3" "$2/balisecheck"
-    install -m 644 "$4" "$2/$dist/ABOUT"
-    dist/pack/readme "$2"
-    dist/pack/manual "$2"
-    (cd "$2" && find . -type f ! -name SHA256SUMS -printf '%P\0' | LC_ALL=C sort -z | xargs -0 sha256sum >SHA256SUMS)
+    mkdir -p "$1/$dist"
+    git ls-files -z -- "${handed[@]}" | tar -c --null --files-from=- | tar -x -C "$1"
+    install -m 755 "$2" "$1/balisecheck"
+    install -m 644 "$3" "$1/$dist/ABOUT"
+    dist/pack/readme "$1"
+    dist/pack/manual "$1"
+    (cd "$1" && find . -type f ! -name SHA256SUMS -printf '%P\0' | LC_ALL=C sort -z | xargs -0 sha256sum >SHA256SUMS)
 }
 
-# pack COMMIT TO PROGRAM PAPERS MARK: writes tarball, wheel, .deb and SPDX of it, with the mark in their names.
+# pack TO PROGRAM PAPERS MARK: writes tarball, wheel, .deb and SPDX of the files as they stand here, with the mark in
+# their names.
 pack() {
-    local name=balisecheck-$version-x86_64-linux$5
+    local name=balisecheck-$version-x86_64-linux$4
     SOURCE_DATE_EPOCH=$(git log -n 1 --format=%ct)
     export SOURCE_DATE_EPOCH LC_ALL=C TZ=UTC
     umask 022
-    mkdir -p "$2"
-    [ -z "$(ls -A "$2")" ] || fail "$2 is not empty"
-    tree "$1" "$room/$name" "$3" "$4"
+    mkdir -p "$1"
+    [ -z "$(ls -A "$1")" ] || fail "$1 is not empty"
+    tree "$room/$name" "$2" "$3"
     tar -c -C "$room" --sort=name --mtime="@$SOURCE_DATE_EPOCH" --owner=0 --group=0 --numeric-owner --mode=u=rwX,go=rX \
-        --format=ustar "$name" | gzip -9n >"$2/$name.tar.gz"
-    (cd "$2" && sha256sum "$name.tar.gz" >"$name.tar.gz.sha256")
-    dist/pack/wheel "$room/$name" "$2" "$5"
-    dist/pack/deb "$room/$name" "$2" "$5"
-    dist/pack/spdx.py "$room/$name" >"$2/balisecheck-$version$5.spdx.json"
-    sed "s/@VERSION@/$version/g; s/@MARK@/$5/g; s/@BUILD@/${5:+-0untested}/g" dist/pack/release.md >"$2/README.md"
+        --format=ustar "$name" | gzip -9n >"$1/$name.tar.gz"
+    (cd "$1" && sha256sum "$name.tar.gz" >"$name.tar.gz.sha256")
+    dist/pack/wheel "$room/$name" "$1" "$4"
+    dist/pack/deb "$room/$name" "$1" "$4"
+    dist/pack/spdx.py "$room/$name" >"$1/balisecheck-$version$4.spdx.json"
+    sed "s/@VERSION@/$version/g; s/@MARK@/$4/g; s/@BUILD@/${4:+-0untested}/g" dist/pack/release.md >"$1/README.md"
 }
 
 # sums DIR: checksums of all files there.
@@ -150,18 +151,17 @@ release() {
     grep -qx "== sources $(said sources "$dist")" out/gate.log || fail 'out/gate.log is of other sources: .ci/run | tee out/gate.log'
     is_passed out/edits.log 'tests/edits --all'
     rm -rf out/release
-    pack HEAD out/release "$dist/balisecheck" "$dist/ABOUT" ''
+    pack out/release "$dist/balisecheck" "$dist/ABOUT" ''
     cp out/gate.log out/edits.log out/release
     sums out/release
 }
 
-# try DIR: of the files as they stand here, committed or not.
+# try DIR: of the files as they are here, committed or not.
 try() {
-    local program commit
+    local program
     program=${BALISECHECK:-$(BALISECHECK_PATH=1 ./balisecheck)}
-    commit=$(git -c user.name=try -c user.email=try stash create)
     papers "$program" >"$room/ABOUT"
-    pack "${commit:-HEAD}" "$1" "$program" "$room/ABOUT" -untested
+    pack "$1" "$program" "$room/ABOUT" -untested
     sums "$1"
 }
 
