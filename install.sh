@@ -1,5 +1,6 @@
 #!/bin/sh
-# Installs both commands with their manual pages into PREFIX, else into /usr/local:   ./install.sh [PREFIX]
+# Installs both commands into PREFIX, else into /usr/local, with their manual pages, of which a clone has only that of
+# balisecheck:   ./install.sh [PREFIX]
 #
 # PREFIX/bin/balisecheck is one file that needs only the C library. In a clone it is the program that ./balisecheck would
 # run. PREFIX/bin/balisekit needs python3; its files are in PREFIX/share/balisecheck.
@@ -34,7 +35,9 @@ find "$kit" -name __pycache__ -prune -exec rm -r {} +
 install -m 644 "$about" "$kit/dist/x86_64-linux/ABOUT"
 ln -sf ../../bin/balisecheck "$kit/balisecheck"
 ln -sf ../share/balisecheck/balisekit "$prefix/bin/balisekit"
-for page in "$top"/balisecheck.1 "$top"/balisekit.1; do
-    [ ! -e "$page" ] || install -m 644 "$page" "$manual"
+printf 'installed: %s\n' "$prefix/bin/balisecheck" "$prefix/bin/balisekit" >&2
+for page in balisecheck.1 balisekit.1; do
+    [ -e "$top/$page" ] || continue
+    install -m 644 "$top/$page" "$manual/$page"
+    echo "installed: $manual/$page" >&2
 done
-printf 'installed: %s\n' "$prefix/bin/balisecheck" "$prefix/bin/balisekit" "$manual/balisecheck.1" >&2
