@@ -2,6 +2,7 @@
 from __future__ import annotations
 
 import os
+import shlex
 import subprocess
 from pathlib import Path
 from typing import Dict, Tuple
@@ -9,7 +10,7 @@ from typing import Dict, Tuple
 import pytest
 from cases_of_program import TOP
 
-LINE = str(TOP / "examples" / "table" / "line.csv")
+LINE = shlex.quote(str(TOP / "examples" / "table" / "line.csv"))
 DRAW = f"draw {LINE} --track --aspect green"
 DEBIAN = Path("/usr/bin/python3")
 BARE = f'#!/bin/sh\nexec {DEBIAN} -S "$@"\n'
@@ -35,7 +36,7 @@ def start(words: str, folder: Path, stdin: str = "/dev/null", **settings: str) -
     descriptor = os.open(stdin, os.O_RDONLY)
     try:
         done = subprocess.run(
-            [str(TOP / "balisekit"), *words.split()], env=known, stdin=descriptor, capture_output=True, check=False
+            [str(TOP / "balisekit"), *shlex.split(words)], env=known, stdin=descriptor, capture_output=True, check=False
         )
     finally:
         os.close(descriptor)
