@@ -142,7 +142,7 @@ takes_no_damaged_one() {
     spoilt 'a damaged stored program' "$dist/balisecheck is damaged" sh -c "echo '# more' >>$dist/balisecheck"
     spoilt 'no papers' "$dist/balisecheck is of other sources" rm "$dist/ABOUT"
     spoilt 'no program' "out/balisecheck is not there; $dist/balisecheck is not there" rm -r "$dist"
-    spoilt 'one without its mode' "$dist/balisecheck lost its mode, as all files did when they were unpacked: chmod +x it" \
+    spoilt 'one without its mode' "$dist/balisecheck lost its mode when it was unpacked: chmod +x it, balisecheck and balisekit" \
         chmod -x "$dist/balisecheck"
     begin
     chmod -R -x+X "$tree"
