@@ -25,6 +25,7 @@ python3-hatchling     python:hatchling       installation of balisekit
 mypy                  python:mypy            types of balisekit
 flake8                python:flake8          style of balisekit
 black                 python:black           layout of balisekit
+help2man              help2man               a release
 END
 )
 # By itself, since it is great, and not to be had everywhere.
