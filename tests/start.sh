@@ -276,7 +276,7 @@ installs() {
 }
 
 mkdir "$bare"
-for name in sh dirname readlink find sort xargs sha256sum cut grep sed awk cat cp mv rm mkdir install sleep head tail wc chmod kill \
+for name in sh dirname readlink find sort xargs sha256sum grep sed awk cat cp mv rm mkdir install sleep head tail wc chmod kill \
     uname getconf; do
     ln -s "$(command -v "$name")" "$bare/$name"
 done
