@@ -59,24 +59,29 @@ may_install() {
     [ "$(id -u)" = 0 ] && command -v apt-get >/dev/null
 }
 
-# to_install LINES: the command that installs what is lacking of them.
+# to_install LINES: the command that installs what is lacking of them, without what this release of Debian or Ubuntu has not.
 to_install() {
-    echo "sudo apt-get install --no-install-recommends $(lacking "$1" | cut -d ' ' -f 1 | paste -sd ' ')"
+    local name names=() known=()
+    for name in $(lacking "$1" | cut -d ' ' -f 1); do
+        names+=("$name")
+        ! apt-cache show "$name" >/dev/null 2>&1 || known+=("$name")
+    done
+    # (before the first `apt-get update` no package is known)
+    [ "${#known[@]}" -gt 0 ] || known=("${names[@]}")
+    echo "sudo apt-get install --no-install-recommends ${known[*]}"
 }
 
 # install LINES: installs what is lacking of them. Where it may not, it reports the command that does so.
 install() {
     local command
     [ -n "$(lacking "$1")" ] || return 0
+    ! may_install || timeout 300 apt-get update >"$room/updated" 2>&1
     command=$(to_install "$1")
     may_install || { echo "to try everything: $command"; return; }
     echo "== ${command#sudo }"
-    {
-        export DEBIAN_FRONTEND=noninteractive
-        timeout 300 apt-get update
-        # (its words are parted here)
-        timeout 600 ${command#sudo } -y
-    } >"$room/installed" 2>&1 || { tail -n 3 "$room/installed"; echo 'not installed: what needs them is left out'; }
+    # (its words are parted here)
+    DEBIAN_FRONTEND=noninteractive timeout 600 ${command#sudo } -y >"$room/installed" 2>&1 ||
+        { tail -n 3 "$room/installed"; echo 'not installed: what needs them is left out'; }
 }
 
 # not_tried LINES..: one line with what is not tried, each with the packages that are lacking for it, if there are any.
