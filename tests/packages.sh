@@ -26,6 +26,7 @@ mypy                  python:mypy            types of balisekit
 flake8                python:flake8          style of balisekit
 black                 python:black           layout of balisekit
 help2man              help2man               a release
+python3-venv          python:ensurepip       a release
 END
 )
 # By itself, since it is great, and not to be had everywhere.
