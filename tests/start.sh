@@ -147,23 +147,37 @@ takes_no_damaged_one() {
     spoilt 'a damaged stored program' "$dist/balisecheck is damaged" sh -c "echo '# more' >>$dist/balisecheck"
     spoilt 'no papers' "$dist/balisecheck is of other sources" rm "$dist/ABOUT"
     spoilt 'no program' "out/balisecheck is not there; $dist/balisecheck is not there" rm -r "$dist"
-    spoilt 'one without its mode' "$dist/balisecheck does not start here" chmod -x "$dist/balisecheck"
+    spoilt 'one without its mode' "$dist/balisecheck lost its mode when it was unpacked: chmod +x it, balisecheck and balisekit" \
+        chmod -x "$dist/balisecheck"
+    begin
+    chmod -R -x+X "$tree"
+    chmod +x "$stored/balisecheck"
+    answers_by 'no script has its mode' stored sh "$tree/balisecheck"
     half_built 'a copy that was interrupted before its papers' program "$tree/out/balisecheck" newer
     half_built 'an interrupted copy' sh -c 'head -c 9 balisecheck >part && cat part >balisecheck'
 }
 
-# does_not_start NAME SCRIPT: the stored program is whole, but ends so.
+# does_not_start NAME SCRIPT WHY: the stored program is whole, but ends so. What it needs and what is here is said.
 does_not_start() {
     begin
     printf '#!/bin/sh\n%s\n' "$2" >"$stored/balisecheck"
     papers "$stored"
-    answers_none "$1" 'dist/x86_64-linux/balisecheck does not start here'
+    echo 'glibc 2.34' >>"$stored/ABOUT"
+    answers_none "$1" "dist/x86_64-linux/balisecheck does not start here: it needs x86-64-v2 and glibc 2.34 or later, $(
+        )and this is $(uname -m) with $(getconf GNU_LIBC_VERSION): $3"
 }
 
 takes_none_that_does_not_start() {
-    does_not_start 'a loader that refuses' 'echo "version GLIBC_2.34 not found" >&2; exit 1'
-    does_not_start 'a processor that refuses' 'kill -ILL $$'
-    does_not_start 'one that talks' 'echo a warning'
+    does_not_start 'a loader that refuses' 'printf "version %s not found\n" GLIBC_2.34 GLIBC_2.33 >&2; exit 1' \
+        'version GLIBC_2.34 not found'
+    does_not_start 'a processor that refuses' 'kill -ILL $$' ''
+    does_not_start 'one that talks' 'echo a warning' 'a warning; run ./build'
+    mv "$bare/getconf" "$room/getconf"
+    begin
+    printf '#!/bin/sh\nexit 127\n' >"$stored/balisecheck"
+    papers "$stored"
+    answers_none 'another C library' "does not start here: this is $(uname -m) with another C library: status 127; run ./build"
+    mv "$room/getconf" "$bare/getconf"
 }
 
 writes_nothing() {
@@ -179,8 +193,11 @@ writes_nothing() {
     chmod -R a-w "$tree"
     # Root may write anywhere, so another user tries it.
     other=("$(command -v setpriv)" --reuid 65534 --regid 65534 --clear-groups)
-    [ "$(id -u)" = 0 ] && [ -n "${other[0]}" ] || other=(env)
+    [ "$(id -u)" = 0 ] && [ -n "${other[0]}" ] || other=("$(command -v env)")
     answers_by 'a checkout that cannot be written' stored "${other[@]}" "$tree/balisecheck"
+    chmod a-r "$tree/crates/etcs_low/src/lib.rt"
+    holds 'a source that cannot be read' \
+        "$(answers 3 '' 'balisecheck: not built: the sources cannot be summed up' "${other[@]}" "$tree/balisecheck")"
     begin
     for number in {1..12}; do
         (PATH=$bare "$tree/balisecheck" decode <<<a1 >"$room/many.$number" 2>&1; echo "$?" >>"$room/many.$number") &
@@ -282,7 +299,8 @@ installs() {
 }
 
 mkdir "$bare"
-for name in sh dirname readlink find sort xargs sha256sum grep sed awk cat cp mv rm mkdir install ln sleep tail wc chmod kill; do
+for name in sh dirname readlink find sort xargs sha256sum grep sed awk cat cp mv rm mkdir install ln sleep head tail wc chmod kill \
+    uname getconf; do
     ln -s "$(command -v "$name")" "$bare/$name"
 done
 answers_at_once
