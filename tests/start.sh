@@ -36,6 +36,10 @@ begin() {
     chmod -R u+w "$tree" 2>/dev/null
     rm -rf "$tree"
     mkdir -p "$tree/dist" "$room/elsewhere"
+    mkdir -p "$tree/companion/src/balisekit/__pycache__"
+    touch "$tree/companion/start.py" "$tree/companion/pyproject.toml" "$tree/companion/src/balisekit/main.py"
+    printf '#!/bin/sh\necho a kit\n' >"$tree/balisekit"
+    chmod +x "$tree/balisekit"
     cp "$from/balisecheck" "$from/build" "$from/install.sh" "$tree"
     cp "$from/dist/sources" "$from/dist/hand-over" "$tree/dist"
     echo 1.0 >"$tree/VERSION"
@@ -87,6 +91,7 @@ answers_at_once() {
     answers_by 'the stored program of these sources answers' stored
     holds 'nothing is written' "$([ ! -e "$tree/out" ] || ls "$tree/out")"
     holds 'its path is written where it is asked for' "$(BALISECHECK_PATH=1 answers 0 "$(readlink -f "$stored")/balisecheck"$'\n' '')"
+    holds 'its checksums come before its version' "$(PATH=$bare "$tree/balisecheck" --version </dev/null 2>&1 >"$room/stdout" | diff <(sed 1d "$stored/ABOUT") -)"
     ln -sf "$tree/balisecheck" "$room/link"
     holds 'through a link, from another folder' "$(cd "$room/elsewhere" && answers 0 $'stored a1\n' '' "$room/link")"
     is_built
@@ -142,23 +147,37 @@ takes_no_damaged_one() {
     spoilt 'a damaged stored program' "$dist/balisecheck is damaged" sh -c "echo '# more' >>$dist/balisecheck"
     spoilt 'no papers' "$dist/balisecheck is of other sources" rm "$dist/ABOUT"
     spoilt 'no program' "out/balisecheck is not there; $dist/balisecheck is not there" rm -r "$dist"
-    spoilt 'one without its mode' "$dist/balisecheck does not start here" chmod -x "$dist/balisecheck"
+    spoilt 'one without its mode' "$dist/balisecheck lost its mode when it was unpacked: chmod +x it, balisecheck and balisekit" \
+        chmod -x "$dist/balisecheck"
+    begin
+    chmod -R -x+X "$tree"
+    chmod +x "$stored/balisecheck"
+    answers_by 'no script has its mode' stored sh "$tree/balisecheck"
     half_built 'a copy that was interrupted before its papers' program "$tree/out/balisecheck" newer
     half_built 'an interrupted copy' sh -c 'head -c 9 balisecheck >part && cat part >balisecheck'
 }
 
-# does_not_start NAME SCRIPT: the stored program is whole, but ends so.
+# does_not_start NAME SCRIPT WHY: the stored program is whole, but ends so. What it needs and what is here is said.
 does_not_start() {
     begin
     printf '#!/bin/sh\n%s\n' "$2" >"$stored/balisecheck"
     papers "$stored"
-    answers_none "$1" 'dist/x86_64-linux/balisecheck does not start here'
+    echo 'glibc 2.34' >>"$stored/ABOUT"
+    answers_none "$1" "dist/x86_64-linux/balisecheck does not start here: it needs x86-64-v2 and glibc 2.34 or later, $(
+        )and this is $(uname -m) with $(getconf GNU_LIBC_VERSION): $3"
 }
 
 takes_none_that_does_not_start() {
-    does_not_start 'a loader that refuses' 'echo "version GLIBC_2.34 not found" >&2; exit 1'
-    does_not_start 'a processor that refuses' 'kill -ILL $$'
-    does_not_start 'one that talks' 'echo a warning'
+    does_not_start 'a loader that refuses' 'printf "version %s not found\n" GLIBC_2.34 GLIBC_2.33 >&2; exit 1' \
+        'version GLIBC_2.34 not found'
+    does_not_start 'a processor that refuses' 'kill -ILL $$' ''
+    does_not_start 'one that talks' 'echo a warning' 'a warning; run ./build'
+    mv "$bare/getconf" "$room/getconf"
+    begin
+    printf '#!/bin/sh\nexit 127\n' >"$stored/balisecheck"
+    papers "$stored"
+    answers_none 'another C library' "does not start here: this is $(uname -m) with another C library: status 127; run ./build"
+    mv "$room/getconf" "$bare/getconf"
 }
 
 writes_nothing() {
@@ -174,8 +193,11 @@ writes_nothing() {
     chmod -R a-w "$tree"
     # Root may write anywhere, so another user tries it.
     other=("$(command -v setpriv)" --reuid 65534 --regid 65534 --clear-groups)
-    [ "$(id -u)" = 0 ] && [ -n "${other[0]}" ] || other=(env)
+    [ "$(id -u)" = 0 ] && [ -n "${other[0]}" ] || other=("$(command -v env)")
     answers_by 'a checkout that cannot be written' stored "${other[@]}" "$tree/balisecheck"
+    chmod a-r "$tree/crates/etcs_low/src/lib.rt"
+    holds 'a source that cannot be read' \
+        "$(answers 3 '' 'balisecheck: not built: the sources cannot be summed up' "${other[@]}" "$tree/balisecheck")"
     begin
     for number in {1..12}; do
         (PATH=$bare "$tree/balisecheck" decode <<<a1 >"$room/many.$number" 2>&1; echo "$?" >>"$room/many.$number") &
@@ -246,20 +268,39 @@ builds_in_trouble() {
     holds 'out/ is full' "$(builds 3 'balisecheck: not built: '; answers 0 $'stored a1\n' '')"
 }
 
+# installed FOLDER PREFIX: what the folder's install.sh says, and how what it installs differs from what stands there.
+installed() {
+    PATH=$bare "$1/install.sh" "$2" 2>&1 |
+        diff <(printf 'installed: %s\n' "$2/bin/balisecheck" "$2/bin/balisekit" "$2/share/man/man1/balisecheck.1") -
+    cmp "$stored/balisecheck" "$2/bin/balisecheck" 2>&1
+    cmp "$stored/ABOUT" "$2/share/balisecheck/dist/x86_64-linux/ABOUT" 2>&1
+    cmp "$tree/balisecheck.1" "$2/share/man/man1/balisecheck.1" 2>&1
+    [ "$("$2/bin/balisekit")" = 'a kit' ] || echo 'balisekit does not answer'
+    (cd "$2/share/balisecheck" && find . ! -type d | LC_ALL=C sort) | diff <(printf './%s\n' balisecheck balisekit companion/pyproject.toml \
+        companion/src/balisekit/main.py companion/start.py dist/x86_64-linux/ABOUT) -
+    [ "$(readlink -f "$2/share/balisecheck/balisecheck")" = "$(readlink -f "$2/bin/balisecheck")" ] || echo 'balisekit finds no program'
+}
+
 installs() {
     begin
-    holds 'the program and its manual page are installed' "$(
-        PATH=$bare "$tree/install.sh" "$room/prefix" 2>&1 |
-            diff <(printf 'installed: %s\n' "$room/prefix/bin/balisecheck" "$room/prefix/share/man/man1/balisecheck.1") -
-        cmp "$stored/balisecheck" "$room/prefix/bin/balisecheck" 2>&1
-        cmp "$tree/balisecheck.1" "$room/prefix/share/man/man1/balisecheck.1" 2>&1
-    )"
+    holds 'both commands and their manual pages are installed' "$(installed "$tree" "$room/prefix")"
+    touch "$room/prefix/share/balisecheck/companion/src/balisekit/older.py"
+    holds 'and once more, over what was there' "$(installed "$tree" "$room/prefix")"
+    rm -r "$tree/dist/sources" && mv "$stored/balisecheck" "$tree" && program "$stored/balisecheck" stored
+    holds 'a release has the program itself' "$(installed "$tree" "$room/of a release")"
+    begin
     rm -r "$stored"
     holds 'where there is none, none is installed' "$(PATH=$bare "$tree/install.sh" "$room/other" >"$room/stdout" 2>&1 && echo 'status 0'; [ ! -e "$room/other" ] || ls "$room/other")"
+    begin
+    touch "$room/file"
+    holds 'what to do if a folder cannot be written' "$(PATH=$bare "$tree/install.sh" "$room/file" >"$room/stdout" 2>&1 && echo 'status 0'
+        grep -qF "install: not installed, since $room/file/bin cannot be written" "$room/stdout" || cat "$room/stdout"
+        tail -n 1 "$room/stdout" | diff <(echo 'install: to install for yourself alone: ./install.sh ~/.local') -)"
 }
 
 mkdir "$bare"
-for name in sh dirname readlink find sort xargs sha256sum grep sed awk cat cp mv rm mkdir install sleep tail wc chmod kill; do
+for name in sh dirname readlink find sort xargs sha256sum grep sed awk cat cp mv rm mkdir install ln sleep head tail wc chmod kill \
+    uname getconf; do
     ln -s "$(command -v "$name")" "$bare/$name"
 done
 answers_at_once

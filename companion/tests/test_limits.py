@@ -2,7 +2,8 @@
 
 Times are those of the processor, of balisekit and the program together: those of the clock depend on what else runs.
 What else runs makes the processor slower too, by its use of memory. So the limit of a command is compared with the time
-that a fixed piece of work takes just before it and just behind it.
+that a fixed piece of work takes just before it and just behind it. What takes too long is measured again, because that
+load may change in between: only what takes too long each of three times is slow.
 """
 from __future__ import annotations
 
@@ -65,6 +66,15 @@ def _work() -> float:
     said = [f"{form['number']} {form['packets']}" for form in json.loads(json.dumps(forms))]
     assert len(said) == 30_000
     return time.process_time() - before
+
+
+def _is_quick(measure: Callable[[], float]) -> bool:
+    """Whether one of at most three measurements is at most 1, the limit."""
+    measured: List[float] = []
+    while len(measured) < 3 and (not measured or measured[-1] > 1):
+        measured.append(measure())
+    print("of the limit:", measured)  # (shown if the test fails)
+    return measured[-1] <= 1
 
 
 def _table(path: Path, program: Program, groups: int, other: bool = False) -> Path:
@@ -136,17 +146,23 @@ def test_10000_groups(
     """In well less than 30 seconds. With fewer groups in a part of that, and the time grows with their number alone."""
     if "--html" in words:
         pytest.importorskip("jinja2")
-    times = {}
-    for count in (few, many):
-        old, new = releases(count)
-        names = {"OLD": old, "NEW": new, "OUT": tmp_path / str(count)}
-        before = _work()
-        status, out, seconds = _timed(_words(program, *[names.get(word, word) for word in words]))
-        work = (before + _work()) / 2
-        assert status == (0 if words[0] == "draw" else 1) and (not wanted or out[-1].startswith(wanted))
-        assert seconds < limit * count / OF * work / QUARTER, (count, seconds, work)
-        times[count] = seconds / work
-    assert times[many] < 2 * many / few * times[few], times
+
+    def measure() -> float:
+        """The greatest part of a limit that is used up."""
+        times = []
+        for count in (few, many):
+            old, new = releases(count)
+            names = {"OLD": old, "NEW": new, "OUT": tmp_path / str(count)}
+            before = _work()
+            status, out, seconds = _timed(_words(program, *[names.get(word, word) for word in words], *force))
+            times.append(seconds / (before + _work()) * 2)
+            assert status == (0 if words[0] == "draw" else 1) and (not wanted or out[-1].startswith(wanted))
+        force[:] = ["--force"] if "OUT" in words else []
+        growth = times[1] / times[0] / (2 * many / few)
+        return max(growth, *(spent * QUARTER * OF / count / limit for spent, count in zip(times, (few, many))))
+
+    force: List[str] = []
+    assert _is_quick(measure)
 
 
 @pytest.fixture(scope="module")
@@ -173,10 +189,14 @@ def test_a_browser_opens_a_report_of_1000_groups(reported: Tuple[Path, int, List
 
     The browser is one process here, as the others of it are not waited for and would not be counted.
     """
-    picture, before = tmp_path / "page.png", _spent()
-    browse(tmp_path, reported[0], "--single-process", "--window-size=1100,1400", f"--screenshot={picture}")
-    assert picture.stat().st_size > 50_000
-    assert _spent() - before < 10
+    picture = tmp_path / "page.png"
+
+    def measure() -> float:
+        before = _spent()
+        browse(tmp_path, reported[0], "--single-process", "--window-size=1100,1400", f"--screenshot={picture}")
+        return (_spent() - before) / 10
+
+    assert _is_quick(measure) and picture.stat().st_size > 50_000
 
 
 @pytest.mark.slow

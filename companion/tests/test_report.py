@@ -265,7 +265,7 @@ def test_without_jinja2(
     lines = capsys.readouterr().err.splitlines()
     said = "balisekit: a picture or a page needs jinja2, which "
     assert len(lines) == 2 and all(line.startswith(said) for line in lines)
-    assert all(f"{sys.executable} -m pip install jinja2" in line for line in lines)
+    assert all("sudo apt-get install python3-jinja2" in line for line in lines)
     assert not os.listdir(tmp_path)
 
 

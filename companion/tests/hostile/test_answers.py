@@ -289,7 +289,7 @@ def test_a_signal_ends_the_program(number: signal.Signals, command: str, tmp_pat
     run = subprocess.Popen(
         [str(TOP / "balisekit"), *words, "--program", str(program)],
         stderr=subprocess.PIPE,
-        preexec_fn=lambda: signal.signal(signal.SIGINT, signal.SIG_DFL) and None,
+        preexec_fn=lambda: signal.signal(number, signal.SIG_DFL) and None,  # (nohup, and a shell, have some ignored)
     )
     until = time.monotonic() + 60
     while not (tmp_path / "pids").exists() and time.monotonic() < until:

@@ -252,8 +252,7 @@ def test_signals_leave_nothing(
         env=known,
         stdout=subprocess.PIPE,
         stderr=subprocess.PIPE,
-        preexec_fn=lambda: signal.signal(signal.SIGINT, signal.SIG_DFL)
-        and None,  # (a job in the background ignores it)
+        preexec_fn=lambda: signal.signal(number, signal.SIG_DFL) and None,  # (nohup, and a shell, have some ignored)
     ) as process:
         started = _waited_for(program.with_name("stand.started"))
         process.send_signal(number)

@@ -2,6 +2,7 @@
 from __future__ import annotations
 
 import os
+import shlex
 import subprocess
 from pathlib import Path
 from typing import Dict, Tuple
@@ -9,7 +10,10 @@ from typing import Dict, Tuple
 import pytest
 from cases_of_program import TOP
 
-LINE = str(TOP / "examples" / "table" / "line.csv")
+from balisekit.errors import NoAnswer
+from balisekit.io.optional_packages import needed
+
+LINE = shlex.quote(str(TOP / "examples" / "table" / "line.csv"))
 DRAW = f"draw {LINE} --track --aspect green"
 DEBIAN = Path("/usr/bin/python3")
 BARE = f'#!/bin/sh\nexec {DEBIAN} -S "$@"\n'
@@ -35,7 +39,7 @@ def start(words: str, folder: Path, stdin: str = "/dev/null", **settings: str) -
     descriptor = os.open(stdin, os.O_RDONLY)
     try:
         done = subprocess.run(
-            [str(TOP / "balisekit"), *words.split()], env=known, stdin=descriptor, capture_output=True, check=False
+            [str(TOP / "balisekit"), *shlex.split(words)], env=known, stdin=descriptor, capture_output=True, check=False
         )
     finally:
         os.close(descriptor)
@@ -58,6 +62,29 @@ def test_a_folder_as_standard_input_is_refused(words: str, tmp_path: Path) -> No
 def test_an_interpreter_that_is_not_there(tmp_path: Path) -> None:
     status, out, err = start("--version", tmp_path, BALISEKIT_PYTHON="/nowhere/python3")
     assert (status, out) == (3, "") and err.startswith("balisekit: there is no /nowhere/python3: BALISEKIT_PYTHON ")
+
+
+def test_no_python3(tmp_path: Path) -> None:
+    """The command that installs it is reported. (A copy looks for Debian's in a place where there is none.)"""
+    script = tmp_path / "balisekit"
+    script.write_text((TOP / "balisekit").read_text("utf-8").replace(str(DEBIAN), "/nowhere/python3"), "utf-8")
+    done = subprocess.run(["/bin/sh", str(script)], env={"PATH": str(tmp_path)}, capture_output=True, check=False)
+    said = b"balisekit: there is no /nowhere/python3: sudo apt-get install python3\n"
+    assert (done.returncode, done.stdout, done.stderr) == (3, b"", said)
+
+
+@pytest.mark.parametrize("name", ["jinja2", "openpyxl"])
+@pytest.mark.parametrize("executable", ["/opt/python3", "/usr/bin/python3"])
+def test_a_package_that_is_absent(name: str, executable: str, monkeypatch: pytest.MonkeyPatch) -> None:
+    """Status 3, with the commands that install it for the interpreter that runs."""
+    monkeypatch.setattr("sys.executable", executable)
+    with pytest.raises(NoAnswer) as raised, needed(name, "a report"):
+        raise ModuleNotFoundError(f"No module named '{name}'")
+    debian = f"`sudo apt-get install python3-{name}`"
+    other = f"`/opt/python3 -m pip install {name}`, or for /usr/bin/python3 {debian}"
+    why = f"{executable} cannot import (ModuleNotFoundError: No module named '{name}')"
+    assert raised.value.status == 3
+    assert str(raised.value) == f"a report needs {name}, which {why}: {debian if executable == str(DEBIAN) else other}"
 
 
 def test_no_path(tmp_path: Path) -> None:

@@ -240,7 +240,7 @@ def test_broken_packages(
     status, out, err = run(words[0], book if name == "openpyxl" else csv, *words[1:])
     assert (status, out, len(err)) == (3, [], 1)
     assert f"needs {name}, which {sys.executable} cannot import (SyntaxError: invalid syntax" in err[0]
-    assert f"apt install python3-{name}" in err[0] and f"{sys.executable} -m pip install {name}" in err[0]
+    assert f"sudo apt-get install python3-{name}" in err[0]
 
 
 def test_mistakes_of_balisekit_are_not_blamed_on_the_workbook(table: Write, monkeypatch: pytest.MonkeyPatch) -> None:

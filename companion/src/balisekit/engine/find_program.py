@@ -5,12 +5,13 @@ import hashlib
 import os
 import shutil
 import subprocess
-from pathlib import Path
+import sys
 from typing import Dict, Optional
 
+from balisekit.engine import about
 from balisekit.errors import NoAnswer
 
-TOP = Path(__file__).resolve().parents[4]
+TOP = about.TOP
 """The top of the repository, if this is a clone."""
 SECONDS = 60
 """For how long the start script of the clone may take, which sums up its sources."""
@@ -21,10 +22,17 @@ def find(named: Optional[str]) -> str:
     named = named or os.environ.get("BALISECHECK")
     script = TOP / "balisecheck"
     is_clone = (TOP / "companion" / "pyproject.toml").is_file() and script.is_file()
-    path = str(script) if is_clone and not named else shutil.which(named or "balisecheck")
-    if path is None or not os.path.isfile(path):
-        advice = "there is no balisecheck on the path: name one by --program or BALISECHECK"
-        raise NoAnswer(f"there is no program {named}" if named else advice)
+    if named:
+        path = shutil.which(named)
+        if path is None or not os.path.isfile(path):
+            raise NoAnswer(f"there is no program {named}")
+    elif is_clone:
+        path = str(script)
+    else:
+        # (a wheel installs the program beside the interpreter, in a folder that need not be on the path)
+        path = shutil.which("balisecheck", path=os.path.dirname(sys.executable)) or shutil.which("balisecheck")
+        if path is None:
+            raise NoAnswer("there is no balisecheck on the path: name one by --program or BALISECHECK")
     # (in a clone it is the start script; in a release it is the program itself)
     if is_clone and os.path.samefile(path, script) and script.read_bytes()[:4] != b"\x7fELF":
         path = _stored(str(script))
@@ -61,12 +69,4 @@ def checksum(path: str) -> str:
 
 def papers(sha256: str) -> Dict[str, str]:
     """The lines of ABOUT that name the program with this checksum."""
-    for about in sorted(TOP.glob("dist/*/ABOUT")):
-        try:
-            lines = about.read_text("utf-8").split("\n")
-        except (OSError, UnicodeDecodeError):
-            continue
-        papers = dict(line.split(" ", 1) for line in lines if " " in line)
-        if sha256 in papers.get("program", ""):
-            return papers
-    return {}
+    return next((papers for papers in about.all_papers() if sha256 in papers.get("program", "")), {})

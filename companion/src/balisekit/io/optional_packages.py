@@ -16,7 +16,9 @@ def needed(name: str, purpose: str) -> Iterator[None]:
     except MemoryError:
         raise
     except Exception as error:  # a broken package raises whatever it likes
+        is_debian = sys.executable.startswith("/usr/bin/")  # (pip refuses to install for it)
+        remedy = "" if is_debian else f"`{sys.executable} -m pip install {name}`, or for /usr/bin/python3 "
         raise NoAnswer(
             f"{purpose} needs {name}, which {sys.executable} cannot import ({type(error).__name__}: {error}): "
-            f"install it by `apt install python3-{name}` or `{sys.executable} -m pip install {name}`"
+            f"{remedy}`sudo apt-get install python3-{name}`"
         ) from error

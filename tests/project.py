@@ -1,0 +1,129 @@
+#!/usr/bin/env -S python3 -B
+"""Tests of what the repository has for those who read, fork or call it: links between pages, the pre-commit hook, the job
+file of its own tests, .editorconfig.
+
+BALISECHECK names the program. The last line is `the project: N passed, M failed`, and the exit status is 1 if a test
+failed.
+"""
+import configparser
+import csv
+import fnmatch
+import os
+import pathlib
+import re
+import shutil
+import subprocess
+import tempfile
+
+from runner import EXAMPLES, TOP, play, program
+
+PAGES = [page for folder in (TOP, TOP / "docs", TOP / "examples", TOP / "tests") for page in sorted(folder.glob("*.md"))]
+JOB = EXAMPLES / "ci" / "tests" / "github.yml"
+ALONE = "a1007f802000ffffffffffffffffffffffffffffffffffffffffc0"
+SOUND, FOUND = (f"group,telegram\n{rows}" for rows in (f"A,{ALONE}\n", f"A,{ALONE}\nB,{ALONE}\n"))
+REFUSED = f"group,telegram\nA,{ALONE[:-1]}1\n"
+
+
+def anchors(page):
+    """The anchors of a page's headings, as hosting places make them."""
+    headings = re.findall(r"(?m)^#+ (.*)$", page.read_text(encoding="utf-8"))
+    return {re.sub(r"[^\w\- ]", "", heading).strip().lower().replace(" ", "-") for heading in headings}
+
+
+def test_links(tests):
+    """Each link to a file of the repository leads to a file, and to a heading of it."""
+    for page in PAGES:
+        for target in re.findall(r"\]\(([^)\s]+)\)", page.read_text(encoding="utf-8")):
+            name, _, anchor = target.partition("#")
+            path = page.parent / name if name else page
+            is_there = path.exists() and (not anchor or anchor in anchors(path))
+            tests.holds(f"{page.name} links to {target}", is_there or re.match(r"[a-z]+:", target))
+    tests.holds("SAFETY links to the errata", "](../ERRATA.md)" in (TOP / "docs" / "SAFETY.md").read_text(encoding="utf-8"))
+
+
+def test_hook(tests):
+    """The hook has these keys, one a line, and its command gives the greatest status of the tables that it is handed."""
+    lines = (TOP / ".pre-commit-hooks.yaml").read_text(encoding="utf-8").splitlines()
+    keys = dict(re.fullmatch(r"(?:- |  )(\w+): (.+)", line).groups() for line in lines)
+    tests.equal("the hook's keys", " ".join(keys), "id name description entry language files require_serial")
+    command = TOP / keys["entry"]
+    tests.holds("its command can be run", os.access(command, os.X_OK), command)
+    with tempfile.TemporaryDirectory(prefix="a hook ") as name:
+        room = pathlib.Path(name)
+        known = {**os.environ, "BALISECHECK": program()}
+
+        def status(*words):
+            return subprocess.run([command, *words], cwd=room, env=known, capture_output=True, check=False).returncode
+
+        for path, text in (("sound one.csv", SOUND), ("found.csv", FOUND), ("refused.csv", REFUSED)):
+            (room / path).write_text(text, encoding="utf-8")
+            tests.holds(f"the hook is for {path}", re.search(keys["files"], path))
+        for wanted, *words in ((0, "sound one.csv"), (1, "found.csv"), (1, "found.csv", "sound one.csv"),
+                               (2, "found.csv", "refused.csv", "sound one.csv"), (0, "--by-position", "sound one.csv"),
+                               (2, "--nonsense", "sound one.csv"), (2, "missing.csv")):
+            tests.equal(f"the hook with {words}", status(*words), wanted)
+        subprocess.run([TOP / "balisekit", "check", "found.csv", "--propose", "found.accepted.csv"], cwd=room, env=known,
+                       capture_output=True, check=False)
+        with open(room / "found.accepted.csv", encoding="utf-8", newline="") as file:
+            entries = list(csv.DictReader(file))
+        with open(room / "found.accepted.csv", "w", encoding="utf-8", newline="") as file:
+            rows = csv.DictWriter(file, entries[0])
+            rows.writeheader()
+            rows.writerows({**entry, "reason": "a test", "who": "A. Tester", "date": "2026-11-28"} for entry in entries)
+        tests.equal("a finding that is accepted beside its table", status("found.csv", "found.accepted.csv"), 0)
+
+
+def test_job(tests):
+    """The job file names systems and commands, each of which exists here or in these systems."""
+    text = JOB.read_text(encoding="utf-8")
+    tests.equal("the systems", re.findall(r'"(\w+:[\d.]+)"', text),
+                ["debian:12", "debian:13", "ubuntu:22.04", "ubuntu:24.04"])
+    steps = re.findall(r"(?m)^      - (?:run: (.+)|uses: actions/checkout@v4)$", text)
+    tests.equal("each step is understood", len(steps), len(re.findall(r"(?m)^      - ", text)))
+    words = [part.split()[0] for step in steps for part in step.split(" && ") if part] + ["tests/all"]
+    for word in words:
+        path = TOP / word
+        found = os.access(path, os.X_OK) if "/" in word else shutil.which(word, path="/usr/sbin:/usr/bin:/sbin:/bin")
+        tests.holds(f"the command {word} is there", found)
+
+
+def test_editorconfig(tests):
+    """Each text that is committed is as .editorconfig says."""
+    listed = subprocess.run(["git", "ls-files", "-z"], cwd=TOP, capture_output=True, check=False)
+    if listed.returncode:
+        print(".editorconfig: left out, since git does not know these files")
+        return
+    rules = configparser.ConfigParser()
+    rules.read_string("[top]\n" + (TOP / ".editorconfig").read_text(encoding="utf-8"))
+    for name in filter(None, listed.stdout.decode().split("\0")):
+        path = TOP / name
+        content = path.read_bytes() if path.is_file() else b"\0"
+        if b"\0" in content:
+            continue
+        rule = {}
+        for pattern in rules.sections()[1:]:
+            if any(fnmatch.fnmatch(path.name, one) for one in spelled(pattern)):
+                rule.update(rules[pattern])
+        tests.holds(f"{name} is UTF-8 with line ends of Linux", is_utf8(content) and b"\r" not in content)
+        tests.holds(f"{name} ends in a line end", content[-1:] in (b"", b"\n") or rule["insert_final_newline"] == "false")
+        tests.holds(f"{name} has no blanks at the end of a line", not re.search(rb"(?m)[ \t]$", content)
+                    or rule["trim_trailing_whitespace"] == "false")
+
+
+def spelled(pattern):
+    """The patterns that a pattern with braces stands for."""
+    found = re.fullmatch(r"(.*)\{(.*)\}(.*)", pattern)
+    return [f"{found[1]}{one}{found[3]}" for one in found[2].split(",")] if found else [pattern]
+
+
+def is_utf8(content):
+    """Whether these bytes are UTF-8."""
+    try:
+        content.decode("utf-8")
+    except UnicodeDecodeError:
+        return False
+    return True
+
+
+if __name__ == "__main__":
+    play("the project", test_links, test_hook, test_job, test_editorconfig)
