@@ -1,14 +1,43 @@
 #!/bin/sh
-# Puts the program that ./balisecheck would run where it is found by its name, PREFIX/bin/balisecheck, and its manual
-# page where `man` finds it. Without PREFIX it is /usr/local. The program is one file that needs the C library alone.
+# Installs both commands into PREFIX, else into /usr/local, with their manual pages, of which a clone has only that of
+# balisecheck:   ./install.sh [PREFIX]
+#
+# PREFIX/bin/balisecheck is one file that needs only the C library. In a clone it is the program that ./balisecheck would
+# run. PREFIX/bin/balisekit needs python3; its files are in PREFIX/share/balisecheck.
 set -eu
 
 top=$(dirname "$(readlink -f -- "$0")")
 prefix=${1:-/usr/local}
-program=$(BALISECHECK_PATH=1 "$top/balisecheck")
+kit=$prefix/share/balisecheck
 manual=$prefix/share/man/man1
-mkdir -p "$prefix/bin" "$manual"
+# A release has the program itself where a clone has the start script.
+program=$top/balisecheck
+about=$top/dist/x86_64-linux/ABOUT
+if [ -e "$top/dist/sources" ]; then
+    program=$(BALISECHECK_PATH=1 "$program")
+    about=${program%/*}/ABOUT
+fi
+
+for folder in "$prefix/bin" "$kit" "$manual"; do
+    lack=$(mkdir -p "$folder" 2>&1) && [ -w "$folder" ] && continue
+    echo "install: not installed, since $folder cannot be written${lack:+ ($lack)}." >&2
+    echo 'install: to install for yourself alone: ./install.sh ~/.local' >&2
+    exit 1
+done
 # Not `cp`, which would write through a link, or into a program that runs.
 install -m 755 "$program" "$prefix/bin/balisecheck"
-install -m 644 "$top/balisecheck.1" "$manual/balisecheck.1"
-printf 'installed: %s\n' "$prefix/bin/balisecheck" "$manual/balisecheck.1" >&2
+rm -rf "$kit/companion"
+mkdir -p "$kit/companion/src" "$kit/dist/x86_64-linux"
+install -m 755 "$top/balisekit" "$kit/balisekit"
+install -m 644 "$top/companion/start.py" "$top/companion/pyproject.toml" "$kit/companion"
+cp -r "$top/companion/src/balisekit" "$kit/companion/src"
+find "$kit" -name __pycache__ -prune -exec rm -r {} +
+install -m 644 "$about" "$kit/dist/x86_64-linux/ABOUT"
+ln -sf ../../bin/balisecheck "$kit/balisecheck"
+ln -sf ../share/balisecheck/balisekit "$prefix/bin/balisekit"
+printf 'installed: %s\n' "$prefix/bin/balisecheck" "$prefix/bin/balisekit" >&2
+for page in balisecheck.1 balisekit.1; do
+    [ -e "$top/$page" ] || continue
+    install -m 644 "$top/$page" "$manual/$page"
+    echo "installed: $manual/$page" >&2
+done

@@ -1,27 +1,36 @@
 #!/usr/bin/env bash
 # Makes what is handed out, of the program that was proved and built here.
 #
-#     ./release.sh store           stores that program in dist/x86_64-linux, with its papers, to be committed
-#     ./release.sh tarball [DIR]   writes DIR/balisecheck-VERSION-x86_64-linux.tar.gz, of what is committed and stored,
-#                                  and its checksum beside it; DIR is out/ if it is left out
+#     ./release.sh raise        gives the next program a number of its own, in VERSION and wherever else it stands
+#     ./release.sh store        stores the program in dist/x86_64-linux with its papers, and adds a line to dist/RELEASES
+#     ./release.sh              writes the release into out/release: tarball, wheel, .deb, SPDX, the logs of the gate and
+#                               of all edits, a README and SHA256SUMS
+#     ./release.sh --try DIR    the same into an empty DIR, without the logs, of the program that ./balisecheck would run,
+#                               and of edits that nobody has judged: the names of its files end in -untested
 #
-# `store` takes the program of these sources that the gate or ./build has left in out/. Run the gate before: `store`
-# tests nothing. `tarball` wants to see in out/ that `tests/edits --all` has judged every edit of these sources. Two runs
-# of it on one commit give the same bytes.
+# `store` takes the program of these sources that the gate or ./build has left in out/, and tests nothing. A program
+# that differs from the stored one needs a number of its own. A release needs out/edits of `tests/edits --all`, and
+# out/gate.log and out/edits.log, which are what `.ci/run` and `tests/edits --all` have written. Two runs on one commit
+# give the same bytes. They need git, python3-hatchling, help2man and dpkg-deb.
 set -euo pipefail
 
 cd "$(dirname "${BASH_SOURCE[0]}")"
+room=$(mktemp -d)
+trap 'rm -rf "$room"' EXIT
 dist=dist/x86_64-linux
 version=$(cat VERSION)
 # What is handed out beside the program.
-handed=("$dist/ABOUT" balisecheck.1 balisekit README.md CHANGELOG.md LICENSE-APACHE LICENSE-MIT companion docs schemas examples)
+handed=(balisecheck.1 balisekit install.sh README.md CHANGELOG.md LICENSE-APACHE LICENSE-MIT THIRD-PARTY.md companion
+    dist/RELEASES docs schemas examples)
+# Where the number of the program stands.
+numbered=(VERSION balisecheck.1 crates/balisecheck/src/help.rt companion/src/balisekit/__init__.py examples/ci/*.yml)
 
 fail() {
     echo "release: $1" >&2
     exit 1
 }
 
-# is_committed PATH..: fails where one of them is not as it is committed.
+# is_committed PATH..: fails if one of them is not as it is committed.
 is_committed() {
     local changed
     changed=$(git status --porcelain -- "$@")
@@ -33,13 +42,18 @@ sum_of() {
     sha256sum <"$1" | cut -d ' ' -f 1
 }
 
-# is_right FOLDER REMEDY: fails where the program in the folder is not whole, or not of these sources, by its papers.
+# is_right FOLDER REMEDY: fails if the program in the folder is damaged, or not of these sources, by its papers.
 is_right() {
     grep -qsx "sources $(dist/sources)" "$1/ABOUT" || fail "the program in $1 is of other sources: $2"
     grep -qx "program $(sum_of "$1/balisecheck")" "$1/ABOUT" || fail "the program in $1 is damaged: $2"
 }
 
-# are_judged: fails where tests/edits --all has not judged every edit of these sources.
+# is_passed LOG COMMAND: fails if the log is not there, or does not end as one in which all has passed.
+is_passed() {
+    tail -n 1 "$1" 2>/dev/null | grep -qE '(^|[ :])[1-9][0-9]* passed, 0 failed$' || fail "no $1 in which all has passed: $2 | tee $1"
+}
+
+# are_judged: fails if tests/edits --all has not judged every edit of these sources.
 are_judged() {
     [ -e out/edits ] && [ "$(cut -d ' ' -f 1,2 out/edits)" = "$(tests/edits --sums)" ] ||
         fail 'not every edit of these sources was judged: tests/edits --all'
@@ -50,56 +64,111 @@ glibc_of() {
     grep -aoE 'GLIBC_[0-9]+\.[0-9]+(\.[0-9]+)?' "$1" | cut -d _ -f 2 | sort -uV | tail -n 1
 }
 
+# papers PROGRAM: its papers, as a program of these sources.
+papers() {
+    printf '%s\n' "version $version" "commit $(git log -n 1 --format=%H -- crates.txt HANDLES crates)" \
+        "kit $(rt version 2>/dev/null || echo unknown)" "glibc $(glibc_of "$1")" "sources $(dist/sources)" "program $(sum_of "$1")"
+}
+
+# said WORD FOLDER: what the papers in the folder say.
+said() {
+    sed -n "s/^$1 //p" "$2/ABOUT"
+}
+
+# raise: writes the next number, and a heading for it above what is not released yet.
+raise() {
+    local next=${version%.*}.$((${version##*.} + 1))
+    sed -i "s/\<${version//./\\.}\>/$next/" "${numbered[@]}"
+    sed -i "s/^## Unreleased\$/&\n\n## $next - $(date -u +%F)/" CHANGELOG.md
+    echo "raised: $next. Commit, ./build (which proves the last crate alone), and ./release.sh store" >&2
+}
+
+# has_a_number: fails if another program has the number of the one in out/, and raises the number then.
+has_a_number() {
+    local other
+    other=$(awk -v version="$version" -v program="$(sum_of out/balisecheck)" '$1 == version && $4 != program' dist/RELEASES)
+    [ -z "$other" ] && return
+    raise
+    fail "$version is the number of another program (dist/RELEASES), and this one has it inside"
+}
+
 store() {
+    local line
     is_committed crates.txt HANDLES crates
     is_right out './build'
+    has_a_number
     mkdir -p "$dist"
     install -m 755 out/balisecheck "$dist/balisecheck"
-    printf '%s\n' "version $version" "commit $(git log -n 1 --format=%H -- crates.txt HANDLES crates)" \
-        "kit $(rt version)" "glibc $(glibc_of out/balisecheck)" "sources $(dist/sources)" \
-        "program $(sum_of out/balisecheck)" >"$dist/ABOUT"
+    papers out/balisecheck >"$dist/ABOUT"
+    line="$version $(said commit "$dist") $(said sources "$dist") $(said program "$dist")"
+    grep -q "^$line " dist/RELEASES || echo "$line $(date -u +%F)" >>dist/RELEASES
     BALISECHECK=$PWD/out/balisecheck tests/dist
-    echo "stored: commit $dist" >&2
+    echo "stored: commit dist" >&2
 }
 
-# said WORD: what the stored program's papers say.
-said() {
-    sed -n "s/^$1 //p" "$dist/ABOUT"
+# tree TO PROGRAM PAPERS: writes what the tarball holds, of which the other files of a release are made.
+tree() {
+    mkdir -p "$1/$dist"
+    git ls-files -z -- "${handed[@]}" | tar -c --null --files-from=- | tar -x -C "$1"
+    install -m 755 "$2" "$1/balisecheck"
+    install -m 644 "$3" "$1/$dist/ABOUT"
+    dist/pack/readme "$1"
+    dist/pack/manual "$1"
+    (cd "$1" && find . -type f ! -name SHA256SUMS -printf '%P\0' | LC_ALL=C sort -z | xargs -0 sha256sum >SHA256SUMS)
 }
 
-# What a release is of, and how to make its program again.
-about() {
-    printf 'Balisecheck %s for Linux on x86-64 (x86-64-v2), with glibc %s or later.\n\n' "$version" "$(said glibc)"
-    printf 'Commit of this release: %s\n' "$(git log -n 1 --format=%H)"
-    printf 'Commit of its sources:  %s\n' "$(said commit)"
-    printf 'Proved and built with:  %s\n' "$(said kit)"
-    printf 'Sum of its sources:     %s\n\n' "$(said sources)"
-    printf '%s\n' 'To make the program from its sources, and to compare: in a clone at that commit, with that kit, run' \
-        '`./build`, and then `cmp out/balisecheck` with the program here. docs/PROOFS.md says what is proved, and what' \
-        'has to be trusted.'
+# pack TO PROGRAM PAPERS MARK: writes tarball, wheel, .deb and SPDX of the files as they stand here, with the mark in
+# their names.
+pack() {
+    local name=balisecheck-$version-x86_64-linux$4
+    SOURCE_DATE_EPOCH=$(git log -n 1 --format=%ct)
+    export SOURCE_DATE_EPOCH LC_ALL=C TZ=UTC
+    umask 022
+    mkdir -p "$1"
+    [ -z "$(ls -A "$1")" ] || fail "$1 is not empty"
+    tree "$room/$name" "$2" "$3"
+    tar -c -C "$room" --sort=name --mtime="@$SOURCE_DATE_EPOCH" --owner=0 --group=0 --numeric-owner --mode=u=rwX,go=rX \
+        --format=ustar "$name" | gzip -9n >"$1/$name.tar.gz"
+    (cd "$1" && sha256sum "$name.tar.gz" >"$name.tar.gz.sha256")
+    dist/pack/wheel "$room/$name" "$1" "$4"
+    dist/pack/deb "$room/$name" "$1" "$4"
+    dist/pack/spdx.py "$room/$name" >"$1/balisecheck-$version$4.spdx.json"
+    sed "s/@VERSION@/$version/g; s/@MARK@/$4/g; s/@BUILD@/${4:+-0untested}/g" dist/pack/release.md >"$1/README.md"
 }
 
-tarball() {
-    local to=${1:-out} name=balisecheck-$version-x86_64-linux
-    mkdir -p "$to"
-    to=$(cd "$to" && pwd)
+# sums DIR: checksums of all files there.
+sums() {
+    (cd "$1" && sha256sum -- * >"$room/sums" && mv "$room/sums" SHA256SUMS)
+    echo "written: $1" >&2
+}
+
+release() {
     is_committed "${handed[@]}" VERSION dist crates.txt HANDLES crates
     is_right "$dist" './release.sh store'
+    [ "$(said version "$dist")" = "$version" ] || fail "the stored program is not $version: ./release.sh store"
     are_judged
-    room=$(mktemp -d)
-    trap 'rm -rf "$room"' EXIT
-    git archive --prefix="$name/" HEAD "${handed[@]}" | tar -x -C "$room"
-    install -m 755 "$dist/balisecheck" "$room/$name/balisecheck"
-    about >"$room/$name/RELEASE.txt"
-    (cd "$room/$name" && find . -type f ! -name SHA256SUMS -printf '%P\0' | LC_ALL=C sort -z | xargs -0 sha256sum >SHA256SUMS)
-    tar -c -C "$room" --sort=name --mtime="@$(git log -n 1 --format=%ct)" --owner=0 --group=0 --numeric-owner \
-        --mode=u=rwX,go=rX --format=ustar "$name" | gzip -9n >"$to/$name.tar.gz"
-    (cd "$to" && sha256sum "$name.tar.gz" >"$name.tar.gz.sha256")
-    echo "written: $to/$name.tar.gz" >&2
+    is_passed out/gate.log .ci/run
+    grep -qx "== sources $(said sources "$dist")" out/gate.log || fail 'out/gate.log is of other sources: .ci/run | tee out/gate.log'
+    is_passed out/edits.log 'tests/edits --all'
+    rm -rf out/release
+    pack out/release "$dist/balisecheck" "$dist/ABOUT" ''
+    cp out/gate.log out/edits.log out/release
+    sums out/release
+}
+
+# try DIR: of the files as they are here, committed or not.
+try() {
+    local program
+    program=${BALISECHECK:-$(BALISECHECK_PATH=1 ./balisecheck)}
+    papers "$program" >"$room/ABOUT"
+    pack "$1" "$program" "$room/ABOUT" -untested
+    sums "$1"
 }
 
 case "$#:${1:-}" in
+1:raise) raise ;;
 1:store) store ;;
-[12]:tarball) tarball "${2:-}" ;;
-*) fail './release.sh store, or ./release.sh tarball [DIR]' ;;
+2:--try) try "$2" ;;
+0:) release ;;
+*) fail 'the words are raise, store, --try DIR, or none' ;;
 esac

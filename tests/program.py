@@ -213,6 +213,25 @@ def test_manual(tests):
     tests.lines("the example of the manual page", ran.stdout, "".join(f"{line}\n" for line in shown))
 
 
+def test_help(tests):
+    """Help and the version stand on standard error, beside the usage line and its status. Help has each command, each
+    status, and examples that are answered."""
+    version = (TOP / "VERSION").read_text()
+    usage = run(("--radio",))
+    tests.equal("--version", run(("--version",)), usage._replace(stderr=f"balisecheck {version}"))
+    text = run(("--help",)).stderr
+    for words in (("--help",), ("-h",), ("help",), ("help", "check"), ("decode", "--help"), ("check", "--help")):
+        tests.equal(" ".join(words), run(words), usage._replace(stderr=text))
+    tests.equal("help has each command", re.findall(r"^  balisecheck (\S+)", text, re.MULTILINE),
+                ["check", "decode", "encode", "--version"])
+    tests.equal("help has each status", re.findall(r"^  (\d)  ", text, re.MULTILINE), list("0123"))
+    examples = re.findall(r"^  (echo .*) \| balisecheck (\w+)$", text, re.MULTILINE)
+    tests.equal("help has two examples", len(examples), 2)
+    for command, word in examples:
+        given = subprocess.run(["sh", "-c", command], stdout=subprocess.PIPE, check=True).stdout
+        tests.equal(f"the example of {word}", run((word,), given).status, 0)
+
+
 def test_devices(tests):
     """Input that cannot be read, and a full device, into which each command writes in its own way."""
     failed, stopped = Answer(3, "", DEVICE), (3, DEVICE)
@@ -243,4 +262,4 @@ def test_memory(tests):
 
 if __name__ == "__main__":
     play("the program", test_cases, test_bytes, test_messages, test_examples, test_runs, test_greatest, test_streams,
-         test_long_lines, test_blocks, test_waiting, test_manual, test_devices, test_memory)
+         test_long_lines, test_blocks, test_waiting, test_manual, test_help, test_devices, test_memory)

@@ -36,6 +36,10 @@ begin() {
     chmod -R u+w "$tree" 2>/dev/null
     rm -rf "$tree"
     mkdir -p "$tree/dist" "$room/elsewhere"
+    mkdir -p "$tree/companion/src/balisekit/__pycache__"
+    touch "$tree/companion/start.py" "$tree/companion/pyproject.toml" "$tree/companion/src/balisekit/main.py"
+    printf '#!/bin/sh\necho a kit\n' >"$tree/balisekit"
+    chmod +x "$tree/balisekit"
     cp "$from/balisecheck" "$from/build" "$from/install.sh" "$tree"
     cp "$from/dist/sources" "$from/dist/hand-over" "$tree/dist"
     echo 1.0 >"$tree/VERSION"
@@ -87,6 +91,7 @@ answers_at_once() {
     answers_by 'the stored program of these sources answers' stored
     holds 'nothing is written' "$([ ! -e "$tree/out" ] || ls "$tree/out")"
     holds 'its path is written where it is asked for' "$(BALISECHECK_PATH=1 answers 0 "$(readlink -f "$stored")/balisecheck"$'\n' '')"
+    holds 'its checksums come before its version' "$(PATH=$bare "$tree/balisecheck" --version </dev/null 2>&1 >"$room/stdout" | diff <(sed 1d "$stored/ABOUT") -)"
     ln -sf "$tree/balisecheck" "$room/link"
     holds 'through a link, from another folder' "$(cd "$room/elsewhere" && answers 0 $'stored a1\n' '' "$room/link")"
     is_built
@@ -263,20 +268,38 @@ builds_in_trouble() {
     holds 'out/ is full' "$(builds 3 'balisecheck: not built: '; answers 0 $'stored a1\n' '')"
 }
 
+# installed FOLDER PREFIX: what the folder's install.sh says, and how what it installs differs from what stands there.
+installed() {
+    PATH=$bare "$1/install.sh" "$2" 2>&1 |
+        diff <(printf 'installed: %s\n' "$2/bin/balisecheck" "$2/bin/balisekit" "$2/share/man/man1/balisecheck.1") -
+    cmp "$stored/balisecheck" "$2/bin/balisecheck" 2>&1
+    cmp "$stored/ABOUT" "$2/share/balisecheck/dist/x86_64-linux/ABOUT" 2>&1
+    cmp "$tree/balisecheck.1" "$2/share/man/man1/balisecheck.1" 2>&1
+    [ "$("$2/bin/balisekit")" = 'a kit' ] || echo 'balisekit does not answer'
+    (cd "$2/share/balisecheck" && find . ! -type d | LC_ALL=C sort) | diff <(printf './%s\n' balisecheck balisekit companion/pyproject.toml \
+        companion/src/balisekit/main.py companion/start.py dist/x86_64-linux/ABOUT) -
+    [ "$(readlink -f "$2/share/balisecheck/balisecheck")" = "$(readlink -f "$2/bin/balisecheck")" ] || echo 'balisekit finds no program'
+}
+
 installs() {
     begin
-    holds 'the program and its manual page are installed' "$(
-        PATH=$bare "$tree/install.sh" "$room/prefix" 2>&1 |
-            diff <(printf 'installed: %s\n' "$room/prefix/bin/balisecheck" "$room/prefix/share/man/man1/balisecheck.1") -
-        cmp "$stored/balisecheck" "$room/prefix/bin/balisecheck" 2>&1
-        cmp "$tree/balisecheck.1" "$room/prefix/share/man/man1/balisecheck.1" 2>&1
-    )"
+    holds 'both commands and their manual pages are installed' "$(installed "$tree" "$room/prefix")"
+    touch "$room/prefix/share/balisecheck/companion/src/balisekit/older.py"
+    holds 'and once more, over what was there' "$(installed "$tree" "$room/prefix")"
+    rm -r "$tree/dist/sources" && mv "$stored/balisecheck" "$tree" && program "$stored/balisecheck" stored
+    holds 'a release has the program itself' "$(installed "$tree" "$room/of a release")"
+    begin
     rm -r "$stored"
     holds 'where there is none, none is installed' "$(PATH=$bare "$tree/install.sh" "$room/other" >"$room/stdout" 2>&1 && echo 'status 0'; [ ! -e "$room/other" ] || ls "$room/other")"
+    begin
+    touch "$room/file"
+    holds 'what to do if a folder cannot be written' "$(PATH=$bare "$tree/install.sh" "$room/file" >"$room/stdout" 2>&1 && echo 'status 0'
+        grep -qF "install: not installed, since $room/file/bin cannot be written" "$room/stdout" || cat "$room/stdout"
+        tail -n 1 "$room/stdout" | diff <(echo 'install: to install for yourself alone: ./install.sh ~/.local') -)"
 }
 
 mkdir "$bare"
-for name in sh dirname readlink find sort xargs sha256sum grep sed awk cat cp mv rm mkdir install sleep head tail wc chmod kill \
+for name in sh dirname readlink find sort xargs sha256sum grep sed awk cat cp mv rm mkdir install ln sleep head tail wc chmod kill \
     uname getconf; do
     ln -s "$(command -v "$name")" "$bare/$name"
 done

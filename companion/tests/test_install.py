@@ -11,7 +11,9 @@ from pathlib import Path
 
 import pytest
 
-from balisekit.engine import find_program as program_file
+from balisekit import __version__
+from balisekit.cli import main as cli
+from balisekit.engine import about as released_file, find_program as program_file
 from balisekit.engine.program import Program
 
 TOP = Path(__file__).resolve().parents[2]
@@ -43,6 +45,43 @@ def test_install(tmp_path: Path, program: Program) -> None:
         stderr=subprocess.PIPE,
     )
     assert done.returncode == 3 and b"there is no balisecheck on the path" in done.stderr
+
+
+def test_the_program_beside_the_interpreter_comes_before_the_path(
+    tmp_path: Path, monkeypatch: pytest.MonkeyPatch
+) -> None:
+    """A wheel installs it there, and a venv need not be active."""
+    for name in ("venv", "other"):
+        (tmp_path / name).mkdir()
+        (tmp_path / name / "balisecheck").write_text("#!/bin/sh\n")
+        (tmp_path / name / "balisecheck").chmod(0o755)
+    monkeypatch.delenv("BALISECHECK", raising=False)
+    monkeypatch.setenv("PATH", str(tmp_path / "other"))
+    monkeypatch.setattr(program_file, "TOP", tmp_path)
+    assert program_file.find(None) == str(tmp_path / "other" / "balisecheck")
+    monkeypatch.setattr(sys, "executable", str(tmp_path / "venv" / "python"))
+    assert program_file.find(None) == str(tmp_path / "venv" / "balisecheck")
+
+
+def test_version_starts_no_program(
+    tmp_path: Path, monkeypatch: pytest.MonkeyPatch, capsys: pytest.CaptureFixture[str]
+) -> None:
+    """It has the checksums of the program that was released with balisekit, by its ABOUT, and ends with 0."""
+    monkeypatch.setenv("BALISECHECK", "/no such program")
+    monkeypatch.setattr(released_file, "TOP", tmp_path)
+    (tmp_path / "dist" / "one").mkdir(parents=True)
+    about = tmp_path / "dist" / "one" / "ABOUT"
+    for lines, said in (
+        ("", [f"balisekit {__version__}"]),
+        (
+            "version 1.2.3\nkit one\nsources 0a\nprogram 0b\n",
+            [f"balisekit {__version__}", "balisecheck 1.2.3, sources 0a, program 0b"],
+        ),
+    ):
+        about.write_text(lines, "utf-8")
+        with pytest.raises(SystemExit) as ended:
+            cli.main(["--version"])
+        assert (ended.value.code, capsys.readouterr().out.splitlines()) == (0, said)
 
 
 def test_in_a_release_the_program_itself_stands_beside(tmp_path: Path, monkeypatch: pytest.MonkeyPatch) -> None:

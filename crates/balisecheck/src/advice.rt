@@ -2,8 +2,6 @@
 
 /// The advice for the words of a command line, if they are a usual mistake. The first word is the
 /// program's name.
-///
-/// It goes to standard error, so that standard output stays as the contract of `run` states it.
 pub fn advice_for(words: &[&str]) -> Option<&'static str> {
     match words {
         [_, "check", "--radio", ..] => Some("--radio stands with decode and encode alone"),

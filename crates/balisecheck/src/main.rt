@@ -1,13 +1,15 @@
 //! `balisecheck`: [`run`] of `etcs_run`, from standard input to standard output.
 //!
 //! The contract of [`run`] says what is written for every input. This crate adds the arguments, standard
-//! input and standard output, which no contract can describe, and advice for usual mistakes.
+//! input and standard output, which no contract can describe, and help and advice on standard error.
 #![tactic(auto)]
 
 mod advice;
+mod help;
 mod prompt;
 
 use crate::advice::advice_for;
+use crate::help::help_for;
 use crate::prompt::{Prompt, Shared};
 pub use etcs_run::{Counted, RunError, Status, run};
 use std::cell::RefCell;
@@ -40,6 +42,16 @@ fn run_error(error: &io::Error) -> RunError {
     }
 }
 
+// Writes help, the version or advice to standard error, if the words ask for it or are a usual mistake.
+// Standard output and the status stay as the contract of `run` states them.
+fn explain(rt: &HostRuntime, words: &[&str]) {
+    if let Some(text) = help_for(words) {
+        let _ = eprintln!(rt; "{text}");
+    } else if let Some(text) = advice_for(words) {
+        let _ = eprintln!(rt; "balisecheck: {text}");
+    }
+}
+
 // Runs the command that the words give, from standard input to standard output.
 fn run_words(rt: &HostRuntime, words: &[String]) -> Result<Status, RunError> {
     let alloc = rt.alloc();
@@ -54,8 +66,8 @@ fn run_words(rt: &HostRuntime, words: &[String]) -> Result<Status, RunError> {
     let mut reader = Counted::new(Prompt::new(rt.reader(), &output));
     let mut writer = Counted::new(Shared::new(&output));
     let answer = run(alloc, words.as_slice(), &mut reader, &mut writer);
-    if let (Ok(Status::Refused), Some(text)) = (answer, advice_for(words.as_slice())) {
-        let _ = eprintln!(rt; "balisecheck: {text}");
+    if let Ok(Status::Refused) = answer {
+        explain(rt, words.as_slice());
     }
     if answer.is_err() {
         // A run flushes only before it returns a status. What was written must reach the output

@@ -52,6 +52,16 @@ class _Once(argparse.Action):
         setattr(namespace, self.dest, values)
 
 
+class _Version(argparse.Action):
+    """Writes the versions of balisekit and of the program that was released with it, and ends. It starts no program."""
+
+    def __call__(self, parser: Any, *_: Any) -> None:
+        from balisekit.engine import about
+
+        print(*filter(None, (f"balisekit {__version__}", about.released())), sep="\n")
+        parser.exit()
+
+
 class _Parser(argparse.ArgumentParser):
     """A parser whose options cannot be cut short or given twice."""
 
@@ -68,7 +78,7 @@ def parser(arguments: Sequence[str]) -> argparse.ArgumentParser:
         epilog=STATUSES,
         formatter_class=argparse.RawDescriptionHelpFormatter,
     )
-    whole.add_argument("--version", action="version", version=f"balisekit {__version__}")
+    whole.add_argument("--version", action=_Version, nargs=0, help="show the versions and checksums and exit")
     _add_debug(whole)
     commands = whole.add_subparsers(dest="command", required=True, metavar="COMMAND")
     named = next((argument for argument in arguments if not argument.startswith("-")), None)

@@ -5,12 +5,13 @@ import hashlib
 import os
 import shutil
 import subprocess
-from pathlib import Path
+import sys
 from typing import Dict, Optional
 
+from balisekit.engine import about
 from balisekit.errors import NoAnswer
 
-TOP = Path(__file__).resolve().parents[4]
+TOP = about.TOP
 """The top of the repository, if this is a clone."""
 SECONDS = 10
 """For how long the start script of the clone may take."""
@@ -28,7 +29,8 @@ def find(named: Optional[str]) -> str:
     elif is_clone:
         path = str(script)
     else:
-        path = shutil.which("balisecheck")
+        # (a wheel installs the program beside the interpreter, in a folder that need not be on the path)
+        path = shutil.which("balisecheck", path=os.path.dirname(sys.executable)) or shutil.which("balisecheck")
         if path is None:
             raise NoAnswer("there is no balisecheck on the path: name one by --program or BALISECHECK")
     # (in a clone it is the start script; in a release it is the program itself)
@@ -67,12 +69,4 @@ def checksum(path: str) -> str:
 
 def papers(sha256: str) -> Dict[str, str]:
     """The lines of ABOUT that name the program with this checksum."""
-    for about in sorted(TOP.glob("dist/*/ABOUT")):
-        try:
-            lines = about.read_text("utf-8").split("\n")
-        except (OSError, UnicodeDecodeError):
-            continue
-        papers = dict(line.split(" ", 1) for line in lines if " " in line)
-        if sha256 in papers.get("program", ""):
-            return papers
-    return {}
+    return next((papers for papers in about.all_papers() if sha256 in papers.get("program", "")), {})
