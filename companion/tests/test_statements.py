@@ -14,12 +14,15 @@ import pytest
 import random_lines
 from telegrams import ALONE
 
+from balisekit.engine import grammar
 from balisekit.engine.grammar import NAMES, Finding
 from balisekit.engine.program import Program
 from balisekit.present import headings
 from balisekit.rules import checking
 from balisekit.rules.checking import Checked, Place
 from balisekit.rules.entries import entries
+from balisekit.rules.statements import statement
+from balisekit.rules.statements.scene import Balise, Scene
 from balisekit.tables import messages as messages_file
 from balisekit.tables import reader
 
@@ -359,6 +362,56 @@ def test_random_messages(program: Program, tmp_path: Path) -> None:
         seen[site.finding.rule] += 1
     assert same_lines(checked) and set(seen) == {9, 10, 11, 12, 13} and min(seen.values()) > 3
     assert all(words.startswith("message of line ") for words in map(headings.words, entries(checked)))
+
+
+def of_pair(program: Program, path: Path, these: List[Form], those: List[Form]) -> str:
+    """What is said of the first F8 of a pair of duplicates with these packets."""
+    forms = [
+        {**line_table.telegram(1, place, 1, 255, *packets), "m_dup": place + 1}
+        for place, packets in enumerate((these, those))
+    ]
+    texts = [text.line for text in program.encode(forms)]
+    checked = check(program, path, "group,name,telegram", f"A,A1,{texts[0]}", f"A,A2,{texts[1]}")
+    return next(str(place.statement) for place in checked.findings if place.finding.rule == 8)
+
+
+def test_what_duplicates_lack(program: Program, tmp_path: Path) -> None:
+    """A packet or element that only one has, and an order: the words never say that something lacks what it has."""
+    path, where = tmp_path / "t.csv", 'balise "A2" (N_PIG 1)'
+    long, short_one = (line_table.speeds(12300, reach) for reach in (5000, 1000))
+    level = {
+        "nid_packet": 41,
+        "q_dir": 1,
+        "q_scale": 1,
+        "d_leveltr": 5,
+        "transitions": [{"m_leveltr": 2, "l_ackleveltr": 0}],
+    }
+    assert of_pair(program, path, [level, long], [level]) == (
+        f"packet 27 (international static speed profile), second in the telegram, is missing in {where}, row 3"
+    )
+    assert of_pair(program, path, [level], [long, level]) == (
+        f"packet 27 (international static speed profile), first in the telegram of {where}, row 3, is missing here"
+    )
+    order = f"the packets stand in another order: 41, 27, and 27, 41 in {where}, row 3"
+    assert of_pair(program, path, [level, long], [long, level]) == order
+    assert of_pair(program, path, [long, short_one], [short_one, long]) == order.replace("41", "27")
+    more = {**level, "transitions": [*level["transitions"], {"m_leveltr": 3, "l_ackleveltr": 0}]}
+    third = "M_LEVELTR level 3 [3]  L_ACKLEVELTR 0 m [0]"
+    words = "packet 41 (level transition order), first in the telegram"
+    assert (
+        of_pair(program, path, [more], [level])
+        == f"the second choice of {words}, is missing in {where}, row 3: {third}"
+    )
+    said = f"the second choice of packet 41 of {where}, row 3, is missing here: {third}"
+    assert of_pair(program, path, [level], [more]) == said
+
+
+def test_a_finding_that_the_json_does_not_show() -> None:
+    """A program that reports what its JSON does not show keeps its word: the finding has its name alone."""
+    form = {"n_pig": 0, "m_dup": 1, "packets": []}
+    for line in ("F8 group 0 balise 0 nominal: packets of duplicates differ", "F10 group 0 nominal: no gradient"):
+        finding = grammar.finding(line)
+        assert finding and str(statement(Scene(finding, [[Balise(None, form)]]))) == finding.name
 
 
 Items = List[line_table.Item]

@@ -27,7 +27,8 @@ def duplicates_differ(scene: Scene) -> Statement:
 def packets_differ(own: Balise, other: Balise, where: str, these: Held, those: Held) -> Statement:
     """What differs first between packets of two telegrams, the second of which is in `where`."""
     mine, yours = ([packet for _, packet in held] for held in (these, those))
-    for was, now in packet_pairs(mine, yours):
+    is_order = sorted(map(str, mine)) == sorted(map(str, yours))
+    for was, now in () if is_order else packet_pairs(mine, yours):
         if was is None and now is not None and yours[now] not in mine:
             words, number = packet_words(other.form, those[now][0]), yours[now]["nid_packet"]
             return Statement(f"{words} of {where}", other.rows, ", is missing here", packet=number)
