@@ -379,7 +379,7 @@ def test_what_duplicates_lack(program: Program, tmp_path: Path) -> None:
     """A packet or element that only one has, and an order: the words never say that something lacks what it has."""
     path, where = tmp_path / "t.csv", 'balise "A2" (N_PIG 1)'
     long, short_one = (line_table.speeds(12300, reach) for reach in (5000, 1000))
-    level = {
+    level: Form = {
         "nid_packet": 41,
         "q_dir": 1,
         "q_scale": 1,
@@ -395,8 +395,9 @@ def test_what_duplicates_lack(program: Program, tmp_path: Path) -> None:
     order = f"the packets stand in another order: 41, 27, and 27, 41 in {where}, row 3"
     assert of_pair(program, path, [level, long], [long, level]) == order
     assert of_pair(program, path, [long, short_one], [short_one, long]) == order.replace("41", "27")
-    more = {**level, "transitions": [*level["transitions"], {"m_leveltr": 3, "l_ackleveltr": 0}]}
-    third = "M_LEVELTR level 3 [3]  L_ACKLEVELTR 0 m [0]"
+    assert of_pair(program, path, [level, level], [level]) == f"the packets are 41, 41, and 41 in {where}, row 3"
+    more: Form = {**level, "transitions": [*level["transitions"], {"m_leveltr": 3, "l_ackleveltr": 0}]}
+    third = "M_LEVELTR level 2 [3]  L_ACKLEVELTR 0 m [0]"
     words = "packet 41 (level transition order), first in the telegram"
     assert (
         of_pair(program, path, [more], [level])
@@ -408,7 +409,7 @@ def test_what_duplicates_lack(program: Program, tmp_path: Path) -> None:
 
 def test_a_finding_that_the_json_does_not_show() -> None:
     """A program that reports what its JSON does not show keeps its word: the finding has its name alone."""
-    form = {"n_pig": 0, "m_dup": 1, "packets": []}
+    form: Form = {"n_pig": 0, "m_dup": 1, "packets": []}
     for line in ("F8 group 0 balise 0 nominal: packets of duplicates differ", "F10 group 0 nominal: no gradient"):
         finding = grammar.finding(line)
         assert finding and str(statement(Scene(finding, [[Balise(None, form)]]))) == finding.name

@@ -39,7 +39,8 @@ def packets_differ(own: Balise, other: Balise, where: str, these: Held, those: H
             words = packet_words(own.form, these[was][0])
             return _packet_differs(other, where, words, mine[was], yours[now])
     order = [", ".join(str(packet["nid_packet"]) for packet in packets) or "none" for packets in (mine, yours)]
-    return Statement(f"the packets stand in another order: {order[0]}, and {order[1]} in {where}", other.rows)
+    said = "stand in another order:" if is_order else "are"
+    return Statement(f"the packets {said} {order[0]}, and {order[1]} in {where}", other.rows)
 
 
 def _packet_differs(other: Balise, where: str, words: str, mine: Form, yours: Form) -> Statement:
