@@ -12,7 +12,7 @@ def packages_of(words):
     needed = []
     if "draw" in words or "report" in words or any(word.startswith("--html") for word in words):
         needed.append("jinja2")
-    if any(word.lower().endswith(".xlsx") for word in words):
+    if any(word.lower().endswith(".xlsx") or word.startswith("--xlsx") for word in words):
         needed.append("openpyxl")
     return needed
 

@@ -30,11 +30,11 @@ STARTED = [str(TOP / "balisekit")]
 
 def test_yes(run: Run, table: Write) -> None:
     path = table(*SOUND)
-    assert run("check", path) == (0, [f"{path}: 3 telegrams of 2 groups", ASPECTS.format(2), YES], [])
+    assert run("check", "--only", "F", path) == (0, [f"{path}: 3 telegrams of 2 groups", ASPECTS.format(2), YES], [])
 
 
 def test_findings(run: Run, table: Write) -> None:
-    status, out, _ = run("check", table(*SOUND, f"Signal C,C1,16,,{OTHER}"))
+    status, out, _ = run("check", "--only", "F", table(*SOUND, f"Signal C,C1,16,,{OTHER}"))
     assert status == 1 and out[1:] == [
         "at worst a wrong place:",
         "row 5  Signal C  km 16.000: the identity 1/3 (NID_C/NID_BG) is also that of Signal B (km 15.000), row 4",
@@ -46,7 +46,7 @@ def test_findings(run: Run, table: Write) -> None:
 
 
 def test_refused(run: Run, table: Write) -> None:
-    status, out, _ = run("check", table(HEADING, f"A,A1,13.850,green,{FAULTY}", f"B,,,,{ALONE}"))
+    status, out, _ = run("check", "--only", "F", table(HEADING, f"A,A1,13.850,green,{FAULTY}", f"B,,,,{ALONE}"))
     assert status == 2 and out[1:] == [
         'row 2  A  km 13.850  aspect "green"  balise 0 "A1": Q_DIR of packet 21 (second packet) is 3, which is spare',
         "    program: spare at 127 end 129",
@@ -91,8 +91,8 @@ def test_messages(run: Run, table: Write) -> None:
 
 def test_by_position(run: Run, table: Write) -> None:
     path = table(HEADING, f"A,,,,{SECOND}", f"A,,,,{FIRST}")
-    assert run("check", path)[0] == 1
-    status, out, _ = run("check", path, "--by-position")
+    assert run("check", "--only", "F", path)[0] == 1
+    status, out, _ = run("check", "--only", "F", path, "--by-position")
     assert (status, out[1:]) == (
         0,
         [
@@ -115,7 +115,7 @@ def test_aspects_are_counted(run: Run, table: Write, tmp_path: Path) -> None:
         f"D,y,{SPARE}",
         f"D,z,{SPARE}",
     )
-    _, out, _ = run("check", path, "--json", tmp_path / "out.json")
+    _, out, _ = run("check", "--only", "F", path, "--json", tmp_path / "out.json")
     assert out[-2] == "aspects found: 3 in 1 group (D), 2 in 2 (A, C), 1 in 1 (B)"
     assert json.loads((tmp_path / "out.json").read_text())["counts"]["aspects"] == [
         {"aspects": 3, "groups": 1},
@@ -148,7 +148,7 @@ def lines_of(kinds: str) -> List[str]:
 )
 def test_fewer_aspects_than_others(run: Run, table: Write, tmp_path: Path, kinds: str, said: List[str]) -> None:
     """A remark before the count, and no more: verdict and status are as without it."""
-    _, out, _ = run("check", table(*lines_of(kinds)), "--json", tmp_path / "out.json")
+    _, out, _ = run("check", "--only", "F", table(*lines_of(kinds)), "--json", tmp_path / "out.json")
     assert [line for line in out if line.startswith("look: ")] == said == out[-2 - len(said) : -2]
     assert json.loads((tmp_path / "out.json").read_text())["counts"]["look"] == said
     assert out[-1].startswith("program: ")
@@ -159,9 +159,10 @@ def test_a_remark_on_aspects_changes_no_yes(run: Run, table: Write) -> None:
         "check",
         table("group,aspect,telegram", *[f"A,{one},{ALONE}" for one in "xyz"], *[f"B,{one},{OTHER}" for one in "xy"]),
     )
-    assert status == 0 and out[-3:] == [
+    assert status == 0 and out[-4:] == [
         'look: B has 2 aspects, 1 other has 3: "z" too',
-        "aspects found: " "3 in 1 group (A), 2 in 1 (B)",
+        "aspects found: 3 in 1 group (A), 2 in 1 (B)",
+        "no kilometres: rules over the line are not applied",
         "program: yes: groups 2, messages 0",
     ]
 
@@ -180,7 +181,7 @@ def test_balises_far_apart(run: Run, table: Write, tmp_path: Path, rows: List[st
     """A remark, on the cover of a report as well: verdict and status are as without it."""
     lines = [f"A,{row},{one},{text}" for one in "xy" for row, text in zip(rows, (FIRST, SECOND))]
     path = table(HEADING, *lines)
-    status, out, _ = run("check", path, "--json", tmp_path / "out.json")
+    status, out, _ = run("check", "--only", "F", path, "--json", tmp_path / "out.json")
     looks = [f"look: A: {one}" for one in said]
     assert status == 0 and out[1:] == [*looks, "aspects found: 2 in 1 group", "program: yes: groups 1, messages 0"]
     assert json.loads((tmp_path / "out.json").read_text())["counts"]["look"] == looks

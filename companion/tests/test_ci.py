@@ -2,6 +2,7 @@
 from __future__ import annotations
 
 import hashlib
+import json
 import os
 import re
 import shutil
@@ -92,9 +93,10 @@ def test_the_output_tells_a_lost_aspect(run: Run, table: Write, tmp_path: Path) 
     path = table("group,aspect,telegram", *[f"A,{one},{ALONE}" for one in "xyz"], *[f"B,{one},{OTHER}" for one in "xy"])
     assert run("check", path, "--junit", tmp_path / "out.xml")[0] == 0
     said = ElementTree.parse(tmp_path / "out.xml").findtext(".//system-out") or ""
-    assert said.splitlines()[:3] == [
+    assert said.splitlines()[:4] == [
         'look: B has 2 aspects, 1 other has 3: "z" too',
         "aspects found: 3 in 1 group (A), 2 in 1 (B)",
+        "no kilometres: rules over the line are not applied",
         "program: yes: groups 2, messages 0",
     ]
 
@@ -201,6 +203,10 @@ def test_jobs(
     kept = re.search("(?:junit|path): ([^ },]+)", job.read_text("utf-8").split("balisekit check", 1)[1])
     cases = {"group A": [], "group B": [], **cases}
     assert kept and results(read(tmp_path / kept[1])) == cases
+    if job.stem == "github":
+        (log,) = json.loads((tmp_path / "balises.sarif").read_text("utf-8"))["runs"]
+        assert log["invocations"][0]["exitCode"] == status and "sarif_file: balises.sarif" in job.read_text("utf-8")
+        assert all("suppressions" in result for result in log["results"]) == (status == 0 or not third)
 
 
 @pytest.mark.parametrize("job", JOBS, ids=[path.stem for path in JOBS])
@@ -234,5 +240,5 @@ def test_job_files_name_this_release() -> None:
 
 def test_job_files_are_short() -> None:
     assert [path.name for path in JOBS] == ["github.yml", "gitlab-ci.yml"]
-    assert all(len(path.read_text("utf-8").splitlines()) <= 11 for path in JOBS)
+    assert all(len(path.read_text("utf-8").splitlines()) <= 13 for path in JOBS)
     assert [len("\n".join(steps(path)).splitlines()) for path in JOBS] == [2, 2]

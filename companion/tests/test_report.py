@@ -78,7 +78,7 @@ def _table(path: Path, *rows: Dict[str, str]) -> Path:
 def test_the_page_has_all_that_was_said(tmp_path: Path, capsys: pytest.CaptureFixture[str]) -> None:
     """Verdict, checksums, each line of the program, each balise, and a link from each finding that leads somewhere."""
     status, page = _report(LINE, tmp_path / "report.html")
-    assert status == cli.main(["check", str(LINE)])
+    assert status == cli.main(["check", "--only", "F", str(LINE)])
     said = capsys.readouterr().out.splitlines()
     seen = _Page(page)
     text = "".join(seen.texts)
@@ -165,7 +165,7 @@ def test_accepted_findings_stand_apart(tmp_path: Path, capsys: pytest.CaptureFix
         ([*rows, {**last, "until": "2026-02-01"}], "accepted 4 (2 by *), open 1; entries at fault 1", 1),
     ):
         words = ["--accepted", str(_accepted(tmp_path / "accepted.csv", *some))]
-        assert cli.main(["check", str(table), *words]) == status
+        assert cli.main(["check", "--only", "F", str(table), *words]) == status
         said = capsys.readouterr().out.splitlines()
         assert _report(table, tmp_path / "report.html", *words)[0] == status
         page = (tmp_path / "report.html").read_text("utf-8")

@@ -4,14 +4,12 @@ from __future__ import annotations
 import argparse
 
 from balisekit.cli import options as shared
-from balisekit.errors import TableError
 from balisekit.io.outputs import write_json
 from balisekit.present.links_text import as_json, lines, status_of
 from balisekit.rules import checking
 from balisekit.rules.line import Line
 from balisekit.rules.links import compare
 from balisekit.rules.rule import Options
-from balisekit.tables.names import passed_over
 
 
 def add_options(parser: argparse.ArgumentParser) -> None:
@@ -24,9 +22,7 @@ def add_options(parser: argparse.ArgumentParser) -> None:
 def run(options: argparse.Namespace) -> int:
     """Does it. The answer is the exit status."""
     program, table, messages = shared.inputs(options)
-    if all(row.km is None for row in table.rows):
-        why = f"{table.path}: no row has a kilometre: links needs the column km"
-        raise TableError("; ".join([why, *passed_over(table)]))
+    shared.refuse_without_kilometres(table)
     checked = checking.check(program, table, messages, options.by_position)
     links = compare(Line.of(checked), Options(options.tolerance))
     if options.json:

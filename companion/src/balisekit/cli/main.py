@@ -32,7 +32,7 @@ STATUSES = """\
 exit status:
   0  the program says yes to all that was handed in, nothing is open or found, or the command has done what it is
      asked for
-  1  findings of `check`, entries of accepted findings at fault, or what `links` or `diff` has found
+  1  what `check`, `links` or `diff` has found, or entries of accepted findings at fault
   2  refused: a telegram or message, so that the answer is INCOMPLETE; a table that cannot be read; wrong options; an
      output that would replace an input or, without --force, another file
   3  no answer: no program, a file that cannot be written, an interrupt

@@ -15,6 +15,7 @@ from balisekit.io.outputs import Output
 from balisekit.rules import accepted, checking
 from balisekit.tables import messages as messages_file, reader
 from balisekit.tables.model import Messages, Table
+from balisekit.tables.names import passed_over
 
 TABLE = "a CSV file or an .xlsx with the columns group and telegram"
 TIMEOUT = "wait this long for each answer of the program; without it a minute, and more for a large input"
@@ -102,11 +103,18 @@ def inputs(options: argparse.Namespace) -> Tuple[Program, Table, Optional[Messag
     return Program.find(options.program, options.timeout), table, messages
 
 
+def refuse_without_kilometres(table: Table) -> None:
+    """Raises TableError if no row of the table has a kilometre, which rules over the line need."""
+    if all(row.km is None for row in table.rows):
+        why = f"{table.path}: no row has a kilometre: links needs the column km"
+        raise TableError("; ".join([why, *passed_over(table)]))
+
+
 def judged(options: argparse.Namespace, now: datetime) -> Tuple[checking.Checked, Optional[accepted.Judged]]:
-    """What the program says of the inputs, and which findings were accepted if there is a file of them."""
+    """What the program says of the inputs, and which of its findings were accepted if there is a file of them."""
     entries = accepted.read(options.accepted) if options.accepted else None
     checked = checking.check(*inputs(options), options.by_position, options.all)
-    return checked, accepted.judge(checked, entries, now.date()) if entries else None
+    return checked, accepted.judge(checked.findings, checked, entries, now.date()) if entries else None
 
 
 def say(lines: Iterable[str], *outputs: Optional[Output]) -> None:

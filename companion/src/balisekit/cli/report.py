@@ -13,6 +13,7 @@ from balisekit.present.headings import summary
 from balisekit.present.pages import pieces, premises
 from balisekit.present.report import blocks, cover, listed
 from balisekit.present.telegram_text import LEGEND
+from balisekit.rules import accepted
 from balisekit.rules.line import Line
 from balisekit.rules.links import L2, compare
 from balisekit.rules.rule import Options
@@ -54,4 +55,4 @@ def run(options: argparse.Namespace) -> int:
     )
     options.html.write(page)
     shared.say([f"written: {clean(str(options.html))}", *closing_lines(checked, judged)], options.html)
-    return judged.status if judged else checked.status
+    return accepted.status(checked, judged)

@@ -1,29 +1,31 @@
-"""What is said of accepted findings: in words, as JSON, and as entries for those that are open."""
+"""What is said of accepted findings and remarks: in words, as JSON, and as entries for those that are open."""
 from __future__ import annotations
 
+from collections import Counter
 from itertools import repeat
-from typing import Any, Dict, Iterator, List, Optional, Tuple
+from typing import Any, Dict, Iterator, List, Optional, Sequence, Tuple
 
 from balisekit.io import csv_writing
 from balisekit.rules import findings_on_correct_data
-from balisekit.rules.accepted import COLUMNS, UNNAMED, Entry, Judged, Key, checksum, keys
+from balisekit.rules.accepted import COLUMNS, UNNAMED, Acceptance, Item, Judged, Key, checksum, keys
 from balisekit.rules.checking import Checked, Place
+from balisekit.rules.families import FAMILIES, Outcome
 from balisekit.tables.names import clean
 
 
-def accepted_words(entry: Entry) -> str:
+def accepted_words(entry: Acceptance) -> str:
     """By whom, when and why a finding was accepted."""
     until = f", until {entry.until}" if entry.until else ""
     return f"accepted: {clean(entry.reason)} ({clean(entry.who)}, {entry.date}{until})"
 
 
-def with_entries(checked: Checked, judged: Optional[Judged]) -> Iterator[Tuple[Place, Optional[Entry]]]:
-    """Each finding, and the entry that accepts it."""
-    return zip(checked.findings, judged.by_finding if judged else repeat(None))
+def with_entries(checked: Checked, judged: Optional[Judged]) -> Iterator[Tuple[Place, Optional[Acceptance]]]:
+    """Each finding of the program, and the entry that accepts it."""
+    return zip(checked.findings, map(judged.of, checked.findings) if judged else repeat(None))
 
 
 def fault_lines(judged: Judged) -> Iterator[str]:
-    """The entries at fault, and how many findings no entry can name."""
+    """The entries at fault, and those for rules that were not applied."""
     path = clean(judged.entries.path)
     yield from (f"{path}: row {entry.row}: {why}" for entry, why in judged.faults)
     unsigned = sum(not entry.sha256 for entry in judged.entries.entries)
@@ -32,66 +34,83 @@ def fault_lines(judged: Judged) -> Iterator[str]:
             f"note: entries without a sha256: {unsigned}. They accept nothing, since nobody knows which telegrams were "
             "looked at: --propose writes new ones"
         )
-    yield from unnamed_lines(judged.checked, judged)
+    if judged.passed_over:
+        rules = sorted({entry.rule for entry in judged.passed_over})
+        yield f"note: {len(judged.passed_over)} entries are for rules that were not applied: {', '.join(rules)}"
 
 
-def unnamed_lines(checked: Checked, judged: Optional[Judged]) -> Iterator[str]:
-    """How many open findings no entry can name."""
-    unnamed = sum(UNNAMED in key for key, (_, entry) in zip(keys(checked), with_entries(checked, judged)) if not entry)
-    if unnamed:
-        yield f"note: {unnamed} open findings are of messages without a name of their own, so that no entry names them"
-
-
-def verdict_lines(judged: Judged, last: str) -> Iterator[str]:
-    """The program's verdict, how many findings are open, and whether none is. Where it is not whole that comes last."""
-    if not judged.checked.whole:
-        yield from (counts(judged), last)
+def verdict_lines(judged: Judged, last: str, whole: bool, letters: str = "F") -> Iterator[str]:
+    """The verdict, how many items are open, and whether none is. Where it is not whole that comes last."""
+    if not whole:
+        yield from (counts(judged, letters), last)
         return
-    yield from (last, counts(judged))
-    if judged.status == 0:
-        yield "no open findings" + (f"; accepted by *: {judged.accepted_by_any}" if judged.accepted_by_any else "")
+    yield from (last, counts(judged, letters))
+    if not (judged.open or judged.faults):
+        things = " or ".join(FAMILIES[letter].things for letter in letters)
+        by_any = f"; accepted by *: {judged.accepted_by_any}" if judged.accepted_by_any else ""
+        yield f"no open {things}{by_any}{_against_the_rule(judged)}"
 
 
-def counts(judged: Judged) -> str:
-    """How many findings there are, accepted and open, and entries at fault."""
-    findings, still_open = len(judged.checked.findings), len(judged.open)
-    at_fault = f"; entries at fault {len(judged.faults)}" if judged.faults else ""
+def counts(judged: Judged, letters: str = "F") -> str:
+    """How many items there are, accepted and open, and entries at fault."""
+    counted = Counter(map(_letter, judged.items))
+    numbers = [
+        (FAMILIES[letter].things, counted[letter]) for letter in letters if counted[letter] or letter == letters[0]
+    ]
     by_any = f" ({judged.accepted_by_any} by *)" if judged.accepted_by_any else ""
-    return f"findings {findings}: accepted {findings - still_open}{by_any}, open {still_open}{at_fault}"
+    at_fault = f"; entries at fault {len(judged.faults)}" if judged.faults else ""
+    found = ", ".join(f"{things} {number}" for things, number in numbers)
+    still_open = len(judged.open)
+    accepted = len(judged.items) - still_open
+    return f"{found}: accepted {accepted}{by_any}, open {still_open}{at_fault}{_against_the_rule(judged)}"
 
 
-def as_json(judged: Judged) -> Dict[str, Any]:
+def _against_the_rule(judged: Judged) -> str:
+    """How many items were accepted of rules that correct data never gets."""
+    numbers = [f"{rule} {count}" for rule, count in sorted(judged.against_the_rule.items())]
+    return f"; accepted though no case of correct data has them: {', '.join(numbers)}" if numbers else ""
+
+
+def _letter(item: Item) -> str:
+    return "F" if isinstance(item, Place) else item.rule[0]
+
+
+def as_json(judged: Judged, outcome: Outcome) -> Dict[str, Any]:
     """All that the entries have done, for other tools."""
+    by_finding = (entry for _, entry in with_entries(outcome.checked, judged if "F" in outcome.letters else None))
     return {
         "path": judged.entries.path,
         "sha256": judged.entries.sha256,
-        "status": judged.status,
-        "counts": counts(judged),
-        "findings": [None if entry is None else entry_json(entry) for entry in judged.by_finding],
+        "status": outcome.status,
+        "counts": counts(judged, outcome.letters),
+        "findings": [None if entry is None else entry_json(entry) for entry in by_finding],
         "at_fault": [{**entry_json(entry), "why": why} for entry, why in judged.faults],
+        "not_applied": [entry_json(entry) for entry in judged.passed_over],
     }
 
 
-def entry_json(entry: Entry) -> Dict[str, Any]:
+def entry_json(entry: Acceptance) -> Dict[str, Any]:
     """An entry for other tools."""
     texts = {name: str(getattr(entry, name) or "") for name in ("reason", "who", "date", "until", "sha256")}
     return {"row": entry.row, **texts}
 
 
-def proposal(checked: Checked, judged: Optional[Judged]) -> str:
-    """A file of entries for the open findings. Nobody has signed them: `who` and `date` are empty.
+def proposal(outcome: Outcome) -> str:
+    """A file of entries for the open items. Nobody has signed them: `who` and `date` are empty.
 
-    An entry of other data that fits a finding gives its reason.
+    An entry of other data that fits an item gives its reason, unless that is one of the table of findings on correct
+    data: the table gives a reason only if the data are as one of its rows says.
     """
-    reasons = findings_on_correct_data.reasons()
-    del reasons["pair controlled"]
-    findings: Dict[Key, List[Place]] = {}
-    for key, place in zip(keys(checked), checked.findings):
-        findings.setdefault(key, []).append(place)
+    judged, reasons = outcome.judged, findings_on_correct_data.reasons()
+    named = keys(outcome.items, outcome.checked)
+    items: Dict[Key, List[Item]] = {}
+    for key, item in zip(named, outcome.items):
+        items.setdefault(key, []).append(item)
     rows: Dict[Key, List[str]] = {}
-    former = judged.former if judged else repeat(None)
-    for key, (place, entry), known in zip(keys(checked), with_entries(checked, judged), former):
-        if entry is None and UNNAMED not in key and key not in rows:
-            reason = known.reason if known else reasons.get(place.correct, "")
-            rows[key] = [*key, reason, "", "", "", checksum(findings[key])]
+    former: Sequence[Optional[Acceptance]] = judged.former if judged else [None] * len(named)
+    for key, item, known in zip(named, outcome.items, former):
+        if UNNAMED not in key and key not in rows and not (judged and judged.of(item)):
+            reason = reasons.get(item.correct, "") if isinstance(item, Place) else ""
+            own = known.reason if known and known.reason not in reasons.values() else reason
+            rows[key] = [*key, own, "", "", "", checksum(items[key])]
     return csv_writing.text(COLUMNS, rows.values())

@@ -1,30 +1,54 @@
 """The answer of `check` as JSON, for other tools."""
 from __future__ import annotations
 
-from typing import Any, Dict, Optional
+from typing import Any, Dict
 
 from balisekit.engine.program import Record
 from balisekit.io.outputs import Json, encode
 from balisekit.present import accepted_text
-from balisekit.present.check_text import last_line
+from balisekit.present.entries_json import entries_json
 from balisekit.present.headings import finding_words, not_decoded
+from balisekit.present.links_text import FORMAT, rules_json
+from balisekit.present.outcome_text import not_applied, verdict
 from balisekit.present.refusals import message_refused, telegram_refused
-from balisekit.rules.accepted import Judged
 from balisekit.rules.aspect_counts import groups_by_aspects
 from balisekit.rules.checking import Checked, LeftOut, Place, Refused, RefusedMessage
-from balisekit.rules.entries import Entry, entries
+from balisekit.rules.families import Outcome
 from balisekit.rules.remarks import remarks
 from balisekit.tables.model import Message, Row
 
 
-def as_json(checked: Checked, judged: Optional[Judged] = None) -> Dict[str, Any]:
+def as_json(outcome: Outcome) -> Dict[str, Any]:
     """All of the answer for other tools. The telegrams are an iterator, which decodes them."""
+    checked = outcome.checked
+    return {
+        "format": FORMAT,
+        **({"accepted": accepted_text.as_json(outcome.judged, outcome)} if outcome.judged else {}),
+        "status": outcome.status,
+        "last_line": verdict(outcome),
+        "families": list(outcome.letters),
+        "not_applied": not_applied(outcome),
+        "verdict" if checked.whole else "rest": checked.verdict.line if checked.verdict else None,
+        **_inputs(checked),
+        "counts": _counts(checked),
+        "telegrams": (_with_form(_row(row), record) for row, record in checked.accepted.decoded()),
+        "read_messages": (_with_form(_message(one.message), one.record) for one in checked.accepted_messages),
+        "refused": map(_refused, checked.refused),
+        "refused_messages": map(_refused_message, checked.refused_messages),
+        "left_out": map(_left_out, checked.left_out),
+        "kept": [group.name for group in checked.kept],
+        "findings": map(_finding, checked.findings),
+        "rules": rules_json([part.links for part in outcome.parts if part.links]),
+        "notes": [note for part in outcome.parts if part.links for note in part.links.notes],
+        "entries": entries_json(outcome),
+        "not_decoded": list(not_decoded(checked)),
+    }
+
+
+def _inputs(checked: Checked) -> Dict[str, Any]:
+    """The program and the files that were read."""
     program, table, messages = checked.program, checked.table, checked.messages
     return {
-        **({"accepted": accepted_text.as_json(judged)} if judged else {}),
-        "status": judged.status if judged else checked.status,
-        "last_line": last_line(checked),
-        "verdict" if checked.whole else "rest": checked.verdict.line if checked.verdict else None,
         "program": {"path": program.path, "sha256": program.sha256, **dict(program.about)},
         "table": {
             "path": table.path,
@@ -34,23 +58,18 @@ def as_json(checked: Checked, judged: Optional[Judged] = None) -> Dict[str, Any]
             "notes": table.notes,
         },
         "messages": {"path": messages.path, "sha256": messages.sha256} if messages else None,
-        "counts": {
-            "telegrams": len(table.rows),
-            "groups": len(table.groups),
-            "aspects": [{"aspects": count, "groups": len(groups)} for count, groups in groups_by_aspects(table)],
-            "look": list(remarks(table)),
-            "not_looked_at": checked.not_looked_at,
-            "messages_not_looked_at": checked.messages_not_looked_at,
-        },
-        "telegrams": (_with_form(_row(row), record) for row, record in checked.accepted.decoded()),
-        "read_messages": (_with_form(_message(one.message), one.record) for one in checked.accepted_messages),
-        "refused": map(_refused, checked.refused),
-        "refused_messages": map(_refused_message, checked.refused_messages),
-        "left_out": map(_left_out, checked.left_out),
-        "kept": [group.name for group in checked.kept],
-        "findings": map(_finding, checked.findings),
-        "entries": map(_entry, entries(checked)),
-        "not_decoded": list(not_decoded(checked)),
+    }
+
+
+def _counts(checked: Checked) -> Dict[str, Any]:
+    table = checked.table
+    return {
+        "telegrams": len(table.rows),
+        "groups": len(table.groups),
+        "aspects": [{"aspects": count, "groups": len(groups)} for count, groups in groups_by_aspects(table)],
+        "look": list(remarks(table)),
+        "not_looked_at": checked.not_looked_at,
+        "messages_not_looked_at": checked.messages_not_looked_at,
     }
 
 
@@ -115,25 +134,4 @@ def _finding(place: Place) -> Dict[str, Any]:
         "earlier_group": place.earlier.name if place.earlier else None,
         "differs": str(place.statement),
         "words": finding_words(place),
-    }
-
-
-def _entry(entry: Entry) -> Dict[str, Any]:
-    return {
-        "rule": entry.rule,
-        "rules": entry.rules,
-        "urgency": entry.urgency.name.lower(),
-        "sentence": entry.sentence,
-        "rows": entry.rows,
-        "other_rows": entry.other_rows,
-        "group": entry.group.name if entry.group else None,
-        "aspects": entry.aspects,
-        "balises": [{"name": one.name, "n_pig": one.n_pig} for one in entry.balises],
-        "packet": entry.packet,
-        "direction": entry.direction or None,
-        "km": None if entry.km is None else str(entry.km),
-        "message": entry.message.number if entry.message else None,
-        "values": dict(entry.values),
-        "program": entry.quoted,
-        "expected": entry.expected or None,
     }

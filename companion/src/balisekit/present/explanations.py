@@ -8,14 +8,16 @@ import json
 import re
 import textwrap
 from pathlib import Path
-from typing import Dict, Iterable, Iterator, Sequence
+from typing import Dict, Iterable, Iterator, Mapping, NamedTuple, Tuple
 
-from balisekit.rules.rule import Rule
+from balisekit.rules.families import Family
 
 WIDTH = 116
 
 HEADS = ("What it says", "How urgent", "Usual cause", "How to correct it")
 """The paragraphs that `--explain` shows."""
+KEYS = ("says", "urgent", "cause", "remedy")
+"""Their keys of a finding."""
 
 
 def explanations() -> Dict[int, Dict[str, str]]:
@@ -24,27 +26,32 @@ def explanations() -> Dict[int, Dict[str, str]]:
     return {int(rule): parts for rule, parts in json.loads(text).items()}
 
 
-def finding_pages(rules: Iterable[int]) -> Iterator[str]:
-    """What FINDINGS.md says of each of these findings, as lines of text."""
-    known = explanations()
-    for rule in sorted(set(rules)):
-        page = known[rule]
-        yield from _wrapped(f"F{rule}: {page['name']}", [page[key] for key in ("says", "urgent", "cause", "remedy")])
+class Page(NamedTuple):
+    """What the page of a rule says, as plain text."""
+
+    title: str
+    parts: Mapping[str, str]
+    """The paragraphs of HEADS."""
 
 
-def rule_pages(rules: Iterable[Rule]) -> Iterator[str]:
-    """What the page of each of these rules says, as lines of text."""
-    for rule in rules:
-        yield from _wrapped(f"{rule.name}: {rule.title}", [_plain(rule.parts.get(head, "")) for head in HEADS])
+def pages(family: Family) -> Iterator[Tuple[str, Page]]:
+    """The pages of the rules of a family, by their names."""
+    if not family.rules:
+        for number, page in explanations().items():
+            yield f"F{number}", Page(page["name"], dict(zip(HEADS, (page[key] for key in KEYS))))
+    for rule in family.rules:
+        yield rule.name, Page(rule.title, {head: _plain(rule.parts.get(head, "")) for head in HEADS})
+
+
+def page_lines(named: Iterable[Tuple[str, Page]]) -> Iterator[str]:
+    """What these pages say, as lines of text."""
+    for name, page in named:
+        yield f"{name}: {page.title}"
+        for head, text in page.parts.items():
+            yield from textwrap.wrap(f"{head}. {text}", WIDTH, initial_indent="    ", subsequent_indent="    ")
 
 
 def _plain(text: str) -> str:
     """The text in one line, without the marks of links, emphasis and lists."""
     line = " ".join(re.sub(r"^- ", "", text, flags=re.MULTILINE).split())
     return re.sub(r"\[([^]]+)\]\([^)]+\)", r"\1", line).replace("*", "")
-
-
-def _wrapped(title: str, texts: Sequence[str]) -> Iterator[str]:
-    yield title
-    for head, text in zip(HEADS, texts):
-        yield from textwrap.wrap(f"{head}. {text}", WIDTH, initial_indent="    ", subsequent_indent="    ")

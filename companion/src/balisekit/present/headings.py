@@ -43,7 +43,8 @@ def about(entry: Entry) -> str:
         parts += _aspects(entry)
         several = "s" if len(entry.balises) > 1 else ""
         parts += [f"balise{several} {', '.join(map(str, entry.balises))}"] if entry.balises else []
-    directions = dict.fromkeys(place.finding.direction for place in entry.findings if place.finding.direction)
+    directions = {entry.direction: None} if entry.direction else {}
+    directions.update(dict.fromkeys(place.finding.direction for place in entry.findings if place.finding.direction))
     return "  ".join([*parts, *([" and ".join(map(str, directions))] if directions else [])])
 
 
@@ -58,8 +59,9 @@ def _aspects(entry: Entry) -> Iterator[str]:
 
 
 def words(entry: Entry) -> str:
-    """An entry as one line."""
-    return f"{about(entry)}: {entry.sentence}{f'; {entry.expected}' if entry.expected else ''}"
+    """An entry as one line. A remark of a rule of balisekit begins with the name of the rule."""
+    rule = f"{entry.rule}: " if entry.remark else ""
+    return f"{about(entry)}: {rule}{entry.sentence}{f'; {entry.expected}' if entry.expected else ''}"
 
 
 def entry_lines(entry: Entry) -> List[str]:

@@ -1,28 +1,32 @@
-"""The answer of `check` as JUnit writes the results of tests: a case for each group, message and entry at fault.
+"""The answer of `check` as JUnit writes the results of tests: a suite for each family of rules.
 
-It is written by Python's own library of XML, so that a file has the same bytes wherever it is made.
+A suite has a case for each group and message, and the first one has a case for each entry at fault too. A suite's time
+was measured. A case has none, since the program and the rules look at all groups in one run. The file is written by
+Python's own library of XML, so that it has the same form wherever it is made.
 """
 from __future__ import annotations
 
 import xml.etree.ElementTree as ElementTree
 from collections import Counter
-from typing import Dict, Iterator, List, NamedTuple, Optional, Tuple
+from typing import Dict, Iterator, List, NamedTuple, Optional, Sequence, Tuple
 
 from balisekit.present import NOT_PROVED
-from balisekit.present.accepted_text import accepted_words, with_entries
-from balisekit.present.check_text import before_last, closing_lines
-from balisekit.present.headings import finding_lines, finding_words
+from balisekit.present.accepted_text import accepted_words
+from balisekit.present.check_text import before_last
+from balisekit.present.headings import finding_lines
+from balisekit.present.links_text import empty_rules
+from balisekit.present.outcome_text import closing_lines, item_words, not_applied
 from balisekit.present.refusals import message_refused, refused
-from balisekit.rules.accepted import Entry, Judged
+from balisekit.rules.accepted import Item, Judged
 from balisekit.rules.checking import Checked, Place
+from balisekit.rules.families import PROVED, Outcome, Part
 from balisekit.tables.names import clean, describe_message
 
-Findings = List[Tuple[Place, Optional[Entry]]]
-"""Findings of one group or message, and the entry that accepts each."""
+NAMES = {"failures": "failure", "errors": "error", "skipped": "skipped"}
 
 
 class Case(NamedTuple):
-    """What became of a group, a message or an entry: nothing, `failure`, `error` or `skipped`."""
+    """What became of a group, a message, a rule or an entry: nothing, `failure`, `error` or `skipped`."""
 
     kind: str
     name: str
@@ -31,60 +35,99 @@ class Case(NamedTuple):
     text: str = ""
 
 
-def document(checked: Checked, judged: Optional[Judged]) -> bytes:
-    """The file. The output of its suite is what `check` says before its last line, and that line."""
-    cases = list(_cases(checked, judged))
-    counts = Counter(case.result for case in cases)
-    names = {"failures": "failure", "errors": "error", "skipped": "skipped"}
-    numbers = {"tests": str(len(cases)), **{name: str(counts[result]) for name, result in names.items()}}
-    top = ElementTree.Element("testsuites", numbers)
-    suite = ElementTree.SubElement(top, "testsuite", {"name": f"balisecheck {clean(checked.table.path)}", **numbers})
-    for case in cases:
-        element = ElementTree.SubElement(suite, "testcase", {"classname": case.kind, "name": case.name, "time": "0"})
-        if case.result:
-            ElementTree.SubElement(element, case.result, {"message": case.why, "type": case.result}).text = case.text
-    out = [*before_last(checked.table), closing_lines(checked, judged)[-1]]
-    ElementTree.SubElement(suite, "system-out").text = "\n".join([*map(clean, out), NOT_PROVED])
+def document(outcome: Outcome) -> bytes:
+    """The file. The output of its first suite is what `check` says before its last line, and that line."""
+    suites = [(part, list(_cases(outcome, part))) for part in outcome.parts]
+    top = ElementTree.Element("testsuites", _numbers([case for _, cases in suites for case in cases]))
+    top.set("time", _seconds(sum(part.seconds for part in outcome.parts)))
+    for part, cases in suites:
+        program = "balisecheck" if part.family.letter == PROVED else f"balisekit {part.family.things}"
+        name = f"{program} {clean(outcome.checked.table.path)}"
+        suite = ElementTree.SubElement(top, "testsuite", {"name": name, **_numbers(cases)})
+        suite.set("time", _seconds(part.seconds))
+        for case in cases:
+            element = ElementTree.SubElement(suite, "testcase", {"classname": case.kind, "name": case.name})
+            if case.result:
+                ElementTree.SubElement(
+                    element, case.result, {"message": case.why, "type": case.result}
+                ).text = case.text
+    out = [*before_last(outcome.checked.table), *not_applied(outcome), closing_lines(outcome)[-1]]
+    ElementTree.SubElement(top[0], "system-out").text = "\n".join([*map(clean, out), NOT_PROVED])
     written: bytes = ElementTree.tostring(top, "utf-8", xml_declaration=True)
     return written + b"\n"
 
 
-def _cases(checked: Checked, judged: Optional[Judged]) -> Iterator[Case]:
-    findings: Dict[object, Findings] = {}
-    for place, entry in with_entries(checked, judged):
-        about = place.group.name if place.group else place.message.number if place.message else None
-        findings.setdefault(about, []).append((place, entry))
+def _numbers(cases: Sequence[Case]) -> Dict[str, str]:
+    counts = Counter(case.result for case in cases)
+    return {"tests": str(len(cases)), **{name: str(counts[result]) for name, result in NAMES.items()}}
+
+
+def _seconds(time: float) -> str:
+    return f"{time:.3f}"
+
+
+def _cases(outcome: Outcome, part: Part) -> Iterator[Case]:
+    """The cases of a suite. What was refused is in the first suite."""
+    checked, judged, is_first = outcome.checked, outcome.judged, part is outcome.parts[0]
+    items: Dict[object, List[Item]] = {}
+    for item in part.items:
+        items.setdefault(_about(item), []).append(item)
+    left_out = dict(_left_out(checked)) if is_first else {}
+    for group in checked.table.groups:
+        yield left_out.get(group.name) or _case("group", clean(group.name), items.get(group.name, []), judged)
+    for accepted in checked.accepted_messages:
+        name = describe_message(accepted.message)
+        yield _case("message", name, items.get(accepted.message.number, []), judged)
+    for rule in empty_rules(part.links) if part.links else ():
+        yield Case("rule", rule.split(" ", 1)[0], "error", rule)
+    if is_first:
+        yield from _bad_messages(checked)
+        yield from _at_fault(judged) if judged else ()
+
+
+def _about(item: Item) -> object:
+    """The name of the group, or the line of the message."""
+    if isinstance(item, Place):
+        return item.group.name if item.group else item.message.number if item.message else None
+    where = item.location
+    return where.message.number if where.message else where.group.group.name if where.group else None
+
+
+def _left_out(checked: Checked) -> Iterator[Tuple[str, Case]]:
+    """The cases of the groups that the program was not asked about, by their names."""
     telegrams: Dict[str, str] = {}
     for telegram, item in zip(checked.refused, refused(checked)):
         words = telegrams.get(telegram.row.group, "")
         telegrams[telegram.row.group] = f"{words}{item.sentence}\n    program: {item.program}\n"
-    left_out = {skipped.group.name: skipped.why for skipped in checked.left_out}
-    for group in checked.table.groups:
-        if group.name in left_out:
-            why = f"left out: {clean(left_out[group.name])}"
-            yield Case("group", clean(group.name), "error", why, telegrams.get(group.name, ""))
-        else:
-            yield _case("group", clean(group.name), findings.get(group.name, []))
-    for accepted in checked.accepted_messages:
-        yield _case("message", describe_message(accepted.message), findings.get(accepted.message.number, []))
+    for skipped in checked.left_out:
+        name = skipped.group.name
+        yield name, Case("group", clean(name), "error", f"left out: {clean(skipped.why)}", telegrams.get(name, ""))
+
+
+def _bad_messages(checked: Checked) -> Iterator[Case]:
     for bad in checked.refused_messages:
         why = message_refused(bad.message.text, bad.refusal)
         yield Case("message", describe_message(bad.message), "error", why, f"program: {bad.refusal.text}")
-    for fault, why in judged.faults if judged else ():
-        yield Case(
-            "accepted", f"row {fault.row}", "failure", why, f"{clean(judged.entries.path) if judged else ''}: {why}"
-        )
 
 
-def _case(kind: str, name: str, findings: Findings) -> Case:
-    """A group or message that was checked: its open findings, else its accepted ones."""
-    still_open = [place for place, entry in findings if entry is None]
+def _at_fault(judged: Judged) -> Iterator[Case]:
+    for fault, why in judged.faults:
+        yield Case("accepted", f"row {fault.row}", "failure", why, f"{clean(judged.entries.path)}: {why}")
+
+
+def _case(kind: str, name: str, items: Sequence[Item], judged: Optional[Judged]) -> Case:
+    """A group or message that was looked at: what is open of it, else what was accepted."""
+    still_open = [item for item in items if not (judged and judged.of(item))]
     if still_open:
-        why = f"{len(still_open)} open: {still_open[0].finding.line}"
-        return Case(
-            kind, name, "failure", why, "\n".join(line for place in still_open for line in finding_lines(place))
-        )
-    if findings:
-        reasons = dict.fromkeys(accepted_words(entry) for _, entry in findings if entry)
-        return Case(kind, name, "skipped", "; ".join(reasons), "\n".join(finding_words(place) for place, _ in findings))
+        first = still_open[0]
+        words = first.finding.line if isinstance(first, Place) else f"{first.rule}: {first.sentence}"
+        why = f"{len(still_open)} open: {words}"
+        return Case(kind, name, "failure", why, "\n".join(line for item in still_open for line in _lines(item)))
+    if items and judged:
+        reasons = dict.fromkeys(accepted_words(entry) for entry in map(judged.of, items) if entry)
+        return Case(kind, name, "skipped", "; ".join(reasons), "\n".join(map(item_words, items)))
     return Case(kind, name)
+
+
+def _lines(item: Item) -> List[str]:
+    return finding_lines(item) if isinstance(item, Place) else [item_words(item)]

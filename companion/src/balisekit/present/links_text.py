@@ -1,18 +1,22 @@
 """The answer of `links` in words and as JSON."""
 from __future__ import annotations
 
-from typing import Any, Dict, Iterator
+from typing import Any, Dict, Iterator, List, Sequence
 
 from balisekit.present import NOT_PROVED
 from balisekit.present.check_text import head_line
-from balisekit.present.explanations import rule_pages
+from balisekit.present.explanations import page_lines, pages
 from balisekit.present.refusals import not_looked_at, refused_counts, refused_lines
 from balisekit.rules.checking import Checked
+from balisekit.rules.families import FAMILIES
 from balisekit.rules.links import Links
 from balisekit.rules.rule import Remark, Result, Rule
 from balisekit.tables.names import clean, passed_over
 
-ABOUT = f"L1 to L9 are rules of balisekit; {NOT_PROVED}"
+OF_RULES = "L1 to L9"
+FORMAT = 1
+"""The number of the form of the JSON. A key that is added does not change it."""
+ABOUT = f"{OF_RULES} are rules of balisekit; {NOT_PROVED}"
 
 
 def status_of(checked: Checked, links: Links) -> int:
@@ -32,7 +36,8 @@ def lines(checked: Checked, links: Links, explained: bool = False) -> Iterator[s
     yield from refused_lines(checked)
     yield from map(_words, links.remarks)
     if explained:
-        yield from rule_pages(rule for rule, result in links.results.items() if result.found)
+        rules = {remark.rule for remark in links.remarks}
+        yield from page_lines((name, page) for name, page in pages(FAMILIES["L"]) if name in rules)
     yield last_line(checked, links)
 
 
@@ -42,18 +47,34 @@ def _words(remark: Remark) -> str:
 
 def last_line(checked: Checked, links: Links) -> str:
     """How many were found and by which rules, and what each rule has compared. It is never a yes."""
-    parts = [count for count in refused_counts(checked) if not count.startswith("0 ")] + not_looked_at(checked)
-    where = "the rest" if parts else f"{len(checked.table.groups)} groups"
-    parts += [_empty(rule, links.results[rule]) for rule in links.empty]
-    counts = [f"{rule.name} {len(result.found)}" for rule, result in links.results.items() if result.found]
-    found = f"{len(links.remarks)} found ({', '.join(counts)})" if counts else "none found of L1 to L9"
-    compared = ", ".join(_compared(rule, result) for rule, result in links.results.items())
-    said = f"links: {found} in {where}; compared: {compared}"
+    parts = [*lacking(checked), *empty_rules(links)]
+    where = "the rest" if lacking(checked) else f"{len(checked.table.groups)} groups"
+    said = f"links: {found(links, f' of {OF_RULES}')} in {where}; {compared(links)}"
     return f"INCOMPLETE: {', '.join(parts)}; {said}" if parts else said
 
 
+def lacking(checked: Checked) -> List[str]:
+    """How many telegrams and messages were refused or not tried."""
+    return [count for count in refused_counts(checked) if not count.startswith("0 ")] + not_looked_at(checked)
+
+
+def found(links: Links, rules: str = "") -> str:
+    """How many remarks there are, and of which rules."""
+    counts = [f"{rule.name} {len(result.found)}" for rule, result in links.results.items() if result.found]
+    return f"{len(links.remarks)} found ({', '.join(counts)})" if counts else f"none found{rules}"
+
+
+def compared(links: Links) -> str:
+    """What each rule has compared."""
+    return f"compared: {', '.join(_compared(rule, result) for rule, result in links.results.items())}"
+
+
+def empty_rules(links: Links) -> List[str]:
+    """The rules that have compared nothing, and why."""
+    return [_empty(rule, links.results[rule]) for rule in links.empty]
+
+
 def _empty(rule: Rule, result: Result) -> str:
-    """Why a rule has compared nothing."""
     reasons = [f"{why}: {count}" for why, count in result.not_looked_at.items() if count]
     return f"{rule.name} compared none of {_things(rule, result.skipped)} ({', '.join(reasons)})"
 
@@ -72,6 +93,7 @@ def as_json(checked: Checked, links: Links) -> Dict[str, Any]:
     """All of the answer for other tools."""
     table = checked.table
     return {
+        "format": FORMAT,
         "status": status_of(checked, links),
         "last_line": last_line(checked, links),
         "not_proved": ABOUT,
@@ -84,10 +106,15 @@ def as_json(checked: Checked, links: Links) -> Dict[str, Any]:
             "refused_messages": len(checked.refused_messages),
             "not_looked_at": checked.not_looked_at,
         },
-        "rules": {rule.name: _rule_json(rule, result) for rule, result in links.results.items()},
+        "rules": rules_json([links]),
         "notes": [*table.notes, *links.notes],
         "found": map(_remark_json, links.remarks),
     }
+
+
+def rules_json(some: Sequence[Links]) -> Dict[str, Any]:
+    """What each rule has looked at."""
+    return {rule.name: _rule_json(rule, result) for links in some for rule, result in links.results.items()}
 
 
 def _rule_json(rule: Rule, result: Result) -> Dict[str, Any]:

@@ -1,4 +1,4 @@
-"""Findings that were accepted: the entries of a file, and which findings of a line they fit.
+"""Findings and remarks that were accepted: the entries of a file, and which findings and remarks of a line they fit.
 
 An entry names a group by its identity, a message by its name in the messages' file, an aspect by its name in the table,
 and a balise and packet by their places. So a group that is put in before moves nothing. The checksum of an entry holds
@@ -11,14 +11,17 @@ import hashlib
 import re
 from collections import Counter
 from dataclasses import dataclass
-from typing import Dict, Iterable, Iterator, List, Mapping, Optional, Sequence, Tuple
+from functools import cached_property
+from typing import Dict, Iterable, Iterator, List, Mapping, Optional, Sequence, Tuple, Union
 
 from balisekit.errors import TableError, TableErrors, faults_of
 from balisekit.io import inputs
 from balisekit.io.csv_writing import plain
 from balisekit.rules.checking import Checked, Place
+from balisekit.rules.rule import Remark
 from balisekit.tables import csv as csv_file
 from balisekit.tables.cells import headings
+from balisekit.tables.model import Group, Message, Row
 from balisekit.tables.names import BLANK
 
 FIELDS = ("rule", "nid_c", "nid_bg", "message", "aspect", "balise", "packet", "direction")
@@ -28,7 +31,7 @@ COLUMNS = (*NEEDED, "until", "sha256")
 ANY = "*"
 NUMBER = ("|[0-9]{1,6}", "no whole number")
 VALUES = {
-    "rule": ("F([1-9]|1[0-6])", "none of F1 to F16"),
+    "rule": ("F([1-9]|1[0-6])|L[1-9]", "none of F1 to F16 and L1 to L9"),
     **dict.fromkeys(("nid_c", "nid_bg", "balise", "packet"), NUMBER),
     "direction": ("|nominal|reverse", "neither nominal nor reverse"),
     "sha256": ("|[0-9a-f]{64}", "no SHA-256: --propose writes it"),
@@ -39,15 +42,19 @@ UNNAMED = "\0"
 EARLIEST = datetime.date(2000, 1, 1)
 ONE_DAY = datetime.timedelta(days=1)
 """By so much the day of a signature may be after that of the run, which is by universal time."""
-ONE_TELEGRAM = (1, 4, 6, 9)
-"""The findings about one telegram only."""
-ALL_ASPECTS = (3, 14, 15, 16)
+ONE_TELEGRAM = ("F1", "F4", "F6", "F9", "L1", "L2", "L3", "L5", "L6", "L9")
+"""The findings and remarks about one telegram only."""
+ALL_ASPECTS = ("F3", "F14", "F15", "F16")
 """The findings that compare aspects or groups. The others are about all telegrams of an aspect."""
+ON_CORRECT_DATA = ("F6", "F9", "F10", "F11", "F12", "F13", "F14", "F16")
+"""The rules of the table of findings on correct data in docs/FINDINGS.md."""
 Key = Tuple[str, ...]
+Item = Union[Place, Remark]
+"""What one entry accepts: a finding of the program, or a remark of a rule of balisekit."""
 
 
 @dataclass(frozen=True)
-class Entry:
+class Acceptance:
     """A row of the file."""
 
     row: int
@@ -60,9 +67,26 @@ class Entry:
     """Of the telegrams, or the message, that the findings are about which it accepts."""
 
     @property
+    def rule(self) -> str:
+        """Whose findings it accepts."""
+        return self.key[0]
+
+    @property
     def is_wide(self) -> bool:
         """Whether a `*` lets it fit several findings."""
         return ANY in self.key
+
+    def refused(self) -> Optional[TableError]:
+        """Why nobody may accept findings so broadly."""
+        if self.is_wide and self.rule == "F14":
+            why = "F14 is not accepted by *: two groups of one identity are looked at one by one"
+            return TableError(why, column=FIELDS[self.key.index(ANY)])
+        if self.key[4] == ANY and self.rule not in ON_CORRECT_DATA:
+            why = f"{self.rule} is not accepted by * as aspect, since no correct data gets it: name the aspect"
+            return TableError(why, column="aspect")
+        if self.is_wide and self.key[2] in ("", ANY) and self.until is None:
+            return TableError("an entry with * that names no identity needs a last day", column="until")
+        return None
 
     def faults(self, day: datetime.date) -> List[str]:
         """Why it accepts nothing, whatever the data are."""
@@ -78,16 +102,17 @@ class Entry:
             faults.append(f"until {self.until} is past")
         return faults
 
-    def changed(self, findings: Sequence[Place]) -> List[str]:
-        """Why it does not accept these findings, which it fits: its checksum is of other data, or it has none."""
-        now = checksum(findings)
+    def changed(self, items: Sequence[Item]) -> List[str]:
+        """Why it does not accept these items, which it fits: its checksum is of other data, or it has none."""
+        now = checksum(items)
         if self.sha256 == now:
             return []
-        hint = f": that of the {len(findings)} findings that it fits is {now}" if self.is_wide else ""
+        hint = f": that of the {len(items)} findings that it fits is {now}" if self.is_wide else ""
         if not self.sha256:
             return [f"no sha256{hint}"]
-        what = "telegram has" if len(_texts(findings[0])) == 1 else "telegrams have"
-        what = "message has" if findings[0].message else what
+        what = "telegram has" if len(_texts(items[0])) == 1 else "telegrams have"
+        what = "message has" if _message(items[0]) else what
+        what = "telegrams or values have" if isinstance(items[0], Remark) else what
         return [f"the {what} changed{f' since {self.date}' if self.date else ''}{hint}"]
 
 
@@ -97,39 +122,46 @@ class Entries:
 
     path: str
     sha256: str
-    entries: Tuple[Entry, ...]
+    entries: Tuple[Acceptance, ...]
 
 
 @dataclass(frozen=True)
 class Judged:
-    """The findings of a line beside the entries."""
+    """The findings and remarks of a line beside the entries."""
 
-    checked: Checked
     entries: Entries
-    by_finding: Tuple[Optional[Entry], ...]
-    """For each finding the entry that accepts it."""
-    faults: Tuple[Tuple[Entry, str], ...]
+    items: Tuple[Item, ...]
+    by_item: Tuple[Optional[Acceptance], ...]
+    """For each item the entry that accepts it."""
+    faults: Tuple[Tuple[Acceptance, str], ...]
     """The entries that are unused, not in order, or of other data, and why."""
+    former: Tuple[Optional[Acceptance], ...]
+    """For each item the first entry that fits it only, whether or not it accepts it."""
+    passed_over: Tuple[Acceptance, ...] = ()
+    """The entries for rules that were not applied: nobody knows whether they fit."""
 
-    former: Tuple[Optional[Entry], ...] = ()
-    """For each finding the first entry that fits it only, whether or not it accepts it."""
+    @cached_property
+    def _by_id(self) -> Dict[int, Optional[Acceptance]]:
+        return {id(item): entry for item, entry in zip(self.items, self.by_item)}
+
+    def of(self, item: Item) -> Optional[Acceptance]:
+        """The entry that accepts one of the items."""
+        return self._by_id[id(item)]
 
     @property
     def accepted_by_any(self) -> int:
-        """How many findings are accepted by entries with `*`."""
-        return sum(entry is not None and entry.is_wide for entry in self.by_finding)
+        """How many items are accepted by entries with `*`."""
+        return sum(entry is not None and entry.is_wide for entry in self.by_item)
 
     @property
-    def open(self) -> Tuple[Place, ...]:
-        """The findings that no entry accepts."""
-        return tuple(place for place, entry in zip(self.checked.findings, self.by_finding) if entry is None)
+    def against_the_rule(self) -> Mapping[str, int]:
+        """How many items are accepted of each rule that no correct data gets by FINDINGS.md."""
+        return Counter(entry.rule for entry in self.by_item if entry and entry.rule not in ON_CORRECT_DATA)
 
     @property
-    def status(self) -> int:
-        """2 if anything was refused or left out, 1 if a finding is open or an entry at fault, else 0."""
-        if not self.checked.whole or self.checked.verdict is None:
-            return 2
-        return 1 if self.open or self.faults else 0
+    def open(self) -> Sequence[Item]:
+        """The items that no entry accepts."""
+        return [item for item, entry in zip(self.items, self.by_item) if entry is None]
 
 
 def read(path: str) -> Entries:
@@ -139,7 +171,7 @@ def read(path: str) -> Entries:
         return Entries(path, file.sha256, _entries(csv_file.read(file.content, COLUMNS, NEEDED).rows))
 
 
-def _entries(rows: Sequence[Sequence[str]]) -> Tuple[Entry, ...]:
+def _entries(rows: Sequence[Sequence[str]]) -> Tuple[Acceptance, ...]:
     heading = headings(list(rows[0])) if rows else []
     for name in dict.fromkeys(heading):
         if name and name not in COLUMNS:
@@ -162,7 +194,7 @@ def _entries(rows: Sequence[Sequence[str]]) -> Tuple[Entry, ...]:
     return tuple(entries)
 
 
-def _entry(number: int, heading: Sequence[str], cells: Sequence[str]) -> Entry:
+def _entry(number: int, heading: Sequence[str], cells: Sequence[str]) -> Acceptance:
     if any(cell.strip() for cell in cells[len(heading) :]):
         raise TableError(f"it has {len(cells)} cells, and the heading {len(heading)}")
     found = {name: plain(cell.strip()) for name, cell in zip(heading, cells)}
@@ -175,7 +207,11 @@ def _entry(number: int, heading: Sequence[str], cells: Sequence[str]) -> Entry:
         why = "an entry is about one group, by nid_c and nid_bg, or about one message, by its name"
         raise TableError(why, column="message" if key[1:3] == ("", "") else "nid_c")
     dates = _date("date", values["date"]), _date("until", values["until"])
-    return Entry(number, key, values["reason"], values["who"], *dates, _value("sha256", values["sha256"]))
+    entry = Acceptance(number, key, values["reason"], values["who"], *dates, _value("sha256", values["sha256"]))
+    too_broad = entry.refused()
+    if too_broad:
+        raise too_broad
+    return entry
 
 
 def _value(name: str, value: str) -> str:
@@ -206,69 +242,129 @@ def _date(name: str, value: str) -> Optional[datetime.date]:
     raise TableError(why, column=name)
 
 
-def keys(checked: Checked) -> List[Key]:
-    """What an entry has to say of each finding."""
+def keys(items: Iterable[Item], checked: Checked) -> List[Key]:
+    """What an entry has to say of each item."""
+    items = list(items)
     names = Counter(one.name for one in (checked.messages.messages if checked.messages else ()))
-    return [_key(place, checked, names) for place in checked.findings]
+    known = identities(checked, [item.group for item in items if isinstance(item, Place) and item.group])
+    return [_key(item, known, names) for item in items]
 
 
-def _key(place: Place, checked: Checked, names: Mapping[str, int]) -> Key:
-    finding = place.finding
+def identities(checked: Checked, groups: Iterable[Group]) -> Dict[str, Tuple[int, int]]:
+    """NID_C and NID_BG of each of these groups, by its name: those of its first balise in its first aspect."""
+    first = {group.aspects[0].rows[0].number: group.name for group in groups}
+    numbers = sorted(number for number in first if number in checked.accepted)
+    forms = ((row, record.form) for row, record in checked.accepted.decoded(numbers))
+    return {first[row.number]: (form["nid_c"], form["nid_bg"]) for row, form in forms}
+
+
+def _key(item: Item, known: Mapping[str, Tuple[int, int]], names: Mapping[str, int]) -> Key:
+    message = _message(item)
+    name = "" if message is None else message.name if names[message.name] == 1 else UNNAMED
+    name = UNNAMED if message is not None and name in ("", ANY) else name
+    if isinstance(item, Remark):
+        return (item.rule, *_identity(item), name, *_place_of(item))
+    finding = item.finding
     identity: Tuple[str, str] = ("", "")
-    if place.group is not None:
-        form = checked.accepted[place.group.aspects[0].rows[0].number]
-        identity = (str(form["nid_c"]), str(form["nid_bg"]))
-    message = ""
-    if place.message is not None:
-        name = place.message.name
-        message = name if names[name] == 1 and name not in ("", ANY) else UNNAMED
+    if item.group is not None:
+        nid_c, nid_bg = known[item.group.name]
+        identity = (str(nid_c), str(nid_bg))
     numbers = ["" if number is None else str(number) for number in (finding.balise, finding.packet)]
-    return (f"F{finding.rule}", *identity, message, place.aspect or "", *numbers, finding.direction or "")
+    return (f"F{finding.rule}", *identity, name, item.aspect or "", *numbers, finding.direction or "")
 
 
-def checksum(findings: Sequence[Place]) -> str:
-    """The SHA-256 of the telegrams or messages that findings are about: their digits in small letters, a line each."""
-    blocks = {"".join(f"{text.lower()}\n" for text in _texts(place)) for place in findings}
+def _identity(remark: Remark) -> Tuple[str, str]:
+    """NID_C and NID_BG of the group at which a remark is."""
+    group = remark.location.group
+    if group is None:
+        return "", ""
+    return (str(group.identity[0]), str(group.identity[1])) if group.identity else (UNNAMED, UNNAMED)
+
+
+def _place_of(remark: Remark) -> Tuple[str, str, str, str]:
+    """Aspect, balise, packet and direction of a remark."""
+    where, aspect, balise = remark.location, "", ""
+    if where.row is not None and where.group is not None:
+        aspect = "" if where.row.aspect == ANY else where.row.aspect
+        balise = str(where.group.group.places[where.row.number])
+    return aspect, balise, "" if where.packet is None else str(where.packet), where.direction
+
+
+def _message(item: Item) -> Optional[Message]:
+    return item.location.message if isinstance(item, Remark) else item.message
+
+
+def checksum(items: Sequence[Item]) -> str:
+    """The SHA-256 of the telegrams or messages that items are about: their digits in small letters, a line each.
+
+    For a remark the values that its rule has compared follow, a line each.
+    """
+    blocks = {"".join(f"{text.lower()}\n" for text in (*_texts(item), *_values(item))) for item in items}
     return hashlib.sha256("".join(sorted(blocks)).encode("utf-8", "surrogatepass")).hexdigest()
 
 
-def _texts(place: Place) -> List[str]:
-    """The telegrams that a finding is about, in the order of the aspects and of their balises, or the message."""
-    finding, group = place.finding, place.group
-    if place.message is not None:
-        return [place.message.text]
-    if group is None:
+def _values(item: Item) -> List[str]:
+    """The values of a remark, which may be of the table alone, as kilometres are, and the groups that it names."""
+    if not isinstance(item, Remark):
         return []
-    if finding.rule in ONE_TELEGRAM and place.row is not None:
-        return [place.row.telegram]
-    if finding.aspect is not None and finding.rule not in ALL_ASPECTS:
+    named = [f"group {identity[0]} {identity[1]}" for identity in (each.identity for each in item.named) if identity]
+    return [f"{name} {value.normalize():f}" for name, value in item.values.items()] + named
+
+
+def _texts(item: Item) -> List[str]:
+    """The telegrams that an item is about, in the order of the aspects and of their balises, or the message."""
+    message = _message(item)
+    if message is not None:
+        return [message.text]
+    if isinstance(item, Remark):
+        where = item.location
+        return _telegrams(item.rule, where.row, [where.group.group] if where.group else [])
+    finding, group = item.finding, item.group
+    rule = f"F{finding.rule}"
+    if group is not None and finding.aspect is not None and rule not in (*ONE_TELEGRAM, *ALL_ASPECTS):
         return [row.telegram for row in group.aspects[finding.aspect].rows]
-    groups = [group, *([place.earlier] if place.earlier else [])]
-    rows = {row.number: row.telegram for each in groups for row in each.rows()}
-    return list(rows.values())
+    return _telegrams(rule, item.row, [each for each in (group, item.earlier) if each])
 
 
-def judge(checked: Checked, entries: Entries, day: datetime.date) -> Judged:
-    """Which findings are accepted on this day, and which entries are at fault."""
-    about = list(_entries_about(keys(checked), entries.entries))
-    fitting: Dict[int, List[Place]] = {}
-    for place, fits in zip(checked.findings, about):
+def _telegrams(rule: str, row: Optional[Row], groups: Sequence[Group]) -> List[str]:
+    """The one telegram that such a rule is about, or each row of these groups once."""
+    if rule in ONE_TELEGRAM and row is not None:
+        return [row.telegram]
+    return list({row.number: row.telegram for group in groups for row in group.rows()}.values())
+
+
+def judge(
+    items: Sequence[Item], checked: Checked, entries: Entries, day: datetime.date, families: Sequence[str] = "F"
+) -> Judged:
+    """Which items are accepted on this day, and which entries for rules of these families are at fault."""
+    applied = [entry for entry in entries.entries if entry.rule[0] in families]
+    about = list(_entries_about(keys(items, checked), applied))
+    fitting: Dict[int, List[Item]] = {}
+    for item, fits in zip(items, about):
         for entry in fits:
-            fitting.setdefault(entry.row, []).append(place)
+            fitting.setdefault(entry.row, []).append(item)
     faults: Dict[int, List[str]] = {}
-    for entry in entries.entries:
-        findings = fitting.get(entry.row)
-        why = entry.changed(findings) if findings else ["unused: no finding is as it says"]
+    for entry in applied:
+        fitted = fitting.get(entry.row)
+        why = entry.changed(fitted) if fitted else ["unused: no finding is as it says"]
         faults[entry.row] = why + entry.faults(day)
-    by_finding = [next((entry for entry in fits if not faults[entry.row]), None) for fits in about]
+    by_item = [next((entry for entry in fits if not faults[entry.row]), None) for fits in about]
     former = [next((entry for entry in fits if not entry.is_wide), None) for fits in about]
-    at_fault = [(entry, ", ".join(faults[entry.row])) for entry in entries.entries if faults[entry.row]]
-    return Judged(checked, entries, tuple(by_finding), tuple(at_fault), tuple(former))
+    at_fault = [(entry, ", ".join(faults[entry.row])) for entry in applied if faults[entry.row]]
+    others = tuple(entry for entry in entries.entries if entry.rule[0] not in families)
+    return Judged(entries, tuple(items), tuple(by_item), tuple(at_fault), tuple(former), others)
 
 
-def _entries_about(wanted: Iterable[Key], entries: Iterable[Entry]) -> Iterator[List[Entry]]:
-    """The entries about each finding, looked up by which of their fields are `*`, and by the others."""
-    by_mask: Dict[Tuple[bool, ...], Dict[Key, List[Entry]]] = {}
+def status(checked: Checked, judged: Optional[Judged]) -> int:
+    """2 if anything was refused or left out, 1 if a finding is open or an entry at fault, else 0."""
+    if not checked.whole or judged is None:
+        return checked.status
+    return int(bool(judged.open or judged.faults))
+
+
+def _entries_about(wanted: Iterable[Key], entries: Iterable[Acceptance]) -> Iterator[List[Acceptance]]:
+    """The entries about each item, looked up by which of their fields are `*`, and by the others."""
+    by_mask: Dict[Tuple[bool, ...], Dict[Key, List[Acceptance]]] = {}
     for entry in entries:
         mask = tuple(field == ANY for field in entry.key)
         by_mask.setdefault(mask, {}).setdefault(entry.key, []).append(entry)

@@ -27,9 +27,13 @@ def reasons() -> Dict[str, str]:
 def row_of(finding: Finding, aspects: Sequence[Forms]) -> str:
     """The row of the table that a finding fits, or nothing. `aspects` has the telegrams, or the message alone.
 
-    A pair of duplicates that is controlled has no row here: by the table it is not accepted by a rule.
+    A pair of duplicates that is controlled has no row here: by the table it is not accepted by a rule. Neither has a
+    group in which two aspects send the same: one may have been copied for the other.
     """
-    return _group(finding, aspects) if finding.message is None else _message(finding, aspects[0][0])
+    if finding.message is not None:
+        return _message(finding, aspects[0][0])
+    repeated = any(one == other for place, one in enumerate(aspects) for other in aspects[:place])
+    return "" if repeated else _group(finding, aspects)
 
 
 def _message(finding: Finding, form: Form) -> str:

@@ -5,8 +5,9 @@ from decimal import Decimal
 from typing import NamedTuple, Optional, Tuple
 
 from balisekit.etcs.geometry import NOMINAL, kilometre
+from balisekit.etcs.packets import packet_name
 from balisekit.tables.model import Group, Message, Row
-from balisekit.tables.names import clean, describe_balise, describe_group, describe_message
+from balisekit.tables.names import clean, describe_balise, describe_group, describe_message, ordinal
 
 NOT_KNOWN = 16_383
 """The NID_BG that says that an identity is not known."""
@@ -51,6 +52,10 @@ class Location(NamedTuple):
     packet: Optional[int] = None
     direction: str = ""
     link: Optional[int] = None
+    number: Optional[int] = None
+    """The NID_PACKET of the packet."""
+    n_pig: Optional[int] = None
+    """That of the balise."""
 
     @property
     def order(self) -> Tuple[int, ...]:
@@ -63,6 +68,15 @@ class Location(NamedTuple):
             int(self.direction != NOMINAL),
             -1 if self.link is None else self.link,
         )
+
+    @property
+    def packet_words(self) -> str:
+        """The packet by its NID_PACKET and its place, and the link, for the beginning of a sentence."""
+        if self.packet is None or self.number is None:
+            return ""
+        where = "telegram" if self.message is None else "message"
+        words = f"packet {self.number} ({packet_name(self.number)}), {ordinal(self.packet)} in the {where}"
+        return f"{words}, {ordinal(self.link)} link: " if self.link is not None else f"{words}: "
 
     def __str__(self) -> str:
         parts = []

@@ -78,6 +78,7 @@ class Content(NamedTuple):
 
     identity: Identity
     linked: bool
+    n_pig: int
     duplicate: int
     """M_DUP."""
     packets: Tuple[Sequence[Packet], ...]
@@ -88,7 +89,7 @@ class Content(NamedTuple):
     def of(cls, form: Form) -> Content:
         """That of a record."""
         identity = form["nid_c"], form["nid_bg"]
-        return cls(identity, bool(form.get("q_link")), form.get("m_dup", 0), *_packets(form))
+        return cls(identity, bool(form.get("q_link")), form.get("n_pig", 0), form.get("m_dup", 0), *_packets(form))
 
 
 class Chain(NamedTuple):
@@ -153,15 +154,16 @@ class Passages:
         self.headers += len(contents)
         unknown = {number for number, content in contents.items() if content.identity[1] == NOT_KNOWN}
         rows = {row.number: row for row in group.group.rows() if row.number in unknown} if unknown else {}
-        self.unknown += [Location(group, row) for row in rows.values()]
+        self.unknown += [Location(group, row, n_pig=contents[row.number].n_pig) for row in rows.values()]
         aspects = [aspect.rows for aspect in group.group.aspects]
         if group.unread:
             aspects = [rows for rows in aspects if all(row.number in contents for row in rows)]
         self._add([[(row, contents[row.number]) for row in rows] for rows in aspects], group)
         if group.balises == 1 and not group.linked:
             first = [aspect.rows[0] for aspect in group.group.aspects if aspect.rows[0].number in contents]
-            found = ((Location(group, row), contents[row.number].one_way) for row in first)
-            self.one_way += [(location, packet) for location, packet in found if packet][:1]
+            found = ((row, contents[row.number]) for row in first)
+            locations = ((Location(group, row, n_pig=content.n_pig), content.one_way) for row, content in found)
+            self.one_way += [(location, packet) for location, packet in locations if packet][:1]
 
     def add_message(self, message: Message, form: Form) -> None:
         """Takes a message 3. All groups have been taken before."""
@@ -174,13 +176,16 @@ class Passages:
             for link in chain.links:
                 link.target = self.by_identity.get(link.identity)
 
-    def _add(self, aspects: Iterable[Passed], sender: Optional[BaliseGroup], message: Optional[Message] = None) -> None:
+    def _add(self, aspects: Sequence[Passed], sender: Optional[BaliseGroup], message: Optional[Message] = None) -> None:
         """Takes the aspects of one group, or a message. What rows of several aspects say is kept once."""
         known: Set[Tuple[int, int, str]] = set()
         profiles: Dict[Tuple[int, int, str], Tuple[Optional[Row], Packet, bool]] = {}
 
+        n_pigs = {row.number: content.n_pig for passed in aspects for row, content in passed if row}
+
         def at(row: Optional[Row], packet: Packet, direction: str) -> Location:
-            return Location(None if message else sender, row, message, packet.place, direction)
+            n_pig, where = n_pigs[row.number] if row else None, None if message else sender
+            return Location(where, row, message, packet.place, direction, None, packet.number, n_pig)
 
         for direction, packets, chains in (part for passed in aspects for part in self._parts(passed)):
             at_once = {packet.number for _, packet in packets if packet.begin == 0}
@@ -221,8 +226,8 @@ def contents_of(telegrams: Iterable[Tuple[Row, Record]]) -> Iterator[Tuple[Row, 
     """What rules compare of telegrams. Many have the same packets, which are read once then."""
     packets = lru_cache(KEPT)(lambda text: _packets(json.loads(f"{{{text}}}")))
     for row, record in telegrams:
-        duplicate, _, nid_bg, text, nid_c, linked = RECORD.findall(record.line)[0]
-        yield row, Content((int(nid_c), int(nid_bg)), linked == "1", int(duplicate), *packets(text))
+        duplicate, n_pig, nid_bg, text, nid_c, linked = RECORD.findall(record.line)[0]
+        yield row, Content((int(nid_c), int(nid_bg)), linked == "1", int(n_pig), int(duplicate), *packets(text))
 
 
 def _packets(form: Form) -> Tuple[Tuple[Sequence[Packet], ...], Optional[OneWay]]:

@@ -36,6 +36,8 @@ class Remark:
     """The group that the sentence is about, if it is another one."""
     values: Mapping[str, Decimal] = field(default_factory=dict)
     """The values that the rule has compared, by their names."""
+    named: Sequence[BaliseGroup] = ()
+    """The other groups that the sentence rests on, if no telegram of its location names them."""
 
 
 @dataclass(frozen=True)

@@ -17,7 +17,7 @@ Example. Both balises of group B have Q_LINK 0, and group A links it.
 """
 from __future__ import annotations
 
-from typing import Dict, List
+from typing import Dict, Mapping, Optional
 
 from balisekit.rules.line import AFTER_INFILL, Line
 from balisekit.rules.location import BaliseGroup, Location
@@ -30,21 +30,21 @@ NAMED = 3
 
 def find(line: Line, options: Options) -> Result:
     """Looks at each group that a link names."""
-    senders: Dict[int, Dict[str, None]] = {}
+    senders: Dict[int, Dict[str, Optional[BaliseGroup]]] = {}
     for chain in line.chains:
         for link in chain.links:
             if link.target is not None:
                 names = senders.setdefault(link.target.number, {})
                 if not link.target.linked:
-                    names[_sender(chain)] = None
+                    names[_sender(chain)] = chain.sender
     infill = {link.target.number for chain in line.passages.infill_chains for link in chain.links if link.target}
-    found = [_remark(line.groups[number], list(names)) for number, names in senders.items() if names]
+    found = [_remark(line.groups[number], names) for number, names in senders.items() if names]
     return Result(found, len(senders), {AFTER_INFILL: len(infill - set(senders))})
 
 
-def _remark(group: BaliseGroup, names: List[str]) -> Remark:
-    sentence = f"its Q_LINK is 0, and it is linked by {listed(names, NAMED)}"
-    return Remark("L4", Location(group), sentence, group)
+def _remark(group: BaliseGroup, senders: Mapping[str, Optional[BaliseGroup]]) -> Remark:
+    sentence = f"its Q_LINK is 0, and it is linked by {listed(list(senders), NAMED)}"
+    return Remark("L4", Location(group), sentence, group, named=[sender for sender in senders.values() if sender])
 
 
 def _sender(chain: Chain) -> str:

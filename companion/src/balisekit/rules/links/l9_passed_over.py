@@ -21,6 +21,7 @@ Example. Group A links group C alone, and group B stands between them.
 """
 from __future__ import annotations
 
+from decimal import Decimal
 from typing import Iterator, Sequence, Union
 
 from balisekit.rules.line import Line
@@ -54,7 +55,7 @@ def _remark(chain: Chain, before: BaliseGroup, after: BaliseGroup, groups: Seque
         f"{listed(list(map(str, groups)), len(groups), count)} {words[0]} Q_LINK 1 and {words[1]} between {before} and "
         f"{after}, and {words[2]} not linked: a train that uses linking passes {words[3]} over"
     )
-    return Remark("L9", chain.location, sentence, groups[0])
+    return Remark("L9", chain.location, sentence, groups[0], {"groups_passed_over": Decimal(count)}, groups)
 
 
 RULE = Rule("L9", "pairs", __doc__ or "", find)

@@ -1,0 +1,122 @@
+"""The answer of `check` in words: a part for each family of rules, what was not looked at, and one verdict."""
+from __future__ import annotations
+
+from typing import Iterator, List, Sequence
+
+from balisekit.present import headings
+from balisekit.present.accepted_text import accepted_words, fault_lines, verdict_lines
+from balisekit.present.check_text import before_last, last_line as last_line_of_program, opening_lines
+from balisekit.present.explanations import page_lines, pages
+from balisekit.present.links_text import compared, empty_rules, found, lacking
+from balisekit.rules.accepted import UNNAMED, Item, keys
+from balisekit.rules.checking import Place
+from balisekit.rules.entries import Entry, entry_of
+from balisekit.rules.families import PROVED, Outcome, Part, entry_of_remark
+from balisekit.tables.names import clean
+
+NO_KILOMETRES = "no kilometres: rules over the line are not applied"
+SHOWN = 20
+"""So many items that no entry can name are listed, and the others are counted."""
+
+
+def lines(outcome: Outcome, explained: bool = False, proposed: bool = False) -> Iterator[str]:
+    """The answer in words, and what is not `proposed`. The last line is the verdict."""
+    yield from opening_lines(outcome.checked)
+    for part in outcome.parts:
+        if outcome.letters != PROVED:
+            yield f"{part.family.title}:{'' if part.items else ' none'}"
+        yield from _part(outcome, part)
+    if explained:
+        yield from _pages(outcome)
+    yield from not_decoded(outcome)
+    yield from before_last(outcome.checked.table)
+    yield from unnamed_lines(outcome) if proposed or outcome.judged else ()
+    yield from not_applied(outcome)
+    yield from closing_lines(outcome)
+
+
+def _part(outcome: Outcome, part: Part) -> Iterator[str]:
+    """The entries of a part, the open ones first, and what its rules have looked at."""
+    yield from _listed(part.open)
+    yield from ["accepted:"] if part.accepted else []
+    for entry in part.accepted:
+        yield from headings.entry_lines(entry)
+        yield from (f"    {accepted_words(each)}" for each in outcome.acceptances(entry))
+    if part.links is None:
+        yield from headings.summary(outcome.checked, part.open, outcome.judged is not None)
+        return
+    yield from (f"note: {clean(note)}" for note in part.links.notes)
+    yield compared(part.links)
+
+
+def _listed(entries: Sequence[Entry]) -> Iterator[str]:
+    """Entries below the heading of their urgency."""
+    for heading, entry in zip(headings.first_of_each(entries), entries):
+        yield from [heading] if heading else []
+        yield from headings.entry_lines(entry)
+
+
+def not_decoded(outcome: Outcome) -> Iterator[str]:
+    """The packets that are kept as bits. Nothing is decoded for this line if all is well."""
+    checked = outcome.checked
+    if PROVED in outcome.letters and (checked.findings or not checked.whole or checked.accepted.raw is not None):
+        yield from headings.not_decoded(checked)
+
+
+def not_applied(outcome: Outcome) -> List[str]:
+    """Which rules were not applied, and why."""
+    return [NO_KILOMETRES] if outcome.without_kilometres else []
+
+
+def _pages(outcome: Outcome) -> Iterator[str]:
+    """Cause and remedy of each rule that has found something."""
+    rules = {rule for entry in outcome.entries for rule in entry.rules}
+    for part in outcome.parts:
+        yield from page_lines((name, page) for name, page in pages(part.family) if name in rules)
+
+
+def unnamed_lines(outcome: Outcome) -> Iterator[str]:
+    """The open items that no entry of a file can name."""
+    judged, named = outcome.judged, zip(outcome.items, keys(outcome.items, outcome.checked))
+    unnamed = [item for item, key in named if UNNAMED in key and not (judged and judged.of(item))]
+    for item in unnamed[:SHOWN]:
+        yield f"no entry can name {item_words(item)} ({_why_unnamed(item)})"
+    if len(unnamed) > SHOWN:
+        yield f"no entry can name {len(unnamed) - SHOWN} more"
+
+
+def item_words(item: Item) -> str:
+    """A finding or a remark by itself, by the names of what it is about."""
+    return headings.words(entry_of(item) if isinstance(item, Place) else entry_of_remark(item))
+
+
+def _why_unnamed(item: Item) -> str:
+    message = item.message if isinstance(item, Place) else item.location.message
+    return "its message has no name of its own" if message else "the identity of its group is not known"
+
+
+def closing_lines(outcome: Outcome) -> List[str]:
+    """What ends the answer: entries at fault, how much is open, and the verdict."""
+    last = verdict(outcome)
+    if not outcome.judged:
+        return [last]
+    judged = outcome.judged
+    return [*fault_lines(judged), *verdict_lines(judged, last, outcome.whole, outcome.letters)]
+
+
+def verdict(outcome: Outcome) -> str:
+    """The verdict of all parts: the program's, or that something was not looked at, then what other rules found.
+
+    It is the program's line and nothing else if other rules have looked at all and found nothing.
+    """
+    checked = outcome.checked
+    empty = [text for part in outcome.parts if part.links for text in empty_rules(part.links)]
+    of_rules = [part for part in outcome.parts if part.links and (part.items or PROVED not in outcome.letters)]
+    others = [f"{part.family.things}: {found(part.links)}" for part in of_rules if part.links]
+    if PROVED in outcome.letters:
+        own = last_line_of_program(checked)
+    else:
+        own = f"INCOMPLETE: {', '.join(lacking(checked))}" if lacking(checked) else ""
+    if empty and checked.whole:
+        own, empty = "; ".join([f"INCOMPLETE: {', '.join(empty)}", *([own] if own else [])]), []
+    return "; ".join([*([own] if own else []), *empty, *others])

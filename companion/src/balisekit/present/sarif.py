@@ -1,0 +1,167 @@
+"""The answer of `check` as SARIF 2.1.0 (OASIS), by which code hosts show what was found at the rows of a table.
+
+A result is an entry of `check`, or a telegram or message that was refused. What was accepted is suppressed, with its
+reason. The fingerprint of a result is made of its rule and of what names it in a file of accepted findings, so that it
+survives new rows.
+"""
+from __future__ import annotations
+
+import hashlib
+import os
+from collections import Counter
+from pathlib import Path
+from typing import Any, Dict, Iterator, List, Sequence, Tuple
+from urllib.parse import quote
+
+from balisekit import __version__
+from balisekit.io import inputs
+from balisekit.present import NOT_PROVED
+from balisekit.present.accepted_text import accepted_words
+from balisekit.present.explanations import Page, pages
+from balisekit.present.headings import entry_lines
+from balisekit.present.outcome_text import closing_lines, not_applied, not_decoded
+from balisekit.present.refusals import message_refused, refused
+from balisekit.rules.accepted import keys
+from balisekit.rules.entries import Entry, Urgency
+from balisekit.rules.families import PROVED, Outcome, items_of
+from balisekit.tables.lines import lines_of_rows
+from balisekit.tables.names import clean
+
+SCHEMA = "https://docs.oasis-open.org/sarif/sarif/v2.1.0/errata01/os/schemas/sarif-schema-2.1.0.json"
+LEVELS = {
+    Urgency.WRONG_INFORMATION: "error",
+    Urgency.WRONG_PLACE: "error",
+    Urgency.BRAKING: "warning",
+    Urgency.RULE_ONLY: "note",
+}
+REFUSED = "refused"
+"""The identifier of a result for what the program has refused."""
+REFUSED_PAGE = Page("a telegram or message that the program refuses", {"How to correct it": "See docs/REFUSALS.md."})
+FINGERPRINT = "balisekit/v1"
+Object = Dict[str, Any]
+Lines = Sequence[Tuple[int, int]]
+"""The first and the last line of each row of a file."""
+
+
+def document(outcome: Outcome) -> Object:
+    """The object of the file."""
+    rules = [_rule(name, page) for name, page in _pages(outcome)]
+    numbers = {rule["id"]: number for number, rule in enumerate(rules)}
+    lines = _lines(outcome)
+    results = [*_refused(outcome, lines), *_entries(outcome, lines)]
+    seen: Counter[str] = Counter()
+    for result in results:
+        result["ruleIndex"] = numbers[result["ruleId"]]
+        fingerprint = result["partialFingerprints"][FINGERPRINT]
+        seen[fingerprint] += 1
+        result["partialFingerprints"][FINGERPRINT] += f":{seen[fingerprint]}"
+    checked = outcome.checked
+    about = {"program": checked.program.version, "programSha256": checked.program.sha256}
+    driver = {"name": "balisekit", "version": __version__, "fullName": f"balisecheck and balisekit; {NOT_PROVED}"}
+    run = {
+        "tool": {"driver": {**driver, "rules": rules, "properties": about}},
+        "columnKind": "unicodeCodePoints",
+        "originalUriBaseIds": {"%SRCROOT%": {"description": {"text": "the folder in which the command ran"}}},
+        "invocations": [_invocation(outcome)],
+        "results": results,
+    }
+    return {"$schema": SCHEMA, "version": "2.1.0", "runs": [run]}
+
+
+def _invocation(outcome: Outcome) -> Object:
+    """How the run has ended. What was not looked at is a notification."""
+    closing = closing_lines(outcome)
+    notes = [
+        {"level": "note", "message": {"text": note}}
+        for note in [*not_decoded(outcome), *not_applied(outcome), *closing]
+    ]
+    return {
+        "executionSuccessful": True,
+        "exitCode": outcome.status,
+        "exitCodeDescription": closing[-1],
+        "toolExecutionNotifications": notes,
+    }
+
+
+def _pages(outcome: Outcome) -> Iterator[Tuple[str, Page]]:
+    yield REFUSED, REFUSED_PAGE
+    for part in outcome.parts:
+        yield from pages(part.family)
+
+
+def _rule(name: str, page: Page) -> Object:
+    """A rule with its help: what its page says."""
+    says = "\n\n".join(f"{head}. {text}" for head, text in page.parts.items())
+    marked = "\n\n".join(f"**{head}.** {text}" for head, text in page.parts.items())
+    is_proved = name == REFUSED or name[0] == PROVED
+    return {
+        "id": name,
+        "shortDescription": {"text": page.title},
+        "fullDescription": {"text": page.parts.get("What it says", page.title)},
+        "help": {"text": says, "markdown": marked},
+        "properties": {"tags": ["the program's, proved" if is_proved else "balisekit's own, not proved"]},
+    }
+
+
+def _lines(outcome: Outcome) -> Lines:
+    """The lines of the rows of a CSV. A workbook has none, and its rows are taken, as are those of a changed file."""
+    table = outcome.checked.table
+    file = None if table.encoding == "xlsx" else inputs.read(table.path)
+    return lines_of_rows(file.content, table.separator) if file and file.sha256 == table.sha256 else ()
+
+
+def _refused(outcome: Outcome, lines: Lines) -> Iterator[Object]:
+    checked = outcome.checked
+    for telegram, item in zip(checked.refused, refused(checked)):
+        text = f"{item.sentence}\nprogram: {item.program}"
+        location = _location(checked.table.path, [telegram.row.number], lines)
+        yield _result(REFUSED, "error", text, [location], telegram.row.telegram)
+    for bad in checked.refused_messages:
+        text = f"{message_refused(bad.message.text, bad.refusal)}\nprogram: {bad.refusal.text}"
+        path = checked.messages.path if checked.messages else ""
+        yield _result(REFUSED, "error", text, [_location(path, [bad.message.number])], bad.message.text)
+
+
+def _entries(outcome: Outcome, lines: Lines) -> Iterator[Object]:
+    names = {id(item): key for item, key in zip(outcome.items, keys(outcome.items, outcome.checked))}
+    for entry in outcome.entries:
+        link = entry.remark.location.link if entry.remark else None
+        own = sorted(names[id(item)] for item in items_of(entry))
+        text = "\n".join(entry_lines(entry))
+        result = _result(entry.rule, LEVELS[entry.urgency], text, _locations(outcome, entry, lines), f"{own} {link}")
+        result["properties"] = {"urgency": entry.urgency.name.lower(), "values": dict(entry.values)}
+        accepted = outcome.acceptances(entry)
+        if accepted:
+            why = "; ".join(map(accepted_words, accepted))
+            result["suppressions"] = [{"kind": "external", "status": "accepted", "justification": why}]
+        yield result
+
+
+def _locations(outcome: Outcome, entry: Entry, lines: Lines) -> List[Object]:
+    checked = outcome.checked
+    if entry.message and checked.messages:
+        return [_location(checked.messages.path, [entry.message.number])]
+    return [_location(checked.table.path, entry.rows, lines, entry.group.name if entry.group else "")]
+
+
+def _location(path: str, rows: Sequence[int], lines: Lines = (), group: str = "") -> Object:
+    """The rows of a table, or the line of a file of messages."""
+    first, last = min(rows, default=1), max(rows, default=1)
+    if lines:
+        first, last = lines[first - 1][0], lines[last - 1][1]
+    is_relative = not os.path.isabs(path)
+    uri = {"uri": quote(path), "uriBaseId": "%SRCROOT%"} if is_relative else {"uri": Path(path).as_uri()}
+    region = {"startLine": first, "endLine": last}
+    place: Object = {"physicalLocation": {"artifactLocation": uri, "region": region}}
+    return {**place, "logicalLocations": [{"name": clean(group), "kind": "object"}]} if group else place
+
+
+def _result(rule: str, level: str, text: str, locations: List[Object], stays: str) -> Object:
+    digest = hashlib.sha256(f"{rule} {stays}".encode("utf-8", "surrogatepass")).hexdigest()
+    return {
+        "ruleId": rule,
+        "level": level,
+        "message": {"text": text},
+        "locations": locations,
+        "partialFingerprints": {FINGERPRINT: digest},
+    }

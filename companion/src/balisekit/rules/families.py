@@ -1,0 +1,209 @@
+"""The families of rules, by the letter that their names begin with, and what they find of a table.
+
+F are the findings of the program, which are proved. The other families are rules of balisekit, and not proved.
+"""
+from __future__ import annotations
+
+import time
+from dataclasses import dataclass, replace
+from datetime import date
+from functools import cached_property
+from typing import Iterator, Mapping, NamedTuple, Optional, Sequence, Tuple
+
+from balisekit.rules.accepted import Acceptance, Entries, Item, Judged, identities, judge
+from balisekit.rules.checking import Checked, Place
+from balisekit.rules.entries import Entry, Urgency, entries
+from balisekit.rules.line import Line
+from balisekit.rules.links import RULES, Links, compare
+from balisekit.rules.location import Identity
+from balisekit.rules.rule import Options, Remark, Rule
+from balisekit.rules.statements.scene import BaliseName
+
+PROVED = "F"
+
+
+class Family(NamedTuple):
+    """Rules whose names begin with one letter."""
+
+    letter: str
+    title: str
+    """What is above its part of a list."""
+    things: str
+    """What its rules find."""
+    rules: Sequence[Rule] = ()
+    """Those of balisekit. The rules F are in the program."""
+    needs_kilometres: bool = False
+
+
+FAMILIES: Mapping[str, Family] = {
+    "F": Family("F", "findings of the program, proved", "findings"),
+    "L": Family("L", "links, by balisekit's own rules L1 to L9, not proved", "links", RULES, True),
+}
+"""In the order of an answer."""
+URGENCIES: Mapping[str, Urgency] = {
+    **dict.fromkeys(("L5", "L8"), Urgency.WRONG_INFORMATION),
+    **dict.fromkeys(("L2", "L6"), Urgency.WRONG_PLACE),
+    **dict.fromkeys(("L1", "L3"), Urgency.BRAKING),
+    **dict.fromkeys(("L4", "L7", "L9"), Urgency.RULE_ONLY),
+}
+"""By the page of each rule of balisekit, what its remarks mean at worst."""
+
+
+@dataclass(frozen=True)
+class Part:
+    """What the rules of one family have found of a table."""
+
+    family: Family
+    items: Sequence[Item]
+    """The findings or the remarks: what has to be accepted."""
+    seconds: float
+    """How long it took."""
+    links: Optional[Links] = None
+    """Of rules of balisekit: what each has looked at."""
+    open: Sequence[Entry] = ()
+    """One for each cause. Those that nobody has accepted are apart from the others."""
+    accepted: Sequence[Entry] = ()
+
+    @property
+    def empty(self) -> Sequence[Rule]:
+        """The rules that had something to look at, and looked at nothing."""
+        return self.links.empty if self.links else ()
+
+    @property
+    def entries(self) -> Sequence[Entry]:
+        """All entries, the open ones first."""
+        return [*self.open, *self.accepted]
+
+
+@dataclass(frozen=True)
+class Outcome:
+    """What all families that were asked for have found of a table."""
+
+    checked: Checked
+    parts: Sequence[Part]
+    judged: Optional[Judged] = None
+    """What was accepted, if there is a file of accepted entries."""
+    without_kilometres: bool = False
+    """Whether rules were not applied, since no row of the table has a kilometre."""
+
+    @property
+    def letters(self) -> str:
+        """The families that were applied."""
+        return "".join(part.family.letter for part in self.parts)
+
+    @property
+    def entries(self) -> Sequence[Entry]:
+        """The entries of all parts."""
+        return [entry for part in self.parts for entry in part.entries]
+
+    @property
+    def items(self) -> Sequence[Item]:
+        """The findings and remarks of all parts."""
+        return [item for part in self.parts for item in part.items]
+
+    @cached_property
+    def _identities(self) -> Mapping[str, Identity]:
+        return identities(self.checked, [entry.group for entry in self.entries if entry.group])
+
+    def identity(self, entry: Entry) -> Optional[Identity]:
+        """NID_C and NID_BG of the group of an entry, if they are known."""
+        return self._identities.get(entry.group.name) if entry.group else None
+
+    def acceptances(self, entry: Entry) -> Sequence[Acceptance]:
+        """Who has accepted an entry."""
+        found = map(self.judged.of, items_of(entry)) if self.judged else ()
+        return list(dict.fromkeys(each for each in found if each))
+
+    @property
+    def whole(self) -> bool:
+        """Whether all that was handed in has been looked at."""
+        return self.checked.whole and not any(part.empty for part in self.parts)
+
+    @property
+    def status(self) -> int:
+        """2 if anything was refused, left out or not looked at, 1 if anything is open or an entry at fault, else 0."""
+        if not self.whole or self.checked.verdict is None:
+            return 2
+        judged = self.judged
+        return int(bool(judged.open or judged.faults if judged else self.items))
+
+
+def items_of(entry: Entry) -> Sequence[Item]:
+    """The findings or the remark of an entry."""
+    remark: Sequence[Item] = (entry.remark,) if entry.remark else ()
+    return remark or entry.findings
+
+
+def apply(
+    checked: Checked,
+    letters: Sequence[str],
+    options: Options,
+    signed: Optional[Tuple[Entries, date]] = None,
+    began: Optional[float] = None,
+) -> Outcome:
+    """What the rules of these families find. Rules over the line are not applied to a table without kilometres.
+
+    `signed` has the accepted entries, and the day of the run. `began` is when the command began, by
+    time.perf_counter(): that time belongs to the first part.
+    """
+    has_kilometres = any(row.km is not None for row in checked.table.rows)
+    known = [family for letter, family in FAMILIES.items() if letter in letters]
+    applied = [family for family in known if has_kilometres or not family.needs_kilometres]
+    parts = list(_looked_at(checked, applied, options, began))
+    items = [item for part in parts for item in part.items]
+    judged = judge(items, checked, signed[0], signed[1], [family.letter for family in applied]) if signed else None
+    return Outcome(checked, [_with_entries(checked, part, judged) for part in parts], judged, len(applied) < len(known))
+
+
+def _looked_at(checked: Checked, applied: Sequence[Family], options: Options, began: Optional[float]) -> Iterator[Part]:
+    """What the rules of each family find, as yet without entries."""
+    line: Optional[Line] = None
+    for family in applied:
+        begin, began = time.perf_counter() if began is None else began, None
+        if family.letter == PROVED:
+            yield Part(family, checked.findings, time.perf_counter() - begin)
+            continue
+        line = line or Line.of(checked)
+        links = compare(line, options, family.rules)
+        yield Part(family, links.remarks, time.perf_counter() - begin, links)
+
+
+def _with_entries(checked: Checked, part: Part, judged: Optional[Judged]) -> Part:
+    """The same with the entries of what it has found."""
+    begin = time.perf_counter()
+    still_open = [item for item in part.items if not (judged and judged.of(item))]
+    accepted = [item for item in part.items if judged and judged.of(item)]
+    made = [_entries(checked, items) if items else [] for items in (still_open, accepted)]
+    return replace(part, open=made[0], accepted=made[1], seconds=part.seconds + time.perf_counter() - begin)
+
+
+def _entries(checked: Checked, items: Sequence[Item]) -> Sequence[Entry]:
+    """The entries of findings, or of remarks, the most urgent ones first."""
+    remarks = [item for item in items if isinstance(item, Remark)]
+    if remarks:
+        return sorted(map(entry_of_remark, remarks), key=lambda entry: entry.urgency)
+    return entries(checked, [item for item in items if isinstance(item, Place)])
+
+
+def entry_of_remark(remark: Remark) -> Entry:
+    """The entry of a remark."""
+    where, group, row = remark.location, remark.location.group, remark.location.row
+    rows = [row] if row else group.group.rows() if group else []
+    places = group.group.places if group else {}
+    name = BaliseName(row.name, where.n_pig) if row and where.n_pig is not None else None
+    return Entry(
+        remark.rule,
+        URGENCIES[remark.rule],
+        f"{where.packet_words}{remark.sentence}",
+        tuple(sorted({row.number for row in rows})),
+        group.group if group else None,
+        (row.aspect,) if row and row.aspect not in ("", "*") else (),
+        places[row.number] if row and group else None,
+        where.number,
+        where.direction,
+        group.km if group else None,
+        where.message,
+        {name: f"{value:f}" for name, value in remark.values.items()},
+        remark=remark,
+        balises=(name,) if name else (),
+    )

@@ -1,0 +1,236 @@
+"""What `check` writes for other tools: JSON and SARIF by their schemas, JUnit and a workbook, of all families."""
+from __future__ import annotations
+
+import csv
+import io
+import json
+import os
+import subprocess
+import sys
+import xml.etree.ElementTree as ElementTree
+from pathlib import Path
+from typing import Any, Callable, Iterator, List, Tuple
+
+import pytest
+from cases_of_program import TOP
+from conftest import Run
+from telegrams import ALONE, MESSAGE, OTHER, SPARE
+
+from balisekit.io import csv_writing
+from balisekit.rules.accepted import COLUMNS
+
+Write = Callable[..., Path]
+EXAMPLES = TOP / "examples"
+LINKS = EXAMPLES / "links" / "distance-differs.csv"
+TABLES = [EXAMPLES / "table" / "line.csv", *sorted((EXAMPLES / "links").glob("*.csv"))]
+SIGNED = {"reason": "=by design", "who": "J. Doe", "date": "2026-01-02"}
+
+
+def schema(name: str) -> Any:
+    """A validator of a schema of the repository."""
+    jsonschema = pytest.importorskip("jsonschema")
+    text = json.loads((TOP / "schemas" / f"{name}.json").read_text("utf-8"))
+    jsonschema.Draft202012Validator.check_schema(text)
+    return jsonschema.Draft202012Validator(text)
+
+
+def signed(file: Path) -> Path:
+    """The entries that were proposed for a table, signed."""
+    rows = list(csv.DictReader(io.StringIO(file.read_text("utf-8"))))
+    cells = [[{**row, **SIGNED}[name] for name in COLUMNS] for row in rows]
+    file.write_text(csv_writing.text(COLUMNS, cells), "utf-8")
+    return file
+
+
+def documents() -> Iterator[Tuple[str, List[str], List[str]]]:
+    """The lines of examples/check as tables, and their messages."""
+    for path in sorted((EXAMPLES / "check").glob("*.json")):
+        document = json.loads(path.read_text("utf-8"))
+        lines = ["group,aspect,telegram"]
+        for number, group in enumerate(document["groups"]):
+            for place, aspect in enumerate(group.get("aspects", [group])):
+                lines += [f"G{number},{place if 'aspects' in group else ''},{one}" for one in aspect["balises"]]
+        yield path.stem, lines, [f"{text};m{place}" for place, text in enumerate(document["messages"])]
+
+
+def written(run: Run, tmp_path: Path, *words: object) -> Tuple[Any, Any]:
+    """The JSON and the SARIF of a run, which its schemas allow, and whose entries are the findings and remarks."""
+    out, sarif = tmp_path / "out.json", tmp_path / "out.sarif"
+    status = run("check", *words, "--json", out, "--sarif", sarif, "--force")[0]
+    answer, log = json.loads(out.read_text("utf-8")), json.loads(sarif.read_text("utf-8"))
+    for name, value in (("kit-check", answer), ("kit-sarif", log)):
+        assert [error.message for error in schema(name).iter_errors(value)] == []
+    assert status == answer["status"] == log["runs"][0]["invocations"][0]["exitCode"]
+    return answer, log["runs"][0]
+
+
+@pytest.mark.parametrize("path", TABLES, ids=[path.stem for path in TABLES])
+def test_each_example_is_as_the_schemas_say(run: Run, tmp_path: Path, path: Path) -> None:
+    answer, log = written(run, tmp_path, path)
+    assert sorted(line for entry in answer["entries"] for line in entry["program"]) == sorted(
+        finding["line"] for finding in answer["findings"]
+    )
+    results = [result for result in log["results"] if result["ruleId"] != "refused"]
+    assert [result["ruleId"] for result in results] == [entry["rule"] for entry in answer["entries"]]
+    regions = [result["locations"][0]["physicalLocation"]["region"] for result in results]
+    rows = [(entry["rows"][0], entry["rows"][-1]) for entry in answer["entries"]]
+    assert [(region["startLine"], region["endLine"]) for region in regions] == rows
+    rules = log["tool"]["driver"]["rules"]
+    assert all(rules[result["ruleIndex"]]["id"] == result["ruleId"] for result in log["results"])
+    names = [*(f"F{number}" for number in range(1, 17)), *(f"L{number}" for number in range(1, 10))]
+    assert [rule["id"] for rule in rules] == ["refused", *names]
+
+
+def test_documents_are_as_the_schemas_say(run: Run, table: Write, tmp_path: Path) -> None:
+    """Each line of examples/check, with its messages, and with all of its findings accepted."""
+    for name, lines, messages in documents():
+        path = table(*lines, name=f"{name}.csv")
+        words = ["--messages", table(*messages, name=f"{name}.txt")] if messages else []
+        file = tmp_path / f"{name}.accepted.csv"
+        answer, _ = written(run, tmp_path, path, *words, "--propose", file)
+        accepted, log = written(run, tmp_path, path, *words, "--accepted", signed(file))
+        assert len(accepted["entries"]) == len(answer["entries"])
+        assert all(entry["state"] == "accepted" for entry in accepted["entries"]) and accepted["status"] == 0
+        assert all(result["suppressions"][0]["status"] == "accepted" for result in log["results"])
+
+
+def test_forms_in_json_are_as_their_schemas_say(run: Run, tmp_path: Path) -> None:
+    answer, _ = written(run, tmp_path, LINKS)
+    telegram = schema("telegram")
+    assert answer["telegrams"] and all(telegram.is_valid(item["form"]) for item in answer["telegrams"])
+
+
+def test_refused_messages_and_files_elsewhere(
+    run: Run, table: Write, tmp_path: Path, monkeypatch: pytest.MonkeyPatch
+) -> None:
+    """A path is a URI: relative to the folder of the command, or absolute."""
+    (tmp_path / "a b#c").mkdir()
+    path = table("group,telegram", f"A,{ALONE}", f"B,{SPARE}", name="a b#c/ü.csv")
+    radio = table("0400c0;bad", f"{MESSAGE};x", name="m.txt")
+    answer, log = written(run, tmp_path, path, "--messages", radio)
+    assert answer["status"] == 2 and [result["ruleId"] for result in log["results"][:2]] == ["refused"] * 2
+    uris = [result["locations"][0]["physicalLocation"]["artifactLocation"] for result in log["results"]]
+    assert uris[0] == {"uri": path.as_uri()} and uris[1] == uris[-1] == {"uri": radio.as_uri()}
+    monkeypatch.chdir(tmp_path)
+    _, log = written(run, tmp_path, "a b#c/ü.csv")
+    uri = log["results"][0]["locations"][0]["physicalLocation"]["artifactLocation"]
+    assert uri == {"uri": "a%20b%23c/%C3%BC.csv", "uriBaseId": "%SRCROOT%"}
+
+
+def test_a_fingerprint_survives_new_rows(run: Run, table: Write, tmp_path: Path) -> None:
+    """Two findings and two remarks: a group is put in before them, and only the rows of their places change."""
+
+    def prints(path: Path) -> List[Tuple[str, str]]:
+        _, log = written(run, tmp_path, path)
+        return sorted((one["ruleId"], one["partialFingerprints"]["balisekit/v1"]) for one in log["results"])
+
+    heading, *lines = LINKS.read_text("utf-8").splitlines()
+    lines += [lines[-1].replace("D,D1,12.500", f"{name},,12.6") for name in "EF"]
+    known = prints(table(heading, *lines))
+    assert len(known) == 3 and len(set(known)) == 3
+    assert prints(table(heading, f"N,N1,9.000,rising,{ALONE}", *lines, name="new.csv")) == known
+
+
+@pytest.mark.parametrize("first, lines", [("", (4, 4)), ("sep=;\n", (5, 5))])
+def test_a_place_is_a_line_of_the_file(
+    run: Run, table: Write, tmp_path: Path, first: str, lines: Tuple[int, int]
+) -> None:
+    """Row 3, behind a cell with a line end, and perhaps a line that names the separator."""
+    text = f'{first}group;telegram;remark\nA;{ALONE};"two\nlines"\nB;{ALONE};\n'
+    answer, log = written(run, tmp_path, table(content=text.encode("utf-8")))
+    region = log["results"][0]["locations"][0]["physicalLocation"]["region"]
+    assert answer["entries"][0]["rows"] == [3] and (region["startLine"], region["endLine"]) == lines
+
+
+def test_help_of_rules_is_that_of_the_pages(run: Run, tmp_path: Path) -> None:
+    _, log = written(run, tmp_path, LINKS)
+    rules = {rule["id"]: rule for rule in log["tool"]["driver"]["rules"]}
+    assert "How to correct it. Set N_TOTAL to the number of balises less one" in rules["F2"]["help"]["text"]
+    assert "**How to correct it.** Correct D_LINK" in rules["L2"]["help"]["markdown"]
+    assert rules["F2"]["properties"]["tags"] != rules["L2"]["properties"]["tags"] == ["balisekit's own, not proved"]
+
+
+def test_junit_has_a_suite_for_each_family(run: Run, table: Write, tmp_path: Path) -> None:
+    """Its time was measured: the suites together take no longer than the test."""
+    out = tmp_path / "out.xml"
+    assert run("check", LINKS, "--junit", out)[0] == 1
+    top = ElementTree.parse(out).getroot()
+    proved, links = top
+    assert proved.get("name") == f"balisecheck {LINKS}" and links.get("name") == f"balisekit links {LINKS}"
+    assert (proved.get("failures"), links.get("failures"), top.get("failures")) == ("0", "1", "1")
+    times = [float(each.get("time") or "") for each in (proved, links, top)]
+    assert 0 < times[0] < 60 and 0 < times[1] and abs(times[0] + times[1] - times[2]) < 0.002
+    failed = [case for case in links if case.find("failure") is not None]
+    assert [case.get("name") for case in failed] == ["A"] and "first link: B (km 11.000) is 1010 m" in str(
+        failed[0][0].text
+    )
+    assert not any("time" in case.attrib for case in top.iter("testcase"))
+    file = tmp_path / "accepted.csv"
+    assert run("check", LINKS, "--propose", file)[0] == 1
+    assert run("check", LINKS, "--accepted", signed(file), "--junit", out, "--force")[0] == 0
+    top = ElementTree.parse(out).getroot()
+    assert top.get("skipped") == "1" and top[1].get("skipped") == "1"
+    assert "no open findings or links" in str(top[0].findtext("system-out"))
+
+
+def test_junit_of_a_rule_that_looked_at_nothing(run: Run, table: Write, tmp_path: Path) -> None:
+    path = table("group,km,telegram", *_without_direction())
+    status, out, _ = run("check", path, "--junit", tmp_path / "out.xml")
+    assert status == 2 and out[-1].startswith("INCOMPLETE: L3 compared none of ")
+    case = next(ElementTree.parse(tmp_path / "out.xml").iter("error"))
+    assert str(case.get("message")).startswith("L3 compared none of ")
+
+
+def _without_direction() -> List[str]:
+    """The line without fault, where no group shows how the kilometres go."""
+    rows = csv.DictReader((EXAMPLES / "links" / "line.csv").read_text("utf-8").splitlines())
+    return [f"{row['group']},{row['km'].split('.')[0]},{row['telegram']}" for row in rows if row["group"] in "AB"]
+
+
+def test_a_sheet_for_each_entry(run: Run, table: Write, tmp_path: Path) -> None:
+    """Each cell is a text, also one that begins as a formula does, and reads back as it was."""
+    openpyxl = pytest.importorskip("openpyxl")
+    path = table("group,telegram", f"=1+1,{ALONE}", f"+B,{ALONE}", f"C\x1b,{OTHER}", f"D,{OTHER}")
+    file = tmp_path / "accepted.csv"
+    assert run("check", path, "--propose", file)[0] == 1
+    signed(file)
+    file.write_text("\n".join(file.read_text("utf-8").splitlines()[:2]) + "\n", "utf-8")
+    assert run("check", path, "--accepted", file, "--xlsx", tmp_path / "out.xlsx")[0] == 1
+    rows = list(openpyxl.load_workbook(tmp_path / "out.xlsx").active.iter_rows())
+    heading = "rule urgency identity group rows values sentence owner state reason"
+    assert [cell.value for cell in rows[0]] == heading.split()
+    assert all(cell.data_type == ("n" if cell.value is None else "s") for row in rows for cell in row)
+    by_group = {row[3].value: {head.value: cell.value for head, cell in zip(rows[0], row)} for row in rows[1:]}
+    assert by_group["+B"]["rule"] == "F14" and by_group["+B"]["identity"] == "1/1"
+    signature = [by_group["+B"][name] for name in ("owner", "state", "reason")]
+    assert signature == ["J. Doe", "accepted", "=by design"]
+    assert (by_group["D"]["owner"], by_group["D"]["state"]) == (None, "open")
+    assert run("check", LINKS, "--xlsx", tmp_path / "links.xlsx")[0] == 1
+    (_, row) = openpyxl.load_workbook(tmp_path / "links.xlsx").active.iter_rows(values_only=True)
+    assert row[:5] == ("L2", "wrong place", "352/1", "A", "2") and "metres_by_d_link 1010" in row[5]
+
+
+def test_a_sheet_needs_a_package(run: Run, tmp_path: Path, monkeypatch: pytest.MonkeyPatch) -> None:
+    monkeypatch.setitem(sys.modules, "openpyxl", None)  # type: ignore[misc]
+    status, _, err = run("check", LINKS, "--xlsx", tmp_path / "out.xlsx")
+    assert status == 3 and "an .xlsx needs openpyxl" in err[-1] and not (tmp_path / "out.xlsx").exists()
+
+
+def test_outputs_never_replace_inputs(run: Run, table: Write) -> None:
+    path = table("group,telegram", f"A,{ALONE}")
+    for option in ("--sarif", "--xlsx", "--junit", "--json"):
+        status, _, err = run("check", path, option, path, "--force")
+        assert status == 2 and "an output never replaces one" in err[0], option
+    assert run("check", path, "--sarif", "-", "--json", "-")[0] == 2
+
+
+def test_packages_are_imported_only_when_needed() -> None:
+    """Neither jinja2 nor openpyxl nor jsonschema."""
+    code = (
+        "import sys; sys.argv = ['balisekit', 'check', sys.argv[1]]; from balisekit.cli.main import main; main(); "
+        "print([name for name in ('jinja2', 'openpyxl', 'jsonschema') if name in sys.modules])"
+    )
+    known = {**os.environ, "PYTHONPATH": str(TOP / "companion" / "src")}
+    words = [sys.executable, "-c", code, str(LINKS)]
+    done = subprocess.run(words, env=known, stdout=subprocess.PIPE, check=True)
+    assert done.stdout.decode().splitlines()[-1] == "[]"
