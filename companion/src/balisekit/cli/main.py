@@ -136,8 +136,10 @@ def _inputs(options: argparse.Namespace, outputs: Sequence[Output]) -> List[str]
     """The files that the command reads, and the program if an output could replace it."""
     from balisekit.engine import find_program
     from balisekit.io.inputs import InputPath
+    from balisekit.tables.own_headings import beside
 
     inputs: List[str] = [value for value in vars(options).values() if isinstance(value, InputPath)]
+    inputs += [file for file in map(beside, inputs) if file]
     if not inputs:  # `show`
         inputs.append("/dev/stdin")
     if any(os.path.lexists(output.path) for output in outputs):

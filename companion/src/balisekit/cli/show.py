@@ -37,7 +37,7 @@ def add_options(parser: argparse.ArgumentParser) -> None:
 def run(options: argparse.Namespace) -> int:
     """Does it. The answer is the exit status."""
     if options.table is None:
-        shared.refuse_unused(options, "without TABLE", "sheet", "by_position")
+        shared.refuse_unused(options, "without TABLE", "sheet", "columns", "fill_merged", "by_position")
     shown = _Shown(options)
     for lines in shown.blocks():
         print("\n".join(lines), end="\n\n", flush=options.table is None)
