@@ -45,31 +45,26 @@ def read(
     with faults_of(path):
         cells = sheet_of(file.content, headings, sheet, fill_merged)
         place, places = head_of(cells, headings)
-        heading = cells.rows[place]
         passed_over = _passed_over(cells, place, places)
         meant = tuple(_meant(name, places) for name in passed_over[:COMPARED])
         try:
             rows = _rows(cells, place, places)
             grouped = groups_of(rows, by_position, place + 1)
         except (TableError, TableErrors) as error:
-            hints = [
-                TableError(f'the column {name} is passed over: did you mean "{known}"?', row=place + 1)
-                for name, known in zip(passed_over, meant)
-                if known
-            ]
-            raise TableErrors([*hints, *error.faults]) from error
-    notes = (*cells.notes, *_notes_on_heading(place, headings.used(heading)))
-    return Table(
-        path,
-        file.sha256,
-        cells.encoding,
-        cells.separator,
-        passed_over,
-        grouped.rows,
-        grouped.groups,
-        (*notes, *([BY_POSITION] if by_position else []), *grouped.notes),
-        meant,
-    )
+            raise TableErrors([*_hints(passed_over, meant, place), *error.faults]) from error
+    of_heading = _notes_on_heading(place, headings.used(cells.rows[place]))
+    notes = (*cells.notes, *of_heading, *([BY_POSITION] if by_position else []), *grouped.notes)
+    about = path, file.sha256, cells.encoding, cells.separator
+    return Table(*about, passed_over, grouped.rows, grouped.groups, notes, meant)
+
+
+def _hints(passed_over: Sequence[str], meant: Sequence[str], place: int) -> List[TableError]:
+    """A line for each heading that is passed over and may have been mistyped."""
+    return [
+        TableError(f'the column {name} is passed over: did you mean "{known}"?', row=place + 1)
+        for name, known in zip(passed_over, meant)
+        if known
+    ]
 
 
 def sheet_of(content: bytes, headings: Headings, sheet: Optional[str] = None, fill_merged: bool = False) -> Sheet:
