@@ -108,6 +108,8 @@ class _Telegrams:
         self.variable = [name for name in VARIABLE if name in columns]
         self.seen: Dict[int, Set[int]] = {}
         self.rows: Dict[Key, List[Row]] = {}
+        self.unread: Set[str] = set()
+        """The groups of which no telegram could be read. Their identities are not known."""
         for group in sheet.groups.values():
             self._add(group)
         self.found: Callable[[str], Dict[int, Dict[Key, List[Tuple[int, Found]]]]] = lru_cache(64)(self._found)
@@ -115,6 +117,8 @@ class _Telegrams:
     def _add(self, group: Group) -> None:
         """The rows of a group. One of every aspect is also found by each aspect."""
         forms = self._forms(group) if "identity" in self.telegram else {}
+        if "identity" in self.telegram and not forms:
+            self.unread.add(_plain(group.name))
         for aspect in group.aspects:
             for row in aspect.rows:
                 cells = {"group": group.name, "identity": identity_of(forms), "balise": str(group.places[row.number])}
@@ -153,7 +157,8 @@ def _compare_row(
     """What differs between a row of the sheet and each telegram that it fits and that has the variable."""
     rows = telegrams.rows.get(tuple(_plain(cells[column]) for column in telegrams.telegram), [])
     read = [row for row in rows if row.number in telegrams.checked.accepted]
-    compared.refused += len(read) < len(rows)
+    is_unread = not rows and _plain(cells.get("group", "")) in telegrams.unread
+    compared.refused += is_unread or len(read) < len(rows)
     key = tuple(_plain(cells[column]) for column in telegrams.variable)
     known = [item for row in read for item in telegrams.found(row.group).get(row.number, {}).get(key, [])]
     for place, found in known:
@@ -162,7 +167,7 @@ def _compare_row(
             expected, own = cells.get(column, ""), found.cells[COLUMNS.index(column)]
             if expected and not same(expected, own, found.variable.unit if column == "value" else ""):
                 yield Difference(number, column, expected, own, place=found)
-    if not rows:
+    if not rows and not is_unread:
         yield Difference(number, what=f"the table has no telegram of {_named(telegrams.telegram, cells)}")
     elif read and not known:
         numbers = listed([str(row.number) for row in read], NAMED)
