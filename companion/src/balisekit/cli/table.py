@@ -2,7 +2,7 @@
 from __future__ import annotations
 
 import argparse
-from typing import List
+from typing import List, Sequence
 
 from balisekit.cli import options as shared
 from balisekit.compare.sheet import Sheet, compare
@@ -39,7 +39,7 @@ def run(options: argparse.Namespace) -> int:
         options.csv.write(variables.csv_pieces(sheet))
     if options.xlsx:
         options.xlsx.write(variables.xlsx_pieces(sheet))
-    said = _lines(options, checked)
+    said = _lines(options, checked, sheet.notes)
     status = 0 if checked.whole else 2
     if wanted:
         compared = compare(checked, wanted)
@@ -51,9 +51,9 @@ def run(options: argparse.Namespace) -> int:
     return status
 
 
-def _lines(options: argparse.Namespace, checked: Checked) -> List[str]:
+def _lines(options: argparse.Namespace, checked: Checked, directions: Sequence[str]) -> List[str]:
     """What was read and written, and which telegrams are refused."""
     table = checked.table
     written = [f"written: {clean(str(output))}" for output in (options.csv, options.xlsx) if output]
-    notes = [f"note: {clean(note)}" for note in table.notes]
+    notes = [f"note: {clean(note)}" for note in (*table.notes, *directions)]
     return [head_line(table), *passed_over(table), *notes, *refused_lines(checked), *written]

@@ -11,6 +11,7 @@ from balisekit.etcs.flat import Variable, variables
 from balisekit.etcs.places import places_of_rows
 from balisekit.etcs.variables import Form
 from balisekit.rules.checking import Checked
+from balisekit.rules.line import with_directions
 from balisekit.tables.expected import Expected
 from balisekit.tables.model import Group, Row
 from balisekit.tables.names import NAMED, kilometre, listed
@@ -40,7 +41,9 @@ class Sheet:
     def __init__(self, checked: Checked) -> None:
         kept = {group.name: group for group in checked.kept}
         self.checked = checked
-        self.groups = {group.name: kept.get(group.name, group) for group in checked.table.groups}
+        groups = [kept.get(group.name, group) for group in checked.table.groups]
+        directed, self.notes = with_directions(groups, checked.accepted)
+        self.groups = {group.name: group for group in directed}
 
     def all(self) -> Iterator[Found]:
         """The variables in the order of the table. The telegrams are decoded now, and not kept."""

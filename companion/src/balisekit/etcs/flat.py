@@ -9,7 +9,7 @@ from typing import Iterator, Mapping, NamedTuple, Optional, Tuple, Union
 from balisekit.etcs.places import Here, packet_kilometres
 from balisekit.etcs.variables import BESIDE, LABELS, NO_FORM, Around, Form, Values, in_order, value_words, variable_name
 
-NUMBER = re.compile(r"([+-]?\d+(?:\.\d+)?) (m|km/h|s|‰|mm|bits)(?:, .*| to either side)?")
+NUMBER = re.compile(r"\+?(-?\d+(?:\.\d+)?) (m|km/h|s|‰|mm|bits)(?:, .*| to either side)?")
 """Words that are a number with its unit."""
 CANT = "cant deficiency "
 

@@ -3,18 +3,22 @@ from __future__ import annotations
 
 import csv
 import io
+import re
 from itertools import islice
 from typing import Iterable, Iterator, Sequence
 
 FORMULAS = ("=", "+", "-", "@", "\t", "\r")
 """A spreadsheet may take a cell that begins with one of these for a formula."""
+NUMBER = re.compile("-[0-9]+([.][0-9]+)?")
+"""No formula, although it begins like one."""
 PIECE = 1000
 """The rows of a piece."""
 
 
 def safe(cell: str) -> str:
     """The cell, with an apostrophe before what may be a formula, and before an apostrophe that would be taken off."""
-    return f"'{cell}" if cell.startswith(FORMULAS) or plain(cell) != cell else cell
+    is_formula = cell.startswith(FORMULAS) and not NUMBER.fullmatch(cell)
+    return f"'{cell}" if is_formula or plain(cell) != cell else cell
 
 
 def plain(cell: str) -> str:
