@@ -35,8 +35,9 @@ def test_headings_of_ones_own(table: Write, text: str, name: str) -> None:
         (4, "S1", "Halt", "12.300"),
         (5, "S1", "Halt", "12.303"),
     ]
+    names = 'group is "BG-Name", telegram is "Telegramm (hex)", km is "Kilometer", aspect is "Begriff"'
     assert read.notes == (
-        f'headings by {file}: group is "BG-Name", telegram is "Telegramm (hex)", km is "Kilometer", aspect is "Begriff"',
+        f"headings by {file}: {names}",
         "the headings are in row 3: the 2 rows above it are passed over",
     )
     assert read.passed_over == ("Bemerkung",) and read.separator == ";"
@@ -90,7 +91,9 @@ def test_a_python_without_tomllib(table: Write, run: Run, monkeypatch: pytest.Mo
     monkeypatch.setitem(modules, "tomli", None)
     status, out, err = run("check", path, "--columns", file)
     assert (status, out, len(err)) == (3, [], 1)
-    assert err[0].startswith(f"balisekit: reading headings of your own needs tomli, which {sys.executable} cannot import")
+    assert err[0].startswith(
+        f"balisekit: reading headings of your own needs tomli, which {sys.executable} cannot import"
+    )
     assert "python3-tomli" in err[0]
 
 
@@ -127,7 +130,7 @@ class TestWorkbooks:
     MERGED = ["A1:D1", "A4:A5", "B4:B5", "A6:A8", "B7:B8"]
 
     @staticmethod
-    def book(path: Path, sheets: Dict[str, Sequence[Sequence[Any]]], merged: Sequence[str]) -> Path:
+    def book(path: Path, sheets: Dict[str, Any], merged: Sequence[str]) -> Path:
         """Writes a workbook; the last sheet has the merged areas."""
         openpyxl = pytest.importorskip("openpyxl")
         book = openpyxl.Workbook()
@@ -146,8 +149,8 @@ class TestWorkbooks:
         sheets = {"Deckblatt": self.COVER, "Balisen": [*self.TITLE, self.HEADING, *self.DATA]}
         path, file = self.book(tmp_path, sheets, self.MERGED), tmp_path / "columns.toml"
         assert run("check", path)[2] == [
-            f"balisekit: {path}: row 3: sheet Balisen: no column group and no column telegram: the headings are BG-Name, "
-            "Kilometer, Begriff, Telegramm (hex); give --columns FILE, a text file with the lines "
+            f"balisekit: {path}: row 3: sheet Balisen: no column group and no column telegram: the headings are "
+            "BG-Name, Kilometer, Begriff, Telegramm (hex); give --columns FILE, a text file with the lines "
             'group = "..", telegram = "Telegramm (hex)"; --sheet names another sheet: Deckblatt'
         ]
         file.write_text(GERMAN, "utf-8")

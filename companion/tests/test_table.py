@@ -145,8 +145,8 @@ BAD: Sequence[Any] = [
     ([f"A;A1;{ALONE.upper()}", f"A;A2;{ALONE}"], "row 1: there is no heading, as the first row has a telegram"),
     (
         ["Signal,Text", f"A,{ALONE}"],
-        "row 1: no column group and no column telegram: the headings are Signal, Text; give --columns FILE, a text file "
-        'with the lines group = "..", telegram = "Text"',
+        "row 1: no column group and no column telegram: the headings are Signal, Text; give --columns FILE, a text "
+        'file with the lines group = "..", telegram = "Text"',
     ),
     (["group,name", "A,B"], "row 1: no column telegram: the headings are group, name; give --columns FILE, a text"),
     (

@@ -80,7 +80,11 @@ def test_each_changed_cell_is_the_one_difference(sheet: Path, run: Run) -> None:
     """With the row of the sheet, both values, and where the variable is."""
     number = next(place for place, row in enumerate(rows_of(sheet), 2) if row["variable"] == "D_LINK")
     at = 'row 2  A  km 10.000  balise 0 "A1"  packet 5  link 0  D_LINK'
-    for column, cell, found in (("raw", "1001", '"1000"'), ("value", "999.5", '"1000" m'), ("km", "11.001", '"11.000"')):
+    for column, cell, found in (
+        ("raw", "1001", '"1000"'),
+        ("value", "999.5", '"1000" m'),
+        ("km", "11.001", '"11.000"'),
+    ):
         status, out, _ = run("table", LINE, "--expect", changed(sheet, number, column, cell))
         said = [line for line in out if line.startswith("row ")]
         assert status == 1 and said == [f'row {number}, column {column}: expected "{cell}", found {found}: {at}']
@@ -185,7 +189,9 @@ class TestWorkbooks:
         cell.value = 1010
         book.save(path)
         status, out, _ = run("table", LINE, "--expect", path)
-        assert status == 1 and out[-2].startswith(f'row {cell.row}, column value: expected "1010", found "1000" m: row 2')
+        assert status == 1 and out[-2].startswith(
+            f'row {cell.row}, column value: expected "1010", found "1000" m: row 2'
+        )
 
     def test_a_date_cannot_be_compared(self, run: Run, tmp_path: Path) -> None:
         openpyxl: Any = pytest.importorskip("openpyxl")

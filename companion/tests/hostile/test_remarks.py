@@ -80,7 +80,11 @@ def test_balises_of_a_group_in_metres(run: Run, table: Write) -> None:
 @pytest.mark.parametrize(
     "odd, others, said",
     [
-        (["gr\u00fcn"], 7, ['look: S0 has an aspect "gr\u00fcn", and 7 groups with the same other aspects have "green": ']),
+        (
+            ["gr\u00fcn"],
+            7,
+            ['look: S0 has an aspect "gr\u00fcn", and 7 groups with the same other aspects have "green": '],
+        ),
         (["Green"] * 3, 7, ['look: S0, S1, S2 have an aspect "Green", and 7 groups with the same other aspects have ']),
         (["grun", "Green"], 5, ['look: S0 has an aspect "grun", and 5 ', 'look: S1 has an aspect "Green", and 5 ']),
         (["Green"] * 4, 9, []),

@@ -53,9 +53,7 @@ def run(options: argparse.Namespace) -> int:
     return found.status
 
 
-def _read(
-    path: str, messages: Optional[str], how: Dict[str, Any]
-) -> Tuple[Table, Optional[Messages], Optional[Input]]:
+def _read(path: str, messages: Optional[str], how: Dict[str, Any]) -> Tuple[Table, Optional[Messages], Optional[Input]]:
     """A table with its messages, or those of a document, and the document."""
     file = inputs.read(path)
     if not document_file.is_document(file.content):

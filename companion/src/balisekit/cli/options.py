@@ -69,7 +69,7 @@ OPTIONS: Dict[str, Dict[str, Any]] = {
     "--messages": input_file("radio messages, one a line, a name behind ;"),
     "--by-position": flag("order the balises of a group by N_PIG, which hides a wrong N_PIG"),
     "--sheet": value("NAME", name, "which sheet of an .xlsx"),
-    "--columns": input_file("headings of your own: a TOML file with lines such as telegram = \"Telegram (hex)\""),
+    "--columns": input_file('headings of your own: a TOML file with lines such as telegram = "Telegram (hex)"'),
     "--fill-merged": flag("give all cells of a merged area of an .xlsx the value of its first cell"),
     "--program": value("PATH", name, "the program balisecheck, in place of the one found"),
     "--timeout": value("SECONDS", _seconds, TIMEOUT),

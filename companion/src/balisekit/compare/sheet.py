@@ -110,7 +110,7 @@ class _Telegrams:
         self.telegram = [name for name in TELEGRAM if name in columns]
         self.variable = [name for name in VARIABLE if name in columns]
         self.seen: Dict[int, Set[int]] = {}
-        self.rows: Dict[Key, List[Row]] = {}
+        self.rows: Dict[Key, Dict[int, Row]] = {}
         self.unread: Set[str] = set()
         """The groups of which no telegram could be read. Their identities are not known."""
         for group in sheet.groups.values():
@@ -127,8 +127,7 @@ class _Telegrams:
                 cells = {"group": group.name, "identity": identity_of(forms), "balise": str(group.places[row.number])}
                 for name in {row.aspect, aspect.name}:
                     key = tuple(_plain({**cells, "aspect": name}[column]) for column in self.telegram)
-                    known = self.rows.setdefault(key, [])
-                    known += [] if row in known else [row]
+                    self.rows.setdefault(key, {})[row.number] = row
 
     def _forms(self, group: Group) -> Dict[int, Form]:
         numbers = sorted({row.number for row in group.rows()})
@@ -158,8 +157,8 @@ def _compare_row(
     telegrams: _Telegrams, compared: Compared, number: int, cells: Mapping[str, str]
 ) -> Iterator[Difference]:
     """What differs between a row of the sheet and each telegram that it fits and that has the variable."""
-    rows = telegrams.rows.get(tuple(_plain(cells[column]) for column in telegrams.telegram), [])
-    read = [row for row in rows if row.number in telegrams.checked.accepted]
+    rows = telegrams.rows.get(tuple(_plain(cells[column]) for column in telegrams.telegram), {})
+    read = [row for row in rows.values() if row.number in telegrams.checked.accepted]
     is_unread = not rows and _plain(cells.get("group", "")) in telegrams.unread
     compared.refused += is_unread or len(read) < len(rows)
     key = tuple(_plain(cells[column]) for column in telegrams.variable)
@@ -203,4 +202,3 @@ def _number(text: str) -> Optional[Decimal]:
 def _plain(text: str) -> str:
     """A cell as it is compared: case and blanks do not matter."""
     return " ".join(text.split()).lower()
-

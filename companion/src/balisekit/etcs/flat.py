@@ -62,21 +62,20 @@ def _object(
             yield from _object((where[0], label), value, below, inner, kilometres)
         else:
             beside = form.get(BESIDE[key]) if key in BESIDE else None
-            yield Variable(*where, *_kept(key, value, scale, beside), kilometres.get(below, own))
+            name, words, unit = _kept(key, value, scale, beside)
+            yield Variable(*where, name, value, words, unit, kilometres.get(below, own))
 
 
 @lru_cache(maxsize=1 << 14)
-def _kept(
-    key: str, raw: Union[int, str], scale: int, beside: Optional[int]
-) -> Tuple[str, Union[int, str], str, str]:
-    """Name, raw value, value and unit. Most come again and again, so they are kept."""
+def _kept(key: str, raw: Union[int, str], scale: int, beside: Optional[int]) -> Tuple[str, str, str]:
+    """Name, value and unit. Most come again and again, so they are kept."""
     parent: Values = NO_FORM if beside is None else {BESIDE[key]: beside}
     name = variable_name(key, parent)
     if isinstance(raw, str):
-        return name, raw, "not decoded" if key == "body" else raw, ""
+        return name, "not decoded" if key == "body" else raw, ""
     words = value_words(key, raw, Around({"q_scale": scale}, parent)).removeprefix(CANT)
     number = NUMBER.fullmatch(words)
-    return (name, raw, *number.groups()) if number else (name, raw, words or str(raw), "")
+    return (name, number[1], number[2]) if number else (name, words or str(raw), "")
 
 
 def _joined(*labels: str) -> str:

@@ -1,13 +1,13 @@
 """The variables of a table as CSV and .xlsx, and what `table` says of them."""
 from __future__ import annotations
 
-from typing import Iterator, List, Union
+from typing import Iterator, Union
 
 from balisekit.compare.sheet import COLUMNS, Compared, Difference, Sheet
 from balisekit.io import csv_writing, xlsx_writing
 from balisekit.present.refusals import refused_counts
 from balisekit.rules.checking import Checked
-from balisekit.tables.names import clean, describe_balise, listed, quoted
+from balisekit.tables.names import clean, describe_balise, quoted
 
 NUMBERS = ("balise", "raw", "value")
 """The columns whose numbers are numbers in an .xlsx too."""

@@ -128,7 +128,8 @@ class Line:
         """The chains, and together those of one group in one direction whose links are the same."""
         alike: Dict[Tuple[Optional[int], str, int], List[Chain]] = {}
         for chain in self.chains:
-            alike.setdefault((chain.sender and chain.sender.number, chain.direction, id(chain.links)), []).append(chain)
+            sender = None if chain.sender is None else chain.sender.number
+            alike.setdefault((sender, chain.direction, id(chain.links)), []).append(chain)
         return list(alike.values())
 
     @cached_property

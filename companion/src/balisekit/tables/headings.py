@@ -44,14 +44,16 @@ class Headings:
     def row_of(self, rows: Sequence[Sequence[str]]) -> Optional[int]:
         """The row with all headings that are needed, and the most that are known, counted from 0."""
         found = [self.places(row).keys() for row in rows[:SEARCHED]]
-        fits = [place for place, names in enumerate(found) if names >= set(self.needed)]
-        return max(fits, key=lambda place: (len(found[place]), -place), default=None)
+        fits = [(len(names), -place) for place, names in enumerate(found) if names >= set(self.needed)]
+        return -max(fits)[1] if fits else None
 
     def missing(self, row: Sequence[str]) -> List[str]:
         """The columns that the row has to name and does not."""
         found = self.places(row)
         return [
-            name for name in self.known if name not in found and (name in self.needed or self.strict and name in self.own)
+            name
+            for name in self.known
+            if name not in found and (name in self.needed or self.strict and name in self.own)
         ]
 
     def look_at(self, rows: Sequence[Sequence[str]], place: int) -> Dict[str, int]:

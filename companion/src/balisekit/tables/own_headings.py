@@ -31,10 +31,10 @@ def of_sheet(path: str, named: Optional[str], needed_columns: Sequence[str]) -> 
     """The headings of a sheet of variables: by [expect], else by [columns] where the sheet has these headings."""
     file = named or beside(path)
     tables = _read(file) if file else {}
-    own = tables.get(EXPECT_TABLE) or tables.get(COLUMNS_TABLE, {})
-    strict = bool(named) and bool(tables.get(EXPECT_TABLE))
+    of_expect = tables.get(EXPECT_TABLE, {})
+    own = of_expect or tables.get(COLUMNS_TABLE, {})
     known = {name: own[name] for name in SHEET if name in own}
-    return Headings(SHEET, tuple(needed_columns), known, file, strict)
+    return Headings(SHEET, tuple(needed_columns), known, file, bool(named and of_expect))
 
 
 def beside(path: str) -> str:

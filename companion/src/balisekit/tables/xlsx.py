@@ -42,8 +42,8 @@ PLACES = 6
 """A number is rounded to so many places, as many as a kilometre may have: sums have wrong ones further on."""
 FORMULAS = "formulas without a stored value, read as empty: {count}, the first {first}"
 MERGED = (
-    "merged ranges, of which only the first cell is not empty: {count}, the first {first}; --fill-merged takes its value "
-    "for all cells"
+    "merged ranges, of which only the first cell is not empty: {count}, the first {first}; --fill-merged takes its "
+    "value for all cells"
 )
 FILLED = "merged ranges, whose cells all have the value of the first one: {count}, the first {first}"
 DATES = (datetime.date, datetime.time, datetime.timedelta)

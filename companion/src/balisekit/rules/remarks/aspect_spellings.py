@@ -47,8 +47,8 @@ def _look(line: Line) -> Iterator[Remark]:
     for alternatives in sharing.values():
         most, usual = max(alternatives, key=lambda item: len(groups[item[0]]))
         count = len(groups[most])
+        rest = sum(len(groups[names]) for names, _ in alternatives) - count
         for names, name in alternatives:
-            rest = sum(len(groups[other]) for other, _ in alternatives) - count
             if names != most and having[name] <= FEW and count > max(FEW, 2 * rest):
                 yield _remark(groups[names], name, usual, count)
 
@@ -57,8 +57,8 @@ def _remark(groups: List[Group], name: str, usual: str, count: int) -> Remark:
     who = listed([clean(group.name) for group in groups], FEW)
     have = "has" if len(groups) == 1 else "have"
     sentence = (
-        f"{who} {have} an aspect {quoted(name)}, and {count} groups with the same other aspects have {quoted(usual)}: is "
-        "it the same one?"
+        f"{who} {have} an aspect {quoted(name)}, and {count} groups with the same other aspects have {quoted(usual)}: "
+        "is it the same one?"
     )
     return Remark(RULE.name, Location(row=groups[0].aspects[0].rows[0]), sentence)
 
