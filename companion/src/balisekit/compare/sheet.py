@@ -144,9 +144,10 @@ class _Telegrams:
 
 def compare(checked: Checked, expected: Expected) -> Compared:
     """Compares the rows of a sheet with the variables of a table."""
-    sheet, compared = Sheet(checked), Compared(expected.path, rows=len(expected.rows), notes=expected.notes)
-    telegrams = _Telegrams(sheet, list(expected.rows[0][1]))
-    for number, cells in expected.rows:
+    sheet, compared = Sheet(checked), Compared(expected.path, notes=expected.notes)
+    telegrams = _Telegrams(sheet, list(expected.places))
+    for number, cells in expected.rows():
+        compared.rows += 1
         compared.differences += _compare_row(telegrams, compared, number, cells)
     compared.seen = sum(map(len, telegrams.seen.values()))
     compared.variables = sum(1 for _ in sheet.all())

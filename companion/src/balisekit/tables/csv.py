@@ -3,18 +3,21 @@ from __future__ import annotations
 
 import csv
 import io
+import re
 from itertools import islice
-from typing import Iterable, Iterator, List
+from typing import Callable, Iterable, Iterator, List, TextIO, Tuple
 
 from balisekit.errors import TableError
 from balisekit.tables.cells import Sheet
-from balisekit.tables.encoding import text_of
+from balisekit.tables.encoding import is_plain, text_of
 from balisekit.tables.headings import SEARCHED, Headings
 
 SEPARATORS = (";", "\t", ",")
 OTHER_ENDS = "\v\f\x1c\x1d\x1e\x85\u2028\u2029"
 GREATEST_CELL = 100_000
 """In characters."""
+HEAD = 1 << 20
+"""So many characters of a file that is read row by row are looked at for its separator."""
 
 
 def read(content: bytes, headings: Headings = Headings()) -> Sheet:
@@ -26,6 +29,33 @@ def read(content: bytes, headings: Headings = Headings()) -> Sheet:
         separator, text = text[4], text[5:].removeprefix("\r").removeprefix("\n")
     separator = separator or _separator(text, headings)
     return Sheet(encoding, separator, _rows(text, separator), notes=notes)
+
+
+def stream(content: bytes, headings: Headings) -> Tuple[Sheet, Callable[[], Iterator[List[str]]]]:
+    """The first rows of a file, and a function that gives all its rows, which are read one by one."""
+    if is_plain(content):
+        encoding, text = "utf-8", ""
+    else:
+        text, encoding = text_of(content)
+
+    def opened() -> TextIO:
+        return io.StringIO(text, newline="") if text else io.TextIOWrapper(io.BytesIO(content), "utf-8-sig", newline="")
+
+    head = opened().read(HEAD)
+    named = re.match("sep=(.)\r?\n", head, re.IGNORECASE)
+    separator = named[1] if named else _separator(head, headings)
+
+    def rows() -> Iterator[List[str]]:
+        file, number = opened(), 0
+        if named:
+            file.readline()
+        try:
+            for number, row in enumerate(csv.reader(file, delimiter=separator, strict=True), 1):
+                yield row
+        except csv.Error as error:
+            raise TableError(_why(str(error)), row=number + 1) from error
+
+    return Sheet(encoding, separator, list(islice(rows(), SEARCHED + 1))), rows
 
 
 def _separator(text: str, headings: Headings) -> str:

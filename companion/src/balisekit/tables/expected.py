@@ -2,66 +2,93 @@
 from __future__ import annotations
 
 from dataclasses import dataclass
-from typing import Dict, Iterator, List, Mapping, Optional, Tuple
+from typing import Callable, Dict, Iterator, List, Mapping, Optional, Tuple
 
 from balisekit.errors import TableError, TableErrors, faults_of
 from balisekit.io import inputs
 from balisekit.io.csv_writing import plain
-from balisekit.tables import own_headings
-from balisekit.tables.cells import ERROR, kind_and_text
-from balisekit.tables.reader import head_of, sheet_of
+from balisekit.tables import csv as csv_file, own_headings, xlsx as xlsx_file
+from balisekit.tables.cells import ERROR, Sheet, kind_and_text
+from balisekit.tables.headings import Headings
+from balisekit.tables.reader import head_of
 
 ONE_OF = (("group", "identity"), ("raw", "value"))
 """A sheet needs one of each of these."""
 OTHER_KINDS = ("date", "truth value")
+Cells = Mapping[str, str]
+"""The cells of a row by the names of the columns."""
 
 
 @dataclass(frozen=True)
 class Expected:
-    """A sheet as it was read."""
+    """A sheet in which each cell can be compared. A CSV file is read row by row, since it may have millions of them."""
 
     path: str
-    sha256: str
-    rows: Tuple[Tuple[int, Mapping[str, str]], ...]
-    """The number of each row, and its cells by the names of the columns."""
     notes: Tuple[str, ...]
+    places: Mapping[str, int]
+    """Where each column is."""
+    heading: int
+    """The row of the headings, counted from 1."""
+    is_text: bool
+    source: Callable[[], Iterator[List[str]]]
+
+    def rows(self) -> Iterator[Tuple[int, Cells]]:
+        """The rows with something in them and their numbers."""
+        for number, row in self._filled():
+            cells = {}
+            for name, place in self.places.items():
+                text = kind_and_text(row[place])[1].strip() if place < len(row) else ""
+                cells[name] = plain(text) if self.is_text else text
+            yield number, cells
+
+    def _filled(self) -> Iterator[Tuple[int, List[str]]]:
+        for number, row in enumerate(self.source(), 1):
+            if number > self.heading and any(map(str.strip, row)):
+                yield number, row
+
+    def look_at(self) -> None:
+        """TableErrors is raised for cells that cannot be compared, and TableError if there is no row."""
+        faults: List[TableError] = []
+        row: List[str] = []
+        for number, row in self._filled():
+            for name, place in self.places.items():
+                why = _fault(name, row[place] if place < len(row) else "")
+                faults += [TableError(why, number, name)] if why else []
+        if faults:
+            raise TableErrors(faults)
+        if not row:
+            raise TableError("the sheet has no row but its heading")
 
 
-def read(path: str, columns: Optional[str] = None, sheet: Optional[str] = None) -> Expected:
+def read(path: str, columns: Optional[str] = None) -> Expected:
     """The sheet of this file. TableError or TableErrors is raised if it cannot be compared."""
     headings = own_headings.of_sheet(path, columns, ["variable"])
     file = inputs.read(path)
     with faults_of(path):
-        cells = sheet_of(file.content, headings, sheet)
-        place, places = head_of(cells, headings)
+        sheet, source = _opened(file.content, headings)
+        place, places = head_of(sheet, headings)
         for names in ONE_OF:
             if not places.keys() & set(names):
                 raise TableError(f"no column {' or '.join(names)}: it needs one of them", place + 1)
-        faults: List[TableError] = []
-        rows = tuple(_rows(cells.rows, place, places, cells.encoding != "xlsx", faults))
-        if faults:
-            raise TableErrors(faults)
-        if not rows:
-            raise TableError("the sheet has no row but its heading")
-    return Expected(path, file.sha256, rows, (*cells.notes, *headings.used(cells.rows[place])))
+        notes = (*sheet.notes, *headings.used(sheet.rows[place]))
+        expected = Expected(path, notes, places, place + 1, sheet.encoding != "xlsx", source)
+        expected.look_at()
+    return expected
 
 
-def _rows(
-    rows: List[List[str]], heading: int, places: Mapping[str, int], is_text: bool, faults: List[TableError]
-) -> Iterator[Tuple[int, Dict[str, str]]]:
-    """The rows below the heading that are not empty. What cannot be compared is put among the faults."""
-    for number, row in enumerate(rows[heading + 1 :], heading + 2):
-        if not any(map(str.strip, row)):
-            continue
-        cells = {}
-        for name, place in places.items():
-            kind, text = kind_and_text(row[place] if place < len(row) else "")
-            cells[name] = plain(text.strip()) if is_text else text.strip()
-            if kind in OTHER_KINDS:
-                why = f"a {kind}: the spreadsheet has changed it; make the column text"
-                faults.append(TableError(why, number, name))
-            elif ERROR.fullmatch(text.strip()):
-                faults.append(TableError(f"{text.strip()} is an error of the spreadsheet", number, name))
-        if not cells["variable"]:
-            faults.append(TableError("no variable", number, "variable"))
-        yield number, cells
+def _opened(content: bytes, headings: Headings) -> Tuple[Sheet, Callable[[], Iterator[List[str]]]]:
+    """The first rows of a sheet, and a function that gives all of them."""
+    if not content.startswith(xlsx_file.BEGINS):
+        return csv_file.stream(content, headings)
+    sheet = xlsx_file.read(content, None, headings)
+    return sheet, lambda: iter(sheet.rows)
+
+
+def _fault(column: str, cell: str) -> str:
+    """Why a cell cannot be compared, or nothing."""
+    kind, text = kind_and_text(cell)
+    if kind in OTHER_KINDS:
+        return f"a {kind}: the spreadsheet has changed it; make the column text"
+    if ERROR.fullmatch(text.strip()):
+        return f"{text.strip()} is an error of the spreadsheet: its formula failed"
+    return "no variable" if column == "variable" and not text.strip() else ""
