@@ -168,12 +168,6 @@ class Passages:
         content = Content.of(form)
         self._add([[(None, content)]], self.by_identity.get(content.identity), message)
 
-    def name_targets(self) -> None:
-        """Puts its group of the table into each link. All groups have been taken before."""
-        for chain in (*self.chains, *self.infill_chains):
-            for link in chain.links:
-                link.target = self.by_identity.get(link.identity)
-
     def take_directions(self) -> None:
         """Gives single balises whose direction the table does not show that of the links that name them.
 
@@ -193,6 +187,12 @@ class Passages:
             group = self.groups[number]
             group.by_links, group.links_differ = len(found) == 1, len(found) > 1
             group.rising = found.pop() if group.by_links else None
+
+    def name_targets(self) -> None:
+        """Puts its group of the table into each link. All groups have been taken before."""
+        for chain in (*self.chains, *self.infill_chains):
+            for link in chain.links:
+                link.target = self.by_identity.get(link.identity)
 
     def _add(self, aspects: Iterable[Passed], sender: Optional[BaliseGroup], message: Optional[Message] = None) -> None:
         """Takes the aspects of one group, or a message. What rows of several aspects say is kept once."""
