@@ -113,9 +113,34 @@ def test_a_sheet_made_by_hand(table: Write, run: Run) -> None:
     assert f'note: headings by {file}: group is "Gruppe", value is "Wert"' in out
 
 
+@pytest.mark.parametrize("encoding", ["utf-8", "utf-8-sig", "utf-16", "cp1252"])
+@pytest.mark.parametrize("separator", [",", ";", "\t"])
+@pytest.mark.parametrize("first", ["", "sep=|\r\n"])
+def test_spellings_of_a_sheet(table: Write, run: Run, encoding: str, separator: str, first: str) -> None:
+    """It is read as a table is, but row by row."""
+    lines = ["Pr\u00fcfung|", "group|balise|variable|raw|value|km", "A|0|N_TOTAL|1||11+000", "A|0|N_TOTAL||1|10+000"]
+    text = first.replace("|", separator) + "".join(line.replace("|", separator) + "\r\n" for line in lines)
+    path = table(content=text.encode(encoding), name="s.csv")
+    status, out, _ = run("table", LINE, "--expect", path)
+    said = [line for line in out if line.startswith("row ")]
+    assert status == 1 and [line.split(":")[0] for line in said] == ["row 3, column km", "row 4, column value"]
+    assert out[-1].startswith(f"differences 2; compared: 2 rows of {path}")
+
+
+def test_a_sheet_that_is_no_csv(table: Write, run: Run) -> None:
+    path = table("group,variable,raw", "A,D_LINK,1000", 'A,"D_LINK', name="s.csv")
+    assert run("table", LINE, "--expect", path)[::2] == (2, [f"balisekit: {path}: row 3: a quote is not closed"])
+    path = table(content=b"group,variable\0raw", name="s.csv")
+    assert run("table", LINE, "--expect", path)[::2] == (
+        2,
+        [f"balisekit: {path}: a NUL stands at character 15: it is no table of text"],
+    )
+
+
 def test_same() -> None:
     assert same("105", "105") and same("105 km/h", "105", "km/h") and same("1,50", "1.5") and same(" Linked ", "linked")
     assert same("\u22125", "-5") and same("+4", "4") and not same("104", "105") and not same("a", "105")
+    assert same("13+850", "13.850") and same("13,85", "13.850") and not same("13+850", "13.851")
 
 
 @pytest.mark.parametrize(

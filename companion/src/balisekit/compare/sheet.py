@@ -1,6 +1,7 @@
 """The variables of a table as rows of a sheet, and how they differ from a sheet that somebody expects."""
 from __future__ import annotations
 
+import re
 from dataclasses import dataclass, field
 from decimal import Decimal, InvalidOperation
 from functools import lru_cache
@@ -194,8 +195,10 @@ def same(expected: str, found: str, unit: str = "") -> bool:
 
 
 def _number(text: str) -> Optional[Decimal]:
+    """The number in a cell, or a kilometre such as 13+850."""
+    plain = re.sub(r"(?<=[0-9])\+(?=[0-9]{3})|,", ".", text.strip().replace("\u2212", "-"))
     try:
-        return Decimal(text.strip().replace(",", ".").replace("\u2212", "-"))
+        return Decimal(plain)
     except InvalidOperation:
         return None
 
