@@ -14,6 +14,8 @@ def packages_of(words):
         needed.append("jinja2")
     if any(word.lower().endswith(".xlsx") or word.startswith("--xlsx") for word in words):
         needed.append("openpyxl")
+    if any(word.startswith("--columns") for word in words) and sys.version_info < (3, 11):
+        needed.append("tomli")
     return needed
 
 
@@ -31,7 +33,8 @@ def serves(packages):
 def debian_serves(packages):
     """Whether Debian's interpreter is new enough and finds the packages, by the names of files."""
     version = os.path.realpath(DEBIAN).rpartition("python3.")[2]
-    found = all(os.path.isdir(os.path.join(DEBIAN_PACKAGES, name)) for name in packages)
+    own = ["tomli"] if version.isdigit() and int(version) >= 11 else []
+    found = all(name in own or os.path.isdir(os.path.join(DEBIAN_PACKAGES, name)) for name in packages)
     return found and version.isdigit() and int(version) >= 9
 
 

@@ -304,7 +304,7 @@ def test_alignment_keeps_both_lists() -> None:
         (b"[" * 100_000, "row 1: "),
         (b'{"a":' * 100_000, "it is no document that can be read: "),
         (b"\xff\xfe\0\0", "it is UTF-32"),
-        (b"", "the table is empty: its first row has to hold the headings"),
+        (b"", "the table is empty: it needs a row with the headings group and telegram"),
     ],
 )
 def test_bad_input(run: Run, table: Write, content: bytes, why: str) -> None:

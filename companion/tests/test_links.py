@@ -17,7 +17,8 @@ from conftest import Run
 from telegrams import SPARE
 
 from balisekit.engine.program import Program
-from balisekit.rules.line import Line
+from balisekit.etcs.geometry import kilometres
+from balisekit.rules.line import BY_LINKS, Line, with_directions
 from balisekit.rules.links import RULES, compare
 from balisekit.rules.rule import Options
 from balisekit.tables.model import Aspect, Group, Message, Row
@@ -531,3 +532,58 @@ def test_groups_between_two_are_counted_as_they_are_named() -> None:
         "K (km 5.000), L (km 6.000) have Q_LINK 1 and stand between B (km 9.000) and H (km 3.000), and "
         "are not linked: a train that uses linking passes them over",
     ]
+
+
+def linked(*links: Form, **sender: str) -> List[Tuple[Group, List[Form]]]:
+    """A group of two balises that rises along the kilometres and sends these links."""
+    km = sender.get("km", "0.000")
+    name, track = sender.get("name", "A"), sender.get("track", "")
+    pair = group(name, km, str(Decimal(km) + Decimal("0.003")), track=track)
+    identity = ord(name) - ord("A") + 1
+    return [(pair, [header(identity, link_tables.linking(1, *links)), header(identity)])]
+
+
+def test_single_balises_have_the_direction_of_their_links() -> None:
+    """By Q_LINKORIENTATION and the direction of the sender. What the table shows itself counts more."""
+    links = [link_tables.link(1000, 2, 1), link_tables.link(1000, 3, 0), link_tables.link(1000, 4, 1)]
+    some = [(group("B", "1"), [header(2)]), (group("C", "2"), [header(3)])]
+    one = line_with(*linked(*links), *some, (group("D", "3", nominal="falling"), [header(4)]))
+    assert [(each.rising, each.by_links) for each in one.groups] == [(1, False), (1, True), (-1, True), (-1, False)]
+    assert [note.split(": ")[-1] for note in compare(one).notes] == [BY_LINKS] * 2
+    groups, notes = with_directions(one.table_groups, one.forms)
+    assert [kilometres(each).rising for each in groups] == [1, 1, -1, -1]
+    assert notes == [f"{name} (km {km}.000): {BY_LINKS}" for name, km in (("B", 1), ("C", 2))]
+
+
+def test_links_that_disagree_give_no_direction() -> None:
+    """A note says why it is not known."""
+    some = [*linked(link_tables.link(1000, 2, 1)), *linked(link_tables.link(2000, 2, 0), name="C", km="3")]
+    one = line_with(*some, (group("B", "1"), [header(2)]))
+    assert [(each.rising, each.by_links, each.links_differ) for each in one.groups][2] == (None, False, True)
+    assert any("is not known, as the links that name it disagree: L3" in note for note in compare(one).notes)
+    assert with_directions(one.table_groups, one.forms)[1] == []
+
+
+def test_links_that_give_no_direction() -> None:
+    """Those of another track, of a sender whose direction is not known, and those behind a packet 136."""
+    single = (group("B", "1"), [header(2)])
+    chain = link_tables.linking(1, link_tables.link(1000, 2, 1))
+    reference = {"nid_packet": 136, "q_dir": 1, "l_packet": 38, "body": "00d0"}
+    for senders in (
+        linked(link_tables.link(1000, 2, 1), track="7"),
+        [(group("A", "0"), [header(1, chain)])],
+        [(group("A", "0", "0.003"), [header(1, reference, chain), header(1)])],
+    ):
+        assert line_with(*senders, single).groups[1].rising is None
+
+
+def test_a_direction_by_links_is_used_by_the_commands(run: Run, table: Write) -> None:
+    """In places of show and of the flat table, and said there."""
+    told = (FOLDER / "line.csv").read_text("utf-8").splitlines()
+    path = table(*(line.replace("C,C1,12.000,rising", "C,C1,12.000,") for line in told))
+    note = f"note: C (km 12.000): {BY_LINKS}"
+    assert run("show", path)[1][:2] == [note, ""] and run("show", path)[1][2:] == run("show", FOLDER / "line.csv")[1]
+    out = run("table", path, "--csv", "-")
+    assert note in out[2] and out[1] == run("table", FOLDER / "line.csv", "--csv", "-")[1]
+    said = run("links", path)[1]
+    assert f"note: row 6  C  km 12.000: {BY_LINKS}" in said and said[-1].startswith("links: none found")

@@ -19,6 +19,7 @@ from telegrams import ALONE, FIRST, MESSAGE, OTHER, SECOND
 from balisekit.errors import KitError, TableError, TableErrors
 from balisekit.tables import messages as messages_file, reader as tables, xlsx as xlsx_file
 from balisekit.tables.model import Table
+from balisekit.tables.names import describe_rows
 
 Write = Callable[..., Path]
 PAIR = ["group,telegram", f"A,{FIRST}", f"A,{SECOND}", f"B,{OTHER}"]
@@ -133,30 +134,34 @@ def fault(path: Path, **words: Any) -> str:
 
 H = "group,telegram"
 BAD: Sequence[Any] = [
-    ([], "the table is empty: its first row has to hold the headings"),
-    (["", ","], "the table is empty: its first row has to hold the headings"),
-    (["", H], "row 1: it is empty: delete it, as the first row has to hold the headings"),
+    ([], "the table is empty: it needs a row with the headings group and telegram"),
+    (["", ","], "the table is empty: it needs a row with the headings group and telegram"),
+    (["", H], "the table has no row but its heading"),
     (
         [f"A,{ALONE}"],
         "row 1: there is no heading, as the first row has a telegram: put a row with the names of the "
         "columns above it, of which group and telegram are needed",
     ),
     ([f"A;A1;{ALONE.upper()}", f"A;A2;{ALONE}"], "row 1: there is no heading, as the first row has a telegram"),
-    (["Signal,Text", f"A,{ALONE}"], "row 1: no column group and no column telegram: the headings are signal, text"),
-    (["group,name", "A,B"], "row 1: no column telegram: the headings are group, name"),
+    (
+        ["Signal,Text", f"A,{ALONE}"],
+        "row 1: no column group and no column telegram: the headings are Signal, Text; give --columns FILE, a text "
+        'file with the lines group = "..", telegram = "Text"',
+    ),
+    (["group,name", "A,B"], "row 1: no column telegram: the headings are group, name; give --columns FILE, a text"),
+    (
+        ["Line 7,,", "", "Signal,Text,km", f"A,{ALONE},1", f"B,{ALONE},2"],
+        "row 3: no column group and no column telegram: the headings are Signal, Text, km; give --columns FILE",
+    ),
     (["group,telegram,Group", f"A,{ALONE},B"], "row 1: the heading group stands twice, in columns 1 and 3"),
     ([H], "the table has no row but its heading"),
     ([H, f",{ALONE}"], "row 2, column group: no group; fill merged cells"),
     ([H, "A,"], "row 2, column telegram: empty, or a formula"),
     ([H, "A,9.00720E+52"], "row 2, column telegram: a number, not digits: the spreadsheet has changed it"),
     (
-        [H, f"A,{ALONE}", *[f"B,{OTHER}"] * 2, f"A,{OTHER}"],
-        'row 5, column group: group "A" is in row 2 already: put its rows together',
-    ),
-    (
         [H, f"A,{ALONE}", f"b,{OTHER}", f"A,{OTHER}"],
-        'row 3, column group: "b" stands between rows 2, 4 of group "A": is it mistyped? The rows of a group stand '
-        "together",
+        'row 3, column group: "b" stands between rows 2, 4 of group "A": is it mistyped? If it is not, put the rows of '
+        'group "A" together',
     ),
     (
         [
@@ -371,14 +376,25 @@ def test_aspects_that_lack_balises_have_a_line_each(table: Write) -> None:
     ]
 
 
-def test_rows_of_several_groups_that_stand_apart(table: Write) -> None:
-    """Where no single row is the odd one, each row with which a group goes on is named."""
-    with pytest.raises(TableErrors) as raised:
-        tables.read(str(table(H, *[f"{name},{ALONE}" for name in "ABABCC"])))
-    assert [line.split(": ", 1)[1] for line in raised.value.lines()] == [
-        'row 4, column group: group "A" is in row 2 already: put its rows together',
-        'row 5, column group: group "B" is in row 3 already: put its rows together',
-    ]
+def test_rows_that_are_apart_are_taken_together(table: Write) -> None:
+    """As in a table that is sorted by aspects. A note names the first group, and its rows are given together."""
+    lines = [f"{group},{aspect},{ALONE}" for aspect in "xy" for group in "ABC"]
+    read = tables.read(str(table("group,aspect,telegram", *lines)))
+    assert shape(read) == [(name, [("x", [row]), ("y", [row + 3])]) for name, row in (("A", 2), ("B", 3), ("C", 4))]
+    assert [row.number for row in read.rows] == [2, 5, 3, 6, 4, 7]
+    assert read.notes == (
+        'rows of one group that are apart are taken together: group "A": rows 2, 5, and 2 more groups',
+    )
+    assert describe_rows(read.groups[0]) == "rows 2, 5"
+    read = tables.read(str(table(H, f"A,{FIRST}", f"B,{OTHER}", f"C,{OTHER}", f"A,{SECOND}")))
+    assert shape(read) == [("A", [("", [2, 5])]), ("B", [("", [3])]), ("C", [("", [4])])]
+    assert read.notes == ('rows of one group that are apart are taken together: group "A": rows 2, 5',)
+
+
+def test_rows_of_several_groups_by_turns(table: Write) -> None:
+    """No single row is the odd one."""
+    read = tables.read(str(table(H, *[f"{name},{ALONE}" for name in "ABABCC"])))
+    assert shape(read) == [("A", [("", [2, 4])]), ("B", [("", [3, 5])]), ("C", [("", [6, 7])])]
 
 
 def test_one_wrong_cell_of_a_line_is_one_fault(table: Write) -> None:

@@ -23,11 +23,20 @@ __version__ = "0.5.0"
 __all__ = ["KitError", "Program", "check", "diff", "links", "read_messages", "read_table"]
 
 
-def read_table(path: str, sheet: Optional[str] = None, by_position: bool = False) -> Table:
-    """The table of a CSV file or of a sheet of an .xlsx. `by_position` is as in `check`."""
+def read_table(
+    path: str,
+    sheet: Optional[str] = None,
+    by_position: bool = False,
+    columns: Optional[str] = None,
+    fill_merged: bool = False,
+) -> Table:
+    """The table of a CSV file or of a sheet of an .xlsx. `by_position` is as in `check`.
+
+    `columns` is a TOML file with headings of your own, and `fill_merged` fills the cells of merged areas.
+    """
     from balisekit.tables import reader
 
-    return reader.read(path, sheet, by_position)
+    return reader.read(path, sheet, by_position, columns, fill_merged)
 
 
 def read_messages(path: str) -> Messages:

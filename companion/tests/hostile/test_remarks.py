@@ -75,3 +75,33 @@ def test_kilometres_that_look_like_metres(run: Run, table: Write, kms: Sequence[
 def test_balises_of_a_group_in_metres(run: Run, table: Write) -> None:
     out = run("check", table("group,km,telegram", f"G,1850,{ALONE}", f"G,1853,{OTHER}"))[1]
     assert looks(out)[-1] == "look: the column km has whole numbers only, 1850 to 1853: are they metres?"
+
+
+@pytest.mark.parametrize(
+    "odd, others, said",
+    [
+        (
+            ["gr\u00fcn"],
+            7,
+            ['look: S0 has an aspect "gr\u00fcn", and 7 groups with the same other aspects have "green": '],
+        ),
+        (["Green"] * 3, 7, ['look: S0, S1, S2 have an aspect "Green", and 7 groups with the same other aspects have ']),
+        (["grun", "Green"], 5, ['look: S0 has an aspect "grun", and 5 ', 'look: S1 has an aspect "Green", and 5 ']),
+        (["Green"] * 4, 9, []),
+        (["Green"], 3, []),
+        (["Green"] * 3, 6, []),
+        ([], 8, []),
+    ],
+)
+def test_spellings_of_aspects(run: Run, table: Write, odd: List[str], others: int, said: List[str]) -> None:
+    """A name that few groups have in the place of that of most."""
+    names = [*odd, *["green"] * others]
+    lines = [f"S{place},{aspect},{ALONE}" for place, name in enumerate(names) for aspect in ("red", "yellow", name)]
+    found = looks(run("check", table("group,aspect,telegram", *lines))[1])
+    assert len(found) == len(said) and all(line.startswith(start) for line, start in zip(found, said))
+
+
+def test_groups_of_many_aspects(run: Run, table: Write) -> None:
+    """They take no time. No signal has so many."""
+    lines = [f"S{place},{aspect},{ALONE}" for place in range(2) for aspect in range(3000)]
+    assert looks(run("check", table("group,aspect,telegram", *lines))[1]) == []

@@ -26,6 +26,8 @@ del sys.argv[0]
 runpy.run_path(sys.argv[0], run_name="__main__")' "$@"
 """
 """An interpreter that is too old."""
+WITHOUT_TOML = OLD.replace("(3, 8, 20)", "(3, 10, 13)").replace(" -c ", " -S -c ")
+"""An interpreter without packages that has no tomllib."""
 needs_debian = pytest.mark.skipif(
     not Path("/usr/lib/python3/dist-packages/jinja2").is_dir(), reason="python3-jinja2 is not installed"
 )
@@ -85,6 +87,15 @@ def test_a_package_that_is_absent(name: str, executable: str, monkeypatch: pytes
     why = f"{executable} cannot import (ModuleNotFoundError: No module named '{name}')"
     assert raised.value.status == 3
     assert str(raised.value) == f"a report needs {name}, which {why}: {debian if executable == str(DEBIAN) else other}"
+
+
+@pytest.mark.skipif(not DEBIAN.resolve().name[len("python3.") :] >= "11", reason="Debian's Python has no tomllib")
+def test_headings_of_ones_own_need_tomllib(tmp_path: Path) -> None:
+    """Debian's interpreter runs if only that one has it or the package tomli."""
+    python(tmp_path, WITHOUT_TOML)
+    (tmp_path / "c.toml").write_text('group = "group"', "utf-8")
+    status, out, err = start(f"check {LINE} --columns {tmp_path / 'c.toml'}", tmp_path)
+    assert (status, err) == (2, "") and "note: headings by " in out
 
 
 def test_no_path(tmp_path: Path) -> None:

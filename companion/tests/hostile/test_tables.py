@@ -45,7 +45,7 @@ QUADRATIC: Dict[str, Tuple[Callable[[int], Iterator[str]], int, str]] = {
     "rows of two groups by turns": (
         by_turns,
         20_000,
-        'row 4, column group: group "A" is in row 2 already: put its rows together',
+        'row 18: group "A" has 10000 balises, and at most 8 are possible: are they of several aspects?',
     ),
     "balises that lack aspects": (
         lacking,
@@ -71,8 +71,9 @@ def test_refusals_in_proportion_to_the_table(table: Write, name: str) -> None:
 
 def test_rows_that_are_many_are_counted(table: Write) -> None:
     """The first 20 are named."""
+    path = table(*by_turns(16), *(f"A{number},{ALONE}" if number % 2 else f"C,{ALONE}" for number in range(45)))
     with pytest.raises(KitError) as raised:
-        reader.read(str(table(*by_turns(46))))
+        reader.read(str(path))
     shown = ", ".join(str(number) for number in range(2, 42, 2))
     last = grouping._rows([Row(number, "A", ALONE) for number in range(2, 46, 2)])
     assert last == f"rows {shown} and 2 more" and len(raised.value.lines()) == 21
@@ -90,10 +91,14 @@ def test_many_aspects(table: Write) -> None:
 
 
 UNREADABLE: List[Tuple[bytes, str]] = [
-    (b"", "the table is empty: its first row has to hold the headings"),
-    (b"\n\n", "the table is empty: its first row has to hold the headings"),
-    (b"\ngroup,telegram\nA,00\n", "row 1: it is empty: delete it, as the first row has to hold the headings"),
-    (b"group,tele\xe2\x80\x8bgram\nA,00\n", "row 1: no column telegram: the headings are group, tele\\u200bgram"),
+    (b"", "the table is empty: it needs a row with the headings group and telegram"),
+    (b"\n\n", "the table is empty: it needs a row with the headings group and telegram"),
+    (b"\ngroup,telegram\n\n", "the table has no row but its heading"),
+    (
+        b"group,tele\xe2\x80\x8bgram\nA,00\n",
+        "row 1: no column telegram: the headings are group, tele\\u200bgram; give --columns FILE, a text file with the "
+        'lines telegram = ".."',
+    ),
 ]
 
 

@@ -167,7 +167,10 @@ def cell(body: str, place: str = "C2") -> str:
         (
             [cell("<v>7</v>"), cell("", "C3")],
             "<mergeCells count='2'><mergeCell ref='C2:C3'/><mergeCell ref='D1:E1'/></mergeCells>",
-            ["merged ranges, of which only the first cell is not empty: 2, the first C2:C3"],
+            [
+                "merged ranges, of which only the first cell is not empty: 2, the first C2:C3; --fill-merged takes its "
+                "value for all cells"
+            ],
         ),
     ],
 )

@@ -2,7 +2,7 @@
 from __future__ import annotations
 
 import argparse
-from typing import Optional, Tuple
+from typing import Any, Dict, Optional, Tuple
 
 from balisekit.cli import options as shared
 from balisekit.compare.releases import by_place, compare
@@ -26,6 +26,7 @@ def add_options(parser: argparse.ArgumentParser) -> None:
         parser.add_argument(side, **shared.input_file(text, side.upper()))
         parser.add_argument(f"--{side}-messages", **shared.input_file(f"radio messages beside the {side} table"))
     shared.add(parser, "--sheet", help="which sheet of an .xlsx, in both")
+    shared.add(parser, *shared.READING[1:])
     shared.add(parser, "--program", "--timeout")
     parser.add_argument("--html", **shared.output_file("write the answer as one page of HTML"))
     shared.add(parser, "--json", "--force")
@@ -35,11 +36,11 @@ def run(options: argparse.Namespace) -> int:
     """Does it. The answer is the exit status."""
     now = clock.now()
     sides = [
-        _read(options.old, options.old_messages, options.sheet),
-        _read(options.new, options.new_messages, options.sheet),
+        _read(options.old, options.old_messages, shared.reading(options)),
+        _read(options.new, options.new_messages, shared.reading(options)),
     ]
-    if options.sheet and all(document for _, _, document in sides):
-        raise TableError("--sheet is not used with two documents")
+    if all(document for _, _, document in sides):
+        shared.refuse_unused(options, "with two documents", "sheet", "columns", "fill_merged")
     named = not any(document for _, _, document in sides)
     program = Program.find(options.program, options.timeout)
     old, new = (_checked(program, *side, named) for side in sides)
@@ -52,13 +53,11 @@ def run(options: argparse.Namespace) -> int:
     return found.status
 
 
-def _read(
-    path: str, messages: Optional[str], sheet: Optional[str]
-) -> Tuple[Table, Optional[Messages], Optional[Input]]:
+def _read(path: str, messages: Optional[str], how: Dict[str, Any]) -> Tuple[Table, Optional[Messages], Optional[Input]]:
     """A table with its messages, or those of a document, and the document."""
     file = inputs.read(path)
     if not document_file.is_document(file.content):
-        return tables.read(path, sheet), messages_file.read(messages) if messages else None, None
+        return tables.read(path, **how), messages_file.read(messages) if messages else None, None
     if messages:
         raise TableError(f"{path}: a document has its messages itself: {messages} can't be beside it")
     return (*document_file.read(file), file)

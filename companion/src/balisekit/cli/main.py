@@ -1,4 +1,4 @@
-"""The command line: `balisekit check`, `show`, `draw`, `report`, `links` and `diff`."""
+"""The command line: `balisekit check`, `show`, `draw`, `report`, `links`, `diff` and `table`."""
 from __future__ import annotations
 
 import argparse
@@ -25,6 +25,7 @@ COMMANDS = {
     "report": "write a report as one page of HTML",
     "links": "compare linking, link flags and profiles with the kilometres of a table",
     "diff": "compare two releases of a line, field by field",
+    "table": "write all variables of a table as one flat sheet, or compare such a sheet",
 }
 """The commands, each a module of this folder, and what their help says."""
 CLOSED = "standard output was closed"
@@ -136,8 +137,10 @@ def _inputs(options: argparse.Namespace, outputs: Sequence[Output]) -> List[str]
     """The files that the command reads, and the program if an output could replace it."""
     from balisekit.engine import find_program
     from balisekit.io.inputs import InputPath
+    from balisekit.tables.own_headings import beside
 
     inputs: List[str] = [value for value in vars(options).values() if isinstance(value, InputPath)]
+    inputs += [file for file in map(beside, inputs) if file]
     if not inputs:  # `show`
         inputs.append("/dev/stdin")
     if any(os.path.lexists(output.path) for output in outputs):

@@ -70,6 +70,8 @@ OPTIONS: Dict[str, Dict[str, Any]] = {
     "--messages": input_file("radio messages, one a line, a name behind ;"),
     "--by-position": flag("order the balises of a group by N_PIG, which hides a wrong N_PIG"),
     "--sheet": value("NAME", name, "which sheet of an .xlsx"),
+    "--columns": input_file('headings of your own: a TOML file with lines such as telegram = "Telegram (hex)"'),
+    "--fill-merged": flag("give all cells of a merged area of an .xlsx the value of its first cell"),
     "--program": value("PATH", name, "the program balisecheck, in place of the one found"),
     "--timeout": value("SECONDS", _seconds, TIMEOUT),
     "--explain": flag("show cause and remedy of each finding"),
@@ -80,7 +82,9 @@ OPTIONS: Dict[str, Dict[str, Any]] = {
     "--aspect": value("NAME", name, ASPECT),
     "--tolerance": {**value("METRES", _tolerance, TOLERANCE), "default": EXACT},
 }
-INPUTS = ("table", "--messages", "--by-position", "--sheet", "--program", "--timeout")
+READING = ("--sheet", "--columns", "--fill-merged")
+"""How tables are read."""
+INPUTS = ("table", "--messages", "--by-position", *READING, "--program", "--timeout")
 
 
 def add(parser: argparse.ArgumentParser, *options: str, **changed: Any) -> None:
@@ -96,9 +100,14 @@ def refuse_unused(options: argparse.Namespace, purpose: str, *unused: str) -> No
             raise TableError(f"--{option.replace('_', '-')} is not used {purpose}")
 
 
+def reading(options: argparse.Namespace) -> Dict[str, Any]:
+    """How the table is to be read, for `reader.read`."""
+    return {"sheet": options.sheet, "columns": options.columns, "fill_merged": options.fill_merged}
+
+
 def inputs(options: argparse.Namespace) -> Tuple[Program, Table, Optional[Messages]]:
     """The program, the table and the messages that the options name."""
-    table = reader.read(options.table, options.sheet, options.by_position)
+    table = reader.read(options.table, by_position=options.by_position, **reading(options))
     messages = messages_file.read(options.messages) if options.messages else None
     return Program.find(options.program, options.timeout), table, messages
 

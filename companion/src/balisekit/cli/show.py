@@ -4,7 +4,7 @@ from __future__ import annotations
 import argparse
 import textwrap
 from collections import Counter, deque
-from typing import Callable, Deque, Dict, Generator, Iterable, Iterator, List, Optional, Tuple, Union
+from typing import Callable, Deque, Dict, Generator, Iterable, Iterator, List, Mapping, Optional, Sequence, Tuple, Union
 
 from balisekit.cli import options as shared
 from balisekit.engine.grammar import Refusal
@@ -16,9 +16,10 @@ from balisekit.present.bit_table import bit_lines
 from balisekit.present.refusals import message_refused, telegram_refused
 from balisekit.present.telegram_text import LEGEND, WIDTH, text
 from balisekit.rules.checking import greatest_refused, until_too_many
+from balisekit.rules.line import Records, with_directions
 from balisekit.tables import messages as messages_file, standard_input
 from balisekit.tables.grouping import by_position
-from balisekit.tables.model import Messages, Table
+from balisekit.tables.model import Group, Messages, Table
 from balisekit.tables.names import describe_balise, describe_message
 from balisekit.tables.reader import BY_POSITION
 
@@ -37,7 +38,7 @@ def add_options(parser: argparse.ArgumentParser) -> None:
 def run(options: argparse.Namespace) -> int:
     """Does it. The answer is the exit status."""
     if options.table is None:
-        shared.refuse_unused(options, "without TABLE", "sheet", "by_position")
+        shared.refuse_unused(options, "without TABLE", "sheet", "columns", "fill_merged", "by_position")
     shown = _Shown(options)
     for lines in shown.blocks():
         print("\n".join(lines), end="\n\n", flush=options.table is None)
@@ -104,11 +105,12 @@ class _Shown:
         decoded = self._tried("telegrams", program.decode([row.telegram for row in table.rows]))
         answers = {row.number: answer for answer, row in zip(decoded, table.rows)}
         firsts: Dict[int, Form] = {}
-        for group in table.groups:
-            read = {row.number: answers.get(row.number) for row in group.rows()}
-            forms = {number: answer.form for number, answer in read.items() if isinstance(answer, Record)}
-            if self.options.by_position and len(forms) == len(read):
-                group = by_position(group, {number: form["n_pig"] for number, form in forms.items()})
+        records = Records({number: answer for number, answer in answers.items() if isinstance(answer, Record)})
+        ordered: Sequence[Group] = [self._ordered(group, records) for group in table.groups]
+        groups, notes = with_directions(ordered, records)
+        yield from ([f"note: {note}"] for note in notes)
+        for group in groups:
+            forms = {row.number: records[row.number] for row in group.rows() if row.number in records}
             first = group.aspects[0].rows[0].number
             firsts.update({first: forms[first]} if first in forms else {})
             rows = {row.number: row for row in group.rows()}
@@ -117,6 +119,13 @@ class _Shown:
                     heading = describe_balise(group, rows[number])
                     yield self._block(heading, rows[number].telegram, answers[number], telegram_refused, lambda _: here)
         return firsts
+
+    def _ordered(self, group: Group, forms: Mapping[int, Form]) -> Group:
+        """The group with its balises in the order of N_PIG, if that is asked for and all have been read."""
+        numbers = {row.number for row in group.rows()} if self.options.by_position else set()
+        if not numbers or not numbers <= forms.keys():
+            return group
+        return by_position(group, {number: forms[number]["n_pig"] for number in numbers})
 
     def _messages(self, program: Program, messages: Optional[Messages], groups: Identities) -> Iterator[List[str]]:
         read = messages.messages if messages else ()

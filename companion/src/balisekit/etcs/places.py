@@ -181,6 +181,67 @@ NOTES: Mapping[int, Callable[[Form, Place], Notes]] = {
 }
 
 
+def packet_kilometres(index: int, packet: Form, here: Here) -> Dict[str, str]:
+    """The kilometres of a packet's places, by the path of the object or value within the packet.
+
+    There are none if the packet's distances count from another group in some passage. Of a packet for both directions
+    each has its own.
+    """
+    ways = [way for way in DIRECTIONS if holds(packet, way)]
+    if here.kilometres.group is None or index in here.passages or packet["nid_packet"] not in PLACES:
+        return {}
+    found = {}
+    for path, place in PLACES[packet["nid_packet"]](packet):
+        known = {way: here.kilometres.words(place, way) for way in ways}
+        texts = [f"{km} ({way})" for way, km in known.items() if km]
+        found[path] = next(iter(known.values()), "") if len(set(known.values())) == 1 else ", ".join(texts)
+    return found
+
+
+def _authority_places(packet: Form) -> Iterator[Tuple[str, int]]:
+    extent = geometry.authority(geometry.Site(0, 0), packet)
+    stops = list(extent.timer_stops)
+    for index, (section, cut) in enumerate(zip(packet["sections"], extent.cuts)):
+        yield f"/sections/{index}", cut
+        if "section_timer" in section:
+            yield f"/sections/{index}/section_timer", stops.pop(0)
+    yield "/l_endsection", extent.end
+    parts = (
+        ("/section_timer", stops[0] if stops else None),
+        ("/end_timer", extent.end_timer),
+        ("/danger_point", extent.danger_point),
+        ("/overlap", extent.overlap),
+        ("/overlap/d_startol", extent.overlap_timer),
+    )
+    yield from ((path, place) for path, place in parts if place is not None)
+
+
+def _element_places(packet: Form) -> Iterator[Tuple[str, int]]:
+    distance, _, _ = ELEMENT_KEYS[packet["nid_packet"]]
+    unit = unit_dm(packet)
+    for index, at in enumerate(accumulate(element[distance] for element in packet["elements"])):
+        yield f"/elements/{index}", at * unit
+
+
+def _link_places(packet: Form) -> Iterator[Tuple[str, int]]:
+    for index, at in enumerate(accumulate(link["d_link"] for link in packet["links"])):
+        yield f"/links/{index}", at * unit_dm(packet)
+
+
+def _level_places(packet: Form) -> Iterator[Tuple[str, int]]:
+    if packet["d_leveltr"] != 32_767:
+        yield "/d_leveltr", packet["d_leveltr"] * unit_dm(packet)
+
+
+PLACES: Mapping[int, Callable[[Form], Iterator[Tuple[str, int]]]] = {
+    5: _link_places,
+    **dict.fromkeys((12, 15), _authority_places),
+    **dict.fromkeys((21, 27), _element_places),
+    41: _level_places,
+}
+"""The places of each kind of packet in decimetres from the group, by the path of what is there."""
+
+
 def places_of_rows(group: Group, forms: Mapping[int, Form]) -> Dict[int, Here]:
     """From where the distances of each row count, by the row's number, in the order of the table."""
     where, numbers = kilometres(group), sorted({row.number for row in group.rows()})

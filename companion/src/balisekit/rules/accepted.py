@@ -21,6 +21,7 @@ from balisekit.rules.checking import Checked, Place
 from balisekit.rules.rule import Remark
 from balisekit.tables import csv as csv_file
 from balisekit.tables.cells import headings
+from balisekit.tables.headings import Headings
 from balisekit.tables.model import Group, Message, Row
 from balisekit.tables.names import BLANK
 
@@ -168,7 +169,7 @@ def read(path: str) -> Entries:
     """The entries of this file. TableError or TableErrors is raised if it cannot be read."""
     file = inputs.read(path)
     with faults_of(path):
-        return Entries(path, file.sha256, _entries(csv_file.read(file.content, COLUMNS, NEEDED).rows))
+        return Entries(path, file.sha256, _entries(csv_file.read(file.content, Headings(COLUMNS, NEEDED)).rows))
 
 
 def _entries(rows: Sequence[Sequence[str]]) -> Tuple[Acceptance, ...]:

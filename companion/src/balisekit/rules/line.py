@@ -13,14 +13,16 @@ from itertools import islice
 from typing import Dict, Iterator, List, Mapping, Optional, Sequence, Tuple
 
 from balisekit.engine.grammar import Finding
+from balisekit.engine.program import Record
 from balisekit.etcs.geometry import kilometres
 from balisekit.etcs.variables import Form
 from balisekit.rules.checking import Checked, Telegrams
 from balisekit.rules.location import NOT_KNOWN, BaliseGroup, Identity
 from balisekit.rules.passages import Chain, Content, Passages, contents_of
-from balisekit.tables.model import Group, Message, Row
+from balisekit.tables.model import Aspect, Group, Message, Row
 
 AFTER_INFILL = "after packet 136"
+BY_LINKS = "its direction along the kilometres is taken from the links that name it"
 END = (None, None)
 
 
@@ -99,6 +101,7 @@ class Line:
             if form["nid_message"] == 3:
                 passages.add_message(message, form)
         passages.name_targets()
+        passages.take_directions()
         return passages
 
     def _contents(self) -> Iterator[Tuple[Optional[Row], Optional[Content]]]:
@@ -125,7 +128,8 @@ class Line:
         """The chains, and together those of one group in one direction whose links are the same."""
         alike: Dict[Tuple[Optional[int], str, int], List[Chain]] = {}
         for chain in self.chains:
-            alike.setdefault((chain.sender and chain.sender.number, chain.direction, id(chain.links)), []).append(chain)
+            sender = None if chain.sender is None else chain.sender.number
+            alike.setdefault((sender, chain.direction, id(chain.links)), []).append(chain)
         return list(alike.values())
 
     @cached_property
@@ -149,6 +153,46 @@ class Line:
     def linked(self) -> Mapping[str, LinkedGroups]:
         """Of each track: the groups with a kilometre that say that they are linked."""
         return {track: LinkedGroups.of(groups) for track, groups in self.along.items()}
+
+
+class Records(Mapping[int, Form]):
+    """The forms of records by their rows. Each is made when it is asked for, since all of them take much memory."""
+
+    def __init__(self, records: Mapping[int, Record]) -> None:
+        self._records = records
+
+    def __getitem__(self, number: int) -> Form:
+        return self._records[number].form
+
+    def __contains__(self, number: object) -> bool:
+        return number in self._records
+
+    def __iter__(self) -> Iterator[int]:
+        return iter(self._records)
+
+    def __len__(self) -> int:
+        return len(self._records)
+
+
+def with_directions(groups: Sequence[Group], forms: Mapping[int, Form]) -> Tuple[Sequence[Group], Sequence[str]]:
+    """The groups, and notes on single balises that have got their direction from the links that name them.
+
+    `forms` has the telegrams that the program has read, by their rows. They are looked at only if there are single
+    balises with a kilometre whose direction the table does not show.
+    """
+    places = {group.name: kilometres(group) for group in groups if len(group.aspects[0].rows) == 1}
+    if all(place.group is None or place.rising is not None for place in places.values()):
+        return groups, ()
+    taken = {each.group.name: each for each in Line(groups, forms).groups if each.by_links}
+    directed = [_directed(group, taken[group.name].rising) if group.name in taken else group for group in groups]
+    return directed, [f"{each}: {BY_LINKS}" for each in taken.values()]
+
+
+def _directed(group: Group, rising: Optional[int]) -> Group:
+    """A group whose rows have a direction of the kilometres."""
+    word = "rising" if rising == 1 else "falling"
+    aspects = (Aspect(each.name, tuple(row._replace(nominal=word) for row in each.rows)) for each in group.aspects)
+    return Group(group.name, tuple(aspects))
 
 
 def _balise_group(number: int, group: Group, contents: Mapping[int, Content]) -> BaliseGroup:

@@ -1,6 +1,7 @@
 """Where something is that a rule speaks of: a balise group on its track, a balise's packet, a message's, a link."""
 from __future__ import annotations
 
+from dataclasses import dataclass
 from decimal import Decimal
 from typing import NamedTuple, Optional, Tuple
 
@@ -16,7 +17,8 @@ Identity = Tuple[int, int]
 """NID_C and NID_BG."""
 
 
-class BaliseGroup(NamedTuple):
+@dataclass(eq=False)
+class BaliseGroup:
     """A balise group on its track. What is not known of it is None."""
 
     number: int
@@ -33,6 +35,10 @@ class BaliseGroup(NamedTuple):
     track: str
     unread: Tuple[int, ...] = ()
     """The rows whose telegrams the program has not read."""
+    by_links: bool = False
+    """Whether `rising` is taken from the links that name it, a single balise."""
+    links_differ: bool = False
+    """Whether these links disagree about it."""
 
     def along(self, direction: str) -> Optional[int]:
         """1 if the kilometres rise for a train that passes in this direction, -1 if they fall."""

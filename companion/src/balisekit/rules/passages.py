@@ -170,6 +170,26 @@ class Passages:
         content = Content.of(form)
         self._add([[(None, content)]], self.by_identity.get(content.identity), message)
 
+    def take_directions(self) -> None:
+        """Gives single balises whose direction the table does not show that of the links that name them.
+
+        Only links of groups count whose direction the table shows itself, and all of them have to agree.
+        """
+        directions: Dict[int, Set[int]] = {}
+        for chain in self.chains:
+            sender = chain.sender
+            along = sender.along(chain.direction) if sender else None
+            if sender is None or along is None:
+                continue
+            for link in chain.links:
+                group = link.target
+                if group and group.balises == 1 and group.rising is None and group.track == sender.track:
+                    directions.setdefault(group.number, set()).add(along if link.nominal else -along)
+        for number, found in directions.items():
+            group = self.groups[number]
+            group.by_links, group.links_differ = len(found) == 1, len(found) > 1
+            group.rising = found.pop() if group.by_links else None
+
     def name_targets(self) -> None:
         """Puts its group of the table into each link. All groups have been taken before."""
         for chain in (*self.chains, *self.infill_chains):

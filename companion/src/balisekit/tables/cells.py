@@ -3,11 +3,13 @@ from __future__ import annotations
 
 import re
 from dataclasses import dataclass
-from typing import List, Tuple
+from typing import List, Sequence, Tuple
 
 COLUMNS = ("group", "telegram", "name", "km", "track", "aspect", "balise", "nominal")
 """The headings that are known."""
 NEEDED = COLUMNS[:2]
+GREATEST_NAME = 1000
+"""So many characters a cell may have that is no telegram, and are shown of a heading."""
 BLANKS = " \t\u00a0\u2000-\u200b\u202f\u3000"
 QUOTES = "\"'\u2018\u2019\u201c\u201d\u201e\u00ab\u00bb"
 DIGITS = re.compile("[0-9A-Fa-f]+")
@@ -18,13 +20,25 @@ PAIRS = re.compile(r"[^:-]{2}(?:([:-])[^:-]{2})(?:\1[^:-]{2})*")
 
 @dataclass(frozen=True)
 class Sheet:
-    """The cells of a table, its heading the first row."""
+    """The cells of a table."""
 
     encoding: str
     separator: str
     rows: List[List[str]]
     """The first one is row 1. A row may be shorter than the heading."""
     notes: Tuple[str, ...] = ()
+    name: str = ""
+    """Of a workbook: the name of the sheet."""
+    others: Tuple[str, ...] = ()
+    """The names of the workbook's other sheets."""
+    merged: Sequence[Area] = ()
+    """The merged areas, if their cells are to be filled."""
+    is_merged: bool = False
+    """Whether there are merged areas whose cells are not filled."""
+
+
+Area = Tuple[int, int, int, int]
+"""The first column, the first row, the last column and the last row of an area, counted from 1."""
 
 
 def headings(row: List[str]) -> List[str]:

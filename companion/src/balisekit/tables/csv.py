@@ -3,41 +3,79 @@ from __future__ import annotations
 
 import csv
 import io
-from typing import Iterable, Iterator, List, Sequence
+import re
+from itertools import islice
+from typing import Callable, Iterable, Iterator, List, TextIO, Tuple
 
 from balisekit.errors import TableError
-from balisekit.tables.cells import COLUMNS, NEEDED, Sheet, headings
-from balisekit.tables.encoding import text_of
+from balisekit.tables.cells import Sheet
+from balisekit.tables.encoding import is_plain, text_of
+from balisekit.tables.headings import SEARCHED, Headings
 
 SEPARATORS = (";", "\t", ",")
 OTHER_ENDS = "\v\f\x1c\x1d\x1e\x85\u2028\u2029"
 GREATEST_CELL = 100_000
 """In characters."""
+HEAD = 1 << 20
+"""So many characters of a file that is read row by row are looked at for its separator."""
 
 
-def read(content: bytes, known: Sequence[str] = COLUMNS, needed: Sequence[str] = NEEDED) -> Sheet:
-    """The cells of a file whose heading may have the known columns, and has the needed ones."""
+def read(content: bytes, headings: Headings = Headings()) -> Sheet:
+    """The cells of a file, one of whose first rows has these headings."""
     text, encoding = text_of(content)
     notes = ("it is not UTF-8: it was read as Windows-1252",) if encoding == "windows-1252" else ()
     separator = ""
     if text[:4].lower() == "sep=" and text[5:6] in ("\r", "\n"):
         separator, text = text[4], text[5:].removeprefix("\r").removeprefix("\n")
-    separator = separator or _separator(text, known, needed)
+    separator = separator or _separator(text, headings)
     return Sheet(encoding, separator, _rows(text, separator), notes=notes)
 
 
-def _separator(text: str, columns: Sequence[str], needed: Sequence[str]) -> str:
-    """The one by which the heading has the needed columns, and the most that are known."""
+def stream(content: bytes, headings: Headings) -> Tuple[Sheet, Callable[[], Iterator[List[str]]]]:
+    """The first rows of a file, and a function that gives all its rows, which are read one by one."""
+    if is_plain(content):
+        encoding, text = "utf-8", ""
+    else:
+        text, encoding = text_of(content)
+
+    def opened() -> TextIO:
+        return io.StringIO(text, newline="") if text else io.TextIOWrapper(io.BytesIO(content), "utf-8-sig", newline="")
+
+    head = opened().read(HEAD)
+    named = re.match("sep=(.)\r?\n", head, re.IGNORECASE)
+    separator = named[1] if named else _separator(head, headings)
+
+    def rows() -> Iterator[List[str]]:
+        file, number = opened(), 0
+        if named:
+            file.readline()
+        try:
+            for number, row in enumerate(csv.reader(file, delimiter=separator, strict=True), 1):
+                yield row
+        except csv.Error as error:
+            raise TableError(_why(str(error)), row=number + 1) from error
+
+    return Sheet(encoding, separator, list(islice(rows(), SEARCHED + 1))), rows
+
+
+def _separator(text: str, headings: Headings) -> str:
+    """The one by which one of the first rows has the needed columns, and the most that are known."""
     best, most = ",", 0
     for separator in SEPARATORS:
-        try:
-            found = set(headings(next(_reader(text, separator), [])))
-        except csv.Error:
-            continue
-        known = len(found.intersection(columns)) + (len(columns) if found.issuperset(needed) else 0)
-        if known > most:
-            best, most = separator, known
+        for row in _first_rows(text, separator):
+            found = headings.places(row).keys()
+            known = len(found) + (len(headings.known) if found >= set(headings.needed) else 0)
+            if known > most:
+                best, most = separator, known
     return best
+
+
+def _first_rows(text: str, separator: str) -> Iterator[List[str]]:
+    """The rows that may have the headings, up to one that this separator cannot read."""
+    try:
+        yield from islice(_reader(text, separator), SEARCHED)
+    except csv.Error:
+        return
 
 
 def _rows(text: str, separator: str) -> List[List[str]]:

@@ -1,11 +1,13 @@
 """The text of a file whose encoding it does not say."""
 from __future__ import annotations
 
+import codecs
 from typing import Tuple
 
 from balisekit.errors import TableError
 
 ZIPS = (b"PK\x03\x04", b"PK\x05\x06")
+PIECE = 1 << 20
 ZEROS_WITHIN = 100
 """UTF-16 without a mark is known by the zeros among so many bytes."""
 
@@ -18,6 +20,20 @@ def text_of(content: bytes) -> Tuple[str, str]:
     if "\0" in text:
         raise TableError(f"a NUL stands at character {text.index(chr(0)) + 1}: it is no table of text")
     return text, encoding
+
+
+def is_plain(content: bytes) -> bool:
+    """Whether it is UTF-8 without a NUL, which can be decoded piece by piece."""
+    if b"\0" in content or content.startswith(ZIPS):
+        return False
+    decoder = codecs.getincrementaldecoder("utf-8")()
+    try:
+        for begin in range(0, len(content), PIECE):
+            decoder.decode(content[begin : begin + PIECE])
+        decoder.decode(b"", True)
+    except UnicodeDecodeError:
+        return False
+    return True
 
 
 def _decoded(content: bytes) -> Tuple[str, str]:

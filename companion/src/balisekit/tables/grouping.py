@@ -6,7 +6,7 @@ from collections import Counter
 from functools import lru_cache
 from itertools import groupby, islice
 from operator import attrgetter
-from typing import Any, Dict, Iterable, List, Mapping, Optional, Sequence, Tuple
+from typing import Any, Dict, Iterable, List, Mapping, NamedTuple, Optional, Sequence, Tuple
 
 from balisekit.errors import TableError, TableErrors
 from balisekit.tables.model import Aspect, Group, Row
@@ -22,10 +22,20 @@ UNKNOWN = {"", None}
 """What such a column has if it does not tell."""
 
 
-def groups_of(rows: Sequence[Row], by_position: bool = False) -> Tuple[Tuple[Group, ...], Tuple[str, ...]]:
-    """The groups of these rows, and notes on names that look alike."""
-    blocks, faults = _blocks(rows)
-    groups, shared, notes = [], [], _alike(blocks)
+class Grouped(NamedTuple):
+    """The groups of a table."""
+
+    rows: Tuple[Row, ...]
+    """The rows, those of each group together."""
+    groups: Tuple[Group, ...]
+    notes: Tuple[str, ...]
+    """Notes on names that look alike, on rows that are apart, and on numbers of balises."""
+
+
+def groups_of(rows: Sequence[Row], by_position: bool = False, heading: int = 1) -> Grouped:
+    """The groups of these rows. `heading` is the row of the headings."""
+    blocks, apart, faults = _blocks(rows)
+    groups, shared, notes = [], [], [*_alike(blocks), *_apart(apart)]
     for name, block in blocks.items():
         try:
             aspects = _plain_aspects(name, block)
@@ -37,8 +47,9 @@ def groups_of(rows: Sequence[Row], by_position: bool = False) -> Tuple[Tuple[Gro
             faults += fault.faults
             shared += [block] if _has_one_name(block) else []
     if faults:
-        raise TableErrors([*_shared_names(shared), *faults])
-    return tuple(groups), tuple(notes)
+        raise TableErrors([*_shared_names(shared, heading), *faults])
+    together = [row for block in blocks.values() for row in block] if apart else rows
+    return Grouped(tuple(together), tuple(groups), tuple(notes))
 
 
 def by_position(group: Group, positions: Mapping[int, int]) -> Group:
@@ -57,7 +68,7 @@ def _has_one_name(block: Sequence[Row]) -> bool:
     return len(names) == 1 and not names & UNKNOWN and every + min(counts.values(), default=0) > 1
 
 
-def _shared_names(shared: Sequence[Sequence[Row]]) -> List[TableError]:
+def _shared_names(shared: Sequence[Sequence[Row]], heading: int) -> List[TableError]:
     """One hint at the heading where the column seems to name something else than balises."""
     if len(shared) < 2:
         return []
@@ -67,16 +78,16 @@ def _shared_names(shared: Sequence[Sequence[Row]]) -> List[TableError]:
             f'in {len(shared)} groups all balises have one name, as "{row.name}" in group "{row.group}": it '
             "tells no balise. If it is that of a signal, give the column another heading, under which it is "
             "passed over",
-            row=1,
+            row=heading,
             column="name",
         )
     ]
 
 
-def _blocks(rows: Sequence[Row]) -> Tuple[Dict[str, List[Row]], List[TableError]]:
-    """The rows of each group that stand together, and faults of those that stand apart.
+def _blocks(rows: Sequence[Row]) -> Tuple[Dict[str, List[Row]], List[List[Row]], List[TableError]]:
+    """The rows of each group, the groups whose rows are apart, and faults of rows within other groups.
 
-    A single row between rows of another group is the one at fault, unless the row before or after it is another such.
+    A single row between rows of another group is at fault, unless the row before or after it is another such.
     """
     runs = [list(run) for _, run in groupby(rows, key=attrgetter("group"))]
     between = {
@@ -86,24 +97,32 @@ def _blocks(rows: Sequence[Row]) -> Tuple[Dict[str, List[Row]], List[TableError]
     }
     odd = {place for place in between if not between & {place - 1, place + 1}}
     blocks: Dict[str, List[Row]] = {}
-    torn, faults = set(), []
+    torn, apart, faults = set(), set(), []
     for place, run in enumerate(runs):
-        name, why = run[0].group, ""
+        name = run[0].group
         if place in odd:
             around = runs[place - 1][-1], runs[place + 1][0]
             torn.add(around[0].group)
             why = (
-                f'"{name}" stands between {_rows(around)} of group "{around[0].group}": is it mistyped? The rows of '
-                "a group stand together"
+                f'"{name}" stands between {_rows(around)} of group "{around[0].group}": is it mistyped? If it is not, '
+                f'put the rows of group "{around[0].group}" together'
             )
-        elif name in blocks and place - 1 not in odd:
-            torn.add(name)
-            why = f'group "{name}" is in {_rows(blocks[name])} already: put its rows together'
-        if why:
             faults.append(TableError(why, run[0].number, "group"))
-        if place not in odd:
-            blocks.setdefault(name, []).extend(run)
-    return {name: block for name, block in blocks.items() if name not in torn}, faults
+            continue
+        if name in blocks:
+            apart.add(name)
+        blocks.setdefault(name, []).extend(run)
+    whole = {name: block for name, block in blocks.items() if name not in torn}
+    return whole, [block for name, block in whole.items() if name in apart], faults
+
+
+def _apart(blocks: Sequence[Sequence[Row]]) -> List[str]:
+    """A note on groups whose rows are apart."""
+    if not blocks:
+        return []
+    first, count = blocks[0], len(blocks)
+    which = f'group "{first[0].group}": {_rows(first)}' + (f", and {count - 1} more groups" if count > 1 else "")
+    return [f"rows of one group that are apart are taken together: {which}"]
 
 
 def _alike(names: Iterable[str]) -> List[str]:

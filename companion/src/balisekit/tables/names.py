@@ -98,14 +98,14 @@ def group_words(group: Group) -> str:
 
 
 def describe_rows(group: Group, aspect: Optional[str] = None) -> str:
-    """The rows of a group, which stand together, or those of an aspect, between which others may stand."""
+    """The rows of a group, or those of an aspect. Rows of other groups or aspects may be between them."""
     rows = [row for one in group.aspects if aspect in (None, one.name) for row in one.rows]
     numbers = sorted({row.number for row in rows})
     if len(numbers) == 1:
         return f"row {numbers[0]}"
-    if aspect is None or numbers[-1] - numbers[0] + 1 == len(numbers):
+    if numbers[-1] - numbers[0] + 1 == len(numbers):
         return f"rows {numbers[0]} to {numbers[-1]}"
-    return f"rows {', '.join(map(str, numbers))}"
+    return f"rows {listed(list(map(str, numbers)), NAMED)}"
 
 
 def describe_identity(identity: Tuple[int, int]) -> str:

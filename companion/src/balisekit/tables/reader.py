@@ -4,94 +4,105 @@ from __future__ import annotations
 import re
 from decimal import Decimal
 from difflib import get_close_matches
+from itertools import islice
 from typing import Any, Callable, Dict, Iterator, List, Mapping, Optional, Sequence, Tuple
 
 from balisekit.errors import TableError, TableErrors, faults_of
 from balisekit.io import inputs
-from balisekit.tables import csv as csv_file, xlsx as xlsx_file
-from balisekit.tables.cells import COLUMNS, DIGITS, ERROR, NEEDED, Sheet, digits, headings, kind_and_text
+from balisekit.tables import csv as csv_file, own_headings, xlsx as xlsx_file
+from balisekit.tables.cells import COLUMNS, DIGITS, ERROR, GREATEST_NAME, Sheet, digits, kind_and_text
 from balisekit.tables.grouping import groups_of
+from balisekit.tables.headings import ALIKE, SEARCHED, Headings
+from balisekit.tables.merged import end_of_heading, fill, fill_heads
 from balisekit.tables.model import Row, Table
 
 KM = re.compile(r"(?!-[0-9]+\+)(-?[0-9]{1,4})(?:[.,]([0-9]{1,6})|\+([0-9]{3})(?:[.,]([0-9]{1,3}))?)?")
 SCIENTIFIC = re.compile(r"[0-9]+[.,][0-9]+[eE]\+?[0-9]+|[0-9][eE]\+[0-9]+")
-TELEGRAM = re.compile("[0-9A-Fa-f]{20,}")
-ALIKE = 0.75
-"""How much of a heading that is passed over has to be as in a known one to be taken for it."""
 BY_POSITION = "balises are ordered by N_PIG, as --by-position says, which hides a wrong N_PIG"
-GREATEST_NAME = 1000
-"""So many characters a cell may have that is no telegram, and are shown of a heading."""
 COMPARED = 1000
 """So many headings that are passed over are compared with the known ones."""
 ABSENT = -1
 """The place of a column that the table has not: each row that is read ends with an empty cell."""
+NO_GROUP = "no group; fill merged cells"
 PLAIN = re.compile(r"[^\0\r\n#]{0,1000}")
 """A cell of text in which nothing has to be looked for."""
 
 
-def read(path: str, sheet: Optional[str] = None, by_position: bool = False) -> Table:
-    """The table of this file. TableError or TableErrors is raised if it cannot be read."""
+def read(
+    path: str,
+    sheet: Optional[str] = None,
+    by_position: bool = False,
+    columns: Optional[str] = None,
+    fill_merged: bool = False,
+) -> Table:
+    """The table of this file. TableError or TableErrors is raised if it cannot be read.
+
+    `sheet` names the sheet of an .xlsx, and `columns` a file with headings of the user's own. With `fill_merged` all
+    cells of a merged area have the value of its first cell.
+    """
+    headings = own_headings.of_table(path, columns)
     file = inputs.read(path)
-    is_workbook = file.content.startswith(xlsx_file.BEGINS)
     with faults_of(path):
-        if sheet is not None and not is_workbook:
-            raise TableError("--sheet is for an .xlsx, and this is none")
-        cells = xlsx_file.read(file.content, sheet) if is_workbook else csv_file.read(file.content)
-        places = _places(cells)
-        passed_over = _passed_over(cells)
+        cells = sheet_of(file.content, headings, sheet, fill_merged)
+        place, places = head_of(cells, headings)
+        passed_over = _passed_over(cells, place, places)
         meant = tuple(_meant(name, places) for name in passed_over[:COMPARED])
         try:
-            rows = _rows(cells, places)
-            groups, notes = groups_of(rows, by_position)
+            rows = _rows(cells, place, places)
+            grouped = groups_of(rows, by_position, place + 1)
         except (TableError, TableErrors) as error:
-            hints = [
-                TableError(f'the column {name} is passed over: did you mean "{known}"?', row=1)
-                for name, known in zip(passed_over, meant)
-                if known
-            ]
-            raise TableErrors([*hints, *error.faults]) from error
-    return Table(
-        path,
-        file.sha256,
-        cells.encoding,
-        cells.separator,
-        passed_over,
-        rows,
-        groups,
-        (*cells.notes, *([BY_POSITION] if by_position else []), *notes),
-        meant,
-    )
+            raise TableErrors([*_hints(passed_over, meant, place), *error.faults]) from error
+    of_heading = _notes_on_heading(place, headings.used(cells.rows[place]))
+    notes = (*cells.notes, *of_heading, *([BY_POSITION] if by_position else []), *grouped.notes)
+    about = path, file.sha256, cells.encoding, cells.separator
+    return Table(*about, passed_over, grouped.rows, grouped.groups, notes, meant)
 
 
-def _places(sheet: Sheet) -> Dict[str, int]:
-    """Where each known column is."""
+def _hints(passed_over: Sequence[str], meant: Sequence[str], place: int) -> List[TableError]:
+    """A line for each heading that is passed over and may have been mistyped."""
+    return [
+        TableError(f'the column {name} is passed over: did you mean "{known}"?', row=place + 1)
+        for name, known in zip(passed_over, meant)
+        if known
+    ]
+
+
+def sheet_of(content: bytes, headings: Headings, sheet: Optional[str] = None, fill_merged: bool = False) -> Sheet:
+    """The cells of a CSV file, or of the sheet of a workbook that is named or has the headings."""
+    if content.startswith(xlsx_file.BEGINS):
+        return xlsx_file.read(content, sheet, headings, fill_merged)
+    if sheet is not None:
+        raise TableError("--sheet is for an .xlsx, and this is none")
+    if fill_merged:
+        raise TableError("--fill-merged is for an .xlsx, and this is none: fill the cells, or name the .xlsx")
+    return csv_file.read(content, headings)
+
+
+def head_of(sheet: Sheet, headings: Headings) -> Tuple[int, Dict[str, int]]:
+    """The row of the headings, counted from 0, and where each known column is. Merged cells below it are filled."""
     if not any(any(map(str.strip, row)) for row in sheet.rows):
-        raise TableError("the table is empty: its first row has to hold the headings")
-    heading = headings(sheet.rows[0])
-    if not any(heading):
-        raise TableError("it is empty: delete it, as the first row has to hold the headings", row=1)
-    for name in COLUMNS:
-        if heading.count(name) > 1:
-            first = heading.index(name) + 1
-            second = heading.index(name, first) + 1
-            raise TableError(f"the heading {name} stands twice, in columns {first} and {second}", row=1)
-    missing = [name for name in NEEDED if name not in heading]
-    if missing and _is_data(sheet.rows[0]):
-        raise TableError(
-            "there is no heading, as the first row has a telegram: put a row with the names of the "
-            f"columns above it, of which {' and '.join(NEEDED)} are needed",
-            row=1,
-        )
-    if missing:
-        found = ", ".join(name for name in heading if name)
-        lacks = " and no column ".join(missing)
-        raise TableError(f"no column {lacks}: the headings are {found[:GREATEST_NAME]}", row=1)
-    return {name: heading.index(name) for name in COLUMNS if name in heading}
+        raise TableError(f"the table is empty: it needs a row with the headings {' and '.join(headings.needed)}")
+    heads = [list(row) for row in sheet.rows[: SEARCHED + 1]]
+    fill_heads(heads, sheet.merged)
+    found = headings.row_of(heads)
+    place = headings.likely(heads) if found is None else found
+    try:
+        places = headings.look_at(heads, place)
+    except TableError as error:
+        if not sheet.others:
+            raise
+        others = ", ".join(sheet.others)
+        why = f"sheet {sheet.name}: {error.why}; --sheet names another sheet: {others}"
+        raise TableError(why, error.row) from error
+    sheet.rows[place] = heads[place]
+    fill(sheet.rows, sheet.merged, place + 1, places.values())
+    return place, places
 
 
-def _is_data(row: Sequence[str]) -> bool:
-    """Whether a row that should be the heading has a telegram in it, whatever stands between its cells."""
-    return any(TELEGRAM.fullmatch(digits(part)) for cell in row for part in re.split("[,;\t]", cell))
+def _notes_on_heading(place: int, own: List[str]) -> List[str]:
+    """Notes on headings of the user's own, and on the rows above the headings."""
+    above = f"the {place} rows above it are" if place > 1 else "row 1 is"
+    return [*own, *([f"the headings are in row {place + 1}: {above} passed over"] if place else [])]
 
 
 def _meant(heading: str, places: Mapping[str, int]) -> str:
@@ -100,29 +111,30 @@ def _meant(heading: str, places: Mapping[str, int]) -> str:
     return "".join(get_close_matches(heading.lower(), lacks, 1, ALIKE))
 
 
-def _passed_over(sheet: Sheet) -> Tuple[str, ...]:
+def _passed_over(sheet: Sheet, place: int, places: Mapping[str, int]) -> Tuple[str, ...]:
     """Headings, as they stand, of the columns that are not known."""
-    names = []
-    for column, cell in enumerate(sheet.rows[0]):
-        if cell.strip().lower() not in COLUMNS:
-            used = any(row[column].strip() for row in sheet.rows if column < len(row))
-            names += [cell.strip()[:GREATEST_NAME] or f"column {column + 1}"] if used else []
+    names, known = [], set(places.values())
+    for column, cell in enumerate(sheet.rows[place]):
+        if column not in known:
+            used = any(row[column].strip() for row in sheet.rows[place:] if column < len(row))
+            names += [kind_and_text(cell)[1].strip()[:GREATEST_NAME] or f"column {column + 1}"] if used else []
     return tuple(names)
 
 
-def _rows(sheet: Sheet, places: Dict[str, int]) -> Tuple[Row, ...]:
-    """The rows behind the heading that have a cell with something in it."""
+def _rows(sheet: Sheet, place: int, places: Dict[str, int]) -> Tuple[Row, ...]:
+    """The rows below the heading that have a cell with something in it."""
     columns = [_Column(name, places.get(name, ABSENT), meaning) for name, meaning in MEANINGS.items()]
     reading = [(column, column.place) for column in columns if column.name != "telegram"]
     telegrams, at, is_plain = columns[0], places["telegram"], DIGITS.fullmatch
-    width, rows, wide = len(sheet.rows[0]), [], False
-    for number, cells in _filled(sheet, width):
+    width, rows, wide = len(sheet.rows[place]), [], False
+    begin = end_of_heading(place + 1, sheet.merged, places.values())
+    for number, cells in _filled(sheet, begin, width):
         cell = cells[at]
         telegram = cell if is_plain(cell) else telegrams[cell]
         group, *others = [column[cells[place]] for column, place in reading]
         rows.append(Row(number, group, telegram, cell.strip(), *others))
         wide = wide or len(cells) > width + 1
-    faults = list(_faults(sheet, columns, width)) if wide or any(column.faults for column in columns) else []
+    faults = list(_faults(sheet, columns, begin, width)) if wide or any(column.faults for column in columns) else []
     if faults:
         raise TableErrors(faults)
     if not rows:
@@ -130,10 +142,10 @@ def _rows(sheet: Sheet, places: Dict[str, int]) -> Tuple[Row, ...]:
     return tuple(rows)
 
 
-def _filled(sheet: Sheet, width: int) -> Iterator[Tuple[int, List[str]]]:
-    """The numbers and cells of these rows. The last cell of each is an empty one, for columns that are absent."""
+def _filled(sheet: Sheet, begin: int, width: int) -> Iterator[Tuple[int, List[str]]]:
+    """The numbers and cells of the rows below this one. The last cell of each is empty, for columns that are absent."""
     pad = [""] * (width + 1)
-    for number, row in enumerate(sheet.rows[1:], 2):
+    for number, row in enumerate(islice(sheet.rows, begin, None), begin + 1):
         if any(map(str.strip, row)):
             yield number, row + pad[min(len(row), width) :]
 
@@ -164,15 +176,17 @@ class _Column(Dict[str, Any]):
         return self.meaning(text.strip(), kind)
 
 
-def _faults(sheet: Sheet, columns: Sequence[_Column], width: int) -> Iterator[TableError]:
+def _faults(sheet: Sheet, columns: Sequence[_Column], begin: int, width: int) -> Iterator[TableError]:
     """What is wrong with each row, its width first."""
-    for number, cells in _filled(sheet, width):
+    for number, cells in _filled(sheet, begin, width):
         if any(map(str.strip, cells[width:])):
             hint = ": is a decimal comma not quoted?" if sheet.separator == "," else ""
             yield TableError(f"it has {len(cells) - 1} cells, and the heading {width}{hint}", number)
         for column in columns:
             if cells[column.place] in column.faults:
-                yield TableError(column.faults[cells[column.place]], number, column.name)
+                why = column.faults[cells[column.place]]
+                why += ": give --fill-merged" if why == NO_GROUP and sheet.is_merged else ""
+                yield TableError(why, number, column.name)
 
 
 def _telegram(cell: str, kind: str) -> str:
@@ -194,7 +208,7 @@ def _name(cell: str, kind: str) -> str:
 
 def _group(cell: str, kind: str) -> str:
     if not cell:
-        raise TableError("no group; fill merged cells")
+        raise TableError(NO_GROUP)
     return _name(cell, kind)
 
 

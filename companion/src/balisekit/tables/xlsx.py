@@ -8,13 +8,16 @@ import re
 import warnings
 import zipfile
 from decimal import Decimal
-from typing import Any, Callable, Dict, Iterator, List, Optional, Pattern, Tuple
+from itertools import islice
+from typing import Any, Callable, Dict, Iterable, Iterator, List, Optional, Pattern, Sequence, Tuple
 from xml.etree.ElementTree import Element, ParseError, iterparse
 
 from balisekit.errors import KitError, TableError
 from balisekit.io.optional_packages import needed
-from balisekit.tables.cells import NEEDED, Sheet, headings, kind_and_text, of_kind
+from balisekit.tables.cells import Area, Sheet, of_kind
 from balisekit.tables.encoding import ZIPS
+from balisekit.tables.headings import SEARCHED, Headings, is_data
+from balisekit.tables.merged import fill_heads
 
 OLD = b"\xd0\xcf\x11\xe0"
 BEGINS = (*ZIPS, OLD)
@@ -37,10 +40,16 @@ NO_VALUE = rb"[^<]*(?:</[^<]*)?(?:<[^\s<>/]*v\s*/>\s*|<[^\s<>/]*v\s*>\s*</[^<]*)
 """What follows a formula whose value is not stored, up to the end of its cell."""
 PLACES = 6
 """A number is rounded to so many places, as many as a kilometre may have: sums have wrong ones further on."""
+FORMULAS = "formulas without a stored value, read as empty: {count}, the first {first}"
+MERGED = (
+    "merged ranges, of which only the first cell is not empty: {count}, the first {first}; --fill-merged takes its "
+    "value for all cells"
+)
+FILLED = "merged ranges, whose cells all have the value of the first one: {count}, the first {first}"
 DATES = (datetime.date, datetime.time, datetime.timedelta)
 
 
-def read(content: bytes, name: Optional[str]) -> Sheet:
+def read(content: bytes, name: Optional[str], headings: Headings = Headings(), fill_merged: bool = False) -> Sheet:
     """The cells of the sheet of this name, else of the one that has the needed headings."""
     _look_at_parts(content)
     with needed("openpyxl", "reading .xlsx (CSV needs no package)"):
@@ -51,8 +60,12 @@ def read(content: bytes, name: Optional[str]) -> Sheet:
             book = openpyxl.load_workbook(io.BytesIO(content), read_only=True, data_only=True, keep_links=False)
         except Exception as error:
             raise _unreadable(error) from error
-        sheet, note = _chosen(book, name)
-        return Sheet("xlsx", "", _cells(_rows(sheet)), (note, *_read_as_empty(sheet)))
+        sheet, note = _chosen(book, name, headings, fill_merged)
+        formulas, merged = _read_as_empty(sheet)
+        rows, areas = _cells(_rows(sheet)), _areas(merged) if fill_merged else ()
+        notes = (note, *_notes(formulas, FORMULAS), *_notes(merged, FILLED if fill_merged else MERGED))
+        others = tuple(other for other in book.sheetnames if other != sheet.title)
+        return Sheet("xlsx", "", rows, notes, sheet.title, others, areas, bool(merged) and not fill_merged)
 
 
 def _unreadable(error: Exception, row: Optional[int] = None) -> Exception:
@@ -178,52 +191,76 @@ class _Strings(List[str]):
         return super().__getitem__(index)
 
 
-def _chosen(book: Any, name: Optional[str]) -> Tuple[Any, str]:
+def _chosen(book: Any, name: Optional[str], headings: Headings, fill_merged: bool) -> Tuple[Any, str]:
     """The sheet that is meant, and a note that names it."""
     if name is not None and name not in book.sheetnames:
         raise TableError(f"there is no sheet {name}: the sheets are {', '.join(book.sheetnames)}")
     sheets = [sheet for sheet in book.worksheets if name is None or sheet.title == name]
     if not sheets:
         raise TableError("the workbook has no sheet with cells")
-    fits = [sheet for sheet in sheets if set(NEEDED) <= set(_heading(sheet))]
+    heads = {sheet.title: _head(sheet, fill_merged) for sheet in sheets} if len(sheets) > 1 else {}
+    fits = [sheet for sheet in sheets if heads and headings.row_of(heads[sheet.title]) is not None]
     if len(fits) > 1:
         names = ", ".join(sheet.title for sheet in fits)
         raise TableError(f"several sheets have the headings: name one by --sheet: {names}")
-    sheet = (fits or sheets)[0]
+    likely = [sheet for sheet in sheets if any(map(is_data, heads.get(sheet.title, ())))]
+    sheet = (fits or likely or sheets)[0]
     hidden = sheet.sheet_state != "visible"
-    if fits and hidden and name is None:
+    if hidden and name is None and (fits or headings.row_of(_head(sheet, fill_merged)) is not None):
         raise TableError(f"only the hidden sheet {sheet.title} has the headings: name it by --sheet, or show it")
     return sheet, f"the sheet is {sheet.title}{', which is hidden' * hidden}; hidden and filtered rows are read as well"
 
 
-def _heading(sheet: Any) -> List[str]:
-    return headings([str(value) for value in next(_rows(sheet), []) if value is not None])
-
-
-def _cells(values_of_rows: Iterator[List[Any]]) -> List[List[str]]:
-    rows: List[List[str]] = []
-    for number, values in enumerate(values_of_rows, 1):
-        if len(values) > GREATEST_COLUMNS:
-            raise TableError(f"it has more than {GREATEST_COLUMNS} columns: {SHORT_WAY_OUT}", row=number)
-        rows.append([value if type(value) is str else _text(value) for value in values])
-    rows[:1] = [[kind_and_text(cell)[1] for cell in row] for row in rows[:1]]
+def _head(sheet: Any, fill_merged: bool) -> List[List[str]]:
+    """The first rows of a sheet, and one more."""
+    values: List[List[Any]] = []
+    try:
+        values.extend(islice(_rows(sheet), SEARCHED + 1))
+    except TableError:  # (which is raised again if this sheet is read)
+        pass
+    rows = _cells(values, widest=None)
+    if fill_merged:
+        fill_heads(rows, _areas(_read_as_empty(sheet)[1]))
     return rows
 
 
-def _read_as_empty(sheet: Any) -> Iterator[str]:
-    """Notes on cells that are read as empty, although a spreadsheet shows something in them."""
+def _cells(values_of_rows: Iterable[List[Any]], widest: Optional[int] = GREATEST_COLUMNS) -> List[List[str]]:
+    rows: List[List[str]] = []
+    for number, values in enumerate(values_of_rows, 1):
+        if widest is not None and len(values) > widest:
+            raise TableError(f"it has more than {widest} columns: {SHORT_WAY_OUT}", row=number)
+        rows.append([value if type(value) is str else _text(value) for value in values])
+    return rows
+
+
+def _read_as_empty(sheet: Any) -> Tuple[List[str], List[str]]:
+    """The cells that are read as empty although a spreadsheet shows something in them: formulas, and merged areas."""
     with sheet._get_source() as part:
         xml = part.read()
     cell, formula, merged = (_tag(name, xml).pattern for name in (b"c", b"f", b"mergeCell"))
     no_value = cell + REFERENCE % b"r" + b"[^<]*" + formula + NO_VALUE
-    formulas = re.findall(no_value, xml) if re.search(formula, xml) else []
+    found = re.findall(no_value, xml) if re.search(formula, xml) else []
     ranges = re.findall(merged + REFERENCE % b"ref", xml)
-    for places, what in (
-        (formulas, "formulas without a stored value, read as empty"),
-        (ranges, "merged ranges, of which only the first cell is not empty"),
-    ):
-        if places:
-            yield f"{what}: {len(places)}, the first {places[0].decode('utf-8', 'replace')[:40]}"
+    return [place.decode("utf-8", "replace") for place in found], [area.decode("utf-8", "replace") for area in ranges]
+
+
+def _notes(places: Sequence[str], what: str) -> List[str]:
+    """A note on such places, if there are any."""
+    return [what.format(count=len(places), first=places[0][:40])] if places else []
+
+
+def _areas(references: Sequence[str]) -> Tuple[Area, ...]:
+    """The merged areas of a sheet, as "C2:D5" names them."""
+    from openpyxl.utils import range_boundaries
+
+    areas: List[Area] = []
+    for reference in references:
+        try:
+            left, top, right, bottom = range_boundaries(reference)
+            areas.append((int(left), int(top), int(right), int(bottom)))
+        except (TypeError, ValueError) as error:
+            raise TableError(f"the merged range {reference[:40]} is none: save the workbook again") from error
+    return tuple(areas)
 
 
 def _text(value: Any) -> str:

@@ -5,7 +5,7 @@ from collections import Counter
 from decimal import Decimal
 from typing import Dict, Iterator, List, Tuple
 
-from balisekit.rules.line import Line
+from balisekit.rules.line import BY_LINKS, Line
 from balisekit.rules.location import BaliseGroup, Identity
 from balisekit.rules.passages import Chain
 from balisekit.tables.names import clean, describe_group, listed, quoted
@@ -53,11 +53,12 @@ def _lacks(group: BaliseGroup) -> str:
     if group.km is None:
         return "it has no kilometre: L2 and L9 are not looked for"
     if group.rising is None:
+        differ = ", as the links that name it disagree" if group.links_differ else ""
         return (
-            "its direction along the kilometres is not known: L3 is not looked for, and L2 takes it from the first "
-            "link; write rising or falling in the column nominal"
+            f"its direction along the kilometres is not known{differ}: L3 is not looked for, and L2 takes it from the "
+            "first link; write rising or falling in the column nominal"
         )
-    return ""
+    return BY_LINKS if group.by_links else ""
 
 
 def _not_compared(chain: Chain) -> Iterator[Note]:

@@ -4,11 +4,17 @@ from __future__ import annotations
 from typing import Iterator
 
 from balisekit.rules.line import Line
-from balisekit.rules.remarks import balises_far_apart, fewer_aspects, kilometres_in_metres, names_alike
+from balisekit.rules.remarks import (
+    aspect_spellings,
+    balises_far_apart,
+    fewer_aspects,
+    kilometres_in_metres,
+    names_alike,
+)
 from balisekit.rules.rule import Options
 from balisekit.tables.model import Table
 
-RULES = (fewer_aspects.RULE, balises_far_apart.RULE, names_alike.RULE, kilometres_in_metres.RULE)
+RULES = (fewer_aspects.RULE, aspect_spellings.RULE, balises_far_apart.RULE, names_alike.RULE, kilometres_in_metres.RULE)
 
 
 def remarks(table: Table) -> Iterator[str]:

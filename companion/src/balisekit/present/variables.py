@@ -1,0 +1,62 @@
+"""The variables of a table as CSV and .xlsx, and what `table` says of them."""
+from __future__ import annotations
+
+from typing import Iterator, Union
+
+from balisekit.compare.sheet import COLUMNS, Compared, Difference, Sheet
+from balisekit.io import csv_writing, xlsx_writing
+from balisekit.present.refusals import refused_counts
+from balisekit.rules.checking import Checked
+from balisekit.tables.names import clean, describe_balise, quoted
+
+NUMBERS = ("balise", "raw", "value")
+"""The columns whose numbers are numbers in an .xlsx too."""
+
+
+def csv_pieces(sheet: Sheet) -> Iterator[str]:
+    """The CSV file."""
+    return csv_writing.pieces(COLUMNS, (found.cells for found in sheet.all()))
+
+
+def xlsx_pieces(sheet: Sheet) -> Iterator[bytes]:
+    """The workbook."""
+    rows = ([_cell(*pair) for pair in zip(COLUMNS, found.cells)] for found in sheet.all())
+    return xlsx_writing.pieces("variables", COLUMNS, rows)
+
+
+def _cell(column: str, text: str) -> Union[str, int, float]:
+    if column in NUMBERS and text.lstrip("+-").replace(".", "", 1).isdigit() and text.isascii():
+        return float(text) if "." in text else int(text)
+    return text
+
+
+def difference_words(each: Difference) -> str:
+    """A difference in a line: the row of the sheet, both values, and which variable it is."""
+    if each.place is None:
+        return f"row {each.row}: {clean(each.what)}"
+    row, group, variable, _ = each.place
+    parts = [describe_balise(group, row)]
+    parts += [f"packet {variable.packet}"] if variable.packet else []
+    parts += [variable.element] if variable.element else []
+    unit = f" {variable.unit}" if each.column == "value" and variable.unit else ""
+    found = f"{quoted(each.found)}{unit}" if each.found else "nothing"
+    where = "  ".join([*parts, variable.name])
+    return f"row {each.row}, column {each.column}: expected {quoted(each.expected)}, found {found}: {where}"
+
+
+def last_line(checked: Checked, compared: Compared) -> str:
+    """How many cells differ, and what was compared."""
+    count, path = len(compared.differences), clean(compared.path)
+    parts = [text for text in refused_counts(checked) if not text.startswith("0 ")]
+    parts += [f"{compared.refused} rows of the sheet about them not compared"] if compared.refused else []
+    said = f"differences {count}; compared: {compared.rows - compared.refused} rows of {path}"
+    left = compared.variables - compared.seen
+    said += f"; not in the sheet: {left} of {compared.variables} variables" if left else ""
+    return f"INCOMPLETE: {', '.join(parts)}; {said}" if parts else said
+
+
+def lines(checked: Checked, compared: Compared) -> Iterator[str]:
+    """The comparison in words."""
+    yield from (f"note: {clean(note)}" for note in compared.notes)
+    yield from map(difference_words, compared.differences)
+    yield last_line(checked, compared)

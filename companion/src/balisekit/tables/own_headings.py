@@ -1,0 +1,87 @@
+"""Headings of one's own: a TOML file that names the heading of each column."""
+from __future__ import annotations
+
+import os
+import sys
+from difflib import get_close_matches
+from typing import Any, Dict, Mapping, Optional, Sequence
+
+from balisekit.errors import TableError, faults_of
+from balisekit.io import inputs
+from balisekit.io.optional_packages import needed
+from balisekit.tables.cells import COLUMNS
+from balisekit.tables.headings import ALIKE, Headings
+
+BESIDE = "balisekit.toml"
+"""The file that is read if it is in the folder of the table."""
+COLUMNS_TABLE, EXPECT_TABLE = "columns", "expect"
+SHEET = ("group", "identity", "aspect", "balise", "packet", "element", "variable", "raw", "value", "unit", "km")
+"""The columns of a flat table of variables."""
+KNOWN = {COLUMNS_TABLE: tuple(dict.fromkeys((*COLUMNS, *SHEET))), EXPECT_TABLE: SHEET}
+
+
+def of_table(path: str, named: Optional[str]) -> Headings:
+    """The headings of a table of telegrams: by the file that is named, else by balisekit.toml beside it."""
+    file = named or beside(path)
+    own = _read(file)[COLUMNS_TABLE] if file else {}
+    return Headings(own={name: own[name] for name in COLUMNS if name in own}, source=file, strict=bool(named))
+
+
+def of_sheet(path: str, named: Optional[str], needed_columns: Sequence[str]) -> Headings:
+    """The headings of a sheet of variables: by [expect], else by [columns] where the sheet has these headings."""
+    file = named or beside(path)
+    tables = _read(file) if file else {}
+    of_expect = tables.get(EXPECT_TABLE, {})
+    own = of_expect or tables.get(COLUMNS_TABLE, {})
+    known = {name: own[name] for name in SHEET if name in own}
+    return Headings(SHEET, tuple(needed_columns), known, file, bool(named and of_expect))
+
+
+def beside(path: str) -> str:
+    """The path of balisekit.toml in the folder of this file, or nothing if there is none."""
+    file = os.path.join(os.path.dirname(path), BESIDE)
+    return file if os.path.isfile(file) else ""
+
+
+def _read(path: str) -> Dict[str, Mapping[str, str]]:
+    """The tables of a file. Lines at the top are those of [columns]."""
+    with faults_of(path):
+        form = _parsed(inputs.read(path).content)
+        tables = {name: form.pop(name, {}) for name in (COLUMNS_TABLE, EXPECT_TABLE)}
+        if form and tables[COLUMNS_TABLE]:
+            raise TableError(f"{next(iter(form))} is outside of [columns]: put all headings of the table there")
+        tables[COLUMNS_TABLE] = tables[COLUMNS_TABLE] or form
+        for name, table in tables.items():
+            _look_at(name, table)
+    return tables
+
+
+def _parsed(content: bytes) -> Dict[str, Any]:
+    """The content of a TOML file."""
+    if sys.version_info >= (3, 11):
+        import tomllib
+    else:
+        with needed("tomli", "reading headings of your own"):
+            import tomli as tomllib
+    try:
+        form: Dict[str, Any] = tomllib.loads(content.decode("utf-8-sig"))
+    except (UnicodeDecodeError, tomllib.TOMLDecodeError, RecursionError) as error:
+        raise TableError(f'it is no TOML, with lines such as telegram = "Telegram (hex)": {error}') from error
+    return form
+
+
+def _look_at(table: str, headings: Any) -> None:
+    """Raises TableError for what names no column, and for two columns of one heading."""
+    if not isinstance(headings, dict):
+        raise TableError(f"{table} is no table: write [{table}], and a line for each heading below it")
+    first: Dict[str, str] = {}
+    for name, heading in headings.items():
+        if name not in KNOWN[table]:
+            meant = get_close_matches(name, KNOWN[table], 1, ALIKE)
+            hint = f'did you mean "{meant[0]}"?' if meant else f"the columns are {', '.join(KNOWN[table])}"
+            raise TableError(f"[{table}] names a column {name}, which is none: {hint}")
+        if not isinstance(heading, str) or not heading.strip():
+            raise TableError(f'the heading of {name} is no text: write {name} = "..."')
+        key = " ".join(heading.split()).lower()
+        if first.setdefault(key, name) != name:
+            raise TableError(f'{first[key]} and {name} have one heading, "{heading}"')
