@@ -8,6 +8,7 @@ from itertools import accumulate
 from typing import Optional
 
 from balisekit.cli import options as shared
+from balisekit.cli.selection import check_aspect, check_aspect_of, groups_named, meant
 from balisekit.drawing.group import picture_of, picture_of_message
 from balisekit.drawing.sheet import WIDTH, Picture
 from balisekit.drawing.track import note, track_pictures, tracks_of
@@ -49,7 +50,8 @@ def run(options: argparse.Namespace) -> int:
     if options.track is not None:
         return _track(options, checking.check(program, table, messages, options.by_position))
     if options.group is not None:
-        group = _only(table, options.group, options.aspect)
+        group = groups_named(table, [options.group])
+        check_aspect_of(group.groups[0], options.aspect)
         picture = _group(checking.check(program, group, by_position=options.by_position), options.aspect)
     else:
         picture = _message(checking.check(program, table, _only_message(messages, options.message)))
@@ -111,16 +113,10 @@ def _chosen_track(line: Line, table: Table, name: str) -> str:
     track = known[0] if not name and len(known) == 1 else name
     if track not in known:
         tracks = ", ".join(map(quoted, known)) or "no group has a kilometre"
-        named = quoted(track) if track else "without a name"
+        named = quoted(track) + meant(track, known) if track else "without a name"
         why = f"there is no track {named} with kilometres in {clean(table.path)}: {tracks}"
         raise TableError("; ".join([why, *passed_over(table)]))
     return track
-
-
-def check_aspect(table: Table, aspect: Optional[str]) -> None:
-    """Raises TableError if no group has the aspect that is asked for."""
-    if aspect is not None and not any(known.name == aspect for group in table.groups for known in group.aspects):
-        raise TableError(f"there is no aspect {quoted(aspect)} in {table.path}")
 
 
 def _only_message(messages: Optional[Messages], line: int) -> Messages:
@@ -131,15 +127,3 @@ def _only_message(messages: Optional[Messages], line: int) -> Messages:
         if message.number == line:
             return replace(messages, messages=(message,))
     raise TableError(f"line {line} of {messages.path} has no message")
-
-
-def _only(table: Table, name: str, aspect: Optional[str]) -> Table:
-    """The table with only this group, which has the aspect that is asked for."""
-    group = next((group for group in table.groups if group.name == name), None)
-    if group is None:
-        raise TableError(f"there is no group {quoted(name)} in {table.path}")
-    known = [known.name for known in group.aspects]
-    if aspect is not None and aspect not in known:
-        has = f"its aspects are {', '.join(map(quoted, known))}" if any(known) else "what it sends is for every aspect"
-        raise TableError(f"group {quoted(name)} has no aspect {quoted(aspect)}: {has}")
-    return replace(table, groups=(group,), rows=tuple(row for row in table.rows if row.group == name))

@@ -28,6 +28,8 @@ COMMANDS = {
 }
 """The commands, each a module of this folder, and what their help says."""
 CLOSED = "standard output was closed"
+QUIET = ("show",)
+"""The commands that do not report that their reader has closed the pipe: no verdict is lost."""
 STATUSES = """\
 exit status:
   0  the program says yes to all that was handed in, nothing is open or found, or the command has done what it is
@@ -101,7 +103,7 @@ def main(arguments: Optional[List[str]] = None) -> int:
     """Runs a command line. The answer is the exit status."""
     if _is_closed():
         return _ended(NoAnswer(CLOSED), False, CLOSED)
-    options = argparse.Namespace(debug=False)
+    options = argparse.Namespace(debug=False, command=None)
     try:
         with _process():
             arguments = sys.argv[1:] if arguments is None else arguments
@@ -115,6 +117,8 @@ def main(arguments: Optional[List[str]] = None) -> int:
         return _ended(error, options.debug, *error.lines(), status=error.status)
     except Terminated as error:
         return _ended(error, options.debug, f"ended by {error.signal.name}", status=128 + error.signal)
+    except BrokenPipeError as error:
+        return _ended(error, options.debug, *([] if options.command in QUIET else [CLOSED]))
     except (KeyboardInterrupt, Exception) as error:
         return _ended(error, options.debug, _reason(error))
 
@@ -175,8 +179,6 @@ def _reason(error: BaseException) -> str:
     """Why there is no answer."""
     if isinstance(error, KeyboardInterrupt):
         return "interrupted"
-    if isinstance(error, BrokenPipeError):
-        return CLOSED
     if isinstance(error, MemoryError):
         return "memory"
     if isinstance(error, OSError):
