@@ -16,7 +16,7 @@ from balisekit import __version__
 from balisekit.errors import KitError, NoAnswer, Terminated
 
 if TYPE_CHECKING:
-    from balisekit.io.outputs import Output
+    from balisekit.io.outputs import Placed
 
 COMMANDS = {
     "check": "check the telegrams and groups of a table",
@@ -125,9 +125,10 @@ def main(arguments: Optional[List[str]] = None) -> int:
 
 def _run(options: argparse.Namespace) -> int:
     """Runs the command. Its outputs are moved into place once standard output has taken the text."""
+    from balisekit.io.output_folder import OutputFolder
     from balisekit.io.outputs import Output, check_outputs, placing
 
-    outputs = [value for value in vars(options).values() if isinstance(value, Output)]
+    outputs = [value for value in vars(options).values() if isinstance(value, (Output, OutputFolder))]
     force = getattr(options, "force", False)
     check_outputs(outputs, _inputs(options, outputs), force)
     with placing(outputs, force):
@@ -136,7 +137,7 @@ def _run(options: argparse.Namespace) -> int:
     return status
 
 
-def _inputs(options: argparse.Namespace, outputs: Sequence[Output]) -> List[str]:
+def _inputs(options: argparse.Namespace, outputs: Sequence[Placed]) -> List[str]:
     """The files that the command reads, and the program if an output could replace it."""
     from balisekit.engine import find_program
     from balisekit.io.inputs import InputPath

@@ -1,4 +1,4 @@
-"""Groups and aspects of a table by their names. A name that the table has not is refused with those that resemble it."""
+"""Groups and aspects that options name. A name that the table has not is refused with the names that resemble it."""
 from __future__ import annotations
 
 from dataclasses import replace
