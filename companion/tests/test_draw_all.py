@@ -7,7 +7,7 @@ import signal
 import subprocess
 import sys
 from pathlib import Path
-from typing import Callable, Dict, List, Set
+from typing import Callable, Dict, Iterator, List, Set, Tuple
 
 import link_tables
 import pytest
@@ -15,12 +15,13 @@ from cases_of_program import TOP
 from conftest import Run
 from telegrams import ALONE, MESSAGE, OTHER, SPARE
 
-from balisekit.cli import draw
+from balisekit.cli import draw_all
+from balisekit.drawing.sheet import Picture
 from balisekit.engine.program import Program
 from balisekit.errors import NoAnswer, TableError
 from balisekit.io.output_folder import OutputFolder
 from balisekit.io.outputs import check_outputs, placing
-from balisekit.present.pictures import FileNames
+from balisekit.present.pictures import FileNames, picture_page
 
 pytest.importorskip("jinja2")
 Write = Callable[..., Path]
@@ -160,11 +161,12 @@ def test_what_is_no_new_or_empty_folder(
 
 
 def test_words_that_do_not_belong_together(run: Run, tmp_path: Path) -> None:
-    for words, why in (
+    cases: List[Tuple[List[str], str]] = [
         (["--force"], "--force is not used with --all"),
-        (["--svg", tmp_path / "x.svg"], "--svg is not used with --all"),
+        (["--svg", str(tmp_path / "x.svg")], "--svg is not used with --all"),
         (["--aspect", "gren"], f'there is no aspect "gren" in {LINE} (did you mean "green"?)'),
-    ):
+    ]
+    for words, why in cases:
         assert run("draw", LINE, "--all", tmp_path / "out", *words) == (2, [], [f"balisekit: {why}"])
     assert run("draw", LINE, "--all", tmp_path / "out", "--track")[0] == 2 and not list(tmp_path.iterdir())
 
@@ -201,13 +203,13 @@ def test_a_stream_that_is_full_leaves_no_folder(tmp_path: Path) -> None:
 
 
 def test_a_signal_leaves_nothing(run: Run, tmp_path: Path, monkeypatch: pytest.MonkeyPatch) -> None:
-    page = draw.draw_all.picture_page
+    page = picture_page
 
-    def ended(picture: object) -> object:
+    def ended(picture: Picture) -> Iterator[str]:
         os.kill(os.getpid(), signal.SIGTERM)
-        return page(picture)  # type: ignore[arg-type]
+        return page(picture)
 
-    monkeypatch.setattr(draw.draw_all, "picture_page", ended)
+    monkeypatch.setattr(draw_all, "picture_page", ended)
     assert run("draw", LINE, "--all", tmp_path / "out")[0] == 143 and not list(tmp_path.iterdir())
 
 

@@ -65,7 +65,7 @@ def renumbered(
     def by_content(left: Left) -> Hashable:
         return left.content if left.content and all(count[left.content] == 1 for count in counts) else object()
 
-    pairs, _, _ = paired(*sides, *([by_name, by_place] if named else [by_content]))
+    pairs, _, _ = paired(sides[0], sides[1], *([by_name, by_place] if named else [by_content]))
     found = [Renumbered(was.group, now.group, _renumbered(new, was, now)) for was, now in pairs]
     was_names, now_names = {each.before.name for each in found}, {each.after.name for each in found}
     return (
