@@ -491,42 +491,6 @@ def test_a_reader_that_has_gone(table: Write) -> None:
         assert (done.returncode, done.stderr) == (3, CLOSED)
 
 
-@pytest.mark.parametrize(
-    "words, said",
-    [
-        ("show line.csv", ""),
-        ("show line.csv --bits", ""),
-        ("show", ""),
-        ("draw line.csv --group A", CLOSED),
-        ("links line.csv", CLOSED),
-        ("diff line.csv line.csv", CLOSED),
-        ("report line.csv --html -", CLOSED),
-    ],
-)
-def test_a_reader_that_goes_on_the_way(words: str, said: str, table: Write, tmp_path: Path) -> None:
-    """`show | head` is no error. What others lose is named."""
-    if words.startswith(("draw", "report")):
-        pytest.importorskip("jinja2")
-    rows = [f"G{number},{number},{ALONE}" for number in range(3000)]
-    table("group,km,telegram", f"A,3000,{ALONE}", *rows, name="line.csv")
-    (tmp_path / "input").write_text(f"{ALONE}\n" * 3000, "utf-8")
-    with open(tmp_path / "input", "rb") as lines:
-        with subprocess.Popen(
-            [*STARTED, *words.split()],
-            cwd=tmp_path,
-            stdin=lines,
-            stdout=subprocess.PIPE,
-            stderr=subprocess.PIPE,
-            env={**os.environ, "PYTHONUNBUFFERED": ""},
-        ) as process:
-            assert process.stdout and process.stderr
-            if words.startswith("show"):
-                assert process.stdout.readline()
-            process.stdout.close()
-            assert process.stderr.read().decode() == said
-    assert process.returncode == 3
-
-
 def test_findings_of_one_cause_have_a_heading(run: Run, table: Write, tmp_path: Path) -> None:
     """The two balises of a group with three aspects are exchanged. No line of the program is left out or moved."""
     rows = [
