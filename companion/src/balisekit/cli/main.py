@@ -8,7 +8,7 @@ import shutil
 import signal
 import sys
 import threading
-from contextlib import contextmanager
+from contextlib import contextmanager, nullcontext
 from importlib import import_module
 from typing import TYPE_CHECKING, Any, Iterator, List, Optional, Sequence, TextIO
 
@@ -125,13 +125,15 @@ def main(arguments: Optional[List[str]] = None) -> int:
 
 def _run(options: argparse.Namespace) -> int:
     """Runs the command. Its outputs are moved into place once standard output has taken the text."""
+    from balisekit.cli import console
     from balisekit.io.output_folder import OutputFolder
     from balisekit.io.outputs import Output, check_outputs, placing
 
     outputs = [value for value in vars(options).values() if isinstance(value, (Output, OutputFolder))]
     force = getattr(options, "force", False)
     check_outputs(outputs, _inputs(options, outputs), force)
-    with placing(outputs, force):
+    shows = options.command == "check" and not any(output.is_standard_output for output in outputs)
+    with placing(outputs, force), console.working(options.command) if shows else nullcontext():
         status: int = options.run(options)
         sys.stdout.flush()
     return status
