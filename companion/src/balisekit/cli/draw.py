@@ -1,21 +1,22 @@
-"""`balisekit draw`: a group, a radio message or a whole track as SVG."""
+"""`balisekit draw`: a group, a radio message, a whole track or all of these as SVG."""
 from __future__ import annotations
 
 import argparse
 import sys
 from dataclasses import replace
-from itertools import accumulate
 from typing import Optional
 
-from balisekit.cli import options as shared
-from balisekit.drawing.group import picture_of, picture_of_message
-from balisekit.drawing.sheet import WIDTH, Picture
-from balisekit.drawing.track import note, track_pictures, tracks_of
+from balisekit.cli import draw_all, options as shared
+from balisekit.cli.selection import check_aspect, check_aspect_of, groups_named, meant
+from balisekit.drawing.group import picture_of
+from balisekit.drawing.sheet import Picture
+from balisekit.drawing.track import tracks_of
 from balisekit.errors import TableError
-from balisekit.etcs.places import Identities
-from balisekit.present.pages import pieces
+from balisekit.io.output_folder import OutputFolder
+from balisekit.io.outputs import Output
+from balisekit.present.pictures import message_picture, picture_page, track_page
 from balisekit.present.refusals import not_looked_at, refused
-from balisekit.present.track_text import refused_rows, written
+from balisekit.present.track_text import written
 from balisekit.rules import checking
 from balisekit.rules.checking import Checked
 from balisekit.rules.line import Line
@@ -33,9 +34,11 @@ def add_options(parser: argparse.ArgumentParser) -> None:
     what.add_argument("--message", metavar="LINE", type=int, help="the message in this line of --messages")
     track = "a whole track, in strips of 5 km; without NAME the only one, or the one without a name"
     what.add_argument("--track", nargs="?", const=True, **shared.value("NAME", shared.name, track))
+    text = "every group in each aspect, every track and message, into a folder that is new or empty"
+    what.add_argument("--all", **shared.value("DIR", lambda path: OutputFolder(shared.name(path)), text))
     shared.add(parser, "--aspect", help=f"{shared.ASPECT}; with --group which aspect is drawn alone")
     shared.add(parser, "--tolerance")
-    parser.add_argument("--svg", **shared.output_file("where to write"), default="-")
+    parser.add_argument("--svg", **shared.output_file("where to write; without it standard output"))
     shared.add(parser, "--force")
 
 
@@ -45,15 +48,21 @@ def run(options: argparse.Namespace) -> int:
         shared.refuse_unused(options, "with --message", "aspect", "tolerance", "by_position")
     if options.group is not None:
         shared.refuse_unused(options, "with --group", "messages", "tolerance")
+    if options.all is not None:
+        shared.refuse_unused(options, "with --all", "svg", "force")
+    options.svg = options.svg or Output("-")
     program, table, messages = shared.inputs(options)
-    if options.track is not None:
-        return _track(options, checking.check(program, table, messages, options.by_position))
     if options.group is not None:
-        group = _only(table, options.group, options.aspect)
+        group = groups_named(table, [options.group])
+        check_aspect_of(group.groups[0], options.aspect)
         picture = _group(checking.check(program, group, by_position=options.by_position), options.aspect)
-    else:
+    elif options.message is not None:
         picture = _message(checking.check(program, table, _only_message(messages, options.message)))
-    options.svg.write(pieces("group.svg", ["picture.css"], picture=picture))
+    else:
+        check_aspect(table, options.aspect)
+        checked = checking.check(program, table, messages, options.by_position)
+        return draw_all.run(options, checked) if options.all else _track(options, checked)
+    options.svg.write(picture_page(picture))
     return 0
 
 
@@ -69,12 +78,11 @@ def _message(checked: Checked) -> Picture:
     for item in refused(replace(checked, refused=())):
         raise TableError(str(item))
     message = checked.accepted_messages[0]
-    heading = f"message of {describe_message(message.message)}"
-    here = Identities(checked.table.groups, checked.accepted).here(message.form)
-    findings = [place.finding for place in checked.findings if place.message is not None]
-    picture = picture_of_message(heading, message.form, findings, here.kilometres, titled=True)
+    picture = message_picture(checked, message)
     if picture is None:
-        raise TableError(f"{heading}: it has no authority, gradient or speed profile")
+        raise TableError(
+            f"message of {describe_message(message.message)}: it has no authority, gradient or speed profile"
+        )
     return picture
 
 
@@ -82,20 +90,8 @@ def _track(options: argparse.Namespace, checked: Checked) -> int:
     """Draws a track. What is refused is named, and the rest is drawn."""
     line, table = Line.of(checked), checked.table
     track = _chosen_track(line, table, "" if options.track is True else options.track)
-    check_aspect(table, options.aspect)
     links = compare(line, Options(options.tolerance), [L2])
-    pictures = list(track_pictures(line, links, track, options.aspect))
-    pictures[:0] = [] if checked.whole else [note(refused_rows(checked))]
-    tops = list(accumulate([0, *(picture.height for picture in pictures)]))
-    page = pieces(
-        "track.svg",
-        ["picture.css", "track.css"],
-        title=f"track {clean(track)}" if track else "the track",
-        width=WIDTH,
-        height=tops[-1],
-        pictures=list(zip(tops, pictures)),
-    )
-    options.svg.write(page)
+    options.svg.write(track_page(checked, line, links, track, options.aspect))
     for item in [*refused(checked), *not_looked_at(checked)]:
         print(f"balisekit: {item}", file=sys.stderr)
     lines = [*passed_over(table), *written(line, track, options.aspect, clean(str(options.svg)))]
@@ -111,16 +107,10 @@ def _chosen_track(line: Line, table: Table, name: str) -> str:
     track = known[0] if not name and len(known) == 1 else name
     if track not in known:
         tracks = ", ".join(map(quoted, known)) or "no group has a kilometre"
-        named = quoted(track) if track else "without a name"
+        named = quoted(track) + meant(track, known) if track else "without a name"
         why = f"there is no track {named} with kilometres in {clean(table.path)}: {tracks}"
         raise TableError("; ".join([why, *passed_over(table)]))
     return track
-
-
-def check_aspect(table: Table, aspect: Optional[str]) -> None:
-    """Raises TableError if no group has the aspect that is asked for."""
-    if aspect is not None and not any(known.name == aspect for group in table.groups for known in group.aspects):
-        raise TableError(f"there is no aspect {quoted(aspect)} in {table.path}")
 
 
 def _only_message(messages: Optional[Messages], line: int) -> Messages:
@@ -131,15 +121,3 @@ def _only_message(messages: Optional[Messages], line: int) -> Messages:
         if message.number == line:
             return replace(messages, messages=(message,))
     raise TableError(f"line {line} of {messages.path} has no message")
-
-
-def _only(table: Table, name: str, aspect: Optional[str]) -> Table:
-    """The table with only this group, which has the aspect that is asked for."""
-    group = next((group for group in table.groups if group.name == name), None)
-    if group is None:
-        raise TableError(f"there is no group {quoted(name)} in {table.path}")
-    known = [known.name for known in group.aspects]
-    if aspect is not None and aspect not in known:
-        has = f"its aspects are {', '.join(map(quoted, known))}" if any(known) else "what it sends is for every aspect"
-        raise TableError(f"group {quoted(name)} has no aspect {quoted(aspect)}: {has}")
-    return replace(table, groups=(group,), rows=tuple(row for row in table.rows if row.group == name))

@@ -8,7 +8,7 @@ import shutil
 import signal
 import sys
 import threading
-from contextlib import contextmanager
+from contextlib import contextmanager, nullcontext
 from importlib import import_module
 from typing import TYPE_CHECKING, Any, Iterator, List, Optional, Sequence, TextIO
 
@@ -16,7 +16,7 @@ from balisekit import __version__
 from balisekit.errors import KitError, NoAnswer, Terminated
 
 if TYPE_CHECKING:
-    from balisekit.io.outputs import Output
+    from balisekit.io.outputs import Placed
 
 COMMANDS = {
     "check": "check the telegrams and groups of a table",
@@ -29,6 +29,8 @@ COMMANDS = {
 }
 """The commands, each a module of this folder, and what their help says."""
 CLOSED = "standard output was closed"
+QUIET = ("show",)
+"""The commands that do not report that their reader has closed the pipe: no verdict is lost."""
 STATUSES = """\
 exit status:
   0  the program says yes to all that was handed in, nothing is open or found, or the command has done what it is
@@ -102,7 +104,7 @@ def main(arguments: Optional[List[str]] = None) -> int:
     """Runs a command line. The answer is the exit status."""
     if _is_closed():
         return _ended(NoAnswer(CLOSED), False, CLOSED)
-    options = argparse.Namespace(debug=False)
+    options = argparse.Namespace(debug=False, command=None)
     try:
         with _process():
             arguments = sys.argv[1:] if arguments is None else arguments
@@ -116,24 +118,29 @@ def main(arguments: Optional[List[str]] = None) -> int:
         return _ended(error, options.debug, *error.lines(), status=error.status)
     except Terminated as error:
         return _ended(error, options.debug, f"ended by {error.signal.name}", status=128 + error.signal)
+    except BrokenPipeError as error:
+        return _ended(error, options.debug, *([] if options.command in QUIET else [CLOSED]))
     except (KeyboardInterrupt, Exception) as error:
         return _ended(error, options.debug, _reason(error))
 
 
 def _run(options: argparse.Namespace) -> int:
     """Runs the command. Its outputs are moved into place once standard output has taken the text."""
+    from balisekit.cli import console
+    from balisekit.io.output_folder import OutputFolder
     from balisekit.io.outputs import Output, check_outputs, placing
 
-    outputs = [value for value in vars(options).values() if isinstance(value, Output)]
+    outputs = [value for value in vars(options).values() if isinstance(value, (Output, OutputFolder))]
     force = getattr(options, "force", False)
     check_outputs(outputs, _inputs(options, outputs), force)
-    with placing(outputs, force):
+    shows = options.command == "check" and not any(output.is_standard_output for output in outputs)
+    with placing(outputs, force), console.working(options.command) if shows else nullcontext():
         status: int = options.run(options)
         sys.stdout.flush()
     return status
 
 
-def _inputs(options: argparse.Namespace, outputs: Sequence[Output]) -> List[str]:
+def _inputs(options: argparse.Namespace, outputs: Sequence[Placed]) -> List[str]:
     """The files that the command reads, and the program if an output could replace it."""
     from balisekit.engine import find_program
     from balisekit.io.inputs import InputPath
@@ -178,8 +185,6 @@ def _reason(error: BaseException) -> str:
     """Why there is no answer."""
     if isinstance(error, KeyboardInterrupt):
         return "interrupted"
-    if isinstance(error, BrokenPipeError):
-        return CLOSED
     if isinstance(error, MemoryError):
         return "memory"
     if isinstance(error, OSError):

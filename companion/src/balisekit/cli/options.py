@@ -8,6 +8,7 @@ from datetime import datetime
 from decimal import Decimal
 from typing import Any, Callable, Dict, Iterable, Optional, Tuple
 
+from balisekit.cli import console
 from balisekit.engine.program import Program
 from balisekit.errors import TableError
 from balisekit.io.inputs import InputPath
@@ -129,5 +130,6 @@ def judged(options: argparse.Namespace, now: datetime) -> Tuple[checking.Checked
 def say(lines: Iterable[str], *outputs: Optional[Output]) -> None:
     """Writes the answer in words: to standard error if one of these outputs is standard output."""
     out = sys.stderr if any(output and output.is_standard_output for output in outputs) else sys.stdout
+    write = console.writer(out)
     for line in lines:
-        print(line, file=out)
+        write(line)

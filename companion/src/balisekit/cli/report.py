@@ -4,7 +4,7 @@ from __future__ import annotations
 import argparse
 
 from balisekit.cli import options as shared
-from balisekit.cli.draw import check_aspect
+from balisekit.cli.selection import check_aspect
 from balisekit.drawing.track import track_pictures, tracks_of
 from balisekit.io import clock
 from balisekit.present.check_text import closing_lines

@@ -7,6 +7,7 @@ from collections import Counter, deque
 from typing import Callable, Deque, Dict, Generator, Iterable, Iterator, List, Mapping, Optional, Sequence, Tuple, Union
 
 from balisekit.cli import options as shared
+from balisekit.cli.selection import groups_named
 from balisekit.engine.grammar import Refusal
 from balisekit.engine.program import Program, Record
 from balisekit.errors import TableError
@@ -31,6 +32,8 @@ def add_options(parser: argparse.ArgumentParser) -> None:
     text = f"{shared.TABLE}; without it and --messages, telegrams of standard input, one a line"
     shared.add(parser, "table", help=text, nargs="?")
     shared.add(parser, *shared.INPUTS[1:])
+    text = "only the telegrams of this group; it can be given several times"
+    parser.add_argument("--group", action="append", **shared.value("NAME", shared.name, text))
     parser.add_argument("--bits", **shared.flag("show each field with its bit places"))
     shared.add(parser, "--all")
 
@@ -38,7 +41,9 @@ def add_options(parser: argparse.ArgumentParser) -> None:
 def run(options: argparse.Namespace) -> int:
     """Does it. The answer is the exit status."""
     if options.table is None:
-        shared.refuse_unused(options, "without TABLE", "sheet", "columns", "fill_merged", "by_position")
+        shared.refuse_unused(options, "without TABLE", "sheet", "columns", "fill_merged", "by_position", "group")
+    if options.group:
+        shared.refuse_unused(options, "with --group", "messages")
     shown = _Shown(options)
     for lines in shown.blocks():
         print("\n".join(lines), end="\n\n", flush=options.table is None)
@@ -74,6 +79,7 @@ class _Shown:
         options = self.options
         if options.table is not None:
             program, table, messages = shared.inputs(options)
+            table = groups_named(table, options.group) if options.group else table
             groups = Identities(table.groups, (yield from self._table(program, table)))
         else:
             messages = messages_file.read(options.messages) if options.messages else None

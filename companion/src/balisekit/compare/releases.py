@@ -5,74 +5,27 @@ Groups are paired by their identity, telegrams by aspect and position. So the or
 from __future__ import annotations
 
 import hashlib
-from collections import Counter, deque
-from collections.abc import Callable, Hashable, Iterable, Iterator, Mapping, Sequence
+from collections import Counter
+from collections.abc import Callable, Hashable, Iterator, Mapping, Sequence
 from dataclasses import dataclass, field, replace
-from typing import Deque, Dict, List, NamedTuple, Optional, Tuple, TypeVar
+from typing import Dict, List, NamedTuple, Optional, Set, Tuple
 
+from balisekit.compare.moves import Exchanged, Renumbered, exchanged, renumbered
+from balisekit.compare.sides import Known, Pairs, Sent, Side, paired
 from balisekit.etcs.differences import Change, differences
 from balisekit.engine.program import Record
 from balisekit.etcs.variables import Form
 from balisekit.rules.checking import Checked, Place, report_on
-from balisekit.rules.passages import RECORD
 from balisekit.tables.grouping import EVERY
 from balisekit.tables.model import Group, Message, Row, Table
-from balisekit.tables.names import clean, describe_identity, describe_message, quoted
+from balisekit.tables.names import clean, describe_message
 
-Thing = TypeVar("Thing")
-Pairs = List[Tuple[Thing, Thing]]
-Known = Tuple[Hashable, Group]
-Sent = Tuple[int, str, Record]
-"""A telegram or message: its row or line, its digits, and what the program has decoded."""
 BY_ORDER = (3, 14, 15, 16)
 """The rules whose findings depend on the order of groups or aspects: one is compared with an earlier one."""
 OTHER_ORDER = (
     "F3, F14, F15 and F16 depend on which group or aspect comes first: the new release was checked for them in the "
     "order of the old release, with what is added last"
 )
-
-
-@dataclass(frozen=True)
-class Side:
-    """One of the two releases. The program decodes only the telegrams that are needed, many at a time."""
-
-    checked: Checked
-    records: Dict[int, Record] = field(default_factory=dict)
-    """The telegrams that have been needed, by their rows."""
-
-    def decode(self, rows: Iterable[Row]) -> None:
-        """Has the program decode those of these telegrams that can be read."""
-        accepted = self.checked.accepted
-        numbers = {row.number for row in rows if row.number in accepted and row.number not in self.records}
-        self.records.update((row.number, record) for row, record in accepted.decoded(sorted(numbers)))
-
-    def sent(self, row: Row) -> Sent:
-        """A telegram that has been decoded."""
-        return row.number, row.telegram, self.records[row.number]
-
-    def head(self, row: Row) -> Tuple[int, ...]:
-        """N_PIG, NID_BG and NID_C of a telegram."""
-        _, n_pig, nid_bg, _, nid_c, _ = RECORD.findall(self.records[row.number].line)[0]
-        return int(n_pig), int(nid_bg), int(nid_c)
-
-    def first(self, group: Group) -> Optional[Row]:
-        """The first telegram of a group that could be read. It has the identity of the group."""
-        return next((row for row in group.rows() if row.number in self.checked.accepted), None)
-
-    def known(self) -> List[Known]:
-        """The groups whose identity is known, behind NID_BG and NID_C."""
-        groups = [(self.first(group), group) for group in self.checked.table.groups]
-        self.decode(row for row, _ in groups if row)
-        return [(self.head(row)[1:], group) for row, group in groups if row]
-
-    def describe(self, group: Group, aspect: str = "", row: Optional[Row] = None) -> str:
-        """A group, an aspect or a balise by its names."""
-        first = self.first(group)
-        named = f"  ({describe_identity((self.head(first)[2], self.head(first)[1]))})" if first else ""
-        parts = [clean(group.name) + named]
-        parts += ["every aspect"] if aspect == EVERY else [f"aspect {quoted(aspect)}"] if aspect else []
-        parts += [f"position {self.head(row)[0]}" + (f" {quoted(row.name)}" if row.name else "")] if row else []
-        return "  ".join(parts)
 
 
 @dataclass(frozen=True)
@@ -97,6 +50,9 @@ class Difference:
     added: List[str] = field(default_factory=list)
     """Telegrams of groups that are in both, and messages, which the new release alone has."""
     removed: List[str] = field(default_factory=list)
+    groups_renumbered: List[Renumbered] = field(default_factory=list)
+    exchanged: List[Exchanged] = field(default_factory=list)
+    """Telegrams that changed places. They are neither changed nor unchanged."""
     changed: List[Changed] = field(default_factory=list)
     respelled: List[Changed] = field(default_factory=list)
     same: List[str] = field(default_factory=list)
@@ -124,8 +80,9 @@ class Difference:
     @property
     def status(self) -> int:
         """2 if anything was refused, 1 if anything differs, else 0."""
-        differs = self.groups_added or self.groups_removed or self.added or self.removed or self.changed
-        return 2 if not self.whole else int(bool(differs or self.respelled or self.findings_new or self.findings_gone))
+        groups = self.groups_added or self.groups_removed or self.groups_renumbered
+        telegrams = self.added or self.removed or self.changed or self.respelled or self.exchanged
+        return 2 if not self.whole else int(bool(groups or telegrams or self.findings_new or self.findings_gone))
 
     def compare(self, words: str, old: Sent, new: Sent) -> None:
         """Compares two telegrams or messages: their texts, and their fields if the texts differ."""
@@ -151,10 +108,13 @@ def compare(old: Checked, new: Checked, named: bool = True) -> Difference:
     """What differs between two releases. There are notes on names and kilometres if both have some of their own."""
     answer, differing = Difference(Side(old), Side(new)), []
     pairs, removed, added = _paired_groups(answer.old, answer.new, named)
+    answer.groups_renumbered, removed, added = renumbered(answer.old, answer.new, removed, added, named)
     answer.groups_removed += map(answer.old.describe, removed)
     answer.groups_added += map(answer.new.describe, added)
+    others = [(each.before, each.after) for each in answer.groups_renumbered]
+    for before, after in [*pairs, *others] if named else []:
+        answer.notes += _renamed(answer.new, before, after)
     for before, after in pairs:
-        answer.notes += _renamed(answer.new, before, after) if named else []
         content = _content(answer.old, before)
         if content is not None and content == _content(answer.new, after):
             answer.same += {row.number: row.telegram.lower() for row in after.rows()}.values()
@@ -162,33 +122,13 @@ def compare(old: Checked, new: Checked, named: bool = True) -> Difference:
             differing.append((before, after))
     for which, side in enumerate((answer.old, answer.new)):
         side.decode(row for pair in differing for row in pair[which].rows())
+    answer.exchanged = exchanged(answer.old, answer.new, differing)
+    moved = [{rows[which] for each in answer.exchanged for rows in each.rows} for which in (0, 1)]
     for before, after in differing:
-        _compare_group(answer, before, after)
+        _compare_group(answer, before, after, moved)
     _compare_messages(answer)
-    _compare_findings(answer, pairs)
+    _compare_findings(answer, [*pairs, *others])
     return answer
-
-
-def _paired(
-    old: Iterable[Thing], new: Iterable[Thing], *keys: Callable[[Thing], Hashable]
-) -> Tuple[Pairs[Thing], List[Thing], List[Thing]]:
-    """Things of one key in their order, old ones that are left, and new ones. Each key pairs what is left before it."""
-    pairs: List[Tuple[int, Thing, Thing]] = []
-    gone, come = list(old), list(enumerate(new))
-    for key in keys:
-        waiting: Dict[Hashable, Deque[Thing]] = {}
-        for thing in gone:
-            waiting.setdefault(key(thing), deque()).append(thing)
-        left = []
-        for place, thing in come:
-            others = waiting.get(key(thing))
-            if others:
-                pairs.append((place, others.popleft(), thing))
-            else:
-                left.append((place, thing))
-        come, gone = left, [thing for things in waiting.values() for thing in things]
-    pairs.sort(key=lambda pair: pair[0])
-    return [(before, after) for _, before, after in pairs], gone, [thing for _, thing in come]
 
 
 def _paired_groups(old: Side, new: Side, named: bool) -> Tuple[Pairs[Group], List[Group], List[Group]]:
@@ -198,7 +138,7 @@ def _paired_groups(old: Side, new: Side, named: bool) -> Tuple[Pairs[Group], Lis
         lambda known: (known[0], tuple(row.telegram for row in known[1].rows())),
         lambda known: known[0],
     ]
-    pairs, gone, come = _paired(old.known(), new.known(), *keys[not named :])
+    pairs, gone, come = paired(old.known(), new.known(), *keys[not named :])
     groups = [(before, after) for (_, before), (_, after) in pairs]
     return groups, [group for _, group in gone], [group for _, group in come]
 
@@ -212,10 +152,11 @@ class Placed(NamedTuple):
     row: Row
 
 
-def _placed(side: Side, group: Group) -> Iterator[Placed]:
+def _placed(side: Side, group: Group, moved: Set[int]) -> Iterator[Placed]:
+    """The telegrams of a group, without those that were exchanged."""
     for aspect in group.aspects:
         for place, row in enumerate(aspect.rows):
-            if row.number in side.checked.accepted:
+            if row.number in side.checked.accepted and row.number not in moved:
                 yield Placed(aspect.name, side.head(row)[0], place, row)
 
 
@@ -226,12 +167,12 @@ def _content(side: Side, group: Group) -> Optional[Sequence[object]]:
     return [(aspect.name, [(row.telegram, row.aspect == EVERY) for row in aspect.rows]) for aspect in group.aspects]
 
 
-def _compare_group(answer: Difference, before: Group, after: Group) -> None:
+def _compare_group(answer: Difference, before: Group, after: Group, moved: Sequence[Set[int]]) -> None:
     """Compares the telegrams of two groups by aspect and position; those that are left by aspect and place."""
     old, new = answer.old, answer.new
-    pairs, gone, come = _paired(
-        _placed(old, before),
-        _placed(new, after),
+    pairs, gone, come = paired(
+        _placed(old, before, moved[0]),
+        _placed(new, after, moved[1]),
         lambda placed: (placed.aspect, placed.position),
         lambda placed: (placed.aspect, placed.place),
     )
@@ -239,8 +180,8 @@ def _compare_group(answer: Difference, before: Group, after: Group) -> None:
     for _, (was, now) in sorted(known.items(), key=lambda item: item[0]):
         answer.compare(new.describe(after, now.aspect, now), old.sent(was), new.sent(now))
     for side, group, left, which, into in ((new, after, come, 1, answer.added), (old, before, gone, 0, answer.removed)):
-        paired = {numbers[which] for numbers in known}
-        rows = {placed.row.number: placed.row for placed in left if placed.row.number not in paired}
+        both = {numbers[which] for numbers in known}
+        rows = {placed.row.number: placed.row for placed in left if placed.row.number not in both}
         into += [f"{side.describe(group, row.aspect, row)}  row {row.number}" for row in rows.values()]
 
 
@@ -257,7 +198,7 @@ def _renamed(new: Side, before: Group, after: Group) -> Iterator[str]:
 def _compare_messages(answer: Difference) -> None:
     """Compares the messages by their names, and those without one by their order."""
     old, new = (side.checked.accepted_messages for side in (answer.old, answer.new))
-    pairs, gone, come = _paired(old, new, lambda accepted: accepted.message.name)
+    pairs, gone, come = paired(old, new, lambda accepted: accepted.message.name)
     for pair in pairs:
         was, now = ((accepted.message.number, accepted.message.text, accepted.record) for accepted in pair)
         answer.compare(_message(pair[1].message), was, now)

@@ -7,7 +7,7 @@ from __future__ import annotations
 from dataclasses import dataclass
 from functools import lru_cache
 from itertools import count, zip_longest
-from typing import Callable, List, Mapping, Optional, Sequence
+from typing import Callable, Dict, Iterator, List, Mapping, Optional, Sequence, Tuple
 
 from balisekit.drawing.profiles import (
     Sizes,
@@ -19,12 +19,12 @@ from balisekit.drawing.profiles import (
     short_profiles,
     speed_top,
 )
-from balisekit.drawing.sheet import BOLD_LETTER, LEFT, LETTER, WIDTH, Lane, Picture, Sheet, tenths
+from balisekit.drawing.sheet import BOLD_LETTER, LEFT, LETTER, WIDTH, Lane, Picture, Shape, Sheet, tenths
 from balisekit.engine.grammar import Finding
 from balisekit.etcs.geometry import DIRECTIONS, NOMINAL, REVERSE, Authority, Kilometres, Way, infill, kilometres, way
 from balisekit.etcs.variables import Around, Form, metres, value_words
-from balisekit.tables.model import Group
-from balisekit.tables.names import clean, quoted
+from balisekit.tables.model import Aspect, Group
+from balisekit.tables.names import NAMED, clean, listed, quoted
 
 PROFILES = ((27, "speed, km/h", 58), (21, "gradient, ‰", 20))
 """The lanes of profiles: packet, name and height."""
@@ -57,9 +57,32 @@ def picture_of(
     contents: List[Content] = []
     for index, aspect in enumerate(group.aspects):
         if only in (None, aspect.name):
-            title = f"aspect {quoted(aspect.name)}" if aspect.name else "in every aspect"
-            contents += _contents(title, [forms[row.number] for row in aspect.rows], short_profiles(findings, index))
+            contents += _aspect(aspect, [aspect.name], forms, short_profiles(findings, index))
     return draw(group.name, contents, kilometres(group), titled)
+
+
+def pictures_of(
+    group: Group, forms: Mapping[int, Form], findings: Sequence[Finding]
+) -> Iterator[Tuple[Sequence[str], Picture]]:
+    """A titled picture for each aspect, with its name. Aspects whose pictures differ only in headings share one."""
+    pictures: List[Picture] = []
+    alike: Dict[Tuple[Shape, ...], List[int]] = {}
+    for index, aspect in enumerate(group.aspects):
+        pictures.append(picture_of(group, forms, findings, True, aspect.name))
+        shapes = tuple(shape for shape in pictures[-1].shapes if shape.style != "head")
+        alike.setdefault(shapes, []).append(index)
+    for first, *others in alike.values():
+        names = [group.aspects[index].name for index in (first, *others)]
+        if others:
+            contents = _aspect(group.aspects[first], names, forms, short_profiles(findings, first))
+            pictures[first] = draw(group.name, contents, kilometres(group), True)
+        yield names, pictures[first]
+
+
+def _aspect(aspect: Aspect, names: Sequence[str], forms: Mapping[int, Form], short: Sequence[Finding]) -> List[Content]:
+    """The rows of the picture for an aspect, under these names of aspects that are alike."""
+    many = f"aspect{'s' * (len(names) > 1)} {listed(list(map(quoted, names)), NAMED)}"
+    return _contents(many if names[0] else "in every aspect", [forms[row.number] for row in aspect.rows], short)
 
 
 def picture_of_message(

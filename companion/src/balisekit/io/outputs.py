@@ -9,7 +9,7 @@ import stat
 import sys
 from contextlib import contextmanager
 from tempfile import SpooledTemporaryFile
-from typing import Iterable, Iterator, List, Mapping, Optional, Sequence, Union
+from typing import Iterable, Iterator, List, Mapping, Optional, Protocol, Sequence, Union
 
 from balisekit.errors import NoAnswer, TableError
 
@@ -17,6 +17,26 @@ INPUT = "it is an input: an output never replaces one"
 IN_MEMORY = 1 << 24
 """The bytes for standard output that are kept in memory until they are complete. More of them are in a file."""
 NO_FILE = "no file can be written there: it is a folder, a device, a pipe or a loop of links"
+
+
+class Placed(Protocol):
+    """A file or folder that an option names."""
+
+    path: str
+    target: str
+
+    @property
+    def is_standard_output(self) -> bool:
+        """Whether the option has `-`."""
+
+    def check(self, inputs: Sequence[str], force: bool) -> None:
+        """Raises TableError or NoAnswer if it must not or cannot be written."""
+
+    def place(self, force: bool) -> None:
+        """Moves what was written to its path."""
+
+    def discard(self) -> None:
+        """Removes what was written."""
 
 
 class Output:
@@ -50,7 +70,7 @@ class Output:
             self._check_folder()
         elif existing is None or not stat.S_ISREG(existing.st_mode):
             raise NoAnswer(f"{self.path}: {NO_FILE}")
-        elif _is_one_of(existing, inputs):
+        elif is_one_of(existing, inputs):
             raise TableError(f"{self.path}: {INPUT}")
         elif self.always_new:
             raise TableError(f"{self.path}: it exists already: name a new file, so that no entry is lost")
@@ -79,10 +99,9 @@ class Output:
 
     def write(self, pieces: Iterable[Union[str, bytes]]) -> None:
         """Writes the content: to standard output once it is complete, and to the path once `place` is called."""
-        encoded = (piece if isinstance(piece, bytes) else piece.encode("utf-8", "backslashreplace") for piece in pieces)
         if self.is_standard_output:
             with SpooledTemporaryFile(IN_MEMORY) as content:
-                content.writelines(encoded)
+                content.writelines(encoded(pieces))
                 content.seek(0)
                 sys.stdout.flush()
                 shutil.copyfileobj(content, sys.stdout.buffer)
@@ -92,7 +111,7 @@ class Output:
         mode = os.stat(self.target).st_mode & 0o777 if os.path.exists(self.target) else 0o666
         try:
             with open(self._temporary, "xb", opener=lambda name, flags: os.open(name, flags, mode)) as file:
-                file.writelines(encoded)
+                file.writelines(encoded(pieces))
         except OSError as error:
             raise NoAnswer(f"{self.path}: {error.strerror or error}") from error
 
@@ -134,17 +153,23 @@ def _is_mounted(path: str) -> bool:
         return False
 
 
-def _is_one_of(existing: os.stat_result, inputs: Sequence[str]) -> bool:
+def encoded(pieces: Iterable[Union[str, bytes]]) -> Iterator[bytes]:
+    """A text as the bytes of a file."""
+    return (piece if isinstance(piece, bytes) else piece.encode("utf-8", "backslashreplace") for piece in pieces)
+
+
+def is_one_of(existing: os.stat_result, inputs: Sequence[str]) -> bool:
+    """Whether a file is one of these."""
     return any(os.path.samestat(existing, os.stat(path)) for path in inputs if os.path.exists(path))
 
 
-def check_outputs(outputs: Sequence[Output], inputs: Sequence[str], force: bool) -> None:
+def check_outputs(outputs: Sequence[Placed], inputs: Sequence[str], force: bool) -> None:
     """Raises TableError or NoAnswer before anything is read if one of these files must not or cannot be written."""
     try:
         standard_output: Optional[os.stat_result] = os.fstat(sys.stdout.fileno())
     except (OSError, ValueError):  # a caller in Python may have another stream
         standard_output = None
-    if standard_output and stat.S_ISREG(standard_output.st_mode) and _is_one_of(standard_output, inputs):
+    if standard_output and stat.S_ISREG(standard_output.st_mode) and is_one_of(standard_output, inputs):
         raise TableError(f"standard output: {INPUT}")
     targets: List[str] = []
     for output in outputs:
@@ -156,7 +181,7 @@ def check_outputs(outputs: Sequence[Output], inputs: Sequence[str], force: bool)
 
 
 @contextmanager
-def placing(outputs: Sequence[Output], force: bool) -> Iterator[None]:
+def placing(outputs: Sequence[Placed], force: bool) -> Iterator[None]:
     """Moves all files to their paths at the end. If the block fails none is moved; a failed move removes new files."""
     try:
         yield

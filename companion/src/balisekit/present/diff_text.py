@@ -4,6 +4,7 @@ from __future__ import annotations
 from datetime import datetime
 from typing import Any, Dict, Iterator, Sequence
 
+from balisekit.compare.moves import Exchanged, Renumbered
 from balisekit.compare.releases import Changed, Difference
 from balisekit.io import clock
 from balisekit.present import NOT_PROVED
@@ -30,6 +31,8 @@ def lines(found: Difference) -> Iterator[str]:
         "added": found.added,
     }
     yield from (f"{title}: {words}" for title, telegrams in lists.items() for words in telegrams)
+    yield from (f"group renumbered: {each.words}" for each in found.groups_renumbered)
+    yield from (f"exchanged: {each.words}" for each in found.exchanged)
     for changed in found.changed:
         yield f"changed: {where(changed)}"
         yield from (f"    {change}" for change in changed.changes)
@@ -54,10 +57,13 @@ def not_compared(found: Difference) -> Iterator[str]:
 
 def last_line(found: Difference) -> str:
     """How much differs, and whether all could be compared."""
+    count, moved = len(found.groups_renumbered), sum(len(each.rows) for each in found.exchanged)
     parts = [
-        f"groups added {len(found.groups_added)}, removed {len(found.groups_removed)}",
+        f"groups added {len(found.groups_added)}, removed {len(found.groups_removed)}"
+        + (f", renumbered {count}" if count else ""),
         f"telegrams and messages added {len(found.added)}, removed {len(found.removed)}, "
-        f"changed {len(found.changed)}, in fill or case alone {len(found.respelled)}",
+        f"changed {len(found.changed)}, in fill or case alone {len(found.respelled)}"
+        + (f", exchanged {moved}" if moved else ""),
         f"findings new {len(found.findings_new)}, gone {len(found.findings_gone)}",
     ]
     return ("" if found.whole else "INCOMPLETE: what was refused is not compared; ") + "; ".join(parts)
@@ -75,8 +81,10 @@ def as_json(found: Difference) -> Dict[str, Any]:
         "refused": not_compared(found),
         "groups_added": found.groups_added,
         "groups_removed": found.groups_removed,
+        "groups_renumbered": (_renumbered_json(each) for each in found.groups_renumbered),
         "added": found.added,
         "removed": found.removed,
+        "exchanged": (_exchanged_json(each) for each in found.exchanged),
         "changed": map(_changed_json, found.changed),
         "in_fill_or_case_alone": map(_changed_json, found.respelled),
         "unchanged": {"count": found.unchanged, "sha256": found.sha256},
@@ -88,6 +96,15 @@ def as_json(found: Difference) -> Dict[str, Any]:
 def _side_json(checked: Checked) -> Dict[str, Any]:
     verdict = checked.verdict.line if checked.verdict and checked.whole else None
     return {"path": checked.table.path, "sha256": checked.table.sha256, "verdict": verdict}
+
+
+def _renumbered_json(each: Renumbered) -> Dict[str, Any]:
+    rows = [sorted({row.number for row in group.rows()}) for group in (each.before, each.after)]
+    return {"words": each.words, "rows_old": rows[0], "rows_new": rows[1]}
+
+
+def _exchanged_json(each: Exchanged) -> Dict[str, Any]:
+    return {"words": each.words, "telegrams": [{"row_old": was, "row_new": now} for was, now in each.rows]}
 
 
 def _changed_json(changed: Changed) -> Dict[str, Any]:

@@ -4,6 +4,7 @@ from __future__ import annotations
 import base64
 import hashlib
 import json
+from functools import lru_cache
 from itertools import groupby
 from pathlib import Path
 from typing import Any, Iterator, List, Sequence, Tuple
@@ -19,22 +20,30 @@ TEMPLATES = Path(__file__).with_name("templates")
 def pieces(template: str, styles: Sequence[str], **values: Any) -> Iterator[str]:
     """The page in pieces, so that it never stands in memory whole. All values but its style sheets are escaped."""
     with needed("jinja2", "a picture or a page"):
-        from jinja2 import Environment, FileSystemLoader, StrictUndefined
+        import jinja2
         from markupsafe import Markup
 
-        from balisekit.drawing.svg import svg
-    environment = Environment(
-        loader=FileSystemLoader(str(TEMPLATES)),
-        autoescape=True,
-        undefined=StrictUndefined,
-        trim_blocks=True,
-        lstrip_blocks=True,
-    )
-    environment.filters.update(svg=svg, clean=clean)
+        environment = _environment(jinja2)
     style = "".join((TEMPLATES / name).read_text("utf-8") for name in styles)
     page = environment.get_template(template).stream(style=Markup(style), style_hash=_hash(style), **values)
     page.enable_buffering(PIECES)
     yield from page
+
+
+@lru_cache(maxsize=None)
+def _environment(jinja2: Any) -> Any:
+    """The templates. Each is compiled once, since a folder may have thousands of pictures."""
+    from balisekit.drawing.svg import svg
+
+    environment = jinja2.Environment(
+        loader=jinja2.FileSystemLoader(str(TEMPLATES)),
+        autoescape=True,
+        undefined=jinja2.StrictUndefined,
+        trim_blocks=True,
+        lstrip_blocks=True,
+    )
+    environment.filters.update(svg=svg, clean=clean)
+    return environment
 
 
 def _hash(style: str) -> str:

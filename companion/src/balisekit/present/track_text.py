@@ -8,6 +8,7 @@ from balisekit.rules.checking import Checked
 from balisekit.rules.line import Line
 from balisekit.tables.names import clean, listed, quoted
 
+MARK_ALONE = "a mark alone"
 NAMED = 5
 """So many groups, rows or lines are named."""
 
@@ -20,7 +21,7 @@ def written(line: Line, track: str, aspect: Optional[str], where: str) -> Iterat
             why = "left out, no kilometre" if station.km is None else "left out, on another track"
         else:
             reason = undrawn(station, aspect)
-            why = f"a mark alone, {reason}" if reason else ""
+            why = f"{MARK_ALONE}, {reason}" if reason else ""
         reasons.setdefault(why, []).append(clean(station.group.name))
     shown = "the first aspect of each" if aspect is None else f"aspect {quoted(aspect)}"
     of_track, groups = f"track {quoted(track)}" if track else "the track", len(line.along[track])

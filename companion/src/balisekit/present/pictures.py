@@ -1,0 +1,68 @@
+"""Pictures as files of SVG: their pages, and their names."""
+from __future__ import annotations
+
+import re
+from collections import Counter
+from itertools import accumulate
+from typing import Iterator, Optional, Set
+from unicodedata import normalize
+
+from balisekit.drawing.group import picture_of_message
+from balisekit.drawing.sheet import WIDTH, Picture
+from balisekit.drawing.track import note, track_pictures
+from balisekit.etcs.places import Identities
+from balisekit.present.pages import pieces
+from balisekit.present.track_text import refused_rows
+from balisekit.rules.checking import AcceptedMessage, Checked
+from balisekit.rules.line import Line
+from balisekit.rules.links import Links
+from balisekit.tables.names import clean, describe_message
+
+GREATEST_NAME = 50
+"""So many characters of a file's name are taken from the table."""
+
+
+def picture_page(picture: Picture) -> Iterator[str]:
+    """The picture of a group or message."""
+    return pieces("group.svg", ["picture.css"], picture=picture)
+
+
+def track_page(checked: Checked, line: Line, links: Links, track: str, aspect: Optional[str]) -> Iterator[str]:
+    """The pictures of a track below each other, after a note on what was refused."""
+    pictures = list(track_pictures(line, links, track, aspect))
+    pictures[:0] = [] if checked.whole else [note(refused_rows(checked))]
+    tops = list(accumulate([0, *(picture.height for picture in pictures)]))
+    return pieces(
+        "track.svg",
+        ["picture.css", "track.css"],
+        title=f"track {clean(track)}" if track else "the track",
+        width=WIDTH,
+        height=tops[-1],
+        pictures=list(zip(tops, pictures)),
+    )
+
+
+def message_picture(checked: Checked, message: AcceptedMessage) -> Optional[Picture]:
+    """The picture of a message, if it has an authority or a profile."""
+    here = Identities(checked.table.groups, checked.accepted).here(message.form)
+    findings = [place.finding for place in checked.findings if place.message == message.message]
+    heading = f"message of {describe_message(message.message)}"
+    return picture_of_message(heading, message.form, findings, here.kilometres, titled=True)
+
+
+class FileNames:
+    """Names of files that are made of names of a table. They are safe and unique on each usual system of files."""
+
+    def __init__(self) -> None:
+        self._taken: Set[str] = set()
+        self._numbers: "Counter[str]" = Counter()
+
+    def svg(self, *parts: str) -> str:
+        """A name of these parts, with letters, digits, `_` and `-`, and with a number if another file has it."""
+        words = [re.sub(r"\W+", "-", normalize("NFC", part)).strip("-") for part in parts]
+        stem = name = "-".join(filter(None, words))[:GREATEST_NAME].rstrip("-")
+        while name.casefold() in self._taken:
+            self._numbers[stem.casefold()] += 1
+            name = f"{stem}-{self._numbers[stem.casefold()] + 1}"
+        self._taken.add(name.casefold())
+        return f"{name}.svg"

@@ -1,0 +1,95 @@
+"""A terminal gets colours and a sign of life. A pipe or file gets the plain lines."""
+from __future__ import annotations
+
+import os
+import pty
+import re
+import subprocess
+import sys
+from pathlib import Path
+from typing import Any, Dict, List, Tuple
+
+import pytest
+from cases_of_program import TOP
+
+from balisekit.cli import console
+from balisekit.engine.program import Program
+
+LINE = "examples/table/line.csv"
+STARTED = [sys.executable, "-m", "balisekit"]
+KNOWN = {**os.environ, "PYTHONPATH": str(TOP / "companion" / "src"), "TERM": "xterm", "NO_COLOR": ""}
+CODES = re.compile("\x1b\\[[0-9;]*[mK]")
+
+
+def _on_terminal(words: List[str], more: Dict[str, str], *streams: str) -> Tuple[int, str, str]:
+    """The status, what the terminal shows, and what other streams get. `streams` are those of the terminal."""
+    ours, theirs = pty.openpty()
+    chosen = {name: theirs if name in streams else subprocess.PIPE for name in ("stdout", "stderr")}
+    with subprocess.Popen([*STARTED, *words], cwd=TOP, env={**KNOWN, **more}, **chosen) as process:  # type: ignore
+        os.close(theirs)
+        shown = b""
+        while True:
+            try:
+                piece = os.read(ours, 1 << 16)
+            except OSError:  # (Linux, when the other side is closed)
+                break
+            if not piece:
+                break
+            shown += piece
+        rest = b"".join(pipe.read() for pipe in (process.stdout, process.stderr) if pipe)
+    os.close(ours)
+    return process.returncode, shown.decode().replace("\r\n", "\n"), rest.decode()
+
+
+def _in_pipe(words: List[str]) -> str:
+    return subprocess.run([*STARTED, *words], cwd=TOP, env=KNOWN, stdout=subprocess.PIPE, check=False).stdout.decode()
+
+
+def test_a_terminal_gets_the_lines_in_colours() -> None:
+    """They are those of a pipe, also the long ones."""
+    pytest.importorskip("rich")
+    status, shown, _ = _on_terminal(["check", LINE], {}, "stdout", "stderr")
+    plain = _in_pipe(["check", LINE])
+    assert status == 2 and "\x1b[" in shown and CODES.sub("", shown) == plain and "\x1b" not in plain
+
+
+@pytest.mark.parametrize("more", [{"NO_COLOR": "1"}, {"TERM": "dumb"}, {"TERM": "dumb", "NO_COLOR": "1"}])
+def test_a_terminal_without_colours(more: Dict[str, str]) -> None:
+    assert _on_terminal(["check", LINE], more, "stdout", "stderr")[1] == _in_pipe(["check", LINE])
+
+
+def test_a_pipe_beside_a_terminal_is_plain() -> None:
+    _, _, rest = _on_terminal(["check", LINE], {}, "stderr")
+    assert rest == _in_pipe(["check", LINE])
+
+
+@pytest.mark.parametrize("more, shows", [({}, True), ({"NO_COLOR": "1"}, True), ({"TERM": "dumb"}, False)])
+def test_a_long_command_shows_its_seconds(more: Dict[str, str], shows: bool, program: Program, tmp_path: Path) -> None:
+    """The line is gone before the answer, and nothing of it is in a pipe."""
+    slow = tmp_path / "slow"
+    slow.write_text(f'#!/bin/sh\n[ "$*" = check ] && sleep 1.5\nexec {program.path} "$@"\n', "utf-8")
+    slow.chmod(0o755)
+    words = ["check", "examples/links/line.csv", "--program", str(slow)]
+    extras: List[List[str]] = [[], ["--json", "-"]]
+    for extra in extras:
+        status, shown, rest = _on_terminal([*words, *extra], more, "stderr")
+        assert status in (0, 1) and "\x1b" not in rest and rest
+        if not extra:
+            assert ("\x1b[2Kbalisekit check: 1 s" in shown) == shows and (not shows or shown.endswith("\r\x1b[2K"))
+        else:
+            assert "\x1b[2K" not in shown
+
+
+def test_without_rich(monkeypatch: pytest.MonkeyPatch, capsys: pytest.CaptureFixture[str]) -> None:
+    """Lines are plain."""
+    modules: Dict[str, Any] = sys.modules
+    monkeypatch.setitem(modules, "rich.console", None)
+    monkeypatch.setenv("TERM", "xterm")
+    monkeypatch.setattr(sys.stdout, "isatty", lambda: True)
+    console.writer(sys.stdout)("program: yes")
+    assert capsys.readouterr().out == "program: yes\n"
+
+
+def test_styles() -> None:
+    lines = ["program: yes: groups 1, messages 0", "INCOMPLETE: x", "look: x", "    program: F1 ..", "row 2  A"]
+    assert list(map(console.style, lines)) == ["bold green", "bold red", "yellow", "dim", ""]
