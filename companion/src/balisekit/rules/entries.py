@@ -8,9 +8,10 @@ from __future__ import annotations
 from dataclasses import dataclass, field
 from decimal import Decimal
 from enum import IntEnum
-from typing import Mapping, Optional, Sequence, Tuple
+from typing import List, Mapping, Optional, Sequence, Tuple
 
-from balisekit.rules.checking import Place
+from balisekit.rules.checking import Checked, Place
+from balisekit.rules.findings_on_correct_data import rows_of
 from balisekit.rules.rule import Remark
 from balisekit.tables.model import Group, Message
 
@@ -61,3 +62,46 @@ class Entry:
     def quoted(self) -> Sequence[str]:
         """The lines of the program, unchanged."""
         return [place.finding.line for place in self.findings]
+
+
+URGENCIES: Mapping[int, Urgency] = {
+    **dict.fromkeys((1, 2, 5, 8, 10, 11, 12, 13, 15, 16), Urgency.WRONG_INFORMATION),
+    **dict.fromkeys((3, 14), Urgency.WRONG_PLACE),
+    **dict.fromkeys((4, 6, 7), Urgency.BRAKING),
+    9: Urgency.RULE_ONLY,
+}
+"""By docs/FINDINGS.md, what a finding means at worst."""
+
+
+def entries(checked: Checked) -> List[Entry]:
+    """The program's findings, one entry for each cause: the most urgent first, and those of correct data last."""
+    expected = rows_of(checked.findings, checked)
+    made = [_entry(place, case) for place, case in zip(checked.findings, expected)]
+    return sorted(made, key=lambda entry: (entry.expected != "", entry.urgency))
+
+
+def _entry(place: Place, expected: str) -> Entry:
+    """The entry of a finding that stands alone."""
+    finding, group = place.finding, place.group
+    rows: Tuple[int, ...] = ()
+    if group is not None:
+        aspects = group.aspects if place.aspect is None else [one for one in group.aspects if one.name == place.aspect]
+        numbers = {row.number for aspect in aspects for row in aspect.rows}
+        rows = (place.row.number,) if place.row else tuple(sorted(numbers))
+    first = place.row or (group.aspects[0].rows[0] if group else None)
+    return Entry(
+        f"F{finding.rule}",
+        URGENCIES[finding.rule],
+        place.differs or finding.name,
+        rows,
+        group,
+        (place.aspect,) if place.aspect else (),
+        finding.balise,
+        None,
+        finding.direction or "",
+        first.km if first else None,
+        place.message,
+        {},
+        (place,),
+        expected=expected,
+    )
