@@ -17,7 +17,7 @@ from cases_of_program import CASES, TOP
 from conftest import Run
 from telegrams import ALONE, FAULTY, FIRST, MESSAGE, OTHER, SECOND
 
-from balisekit.compare.telegrams import ADDED, REMOVED, align, differences
+from balisekit.etcs.differences import ADDED, REMOVED, align, differences
 from balisekit.engine.program import Program, Text
 from balisekit.io import csv_writing
 

@@ -10,7 +10,7 @@ from collections.abc import Callable, Hashable, Iterable, Iterator, Mapping, Seq
 from dataclasses import dataclass, field, replace
 from typing import Deque, Dict, List, NamedTuple, Optional, Tuple, TypeVar
 
-from balisekit.compare.telegrams import Change, differences
+from balisekit.etcs.differences import Change, differences
 from balisekit.engine.program import Record
 from balisekit.etcs.variables import Form
 from balisekit.rules.checking import Checked, Place, report_on

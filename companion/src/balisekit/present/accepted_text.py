@@ -89,10 +89,9 @@ def proposal(checked: Checked, judged: Optional[Judged]) -> str:
     for key, place in zip(keys(checked), checked.findings):
         findings.setdefault(key, []).append(place)
     rows: Dict[Key, List[str]] = {}
-    fits = findings_on_correct_data.rows_of(checked.findings, checked)
     former = judged.former if judged else repeat(None)
-    for key, row, (_, entry), known in zip(keys(checked), fits, with_entries(checked, judged), former):
+    for key, (place, entry), known in zip(keys(checked), with_entries(checked, judged), former):
         if entry is None and UNNAMED not in key and key not in rows:
-            reason = known.reason if known else reasons.get(row, "")
+            reason = known.reason if known else reasons.get(place.correct, "")
             rows[key] = [*key, reason, "", "", "", checksum(findings[key])]
     return csv_writing.text(COLUMNS, rows.values())

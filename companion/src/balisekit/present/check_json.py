@@ -6,11 +6,13 @@ from typing import Any, Dict, Optional
 from balisekit.engine.program import Record
 from balisekit.io.outputs import Json, encode
 from balisekit.present import accepted_text
-from balisekit.present.check_text import finding_words, last_line
+from balisekit.present.check_text import last_line
+from balisekit.present.headings import finding_words, not_decoded
 from balisekit.present.refusals import message_refused, telegram_refused
 from balisekit.rules.accepted import Judged
 from balisekit.rules.aspect_counts import groups_by_aspects
 from balisekit.rules.checking import Checked, LeftOut, Place, Refused, RefusedMessage
+from balisekit.rules.entries import Entry, entries
 from balisekit.rules.remarks import remarks
 from balisekit.tables.model import Message, Row
 
@@ -47,6 +49,8 @@ def as_json(checked: Checked, judged: Optional[Judged] = None) -> Dict[str, Any]
         "left_out": map(_left_out, checked.left_out),
         "kept": [group.name for group in checked.kept],
         "findings": map(_finding, checked.findings),
+        "entries": map(_entry, entries(checked)),
+        "not_decoded": list(not_decoded(checked)),
     }
 
 
@@ -109,6 +113,26 @@ def _finding(place: Place) -> Dict[str, Any]:
         "direction": finding.direction,
         "message": place.message.number if place.message else None,
         "earlier_group": place.earlier.name if place.earlier else None,
-        "differs": place.differs or None,
+        "differs": str(place.statement),
         "words": finding_words(place),
+    }
+
+
+def _entry(entry: Entry) -> Dict[str, Any]:
+    return {
+        "rule": entry.rule,
+        "urgency": entry.urgency.name.lower(),
+        "sentence": entry.sentence,
+        "rows": entry.rows,
+        "other_rows": entry.other_rows,
+        "group": entry.group.name if entry.group else None,
+        "aspects": entry.aspects,
+        "balises": entry.balises,
+        "packet": entry.packet,
+        "direction": entry.direction or None,
+        "km": None if entry.km is None else str(entry.km),
+        "message": entry.message.number if entry.message else None,
+        "values": dict(entry.values),
+        "program": entry.quoted,
+        "expected": entry.expected or None,
     }

@@ -7,7 +7,8 @@ from typing import Any, Dict, Iterator, Sequence
 from balisekit.compare.releases import Changed, Difference
 from balisekit.io import clock
 from balisekit.present import NOT_PROVED
-from balisekit.present.check_text import finding_lines, finding_words, head_line
+from balisekit.present.check_text import head_line
+from balisekit.present.headings import finding_lines, finding_words
 from balisekit.present.pages import pieces
 from balisekit.present.refusals import not_looked_at, refused, refused_lines
 from balisekit.rules.checking import Checked

@@ -10,7 +10,8 @@ from typing import Dict, Iterator, List, NamedTuple, Optional, Tuple
 
 from balisekit.present import NOT_PROVED
 from balisekit.present.accepted_text import accepted_words, with_entries
-from balisekit.present.check_text import before_last, closing_lines, finding_lines, finding_words
+from balisekit.present.check_text import before_last, closing_lines
+from balisekit.present.headings import finding_lines, finding_words
 from balisekit.present.refusals import message_refused, refused
 from balisekit.rules.accepted import Entry, Judged
 from balisekit.rules.checking import Checked, Place

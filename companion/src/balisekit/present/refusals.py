@@ -6,9 +6,8 @@ from typing import Iterator, List, NamedTuple, Optional, Sequence
 from balisekit.engine.grammar import Refusal
 from balisekit.etcs.layout import Field, bits_of, message_fields, telegram_fields, user_bits
 from balisekit.rules.checking import Checked
-from balisekit.tables.names import describe_balise, describe_message, quoted
+from balisekit.tables.names import describe_balise, describe_message, ordinal, quoted
 
-ORDINALS = ("first", "second", "third", "fourth", "fifth", "sixth", "seventh", "eighth", "ninth", "tenth")
 CODED = {86: 341, 256: 1023}
 """The digits of a telegram with its channel coding, and its bits."""
 LENGTHS = (54, 208)
@@ -132,8 +131,7 @@ def _at_field(fields: Sequence[Field], refusal: Refusal, before_length: int) -> 
         return refusal.text
     name, value, index = field.name, field.value, field.packet
     if index is not None:
-        ordinal = ORDINALS[index] if index < len(ORDINALS) else f"{index + 1}th"
-        name += f" of packet {field.number} ({ordinal} packet)"
+        name += f" of packet {field.number} ({ordinal(index)} packet)"
     if why == "length" and end == at + field.width:
         return f"{name} is {value}, less than the {end - at + before_length} bits of its head"
     numbers = {"width": field.width, "left": end - at, "fields": end - at + before_length, "at": at}

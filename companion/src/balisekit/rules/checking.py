@@ -2,6 +2,7 @@
 from __future__ import annotations
 
 import json
+import re
 from dataclasses import dataclass, replace
 from functools import cached_property, lru_cache
 from typing import Dict, Iterable, Iterator, List, Mapping, Optional, Sequence, Set, Tuple, TypeVar
@@ -10,7 +11,9 @@ from balisekit.engine.grammar import Finding, Refusal, Verdict
 from balisekit.engine.program import Program, Record, Report
 from balisekit.engine.records import Form
 from balisekit.errors import NoAnswer
-from balisekit.rules.differing_numbers import differs
+from balisekit.etcs.geometry import kilometres
+from balisekit.rules.findings_on_correct_data import row_of
+from balisekit.rules.statements import Balise, Scene, Statement, statement
 from balisekit.tables.grouping import by_position
 from balisekit.tables.model import Aspect, Group, Message, Messages, Row, Table
 
@@ -18,8 +21,19 @@ GREATEST_REFUSED = 10_000
 """After so many refused telegrams the others are not tried."""
 ALL_HELP = f"go on after {GREATEST_REFUSED:,} refused telegrams or messages"
 ENCODE = json.JSONEncoder().encode
+BODY = re.compile('"body":"[^"]*","l_packet":[0-9]+,"nid_packet":([0-9]+)')
+Raw = Dict[int, List[int]]
+"""The rows, or the lines of a file of messages, by the NID_PACKET of packets that are kept as bits."""
+NO_FINDING = Finding("", 0, "")
 Answer = TypeVar("Answer")
 Thing = TypeVar("Thing")
+
+
+def note_raw(raw: Raw, number: int, record: Record) -> None:
+    """Puts the packets of a record that are kept as bits beside this row, or line of a file of messages."""
+    if '"body"' in record.line:
+        for packet in set(BODY.findall(record.line)):
+            raw.setdefault(int(packet), []).append(number)
 
 
 class Telegrams(Mapping[int, Form]):
@@ -32,6 +46,8 @@ class Telegrams(Mapping[int, Form]):
     def __init__(self, program: Program, rows: Sequence[Row]) -> None:
         self._program = program
         self._rows = {row.number: row for row in rows}
+        self.raw: Optional[Raw] = None
+        """The packets that are kept as bits, once all telegrams have been decoded."""
 
     @cached_property
     def _records(self) -> Mapping[int, Record]:
@@ -40,10 +56,19 @@ class Telegrams(Mapping[int, Form]):
     def decoded(self, numbers: Optional[Iterable[int]] = None) -> Iterator[Tuple[Row, Record]]:
         """The records of these rows, or of all rows. They are decoded now, and not kept."""
         rows = list(self._rows.values()) if numbers is None else [self._rows[number] for number in numbers]
+        raw: Raw = {}
         for row, answer in zip(rows, self._program.decode([row.telegram for row in rows])):
             if isinstance(answer, Refusal):
                 raise self._program.no_answer("decode", f"it refuses what it has read: {answer.line}")
+            note_raw(raw, row.number, answer)
             yield row, answer
+        self.raw = raw if numbers is None else self.raw
+
+    def raw_packets(self) -> Raw:
+        """Those that are kept as bits. If not all telegrams have been decoded yet, they are decoded now."""
+        for _ in self.decoded() if self.raw is None else ():
+            pass
+        return self.raw or {}
 
     def __getitem__(self, number: int) -> Form:
         return self._records[number].form
@@ -110,8 +135,12 @@ class Place:
     message: Optional[Message] = None
     earlier: Optional[Group] = None
     """Of F14: the first group with the same identity."""
-    differs: str = ""
-    """Of F1, F2 and F3: what differs, by the numbers that the program has decoded."""
+    statement: Statement = Statement("")
+    """What is wrong, with the values that differ."""
+    balise: str = ""
+    """The balise's name and N_PIG."""
+    correct: str = ""
+    """The row of the table of findings on correct data that it fits."""
 
 
 @dataclass(frozen=True)
@@ -144,6 +173,14 @@ class Checked:
         """How many messages were not tried, after too many refused ones."""
         tried = len(self.accepted_messages) + len(self.refused_messages)
         return len(self.messages.messages) - tried if self.messages else 0
+
+    @cached_property
+    def raw_in_messages(self) -> Raw:
+        """The packets of messages that are kept as bits."""
+        raw: Raw = {}
+        for accepted in self.accepted_messages:
+            note_raw(raw, accepted.message.number, accepted.record)
+        return raw
 
     @property
     def whole(self) -> bool:
@@ -223,12 +260,16 @@ def greatest_refused(everything: bool) -> Optional[int]:
 def _try_rows(program: Program, rows: Sequence[Row], everything: bool) -> Tuple[Telegrams, Tuple[Refused, ...]]:
     accepted: List[Row] = []
     refused: List[Refused] = []
+    raw: Raw = {}
     for index, answer in enumerate(until_too_many(program.decode([row.telegram for row in rows]), everything)):
         if isinstance(answer, Refusal):
             refused.append(Refused(rows[index], answer, rows[index + 1 - (answer.number or 1)].number))
         else:
             accepted.append(rows[index])
-    return Telegrams(program, accepted), tuple(refused)
+            note_raw(raw, rows[index].number, answer)
+    telegrams = Telegrams(program, accepted)
+    telegrams.raw = raw
+    return telegrams, tuple(refused)
 
 
 def _try_messages(
@@ -277,20 +318,21 @@ def _head(group: Group) -> Row:
     return group.aspects[0].rows[0]
 
 
+def _correct(scene: Scene) -> str:
+    return row_of(scene.finding, [[balise.form for balise in aspect] for aspect in scene.aspects])
+
+
 class _Names:
     """What the numbers of findings stand for in the table. NoAnswer is raised for what was not handed in."""
 
     def __init__(self, readable: Checked, findings: Sequence[Finding]) -> None:
         self._readable = readable
         of_identity = any(finding.rule == 14 for finding in findings)
-        rows = list(map(_head, readable.kept)) if of_identity else []
-        for finding in findings:
-            if finding.message is None and (finding.rule < 4 or finding.packet is not None):
-                group, aspect, row = self._site(finding)
-                rows += [_head(group), *aspect.rows] if finding.rule < 4 else [row or aspect.rows[0]]
-        numbers = sorted({row.number for row in rows})
-        self._records = {row.number: record for row, record in readable.accepted.decoded(numbers)}
-        self._form = lru_cache(maxsize=None)(lambda row: self._records[row].form)
+        groups = {finding.group for finding in findings if finding.message is None}
+        rows = {_head(group).number for group in readable.kept} if of_identity else set()
+        rows |= {row.number for group in groups if group in range(len(readable.kept)) for row in readable.kept[group].rows()}
+        self._records = {row.number: record for row, record in readable.accepted.decoded(sorted(rows))}
+        self._scene = lru_cache(maxsize=1)(self._new_scene)
         self._first = list(self._first_groups()) if of_identity else []
 
     def _first_groups(self) -> Iterator[Group]:
@@ -304,20 +346,25 @@ class _Names:
         """What one finding is about."""
         if finding.message is not None:
             accepted = self._at(self._readable.accepted_messages, finding.message, finding)
-            self._look_at_packet(accepted.record, finding)
-            return Place(finding, message=accepted.message)
+            self._look_at_packet(accepted.form, finding)
+            scene = Scene(finding, [[Balise(None, accepted.form)]])
+            return Place(finding, message=accepted.message, statement=statement(scene), correct=_correct(scene))
         group, aspect, row = self._site(finding)
-        if row is not None and finding.packet is not None:
-            self._look_at_packet(self._records[row.number], finding)
-        name = None if finding.aspect is None and len(group.aspects) > 1 else aspect.name
         earlier = self._first[finding.group or 0] if finding.rule == 14 else None
         if earlier is group:
             raise self._no_answer(finding)
-        words = ""
-        if finding.rule < 4:
-            forms = {row.number: self._form(row.number) for row in (_head(group), *aspect.rows)}
-            words = differs(finding.rule, group, aspect.rows, finding.balise or 0, forms)
-        return Place(finding, group, name, row, earlier=earlier, differs=words)
+        scene = self._scene(finding.group or 0)._replace(finding=finding, earlier=earlier)
+        self._look_at_packet(scene.own.form, finding)
+        name = None if finding.aspect is None and len(group.aspects) > 1 else aspect.name
+        balise = "" if row is None else str(scene.own)
+        return Place(finding, group, name, row, None, earlier, statement(scene), balise, _correct(scene))
+
+    def _new_scene(self, index: int) -> Scene:
+        """All telegrams of a group. Its findings stand together, so that one group at a time is kept."""
+        group = self._readable.kept[index]
+        balises = {row.number: Balise(row, self._records[row.number].form) for row in group.rows()}
+        aspects = [[balises[row.number] for row in aspect.rows] for aspect in group.aspects]
+        return Scene(NO_FINDING, aspects, [aspect.name for aspect in group.aspects], kilometres(group))
 
     def _site(self, finding: Finding) -> Tuple[Group, Aspect, Optional[Row]]:
         """The group, the aspect and the balise of a finding.
@@ -331,9 +378,10 @@ class _Names:
         aspect = self._at(group.aspects, finding.aspect or 0, finding)
         return group, aspect, None if finding.balise is None else self._at(aspect.rows, finding.balise, finding)
 
-    def _look_at_packet(self, record: Record, finding: Finding) -> None:
+    def _look_at_packet(self, form: Form, finding: Finding) -> None:
         """Raises NoAnswer if the finding names a packet that the telegram or message does not have."""
-        self._at(range(record.line.count('"nid_packet":')), finding.packet or 0, finding)
+        if finding.packet is not None:
+            self._at(form["packets"], finding.packet, finding)
 
     def _at(self, things: Sequence[Thing], index: int, finding: Finding) -> Thing:
         if index >= len(things):

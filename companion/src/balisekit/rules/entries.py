@@ -8,19 +8,19 @@ from __future__ import annotations
 from dataclasses import dataclass, field
 from decimal import Decimal
 from enum import IntEnum
-from typing import List, Mapping, Optional, Sequence, Tuple
+from typing import Any, Dict, List, Mapping, Optional, Sequence, Tuple
 
+from balisekit.rules.causes import Cause, causes
 from balisekit.rules.checking import Checked, Place
-from balisekit.rules.findings_on_correct_data import rows_of
 from balisekit.rules.rule import Remark
-from balisekit.tables.model import Group, Message
+from balisekit.tables.model import Group, Message, Row
 
 
 class Urgency(IntEnum):
     """What may follow at worst, the gravest first."""
 
     WRONG_INFORMATION = 1
-    """A train may take information that is not for it."""
+    """A train may go by information that is wrong, is not for it or does not reach far enough."""
     WRONG_PLACE = 2
     """A train may believe itself to be somewhere else."""
     BRAKING = 3
@@ -47,6 +47,7 @@ class Entry:
     packet: Optional[int] = None
     """The NID_PACKET."""
     direction: str = ""
+    """`nominal` or `reverse`; nothing if it is about both or none."""
     km: Optional[Decimal] = None
     message: Optional[Message] = None
     values: Mapping[str, str] = field(default_factory=dict)
@@ -57,6 +58,10 @@ class Entry:
     """What a rule of balisekit has found, if it is an entry of a rule of balisekit."""
     expected: str = ""
     """The case of correct data that gets such a finding, if it fits one."""
+    balises: Tuple[str, ...] = ()
+    """The balises that it is about, by name and N_PIG."""
+    other_rows: Tuple[int, ...] = ()
+    """The rows that the sentence names beside its own."""
 
     @property
     def quoted(self) -> Sequence[str]:
@@ -73,35 +78,86 @@ URGENCIES: Mapping[int, Urgency] = {
 """By docs/FINDINGS.md, what a finding means at worst."""
 
 
-def entries(checked: Checked) -> List[Entry]:
-    """The program's findings, one entry for each cause: the most urgent first, and those of correct data last."""
-    expected = rows_of(checked.findings, checked)
-    made = [_entry(place, case) for place, case in zip(checked.findings, expected)]
-    return sorted(made, key=lambda entry: (entry.expected != "", entry.urgency))
+CORRECT: Mapping[str, str] = {
+    "stop aspect": "stop aspect: expected",
+    "one controlled balise": "one controlled balise: expected",
+    "infill": "infill: expected",
+    "default group": "default telegram: expected",
+    "default aspect": "default telegram: expected",
+    "cover marker": "cover marker: expected",
+    "message": "expected if the profiles were sent before",
+    "earlier group": "expected if an earlier group sends the profiles",
+}
+"""What is said of a finding that fits a row of the table of findings on correct data."""
 
 
-def _entry(place: Place, expected: str) -> Entry:
-    """The entry of a finding that stands alone."""
-    finding, group = place.finding, place.group
-    rows: Tuple[int, ...] = ()
+def entries(checked: Checked, places: Optional[Sequence[Place]] = None) -> List[Entry]:
+    """The program's findings, or some of them: one entry for each cause.
+
+    The most urgent ones come first, and those of correct data last. Among entries of one urgency, those of a track stand
+    together, by their kilometres.
+    """
+    tracks: Dict[str, int] = {}
+    for row in checked.table.rows:
+        tracks.setdefault(row.track, len(tracks))
+    made = [_entry(cause) for cause in causes(checked, checked.findings if places is None else places)]
+    order = {group.name: index for index, group in enumerate(checked.kept)}
+    return sorted(made, key=lambda entry: _order(entry, tracks, order))
+
+
+def _order(entry: Entry, tracks: Mapping[str, int], groups: Mapping[str, int]) -> Tuple[Any, ...]:
+    """By what entries are sorted. Groups come before messages, those without a kilometre behind the others."""
+    group, first = entry.group, int(entry.rule[1:])
+    where: Tuple[Any, ...] = (1, entry.message.number if entry.message else 0)
     if group is not None:
-        aspects = group.aspects if place.aspect is None else [one for one in group.aspects if one.name == place.aspect]
-        numbers = {row.number for aspect in aspects for row in aspect.rows}
-        rows = (place.row.number,) if place.row else tuple(sorted(numbers))
-    first = place.row or (group.aspects[0].rows[0] if group else None)
+        where = 0, tracks.get(track_of(group), 0), entry.km is None, entry.km or 0, groups[group.name], entry.rows
+    return (entry.expected != "", entry.urgency, where, first)
+
+
+def track_of(group: Group) -> str:
+    """The track of a group."""
+    return next((row.track for row in group.rows() if row.track), "")
+
+
+def entry_of(place: Place) -> Entry:
+    """The entry of a finding by itself."""
+    return _entry(Cause((place,), place.statement))
+
+
+def _entry(cause: Cause) -> Entry:
+    """The entry of a cause."""
+    places, said = cause.places, cause.statement
+    first, group = places[0], places[0].group
+    aspects = [place.aspect for place in places if place.aspect is not None]
+    names = dict.fromkeys(aspects) if group is None else [one.name for one in group.aspects if one.name in aspects]
+    rows = cause.rows or tuple(sorted({row.number for place in places for row in _rows(place)}))
+    head = next((row for row in group.rows() if row.number == rows[0]), None) if group and rows else None
+    directions = list(dict.fromkeys(place.finding.direction for place in places if place.finding.direction))
+    balises = {place.finding.balise for place in places}
     return Entry(
-        f"F{finding.rule}",
-        URGENCIES[finding.rule],
-        place.differs or finding.name,
+        f"F{min(place.finding.rule for place in places) if cause.balise == '' else 3}",
+        min(URGENCIES[place.finding.rule] for place in places),
+        str(said),
         rows,
         group,
-        (place.aspect,) if place.aspect else (),
-        finding.balise,
-        None,
-        finding.direction or "",
-        first.km if first else None,
-        place.message,
-        {},
-        (place,),
-        expected=expected,
+        tuple(name for name in names if name),
+        balises.pop() if len(balises) == 1 else None,
+        said.packet,
+        "" if len(directions) != 1 else directions[0],
+        head.km if head else None,
+        first.message,
+        said.values,
+        places,
+        expected=CORRECT.get(first.correct, "") if len({place.correct for place in places}) == 1 else "",
+        balises=(cause.balise,) if cause.balise else tuple(dict.fromkeys(place.balise for place in places if place.balise)),
+        other_rows=said.others,
     )
+
+
+def _rows(place: Place) -> Sequence[Row]:
+    """The rows that a finding is about: its balise's, in all aspects if it names none, or those of its aspect or group."""
+    group, balise = place.group, place.finding.balise
+    if group is None:
+        return ()
+    aspects = [one for one in group.aspects if place.aspect in (None, one.name)]
+    return [row for one in aspects for row in (one.rows if balise is None else [one.rows[balise]])]

@@ -6,12 +6,11 @@ from __future__ import annotations
 
 import json
 from pathlib import Path
-from typing import Dict, Iterator, Sequence
+from typing import Dict, Sequence
 
 from balisekit.engine.grammar import Finding
 from balisekit.etcs.geometry import passed
 from balisekit.etcs.variables import Form
-from balisekit.rules.checking import Checked, Place
 
 MADE = Path(__file__).with_name("findings_on_correct_data.json")
 MISSING, SHORT = (10, 12), (11, 13)
@@ -25,18 +24,12 @@ def reasons() -> Dict[str, str]:
     return said
 
 
-def rows_of(places: Sequence[Place], checked: Checked) -> Iterator[str]:
-    """For each finding the row of the table that it fits, or nothing.
+def row_of(finding: Finding, aspects: Sequence[Forms]) -> str:
+    """The row of the table that a finding fits, or nothing. `aspects` has the telegrams, or the message alone.
 
     A pair of duplicates that is controlled has no row here: by the table it is not accepted by a rule.
     """
-    messages = {accepted.message.number: accepted.form for accepted in checked.accepted_messages}
-    for place in places:
-        if place.message is not None:
-            yield _message(place.finding, messages[place.message.number])
-        elif place.group is not None:
-            aspects = [[checked.accepted[row.number] for row in aspect.rows] for aspect in place.group.aspects]
-            yield _group(place.finding, aspects)
+    return _group(finding, aspects) if finding.message is None else _message(finding, aspects[0][0])
 
 
 def _message(finding: Finding, form: Form) -> str:

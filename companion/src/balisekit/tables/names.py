@@ -3,15 +3,37 @@ from __future__ import annotations
 
 import re
 from decimal import Decimal
-from typing import List, Optional, Sequence, Tuple
+from typing import Iterable, List, Optional, Sequence, Tuple
 from unicodedata import category
 
 from balisekit.tables.model import Group, Message, Row, Table
 
 NAMED = 20
 """So many columns that are passed over, rows or aspects of one kind are named."""
+ORDINALS = ("first", "second", "third", "fourth", "fifth", "sixth", "seventh", "eighth", "ninth", "tenth")
 BLANK = re.compile("[\u034f\u115f\u1160\u17b4\u17b5\u180b-\u180f\u2800\u3164\ufe00-\ufe0f\uffa0\U000e0100-\U000e01ef]")
 """Letters and marks that show nothing."""
+
+
+def ordinal(place: int) -> str:
+    """Which one it is, by its place counted from 0: "first", "eleventh" as "11th"."""
+    if place < len(ORDINALS):
+        return ORDINALS[place]
+    ending = "th" if (place + 1) // 10 % 10 == 1 else {1: "st", 2: "nd", 3: "rd"}.get((place + 1) % 10, "th")
+    return f"{place + 1}{ending}"
+
+
+def rows_words(numbers: Iterable[int]) -> str:
+    """Rows by their numbers: "row 5", "rows 2 to 5", "rows 3, 5 and 7 to 9"."""
+    runs: List[List[int]] = []
+    for number in sorted(set(numbers)):
+        if runs and runs[-1][-1] == number - 1:
+            runs[-1].append(number)
+        else:
+            runs.append([number])
+    texts = [str(run[0]) if len(run) == 1 else f"{run[0]} to {run[-1]}" for run in runs]
+    named = listed(texts, NAMED) if len(texts) > NAMED else " and ".join([*([", ".join(texts[:-1])] * (len(texts) > 1)), *texts[-1:]])
+    return f"row{'' if len(runs) == 1 and len(runs[0]) == 1 else 's'} {named}"
 
 
 def clean(text: str) -> str:
@@ -63,6 +85,12 @@ def describe_group(group: Group, aspect: Optional[str] = None) -> str:
     """Where a group is: rows, name and kilometre, and which aspect is meant."""
     parts = [describe_rows(group, aspect), clean(group.name), *_where(group.aspects[0].rows[0])]
     return "  ".join([*parts, *([f"aspect {quoted(aspect)}"] if aspect else [])])
+
+
+def group_words(group: Group) -> str:
+    """A group in a sentence: its name, and its kilometre."""
+    km = group.aspects[0].rows[0].km
+    return f"{clean(group.name)}{'' if km is None else f' (km {kilometre(km)})'}"
 
 
 def describe_rows(group: Group, aspect: Optional[str] = None) -> str:

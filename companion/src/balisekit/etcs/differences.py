@@ -55,7 +55,7 @@ def differences(old: Values, new: Values) -> List[Change]:
     """All that differs between two forms."""
     before, after = (Around(from_track=form.get("nid_message") != 136) for form in (old, new))
     changes = list(_object("", old, new, before, after))
-    pairs = _packet_pairs(old["packets"], new["packets"])
+    pairs = packet_pairs(old["packets"], new["packets"])
     for was, now in pairs:
         if was is None and now is not None:
             changes.append(_packet_alone(ADDED, f"packet {now}", new["packets"][now], after))
@@ -70,11 +70,16 @@ def differences(old: Values, new: Values) -> List[Change]:
     return [*changes, Change(MOVED, "")] if both != sorted(both) else changes
 
 
+def packet_differences(old: Values, new: Values) -> List[Change]:
+    """All that differs between two packets from track to train."""
+    return list(_object("", old, new, Around(), Around()))
+
+
 def _packet_alone(kind: str, place: str, packet: Values, around: Around) -> Change:
     return _part(f"{place} ({packet_name(packet['nid_packet'], around.from_track)})", kind, packet, around)
 
 
-def _packet_pairs(old: Sequence[Values], new: Sequence[Values]) -> List[Pair]:
+def packet_pairs(old: Sequence[Values], new: Sequence[Values]) -> List[Pair]:
     """Packets of one number and direction in their order, and then those that are left by their number alone."""
     pairs: List[Pair] = []
     gone, come = list(range(len(old))), list(range(len(new)))

@@ -1,0 +1,102 @@
+"""Entries in words: what they are about, what is wrong, and the heading above those of one urgency."""
+from __future__ import annotations
+
+from typing import Dict, Iterable, Iterator, List, Sequence
+
+from balisekit.rules.checking import Checked, Place
+from balisekit.rules.entries import Entry, Urgency, entry_of, track_of
+from balisekit.tables.names import clean, describe_message, kilometre, quoted, rows_words
+
+URGENCIES: Dict[Urgency, str] = {
+    Urgency.WRONG_INFORMATION: "at worst wrong information:",
+    Urgency.WRONG_PLACE: "at worst a wrong place:",
+    Urgency.BRAKING: "at worst the train brakes:",
+    Urgency.RULE_ONLY: "a rule only:",
+}
+CORRECT = "on data that may be correct:"
+
+
+def heading(entry: Entry) -> str:
+    """Under what it is listed."""
+    return CORRECT if entry.expected else URGENCIES[entry.urgency]
+
+
+def about(entry: Entry) -> str:
+    """What an entry is about: rows, group, kilometre, track, aspects, balises and direction, or its message."""
+    parts: List[str] = []
+    if entry.message is not None:
+        parts.append(f"message of {describe_message(entry.message)}")
+    elif entry.group is not None:
+        track = track_of(entry.group)
+        parts += [rows_words(entry.rows), clean(entry.group.name)]
+        parts += [] if entry.km is None else [f"km {kilometre(entry.km)}"]
+        parts += [f"track {clean(track)}"] if track else []
+        parts += _aspects(entry)
+        parts += [", ".join(entry.balises)] if entry.balises else []
+    directions = dict.fromkeys(place.finding.direction for place in entry.findings if place.finding.direction)
+    return "  ".join([*parts, *([" and ".join(map(str, directions))] if directions else [])])
+
+
+def _aspects(entry: Entry) -> Iterator[str]:
+    """Which aspects it is about."""
+    all_of_them = [aspect.name for aspect in entry.group.aspects] if entry.group else []
+    if len(entry.aspects) > 1:
+        every = len(entry.aspects) == len(all_of_them)
+        yield "every aspect" if every else f"aspects {', '.join(map(quoted, entry.aspects))}"
+    elif entry.aspects:
+        yield f"aspect {quoted(entry.aspects[0])}"
+
+
+def words(entry: Entry) -> str:
+    """An entry as one line."""
+    return f"{about(entry)}: {entry.sentence}{f'; {entry.expected}' if entry.expected else ''}"
+
+
+def entry_lines(entry: Entry) -> List[str]:
+    """An entry, and the lines of the program below it."""
+    return [words(entry), *(f"    program: {line}" for line in entry.quoted)]
+
+
+def finding_words(place: Place) -> str:
+    """A finding by itself."""
+    return words(entry_of(place))
+
+
+def finding_lines(place: Place, before: str = "") -> List[str]:
+    """Two lines for a finding: what is wrong and where, and the program's words."""
+    return [before + finding_words(place), f"    program: {place.finding.line}"]
+
+
+def summary(checked: Checked, found: Sequence[Entry], what: str = "finding") -> Iterator[str]:
+    """How many causes and findings each rule has, and how many groups have none, which may be no open ones."""
+    if not found:
+        return
+    counts: Dict[str, List[int]] = {}
+    for entry in found:
+        counts.setdefault(entry.rule, []).append(len(entry.findings))
+    texts = [f"{rule} {_count(causes)}" for rule, causes in counts.items()]
+    groups = {place.group.name for entry in found for place in entry.findings if place.group}
+    total = len(checked.kept)
+    sound = f"; {total - len(groups)} of {total} group{'s' if total != 1 else ''} without {what}" if total else ""
+    yield ", ".join(texts) + sound
+
+
+def _count(causes: Sequence[int]) -> str:
+    """How many findings, and of how many causes if these are fewer."""
+    count = len(causes)
+    return str(count) if sum(causes) == count else f"{count} cause{'s' if count > 1 else ''} ({sum(causes)})"
+
+
+def not_decoded(checked: Checked) -> Iterator[str]:
+    """The packets that are kept as bits, and where they are."""
+    raw, in_messages = checked.accepted.raw_packets(), checked.raw_in_messages
+    for number in sorted({*raw, *in_messages}):
+        parts = [*_in(raw.get(number, []), "telegram"), *_in(in_messages.get(number, []), "message")]
+        yield f"not decoded: packet {number} in {' and '.join(parts)}"
+
+
+def _in(numbers: Sequence[int], what: str) -> Iterable[str]:
+    if numbers:
+        count = len(numbers)
+        where = rows_words(numbers) if what == "telegram" else rows_words(numbers).replace("row", "line", 1)
+        yield f"{count} {what}{'s' if count > 1 else ''} ({where})"

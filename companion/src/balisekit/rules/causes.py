@@ -1,0 +1,215 @@
+"""Findings that have one cause: the same text at several places, exchanged telegrams, a telegram of another group.
+
+Which findings belong to exchanged telegrams is the program's word: those that it does not report of the other order.
+"""
+from __future__ import annotations
+
+from collections import Counter
+from dataclasses import dataclass, replace
+from typing import Dict, Iterable, Iterator, List, Mapping, NamedTuple, Sequence, Set, Tuple
+
+from balisekit.engine.program import Report
+from balisekit.rules.checking import Checked, Place, document
+from balisekit.rules.statements import Balise, Statement
+from balisekit.tables.grouping import by_position
+from balisekit.tables.model import Group
+from balisekit.tables.names import group_words
+
+OF_HEADERS = frozenset((1, 2, 3, 4, 5, 6, 7, 8, 15, 16))
+"""The rules that a telegram in a wrong place may break."""
+OF_ORDER = frozenset((4, 5, 15, 16))
+"""The rules beside F1 that balises in a wrong order may break."""
+Identity = Tuple[int, int]
+
+
+@dataclass(frozen=True)
+class Cause:
+    """Findings of one cause, and what is wrong."""
+
+    places: Tuple[Place, ...]
+    statement: Statement
+    rows: Tuple[int, ...] = ()
+    """The rows that it is about, if these are not the rows of the findings."""
+    balise: str = ""
+
+
+def causes(checked: Checked, findings: Sequence[Place]) -> List[Cause]:
+    """The causes of these findings. Each finding belongs to exactly one."""
+    places = list(findings)
+    found: List[Cause] = []
+    for look in (_strange, _exchanged):
+        some = look(checked, places)
+        taken = {place.finding.line for cause in some for place in cause.places}
+        places = [place for place in places if place.finding.line not in taken]
+        found += some
+    return found + _alike(places)
+
+
+def _alike(places: Iterable[Place]) -> List[Cause]:
+    """Findings of one rule and one group or message with the same text are united."""
+    same: Dict[Tuple[object, ...], List[Place]] = {}
+    for place in places:
+        about = place.group.name if place.group else None, place.message.number if place.message else None
+        said = place.statement
+        same.setdefault((place.finding.rule, *about, said.before, said.after, place.correct), []).append(place)
+    return [Cause(tuple(some), _united(some)) for some in same.values()]
+
+
+def _united(places: Sequence[Place]) -> Statement:
+    """The statement of the first of these, with the other rows of them all."""
+    others = sorted({row for place in places for row in place.statement.others})
+    return replace(places[0].statement, others=tuple(others))
+
+
+def _of_group(places: Iterable[Place]) -> Iterator[Tuple[Group, List[Place]]]:
+    """The findings of each group."""
+    known: Dict[str, List[Place]] = {}
+    groups: Dict[str, Group] = {}
+    for place in places:
+        if place.group is not None:
+            known.setdefault(place.group.name, []).append(place)
+            groups[place.group.name] = place.group
+    yield from ((groups[name], some) for name, some in known.items())
+
+
+# ---- telegrams of one group in a wrong order
+
+
+class Order(NamedTuple):
+    """Places of some balises that have N_PIG of each other."""
+
+    group: Group
+    places: Tuple[Place, ...]
+    positions: Tuple[Tuple[int, int], ...]
+    """The place of each of these balises, and its N_PIG."""
+
+
+def _exchanged(checked: Checked, places: Sequence[Place]) -> List[Cause]:
+    """Balises of a group whose N_PIG are those of each other, and what is not found if they are put in that order."""
+    orders = [order for group, some in _of_group(places) for order in _orders(group, some)]
+    groups = {order.group.name: order.group for order in orders}
+    left = _left(checked, [_put_in_order(group, orders) for group in groups.values()])
+    found: List[Cause] = []
+    for order in orders:
+        gone = OF_ORDER - left.pop(order.group.name, OF_ORDER)
+        brought = [place for place in places if place.group is order.group and place.finding.rule in gone]
+        found.append(Cause((*order.places, *brought), _exchange(order)))
+    return found
+
+
+def _orders(group: Group, places: Sequence[Place]) -> Iterator[Order]:
+    """The F1 of a group, by aspects with the same order of balises."""
+    by_aspect: Dict[int, List[Place]] = {}
+    for place in places:
+        if place.finding.rule == 1 and place.statement.values:
+            by_aspect.setdefault(place.finding.aspect or 0, []).append(place)
+    alike: Dict[Tuple[Tuple[int, int], ...], List[Place]] = {}
+    for some in by_aspect.values():
+        positions = tuple((place.finding.balise or 0, int(place.statement.values["N_PIG"])) for place in some)
+        if sorted(at for at, _ in positions) == sorted(said for _, said in positions):
+            alike.setdefault(positions, []).extend(some)
+    yield from (Order(group, tuple(some), positions) for positions, some in alike.items())
+
+
+def _put_in_order(group: Group, orders: Sequence[Order]) -> Group:
+    """The group with its balises in the order of N_PIG."""
+    positions = dict(group.places)
+    for order in orders:
+        if order.group is group:
+            said = dict(order.positions)
+            positions.update((place.row.number, said[place.finding.balise or 0]) for place in order.places if place.row)
+    return by_position(group, positions)
+
+
+def _left(checked: Checked, groups: Sequence[Group]) -> Dict[str, Set[int]]:
+    """The rules that the program still finds broken in each of these groups."""
+    report = checked.program.check(document(groups, ())) if groups else None
+    known = isinstance(report, Report)
+    left: Dict[str, Set[int]] = {group.name: set() if known else set(OF_ORDER) for group in groups}
+    for finding in report.findings if isinstance(report, Report) else ():
+        if finding.group is not None and finding.group < len(groups):
+            left[groups[finding.group].name].add(finding.rule)
+    return left
+
+
+def _exchange(order: Order) -> Statement:
+    """What is wrong with the order of balises."""
+    wanted, said = ([str(pair[index]) for pair in order.positions] for index in (0, 1))
+    words = "their telegrams look exchanged" if len(said) == 2 else "their telegrams look to be in a wrong order"
+    sentence = f"{words}: N_PIG is {_listed(said)} in place of {_listed(wanted)}"
+    return Statement(sentence, values={"N_PIG": ", ".join(said), "wanted_N_PIG": ", ".join(wanted)})
+
+
+def _listed(words: Sequence[str]) -> str:
+    return " and ".join([", ".join(words[:-1]), words[-1]])
+
+
+# ---- a telegram of another group
+
+
+class Strange(NamedTuple):
+    """A telegram whose identity is not that of all others of its group."""
+
+    group: Group
+    balise: Balise
+    others: int
+    """How many telegrams have the other identity."""
+    identity: Identity
+    """That of the others."""
+
+    def brings(self, place: Place) -> bool:
+        """Whether a finding is about this telegram, or compares with it."""
+        number, rule, at_head = self.balise.rows[0], place.finding.rule, self.group.aspects[0].rows[0]
+        if rule == 14:
+            return number == at_head.number and self.group in (place.group, place.earlier)
+        if place.group is not self.group or rule not in OF_HEADERS:
+            return False
+        same_place = rule == 16 and place.finding.aspect is None and place.finding.balise == self.group.places[number]
+        return same_place or number in (place.row.number if place.row else 0, *place.statement.others)
+
+
+def _strange(checked: Checked, places: Sequence[Place]) -> List[Cause]:
+    """Telegrams of another group, with all that they bring into this one."""
+    identities = {"NID_C", "NID_BG"}
+    suspects = {
+        place.group.name: place.group
+        for place in places
+        if place.group and place.finding.rule == 3 and not identities.isdisjoint(place.statement.values)
+    }
+    if not suspects:
+        return []
+    heads = {group.aspects[0].rows[0].number: group for group in checked.kept}
+    numbers = {*heads, *(row.number for group in suspects.values() for row in group.rows())}
+    balises = {row.number: Balise(row, record.form) for row, record in checked.accepted.decoded(sorted(numbers))}
+    found = [one for group in suspects.values() for one in _strange_of(group, balises)]
+    owners: Dict[Identity, Group] = {}
+    for number, group in heads.items():
+        if all(one.balise.row is not balises[number].row for one in found):
+            owners.setdefault(_identity(balises[number]), group)
+    return [
+        Cause(tuple(filter(one.brings, places)), _not_of_group(one, owners), one.balise.rows, str(one.balise))
+        for one in found
+    ]
+
+
+def _strange_of(group: Group, balises: Mapping[int, Balise]) -> Iterator[Strange]:
+    """The one telegram of a group whose identity is not that of all others, of which there are two at least."""
+    rows = {row.number: _identity(balises[row.number]) for row in group.rows()}
+    (identity, count), *others = Counter(rows.values()).most_common()
+    if len(others) == 1 and others[0][1] == 1 < count:
+        number = next(number for number, own in rows.items() if own != identity)
+        yield Strange(group, balises[number], count, identity)
+
+
+def _identity(balise: Balise) -> Identity:
+    return balise.form["nid_c"], balise.form["nid_bg"]
+
+
+def _not_of_group(one: Strange, owners: Mapping[Identity, Group]) -> Statement:
+    """What is wrong with a telegram of another group, and of which one it is, if the table has it."""
+    own, owner = _identity(one.balise), owners.get(_identity(one.balise))
+    like = f": it looks like one of {group_words(owner)}" if owner and owner is not one.group else ""
+    sentence = f"the telegram has the identity {own[0]}/{own[1]} (NID_C/NID_BG), and the group's other {one.others} have "
+    values = {"NID_C": own[0], "NID_BG": own[1], "other_NID_C": one.identity[0], "other_NID_BG": one.identity[1]}
+    words = f"{sentence}{one.identity[0]}/{one.identity[1]}{like}"
+    return Statement(words, values={name: str(value) for name, value in values.items()})

@@ -1,0 +1,100 @@
+"""A finding of the program with all telegrams of its group, or with its message."""
+from __future__ import annotations
+
+from dataclasses import dataclass, field
+from typing import List, Mapping, NamedTuple, Optional, Sequence, Tuple
+
+from balisekit.engine.grammar import Finding
+from balisekit.etcs.geometry import Kilometres
+from balisekit.etcs.packets import packet_name
+from balisekit.etcs.variables import Around, Form, value_words
+from balisekit.tables.model import Group, Row
+from balisekit.tables.names import ordinal, quoted, rows_words
+
+
+@dataclass(frozen=True)
+class Statement:
+    """What is wrong. Its sentence names other rows in one place, so that those of several aspects can be united."""
+
+    before: str
+    others: Tuple[int, ...] = ()
+    """The other rows that it names."""
+    after: str = ""
+    values: Mapping[str, str] = field(default_factory=dict)
+    """The values that it names, by their variables or as `supervised_location_m`."""
+    packet: Optional[int] = None
+    """The NID_PACKET of the packet that it is about."""
+
+    def __str__(self) -> str:
+        return f"{self.before}{f', {rows_words(self.others)}' if self.others else ''}{self.after}"
+
+
+class Balise(NamedTuple):
+    """A telegram, and its row. A message has none."""
+
+    row: Optional[Row]
+    form: Form
+
+    @property
+    def rows(self) -> Tuple[int, ...]:
+        """The number of its row."""
+        return () if self.row is None else (self.row.number,)
+
+    def __str__(self) -> str:
+        name = self.row.name if self.row else ""
+        return f"balise {quoted(name)} (N_PIG {self.form['n_pig']})" if name else f"balise N_PIG {self.form['n_pig']}"
+
+    def value(self, key: str) -> str:
+        """A value of the header as it is sent, and its name where it has one."""
+        number = dict(self.form)[key]
+        words = value_words(key, number, Around()) if isinstance(number, int) else ""
+        return f"{number} ({words})" if words else str(number)
+
+
+Aspect = Sequence[Balise]
+
+
+class Scene(NamedTuple):
+    """A finding, and what it is about."""
+
+    finding: Finding
+    aspects: Sequence[Aspect]
+    """The balises of each aspect of the group, or the message alone."""
+    names: Sequence[str] = ("",)
+    """The names of the aspects."""
+    kilometres: Kilometres = Kilometres()
+    earlier: Optional[Group] = None
+    """Of F14: the first group with the same identity."""
+
+    @property
+    def aspect(self) -> Aspect:
+        """The balises of the aspect that the finding names, or of the first one."""
+        return self.aspects[self.finding.aspect or 0]
+
+    @property
+    def place(self) -> int:
+        """The place of the balise that it names, counted from 0."""
+        return self.finding.balise or 0
+
+    @property
+    def own(self) -> Balise:
+        """The balise that it names, or the message."""
+        return self.aspect[self.place]
+
+    @property
+    def forms(self) -> List[Form]:
+        """The telegrams of the aspect, or the message."""
+        return [balise.form for balise in self.aspect]
+
+    def of_aspect(self, index: int) -> str:
+        """Which aspect it is, if there are several."""
+        if len(self.aspects) == 1:
+            return ""
+        return f"aspect {quoted(self.names[index])}" if self.names[index] else f"the {ordinal(index)} aspect"
+
+
+def packet_words(form: Form, place: int) -> str:
+    """A packet by its number, its name, and its place in this telegram or message."""
+    number = form["packets"][place]["nid_packet"]
+    where = "message" if "nid_message" in form else "telegram"
+    return f"packet {number} ({packet_name(number)}), {ordinal(place)} in the {where}"
