@@ -10,7 +10,7 @@ from balisekit.io import clock
 from balisekit.present.check_text import closing_lines
 from balisekit.present.explanations import explanations
 from balisekit.present.pages import pieces, premises
-from balisekit.present.report import blocks, cover, listed_findings
+from balisekit.present.report import blocks, cover, listed
 from balisekit.present.telegram_text import LEGEND
 from balisekit.rules.line import Line
 from balisekit.rules.links import L2, compare
@@ -32,7 +32,7 @@ def run(options: argparse.Namespace) -> int:
     now = clock.now()
     checked, judged = shared.judged(options, now)
     check_aspect(checked.table, options.aspect)
-    findings = listed_findings(checked, judged)
+    findings = listed(checked, judged)
     explanation = explanations()
     line = Line.of(checked)
     links = compare(line, Options(options.tolerance), [L2])
@@ -42,7 +42,7 @@ def run(options: argparse.Namespace) -> int:
         cover=cover(checked, judged, now),
         findings=findings,
         judged=judged is not None,
-        explained=[(rule, explanation[rule]) for rule in sorted({listed.finding.rule for listed in findings})],
+        explained=[(rule, explanation[rule]) for rule in sorted({place.finding.rule for place in checked.findings})],
         blocks=blocks(checked, line.forms, findings),
         legend=LEGEND,
         premises=premises(),

@@ -121,13 +121,14 @@ def _finding(place: Place) -> Dict[str, Any]:
 def _entry(entry: Entry) -> Dict[str, Any]:
     return {
         "rule": entry.rule,
+        "rules": entry.rules,
         "urgency": entry.urgency.name.lower(),
         "sentence": entry.sentence,
         "rows": entry.rows,
         "other_rows": entry.other_rows,
         "group": entry.group.name if entry.group else None,
         "aspects": entry.aspects,
-        "balises": entry.balises,
+        "balises": [{"name": one.name, "n_pig": one.n_pig} for one in entry.balises],
         "packet": entry.packet,
         "direction": entry.direction or None,
         "km": None if entry.km is None else str(entry.km),

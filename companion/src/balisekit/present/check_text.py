@@ -1,7 +1,6 @@
 """The answer of `check` in words: every refused telegram, then the program's findings, by row, name and kilometre."""
 from __future__ import annotations
 
-from itertools import groupby
 from typing import Iterator, List, Optional
 
 from balisekit.present import headings
@@ -29,9 +28,9 @@ def lines(
     yield from (f"left out: {describe_group(one.group)}: {one.why}" for one in checked.left_out)
     yield from (f"and {count}: --all goes on" for count in not_looked_at(checked))
     found = entries(checked, judged.open if judged else None)
-    for heading, some in groupby(found, headings.heading):
-        yield heading
-        yield from (line for entry in some for line in headings.entry_lines(entry))
+    for heading, entry in zip(headings.first_of_each(found), found):
+        yield from [heading] if heading else []
+        yield from headings.entry_lines(entry)
     yield from accepted_lines(checked, judged) if judged else ()
     if explained:
         yield from finding_pages(place.finding.rule for place in checked.findings)

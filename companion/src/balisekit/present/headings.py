@@ -21,6 +21,15 @@ def heading(entry: Entry) -> str:
     return CORRECT if entry.expected else URGENCIES[entry.urgency]
 
 
+def first_of_each(found: Sequence[Entry]) -> Iterator[str]:
+    """For each entry its heading, if it is the first one under it."""
+    before = ""
+    for entry in found:
+        own = heading(entry)
+        yield own if own != before else ""
+        before = own
+
+
 def about(entry: Entry) -> str:
     """What an entry is about: rows, group, kilometre, track, aspects, balises and direction, or its message."""
     parts: List[str] = []
@@ -32,7 +41,8 @@ def about(entry: Entry) -> str:
         parts += [] if entry.km is None else [f"km {kilometre(entry.km)}"]
         parts += [f"track {clean(track)}"] if track else []
         parts += _aspects(entry)
-        parts += [", ".join(entry.balises)] if entry.balises else []
+        several = "s" if len(entry.balises) > 1 else ""
+        parts += [f"balise{several} {', '.join(map(str, entry.balises))}"] if entry.balises else []
     directions = dict.fromkeys(place.finding.direction for place in entry.findings if place.finding.direction)
     return "  ".join([*parts, *([" and ".join(map(str, directions))] if directions else [])])
 

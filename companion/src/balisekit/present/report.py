@@ -12,14 +12,15 @@ from balisekit.etcs.geometry import kilometre
 from balisekit.etcs.places import Identities, places_of_rows
 from balisekit.etcs.variables import Form
 from balisekit.io import clock
-from balisekit.present import NOT_PROVED
+from balisekit.present import NOT_PROVED, headings
 from balisekit.present.accepted_text import accepted_words, fault_lines, with_entries
-from balisekit.present.check_text import closing_lines, finding_words, headings
+from balisekit.present.check_text import closing_lines
 from balisekit.present.refusals import RefusedInput, not_looked_at, refused
 from balisekit.present.telegram_text import text
 from balisekit.rules.accepted import Judged
 from balisekit.rules.aspect_counts import aspects_found
 from balisekit.rules.checking import AcceptedMessage, Checked
+from balisekit.rules.entries import Entry, entries
 from balisekit.rules.remarks import remarks
 from balisekit.tables.model import Group
 from balisekit.tables.names import clean, describe_balise, describe_group, describe_message, describe_rows, passed_over
@@ -36,19 +37,19 @@ class Telegram(NamedTuple):
     """The program's words, if it has refused the telegram."""
 
 
-class ListedFinding(NamedTuple):
-    """A finding, and its places in the page."""
+class Listed(NamedTuple):
+    """An entry, and its places in the page."""
 
-    finding: Finding
+    entry: Entry
     words: str
     block: str
     """The block of its group or message."""
     target: str
     """The telegram of the balise that it names, else the block."""
-    accepted: str
-    """Why, by whom and when it was accepted. An open finding has nothing."""
+    accepted: Sequence[str]
+    """Why, by whom and when its findings were accepted. Open ones have nothing."""
     heading: str
-    """What is above it in the list of findings, if it is the first of several of one rule about one group."""
+    """What is above it in the list, if it is the first of its urgency."""
 
 
 class Block(NamedTuple):
@@ -59,7 +60,7 @@ class Block(NamedTuple):
     where: str
     left_out: str
     picture: Optional[Picture]
-    findings: Sequence[ListedFinding]
+    findings: Sequence[Listed]
     telegrams: Iterable[Telegram]
 
 
@@ -81,7 +82,7 @@ def cover(checked: Checked, judged: Optional[Judged], now: datetime) -> Dict[str
         "refused": list(refused(checked)),
         "left_out": [(describe_group(left_out.group), clean(left_out.why)) for left_out in checked.left_out],
         "aspects": aspects_found(table),
-        "remarks": list(remarks(table)),
+        "remarks": [*remarks(table), *headings.not_decoded(checked)],
         "notes": [*map(clean, table.notes), *passed_over(table), *not_looked_at(checked)],
     }
 
@@ -97,24 +98,36 @@ def _inputs(checked: Checked, judged: Optional[Judged]) -> Iterator[Tuple[str, s
         yield clean(entries.path), entries.sha256, f"{len(entries.entries)} entries of accepted findings"
 
 
-def listed_findings(checked: Checked, judged: Optional[Judged] = None) -> List[ListedFinding]:
-    """Each finding with the entry that accepts it. Open and accepted ones have headings of their own."""
+def listed(checked: Checked, judged: Optional[Judged] = None) -> List[Listed]:
+    """The entries of all findings, the open ones first, each with the entries that accept it."""
+    reasons = {place.finding.line: entry for place, entry in with_entries(checked, judged) if entry}
+    still_open, accepted = (
+        entries(checked, [place for place in checked.findings if (place.finding.line in reasons) == kind])
+        for kind in (False, True)
+    )
     ids = {group.name: f"g{index}" for index, group in enumerate(checked.table.groups)}
-    items = list(with_entries(checked, judged))
-    still_open, accepted = ([place for place, entry in items if bool(entry) == kind] for kind in (False, True))
-    of_open, of_accepted = headings(still_open), headings(accepted)
-    findings = []
-    for place, entry in items:
-        block = f"m{place.message.number}" if place.message else ids[place.group.name] if place.group else ""
-        target = f"r{place.row.number}" if place.row else block
-        words, heading = accepted_words(entry) if entry else "", next(of_accepted if entry else of_open)
-        findings.append(ListedFinding(place.finding, finding_words(place), block, target, words, heading))
-    return findings
+    return [
+        _listed(
+            entry,
+            ids,
+            heading,
+            dict.fromkeys(accepted_words(reasons[line]) for line in entry.quoted if line in reasons),
+        )
+        for some in (still_open, accepted)
+        for entry, heading in zip(some, headings.first_of_each(some))
+    ]
 
 
-def blocks(checked: Checked, forms: Mapping[int, Form], findings: Sequence[ListedFinding]) -> Iterator[Block]:
+def _listed(entry: Entry, ids: Mapping[str, str], heading: str, accepted: Iterable[str]) -> Listed:
+    message, group = entry.message, entry.group
+    block = f"m{message.number}" if message else ids[group.name] if group else ""
+    target = f"r{entry.rows[0]}" if entry.balises else block
+    return Listed(entry, headings.words(entry), block, target, list(accepted), heading)
+
+
+def blocks(checked: Checked, forms: Mapping[int, Form], findings: Sequence[Listed]) -> Iterator[Block]:
     """A block for each group, in the table's order, and for each message. `forms` has the telegrams by their rows."""
-    by_block: Dict[str, List[ListedFinding]] = {}
+    by_block: Dict[str, List[Listed]] = {}
     for finding in findings:
         by_block.setdefault(finding.block, []).append(finding)
     left_out = {left_out.group.name: clean(left_out.why) for left_out in checked.left_out}
@@ -124,7 +137,7 @@ def blocks(checked: Checked, forms: Mapping[int, Form], findings: Sequence[Liste
         id, group = f"g{index}", kept.get(original.name, original)
         of_group, why = by_block.get(id, []), left_out.get(group.name, "")
         whole = all(row.number in forms for row in group.rows())
-        picture = picture_of(group, forms, [listed.finding for listed in of_group]) if whole else None
+        picture = picture_of(group, forms, _findings(of_group)) if whole else None
         yield Block(id, clean(group.name), _where(group), why, picture, of_group, _telegrams(group, forms, items))
     identities = Identities(checked.table.groups, forms)
     for message in checked.accepted_messages:
@@ -135,12 +148,16 @@ def blocks(checked: Checked, forms: Mapping[int, Form], findings: Sequence[Liste
         yield Block(item.id, heading, "", "refused", None, (), [telegram])
 
 
-def _message(item: AcceptedMessage, findings: Sequence[ListedFinding], identities: Identities) -> Block:
+def _findings(some: Iterable[Listed]) -> List[Finding]:
+    return [place.finding for each in some for place in each.entry.findings]
+
+
+def _message(item: AcceptedMessage, findings: Sequence[Listed], identities: Identities) -> Block:
     """The block of a message that the program has read."""
     form, heading = item.form, f"message of {describe_message(item.message)}"
     group, here = identities.group_of(form), identities.here(form)
     where = f"its places count from {describe_group(group)}" if group else ""
-    picture = picture_of_message(heading, form, [listed.finding for listed in findings], here.kilometres)
+    picture = picture_of_message(heading, form, _findings(findings), here.kilometres)
     telegram = Telegram("", "in words", clean(item.message.text), text(form, here))
     return Block(f"m{item.message.number}", heading, where, "", picture, findings, [telegram])
 

@@ -6,11 +6,11 @@ from __future__ import annotations
 
 from collections import Counter
 from dataclasses import dataclass, replace
-from typing import Dict, Iterable, Iterator, List, Mapping, NamedTuple, Sequence, Set, Tuple
+from typing import Dict, Iterable, Iterator, List, Mapping, NamedTuple, Optional, Sequence, Set, Tuple
 
 from balisekit.engine.program import Report
 from balisekit.rules.checking import Checked, Place, document
-from balisekit.rules.statements import Balise, Statement
+from balisekit.rules.statements.scene import Balise, Statement
 from balisekit.tables.grouping import by_position
 from balisekit.tables.model import Group
 from balisekit.tables.names import group_words
@@ -26,11 +26,11 @@ Identity = Tuple[int, int]
 class Cause:
     """Findings of one cause, and what is wrong."""
 
+    rule: int
     places: Tuple[Place, ...]
     statement: Statement
-    rows: Tuple[int, ...] = ()
-    """The rows that it is about, if these are not the rows of the findings."""
-    balise: str = ""
+    balise: Optional[Balise] = None
+    """The one that it is about, if it is not about those of its findings."""
 
 
 def causes(checked: Checked, findings: Sequence[Place]) -> List[Cause]:
@@ -52,7 +52,7 @@ def _alike(places: Iterable[Place]) -> List[Cause]:
         about = place.group.name if place.group else None, place.message.number if place.message else None
         said = place.statement
         same.setdefault((place.finding.rule, *about, said.before, said.after, place.correct), []).append(place)
-    return [Cause(tuple(some), _united(some)) for some in same.values()]
+    return [Cause(some[0].finding.rule, tuple(some), _united(some)) for some in same.values()]
 
 
 def _united(places: Sequence[Place]) -> Statement:
@@ -93,7 +93,7 @@ def _exchanged(checked: Checked, places: Sequence[Place]) -> List[Cause]:
     for order in orders:
         gone = OF_ORDER - left.pop(order.group.name, OF_ORDER)
         brought = [place for place in places if place.group is order.group and place.finding.rule in gone]
-        found.append(Cause((*order.places, *brought), _exchange(order)))
+        found.append(Cause(1, (*order.places, *brought), _exchange(order)))
     return found
 
 
@@ -180,16 +180,17 @@ def _strange(checked: Checked, places: Sequence[Place]) -> List[Cause]:
         return []
     heads = {group.aspects[0].rows[0].number: group for group in checked.kept}
     numbers = {*heads, *(row.number for group in suspects.values() for row in group.rows())}
-    balises = {row.number: Balise(row, record.form) for row, record in checked.accepted.decoded(sorted(numbers))}
+    places_of = {number: place for group in suspects.values() for number, place in group.places.items()}
+    balises = {
+        row.number: Balise(row, record.form, places_of.get(row.number, 0))
+        for row, record in checked.accepted.decoded(sorted(numbers))
+    }
     found = [one for group in suspects.values() for one in _strange_of(group, balises)]
     owners: Dict[Identity, Group] = {}
     for number, group in heads.items():
         if all(one.balise.row is not balises[number].row for one in found):
             owners.setdefault(_identity(balises[number]), group)
-    return [
-        Cause(tuple(filter(one.brings, places)), _not_of_group(one, owners), one.balise.rows, str(one.balise))
-        for one in found
-    ]
+    return [Cause(3, tuple(filter(one.brings, places)), _not_of_group(one, owners), one.balise) for one in found]
 
 
 def _strange_of(group: Group, balises: Mapping[int, Balise]) -> Iterator[Strange]:
@@ -209,7 +210,9 @@ def _not_of_group(one: Strange, owners: Mapping[Identity, Group]) -> Statement:
     """What is wrong with a telegram of another group, and of which one it is, if the table has it."""
     own, owner = _identity(one.balise), owners.get(_identity(one.balise))
     like = f": it looks like one of {group_words(owner)}" if owner and owner is not one.group else ""
-    sentence = f"the telegram has the identity {own[0]}/{own[1]} (NID_C/NID_BG), and the group's other {one.others} have "
+    sentence = (
+        f"the telegram has the identity {own[0]}/{own[1]} (NID_C/NID_BG), and the group's other {one.others} have "
+    )
     values = {"NID_C": own[0], "NID_BG": own[1], "other_NID_C": one.identity[0], "other_NID_BG": one.identity[1]}
     words = f"{sentence}{one.identity[0]}/{one.identity[1]}{like}"
     return Statement(words, values={name: str(value) for name, value in values.items()})

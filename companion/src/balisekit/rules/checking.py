@@ -13,7 +13,8 @@ from balisekit.engine.records import Form
 from balisekit.errors import NoAnswer
 from balisekit.etcs.geometry import kilometres
 from balisekit.rules.findings_on_correct_data import row_of
-from balisekit.rules.statements import Balise, Scene, Statement, statement
+from balisekit.rules.statements import statement
+from balisekit.rules.statements.scene import Balise, BaliseName, Scene, Statement
 from balisekit.tables.grouping import by_position
 from balisekit.tables.model import Aspect, Group, Message, Messages, Row, Table
 
@@ -137,8 +138,8 @@ class Place:
     """Of F14: the first group with the same identity."""
     statement: Statement = Statement("")
     """What is wrong, with the values that differ."""
-    balise: str = ""
-    """The balise's name and N_PIG."""
+    balise: Optional[BaliseName] = None
+    """What the balise is called."""
     correct: str = ""
     """The row of the table of findings on correct data that it fits."""
 
@@ -330,7 +331,9 @@ class _Names:
         of_identity = any(finding.rule == 14 for finding in findings)
         groups = {finding.group for finding in findings if finding.message is None}
         rows = {_head(group).number for group in readable.kept} if of_identity else set()
-        rows |= {row.number for group in groups if group in range(len(readable.kept)) for row in readable.kept[group].rows()}
+        rows |= {
+            row.number for group in groups if group in range(len(readable.kept)) for row in readable.kept[group].rows()
+        }
         self._records = {row.number: record for row, record in readable.accepted.decoded(sorted(rows))}
         self._scene = lru_cache(maxsize=1)(self._new_scene)
         self._first = list(self._first_groups()) if of_identity else []
@@ -356,14 +359,16 @@ class _Names:
         scene = self._scene(finding.group or 0)._replace(finding=finding, earlier=earlier)
         self._look_at_packet(scene.own.form, finding)
         name = None if finding.aspect is None and len(group.aspects) > 1 else aspect.name
-        balise = "" if row is None else str(scene.own)
+        balise = None if row is None else scene.own.name
         return Place(finding, group, name, row, None, earlier, statement(scene), balise, _correct(scene))
 
     def _new_scene(self, index: int) -> Scene:
         """All telegrams of a group. Its findings stand together, so that one group at a time is kept."""
         group = self._readable.kept[index]
-        balises = {row.number: Balise(row, self._records[row.number].form) for row in group.rows()}
-        aspects = [[balises[row.number] for row in aspect.rows] for aspect in group.aspects]
+        forms = {row.number: self._records[row.number].form for row in group.rows()}
+        aspects = [
+            [Balise(row, forms[row.number], place) for place, row in enumerate(aspect.rows)] for aspect in group.aspects
+        ]
         return Scene(NO_FINDING, aspects, [aspect.name for aspect in group.aspects], kilometres(group))
 
     def _site(self, finding: Finding) -> Tuple[Group, Aspect, Optional[Row]]:

@@ -8,11 +8,12 @@ from __future__ import annotations
 from dataclasses import dataclass, field
 from decimal import Decimal
 from enum import IntEnum
-from typing import Any, Dict, List, Mapping, Optional, Sequence, Tuple
+from typing import Any, Collection, Dict, List, Mapping, Optional, Sequence, Tuple
 
 from balisekit.rules.causes import Cause, causes
 from balisekit.rules.checking import Checked, Place
 from balisekit.rules.rule import Remark
+from balisekit.rules.statements.scene import BaliseName
 from balisekit.tables.model import Group, Message, Row
 
 
@@ -58,10 +59,16 @@ class Entry:
     """What a rule of balisekit has found, if it is an entry of a rule of balisekit."""
     expected: str = ""
     """The case of correct data that gets such a finding, if it fits one."""
-    balises: Tuple[str, ...] = ()
-    """The balises that it is about, by name and N_PIG."""
+    balises: Tuple[BaliseName, ...] = ()
+    """The balises that it is about."""
     other_rows: Tuple[int, ...] = ()
     """The rows that the sentence names beside its own."""
+
+    @property
+    def rules(self) -> Sequence[str]:
+        """The rules of its findings: an exchange of telegrams may break several."""
+        numbers = sorted({place.finding.rule for place in self.findings})
+        return [f"F{number}" for number in numbers] or [self.rule]
 
     @property
     def quoted(self) -> Sequence[str]:
@@ -70,12 +77,12 @@ class Entry:
 
 
 URGENCIES: Mapping[int, Urgency] = {
-    **dict.fromkeys((1, 2, 5, 8, 10, 11, 12, 13, 15, 16), Urgency.WRONG_INFORMATION),
+    **dict.fromkeys((1, 2, 5, 8, 10, 11, 12, 13, 16), Urgency.WRONG_INFORMATION),
     **dict.fromkeys((3, 14), Urgency.WRONG_PLACE),
-    **dict.fromkeys((4, 6, 7), Urgency.BRAKING),
+    **dict.fromkeys((4, 6, 7, 15), Urgency.BRAKING),
     9: Urgency.RULE_ONLY,
 }
-"""By docs/FINDINGS.md, what a finding means at worst."""
+"""What a finding means at worst, by docs/FINDINGS.md. F15 is worse with F16, which is an entry of its own."""
 
 
 CORRECT: Mapping[str, str] = {
@@ -94,8 +101,8 @@ CORRECT: Mapping[str, str] = {
 def entries(checked: Checked, places: Optional[Sequence[Place]] = None) -> List[Entry]:
     """The program's findings, or some of them: one entry for each cause.
 
-    The most urgent ones come first, and those of correct data last. Among entries of one urgency, those of a track stand
-    together, by their kilometres.
+    The most urgent ones come first, and those of correct data last. Those of one urgency are sorted by track and
+    kilometre.
     """
     tracks: Dict[str, int] = {}
     for row in checked.table.rows:
@@ -110,7 +117,8 @@ def _order(entry: Entry, tracks: Mapping[str, int], groups: Mapping[str, int]) -
     group, first = entry.group, int(entry.rule[1:])
     where: Tuple[Any, ...] = (1, entry.message.number if entry.message else 0)
     if group is not None:
-        where = 0, tracks.get(track_of(group), 0), entry.km is None, entry.km or 0, groups[group.name], entry.rows
+        km = group.aspects[0].rows[0].km
+        where = 0, tracks.get(track_of(group), 0), km is None, km or 0, groups[group.name], entry.rows
     return (entry.expected != "", entry.urgency, where, first)
 
 
@@ -121,43 +129,54 @@ def track_of(group: Group) -> str:
 
 def entry_of(place: Place) -> Entry:
     """The entry of a finding by itself."""
-    return _entry(Cause((place,), place.statement))
+    return _entry(Cause(place.finding.rule, (place,), place.statement))
 
 
 def _entry(cause: Cause) -> Entry:
     """The entry of a cause."""
-    places, said = cause.places, cause.statement
-    first, group = places[0], places[0].group
-    aspects = [place.aspect for place in places if place.aspect is not None]
-    names = dict.fromkeys(aspects) if group is None else [one.name for one in group.aspects if one.name in aspects]
-    rows = cause.rows or tuple(sorted({row.number for place in places for row in _rows(place)}))
-    head = next((row for row in group.rows() if row.number == rows[0]), None) if group and rows else None
-    directions = list(dict.fromkeys(place.finding.direction for place in places if place.finding.direction))
+    places, said, group = cause.places, cause.statement, cause.places[0].group
+    aspects = {place.aspect for place in places}
+    rows = cause.balise.rows if cause.balise else {row.number for place in places for row in _rows(place)}
+    directions = {place.finding.direction for place in places if place.finding.direction}
     balises = {place.finding.balise for place in places}
+    names = [cause.balise.name] if cause.balise else [place.balise for place in places if place.balise]
     return Entry(
-        f"F{min(place.finding.rule for place in places) if cause.balise == '' else 3}",
+        f"F{cause.rule}",
         min(URGENCIES[place.finding.rule] for place in places),
         str(said),
-        rows,
+        tuple(sorted(rows)),
         group,
-        tuple(name for name in names if name),
+        tuple(one.name for one in group.aspects if one.name and one.name in aspects) if group else (),
         balises.pop() if len(balises) == 1 else None,
         said.packet,
-        "" if len(directions) != 1 else directions[0],
-        head.km if head else None,
-        first.message,
+        directions.pop() or "" if len(directions) == 1 else "",
+        _kilometre(group, rows),
+        places[0].message,
         said.values,
         places,
-        expected=CORRECT.get(first.correct, "") if len({place.correct for place in places}) == 1 else "",
-        balises=(cause.balise,) if cause.balise else tuple(dict.fromkeys(place.balise for place in places if place.balise)),
+        expected=_expected(cause),
+        balises=tuple(dict.fromkeys(names)),
         other_rows=said.others,
     )
 
 
+def _expected(cause: Cause) -> str:
+    """The case of correct data that all findings of a cause fit.
+
+    An authority without a profile fits none if the profile is there, for the other direction or in a silent balise.
+    """
+    (case, *others) = {place.correct for place in cause.places}
+    return "" if others or case == "earlier group" and cause.statement.others else CORRECT.get(case, "")
+
+
+def _kilometre(group: Optional[Group], rows: Collection[int]) -> Optional[Decimal]:
+    """The kilometre of the first of these rows."""
+    known = {row.number: row.km for row in group.rows()} if group else {}
+    return known.get(min(rows, default=0))
+
+
 def _rows(place: Place) -> Sequence[Row]:
-    """The rows that a finding is about: its balise's, in all aspects if it names none, or those of its aspect or group."""
-    group, balise = place.group, place.finding.balise
-    if group is None:
-        return ()
-    aspects = [one for one in group.aspects if place.aspect in (None, one.name)]
+    """The rows that a finding is about: all of its aspect or group, or those of its balise, in each aspect."""
+    balise = place.finding.balise
+    aspects = [one for one in place.group.aspects if place.aspect in (None, one.name)] if place.group else []
     return [row for one in aspects for row in (one.rows if balise is None else [one.rows[balise]])]

@@ -49,7 +49,7 @@ def _group(finding: Finding, aspects: Sequence[Forms]) -> str:
     if rule in (*MISSING, *SHORT):
         return _profiles(finding, telegrams)
     if rule == 16 and (finding.aspect is not None or balise is None or not _is_default(balise, aspects)):
-        return "one controlled balise" if len(aspects) > 1 and _differing(aspects) == 1 else ""
+        return "one controlled balise" if _is_one_controlled(aspects) else ""
     has_default = any(packet["nid_packet"] == 254 for forms in aspects for form in forms for packet in form["packets"])
     return default if rule in (6, 16) or rule == 14 and has_default else ""
 
@@ -72,6 +72,11 @@ def _is_default(balise: int, aspects: Sequence[Forms]) -> bool:
     return any(form["m_mcount"] == 254 or 254 in [packet["nid_packet"] for packet in form["packets"]] for form in own)
 
 
-def _differing(aspects: Sequence[Forms]) -> int:
-    """At how many places the telegrams of the aspects are not all equal."""
-    return sum(any(form != own[0] for form in own) for own in zip(*aspects))
+def _is_one_controlled(aspects: Sequence[Forms]) -> bool:
+    """Whether the telegrams differ at one place only, where each aspect has its own, and all have one counter."""
+    differing = [own for own in zip(*aspects) if any(form != own[0] for form in own)]
+    if len(differing) != 1:
+        return False
+    own = differing[0]
+    repeated = any(form in own[:place] for place, form in enumerate(own))
+    return not repeated and len({form["m_mcount"] for form in own}) == 1

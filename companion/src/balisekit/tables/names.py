@@ -32,7 +32,11 @@ def rows_words(numbers: Iterable[int]) -> str:
         else:
             runs.append([number])
     texts = [str(run[0]) if len(run) == 1 else f"{run[0]} to {run[-1]}" for run in runs]
-    named = listed(texts, NAMED) if len(texts) > NAMED else " and ".join([*([", ".join(texts[:-1])] * (len(texts) > 1)), *texts[-1:]])
+    named = (
+        listed(texts, NAMED)
+        if len(texts) > NAMED
+        else " and ".join([*([", ".join(texts[:-1])] * (len(texts) > 1)), *texts[-1:]])
+    )
     return f"row{'' if len(runs) == 1 and len(runs[0]) == 1 else 's'} {named}"
 
 

@@ -7,9 +7,7 @@ from __future__ import annotations
 from typing import Callable, Mapping
 
 from balisekit.rules.statements import headers, packets, profiles
-from balisekit.rules.statements.scene import Balise as Balise
-from balisekit.rules.statements.scene import Scene as Scene
-from balisekit.rules.statements.scene import Statement as Statement
+from balisekit.rules.statements.scene import Scene, Statement
 
 STATEMENTS: Mapping[int, Callable[[Scene], Statement]] = {
     1: headers.position_wrong,

@@ -113,7 +113,9 @@ def _neither_fixed_nor_switched(scene: Scene) -> Statement:
         index = next(index for index, balise in enumerate(balises) if balise.form != first.form)
         return _telegrams_differ(first, balises[index], scene.of_aspect(index))
     if len(set(counters)) == 1:
-        return Statement(f"M_MCOUNT is {first.value('m_mcount')} in every aspect", values={"M_MCOUNT": str(counters[0])})
+        return Statement(
+            f"M_MCOUNT is {first.value('m_mcount')} in every aspect", values={"M_MCOUNT": str(counters[0])}
+        )
     tells = [counter < OF_ALL for counter in counters]
     index = tells.index(not tells[0]) if len(set(tells)) > 1 else counters.index((set(counters) - {counters[0]}).pop())
     other = balises[index]

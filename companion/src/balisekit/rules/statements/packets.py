@@ -49,9 +49,7 @@ def _packet_differs(other: Balise, where: str, words: str, mine: Form, yours: Fo
     part, number = _part(first), mine["nid_packet"]
     if first.kind == CHANGED:
         sentence = f"{first.name} of {part}{words}, is {first.old}, and {first.new} in {where}"
-        return Statement(
-            sentence, other.rows, more, {first.name: first.old, f"other_{first.name}": first.new}, number
-        )
+        return Statement(sentence, other.rows, more, {first.name: first.old, f"other_{first.name}": first.new}, number)
     if first.kind == REMOVED:
         return Statement(f"{part}{words}, is missing in {where}", other.rows, f": {first.old}{more}", packet=number)
     sentence = f"{part}packet {number} of {where}"

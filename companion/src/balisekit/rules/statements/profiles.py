@@ -1,22 +1,11 @@
 """F10 to F13: authorities without a profile, and profiles that end before the supervised location."""
 from __future__ import annotations
 
-from typing import Dict, List, Tuple
+from typing import Dict, Tuple
 
-from balisekit.etcs.geometry import (
-    INFILL,
-    Authority,
-    Origin,
-    Site,
-    authority,
-    holds,
-    is_silent,
-    origins,
-    passed,
-    profile,
-)
+from balisekit.etcs.geometry import INFILL, Authority, Origin, Site, authority, holds, origins, passed, profile
 from balisekit.etcs.packets import packet_name
-from balisekit.etcs.variables import Form, metres
+from balisekit.etcs.variables import metres
 from balisekit.rules.statements.scene import Scene, Statement, packet_words
 
 KINDS = {10: 21, 11: 21, 12: 27, 13: 27}
@@ -26,7 +15,9 @@ KINDS = {10: 21, 11: 21, 12: 27, 13: 27}
 def no_profile(scene: Scene) -> Statement:
     """F10 and F12: the authority, and where a profile is that does not hold here."""
     number, direction = KINDS[scene.finding.rule], scene.finding.direction or ""
-    authorities = [(site, packet) for site, packet in passed(scene.forms, direction) if packet["nid_packet"] in (12, 15)]
+    authorities = [
+        (site, packet) for site, packet in passed(scene.forms, direction) if packet["nid_packet"] in (12, 15)
+    ]
     site, packet = authorities[0]
     speed = {"V_MAIN": f"{packet['v_main'] * 5} km/h"} if "v_main" in packet else {}
     about = ", ".join([packet_name(packet["nid_packet"]), *(f"V_MAIN {value}" for value in speed.values())])

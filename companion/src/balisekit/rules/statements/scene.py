@@ -29,20 +29,42 @@ class Statement:
         return f"{self.before}{f', {rows_words(self.others)}' if self.others else ''}{self.after}"
 
 
+class BaliseName(NamedTuple):
+    """What a balise is called."""
+
+    name: str
+    """Its own name, if it has one."""
+    n_pig: int
+    """As its telegram says."""
+    number: Optional[int] = None
+    """That of the column `balise`, if it is another one than its place."""
+
+    def __str__(self) -> str:
+        number = "" if self.number is None else f", number {self.number} in the table"
+        return f"{f'{quoted(self.name)} ' if self.name else ''}(N_PIG {self.n_pig}{number})"
+
+
 class Balise(NamedTuple):
     """A telegram, and its row. A message has none."""
 
     row: Optional[Row]
     form: Form
+    place: int = 0
+    """In its group, counted from 0."""
 
     @property
     def rows(self) -> Tuple[int, ...]:
         """The number of its row."""
         return () if self.row is None else (self.row.number,)
 
+    @property
+    def name(self) -> BaliseName:
+        """What it is called."""
+        name, number = (self.row.name, self.row.balise) if self.row else ("", None)
+        return BaliseName(name, self.form["n_pig"], None if number == self.place else number)
+
     def __str__(self) -> str:
-        name = self.row.name if self.row else ""
-        return f"balise {quoted(name)} (N_PIG {self.form['n_pig']})" if name else f"balise N_PIG {self.form['n_pig']}"
+        return f"balise {self.name}"
 
     def value(self, key: str) -> str:
         """A value of the header as it is sent, and its name where it has one."""
