@@ -14,12 +14,9 @@ import pytest
 from conftest import Run
 from telegrams import ALONE, FAULTY, FIRST, MESSAGE, OTHER, SECOND, SPARE
 
-from balisekit.engine.grammar import Finding
 from balisekit.engine.program import Program
 from balisekit.present import explanations as explain
-from balisekit.present.check_text import headings
 from balisekit.rules import checking
-from balisekit.tables.model import Aspect, Group, Message, Row
 
 Write = Callable[..., Path]
 TOP = Path(__file__).resolve().parents[2]
@@ -39,8 +36,10 @@ def test_yes(run: Run, table: Write) -> None:
 def test_findings(run: Run, table: Write) -> None:
     status, out, _ = run("check", table(*SOUND, f"Signal C,C1,16,,{OTHER}"))
     assert status == 1 and out[1:] == [
-        "row 5  Signal C  km 16.000: identity used before by row 4  Signal B  km 15.000",
+        "at worst a wrong place:",
+        "row 5  Signal C  km 16.000: the identity 1/3 (NID_C/NID_BG) is also that of Signal B (km 15.000), row 4",
         "    program: F14 group 2: identity used before",
+        "F14 1; 2 of 3 groups without finding",
         ASPECTS.format(3),
         "program: no: findings 1",
     ]
@@ -81,7 +80,9 @@ def test_messages(run: Run, table: Write) -> None:
     assert "message of line 3: NID_MESSAGE is 4; 3 and 136 are read" in out
     odd = "it has 35 digits, an odd number: a digit is missing, or one too many; a message 3 begins with 03"
     assert f"message of line 4: {odd}" in out
-    assert "message of line 1  to train 7  nominal: no gradient" in out
+    said = "no packet 21 (gradient profile) beside packet 15 (movement authority of levels 2 and 3)"
+    expected = "expected if the profiles were sent before"
+    assert f"message of line 1  to train 7  nominal: {said}; {expected}" in out
     assert out[-1] == (
         "INCOMPLETE: 0 of 3 telegrams refused, 3 of 4 messages refused, 0 of 2 groups left out; "
         "findings in the rest: 2"
@@ -491,8 +492,8 @@ def test_a_reader_that_has_gone(table: Write) -> None:
         assert (done.returncode, done.stderr) == (3, CLOSED)
 
 
-def test_findings_of_one_cause_have_a_heading(run: Run, table: Write, tmp_path: Path) -> None:
-    """The two balises of a group with three aspects are exchanged. No line of the program is left out or moved."""
+def test_exchanged_telegrams_are_one_entry(run: Run, table: Write, tmp_path: Path) -> None:
+    """The two balises of a group with three aspects, and of one without. No line of the program is left out."""
     rows = [
         f"Signal B,{name},15,{aspect},{text}"
         for aspect in ("red", "yellow", "green")
@@ -500,21 +501,18 @@ def test_findings_of_one_cause_have_a_heading(run: Run, table: Write, tmp_path: 
     ]
     path = table(HEADING, f"Signal A,A1,14,,{SECOND}", f"Signal A,A2,14,,{FIRST}", *rows)
     run("check", path, "--json", tmp_path / "out.json")
-    findings = json.loads((tmp_path / "out.json").read_text("utf-8"))["findings"]
+    answer = json.loads((tmp_path / "out.json").read_text("utf-8"))
     out = run("check", path)[1]
-    assert [line for line in out if line.startswith("F")] == [
-        "F1, 6 times, group Signal B:",
-        "F4, 6 times, group Signal B:",
+    said = "their telegrams look exchanged: N_PIG is 1 and 0 in place of 0 and 1"
+    assert [line for line in out if line.endswith(said)] == [
+        f'rows 2 to 3  Signal A  km 14.000  balises "A1" (N_PIG 1), "A2" (N_PIG 0): {said}',
+        f'rows 4 to 9  Signal B  km 15.000  every aspect  balises "B2" (N_PIG 1), "B1" (N_PIG 0): {said}',
     ]
-    place = out.index("F1, 6 times, group Signal B:")
-    assert out[place + 1].startswith("row 4  Signal B")
-    assert [line for line in out[place + 1 : place + 13] if line.startswith("    program: ")] == [
-        f"    program: F1 group 1 aspect {aspect} balise {balise}: position wrong"
-        for aspect in range(3)
-        for balise in range(2)
-    ]
-    said = [line[len("    program: ") :] for line in out if line.startswith("    program: ")]
-    assert said == [one["line"] for one in findings] and len(said) > 8
+    quoted = [line[len("    program: ") :] for line in out if line.startswith("    program: ")]
+    assert sorted(quoted) == sorted(one["line"] for one in answer["findings"]) and len(quoted) > 16
+    entry = answer["entries"][1]
+    assert (entry["rule"], entry["rules"], entry["rows"]) == ("F1", ["F1", "F4"], [4, 5, 6, 7, 8, 9])
+    assert entry["values"] == {"N_PIG": "1, 0", "wanted_N_PIG": "0, 1"} and len(entry["program"]) == 12
 
 
 def _said(out: List[str], rule: str) -> List[str]:
@@ -525,13 +523,13 @@ def _said(out: List[str], rule: str) -> List[str]:
 def test_what_differs_is_told(run: Run, table: Write, tmp_path: Path) -> None:
     """F1, F2 and F3 with the numbers of the program's JSON, in words and for other tools."""
     for name, rule, wanted in (
-        ("position-wrong", "F1", "balise 1: position wrong: N_PIG is 0, and the table has it as balise 1"),
-        ("total-wrong", "F2", "balise 0: total wrong: N_TOTAL + 1 says 1 balise, and the table has 2"),
         (
-            "identity-differs",
-            "F3",
-            "balise 1: version, identity or link flag differs: NID_BG is 2, and 1 in balise " "0, row 2",
+            "position-wrong",
+            "F1",
+            "balise (N_PIG 0): N_PIG is 0 in place of 1: the table has the balise as the second of its group",
         ),
+        ("total-wrong", "F2", "balise (N_PIG 0): N_TOTAL + 1 says 1 balise, and the table has 2"),
+        ("identity-differs", "F3", "balise (N_PIG 1): NID_BG is 2, and 1 in balise (N_PIG 0), row 2"),
     ):
         document = json.loads((TOP / "examples" / "check" / f"{name}.json").read_text())
         path = table("group,telegram", *[f"A,{text}" for text in document["groups"][0]["balises"]])
@@ -539,8 +537,6 @@ def test_what_differs_is_told(run: Run, table: Write, tmp_path: Path) -> None:
         (one,) = json.loads((tmp_path / "out.json").read_text("utf-8"))["findings"]
         assert _said(out, rule) == [one["words"]] and one["words"].endswith(f"  A  {wanted}")
         assert wanted.endswith(f": {one['differs']}") and one["line"].endswith(one["name"])
-    run("check", table("group,telegram", f"A,{ALONE}", f"B,{ALONE}"), "--force", "--json", tmp_path / "out.json")
-    assert json.loads((tmp_path / "out.json").read_text("utf-8"))["findings"][0]["differs"] is None
 
 
 def test_each_value_that_differs_is_told(run: Run, table: Write, program: Program) -> None:
@@ -553,7 +549,7 @@ def test_each_value_that_differs_is_told(run: Run, table: Write, program: Progra
     (said,) = _said(out, "F3")
     assert said.endswith(
         f'M_VERSION is 32 (2.0), and 33 (2.1); NID_C is 7, and {form["nid_c"]}; Q_LINK is {other["q_link"]} '
-        f'({flags[0]}), and {form["q_link"]} ({flags[1]}) in balise 0 of aspect "red", row 2'
+        f'({flags[0]}), and {form["q_link"]} ({flags[1]}) in balise (N_PIG 0) of aspect "red", row 2'
     )
 
 
@@ -566,24 +562,24 @@ def test_the_rows_of_an_aspect_and_no_others(run: Run, table: Write, program: Pr
     ]
     fixed, red, green = [one.line for one in program.encode(forms)]
     rows = [f"A,{aspect},{text}" for aspect, text in (("*", fixed), ("red", red), ("green", green))]
-    assert _said(run("check", table("group,aspect,telegram", *rows))[1], "F10") == [
-        'rows 2, 4  A  aspect "green"  nominal: no gradient'
-    ]
-    assert _said(run("check", table("group,aspect,telegram", *[rows[place] for place in (0, 2, 1)]))[1], "F10") == [
-        'rows 2 to 3  A  aspect "green"  nominal: no gradient'
-    ]
+    for order, wanted in (((0, 1, 2), "rows 2 and 4"), ((0, 2, 1), "rows 2 to 3")):
+        out = run("check", table("group,aspect,telegram", *[rows[place] for place in order]))[1]
+        (said,) = _said(out, "F10")
+        assert said.startswith(
+            f'{wanted}  A  aspect "green"  nominal: no packet 21 (gradient profile) beside packet 12 ('
+        )
 
 
 def test_a_missing_balise_renumbers_the_others(run: Run, table: Write) -> None:
     """The table's own number stands beside the program's, and which position no telegram has."""
     out = run("check", table("group,name,balise,telegram", f"A,A2,2,{SECOND}"))[1]
     assert _said(out, "F1") == [
-        'row 2  A  balise 0 "A2" (number 2 in the table): position wrong: N_PIG is 1, and the '
-        "table has it as balise 0"
+        'row 2  A  balise "A2" (N_PIG 1, number 2 in the table): N_PIG is 1 in place of 0: the table has the balise as '
+        "the first of its group"
     ]
     assert _said(out, "F2") == [
-        'row 2  A  balise 0 "A2" (number 2 in the table): total wrong: N_TOTAL + 1 says 2 '
-        "balises, and the table has 1: none has N_PIG 0"
+        'row 2  A  balise "A2" (N_PIG 1, number 2 in the table): N_TOTAL + 1 says 2 balises, and the table has 1: none '
+        "has N_PIG 0"
     ]
     out = run("check", table("group,balise,telegram", f"A,0,{FIRST}", f"A,1,{SECOND}", f"A,2,{SECOND}"))[1]
     assert "in the table)" not in "".join(out)
@@ -595,18 +591,3 @@ def test_what_is_not_whole_counts_its_findings(run: Run, table: Write) -> None:
     wanted = "INCOMPLETE: 1 of {} telegrams refused, 1 of {} groups left out"
     assert run("check", table(*rows))[1][-1] == wanted.format(2, 2)
     assert run("check", table(*rows, f"C,{OTHER}"))[1][-1] == wanted.format(3, 3) + "; findings in the rest: 1"
-
-
-def test_headings_stand_where_the_rule_or_the_group_changes() -> None:
-    def place(rule: int, name: str = "", message: int = 0) -> checking.Place:
-        finding = Finding(f"F{rule}", rule, "said")
-        about = Group(name, (Aspect("", (Row(2, name, ""),)),)) if name else None
-        return checking.Place(finding, about, message=Message(message, "", name="\x1b7") if message else None)
-
-    some = [*[place(1, "A\u202e")] * 3, *[place(2, "A\u202e")] * 2, *[place(2, "B")] * 4, *[place(10, message=7)] * 3]
-    assert [(number, one) for number, one in enumerate(headings(some)) if one] == [
-        (0, "F1, 3 times, group A\\u202e:"),
-        (5, "F2, 4 times, group B:"),
-        (9, "F10, 3 times, message of line 7  \\x1b7:"),
-    ]
-    assert len(list(headings(some))) == len(some) and list(headings([])) == []

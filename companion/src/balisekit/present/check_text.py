@@ -34,11 +34,11 @@ def lines(
     yield from accepted_lines(checked, judged) if judged else ()
     if explained:
         yield from finding_pages(place.finding.rule for place in checked.findings)
-    yield from before_last(table)
+    yield from headings.summary(checked, found, "open finding" if judged else "finding")
     decoded = checked.findings or not checked.whole or checked.accepted.raw is not None
     yield from headings.not_decoded(checked) if decoded else ()
+    yield from before_last(table)
     yield from unnamed_lines(checked, judged) if proposed and not judged else ()
-    yield from headings.summary(checked, found, "open finding" if judged else "finding")
     yield from closing_lines(checked, judged)
 
 

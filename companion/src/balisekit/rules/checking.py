@@ -329,11 +329,10 @@ class _Names:
     def __init__(self, readable: Checked, findings: Sequence[Finding]) -> None:
         self._readable = readable
         of_identity = any(finding.rule == 14 for finding in findings)
-        groups = {finding.group for finding in findings if finding.message is None}
-        rows = {_head(group).number for group in readable.kept} if of_identity else set()
-        rows |= {
-            row.number for group in groups if group in range(len(readable.kept)) for row in readable.kept[group].rows()
-        }
+        places = {finding.group: finding for finding in findings if finding.group is not None}
+        groups = [self._at(readable.kept, place, finding) for place, finding in places.items()]
+        heads = [_head(group) for group in readable.kept] if of_identity else []
+        rows = {row.number for row in (*heads, *(row for group in groups for row in group.rows()))}
         self._records = {row.number: record for row, record in readable.accepted.decoded(sorted(rows))}
         self._scene = lru_cache(maxsize=1)(self._new_scene)
         self._first = list(self._first_groups()) if of_identity else []

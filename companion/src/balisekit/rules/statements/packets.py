@@ -1,7 +1,6 @@
 """F8 and F9: packets of duplicates that differ, and packets that the rules do not know."""
 from __future__ import annotations
 
-import re
 from typing import List, Tuple
 
 from balisekit.etcs.differences import CHANGED, REMOVED, Change, packet_differences, packet_pairs
@@ -59,8 +58,13 @@ def _packet_differs(other: Balise, where: str, words: str, mine: Form, yours: Fo
 def _part(change: Change) -> str:
     """Where in its packet a difference is: "the first difference of the second element of "."""
     parts = change.where.replace(" of the old one", "").split("  ") if change.where else []
-    words = [re.sub(r"^(.*) (\d+)$", lambda found: f"{ordinal(int(found[2]))} {found[1]}", part) for part in parts]
-    return "".join(f"the {word} of " for word in reversed(words))
+    return "".join(f"the {_with_ordinal(part)} of " for part in reversed(parts))
+
+
+def _with_ordinal(part: str) -> str:
+    """The item of a list, "element 1" as "second element"; a part of another kind as it is."""
+    name, _, place = part.rpartition(" ")
+    return f"{ordinal(int(place))} {name}" if name and place.isdigit() else part
 
 
 def not_modelled(scene: Scene) -> Statement:
