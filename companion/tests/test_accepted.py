@@ -54,7 +54,8 @@ def test_nothing_open(run: Run, table: Write) -> None:
     path, file = twice(table), table(HEADING, entry(), name="accepted.csv")
     status, out, _ = run("check", path, "--accepted", file)
     assert status == 0 and out[1:] == [
-        "row 3  B: identity used before by row 2  A",
+        "accepted:",
+        "row 3  B: the identity 1/1 (NID_C/NID_BG) is also that of A, row 2",
         "    program: F14 group 1: identity used before",
         "    accepted: by design (J. Doe, 2026-01-02)",
         "aspects found: 1 in 2 groups",

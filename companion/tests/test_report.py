@@ -181,7 +181,7 @@ def test_accepted_findings_stand_apart(tmp_path: Path, capsys: pytest.CaptureFix
         assert ("F11 group 5 aspect 2" in still_open, "F11 group 5 aspect 2" in accepted) == (status == 1, status == 0)
         assert ("None: all were accepted." in still_open) == (status == 0)
         assert accepted.count("accepted: by &lt;b&gt;design&lt;/b&gt; (J. Doe, 2026-01-02)") == (3, 2)[status]
-        assert accepted.count("(J. Doe, 2026-01-02, until 2999-01-01)") == 2 and "accepted: " not in still_open
+        assert accepted.count("(J. Doe, 2026-01-02, until 2999-01-01)") == 1 and "accepted: " not in still_open
         assert hashlib.sha256((tmp_path / "accepted.csv").read_bytes()).hexdigest() in page
 
 
@@ -198,8 +198,8 @@ def test_a_report_with_entries_that_is_not_whole(tmp_path: Path, capsys: pytest.
     assert "row 1: no column nid_c" in capsys.readouterr().err and not (tmp_path / "x.html").exists()
 
 
-def test_findings_of_one_cause_have_a_heading(tmp_path: Path) -> None:
-    """In the list of findings: over the open ones and over the accepted ones, each with its line. Blocks have none."""
+def test_findings_of_one_cause_are_one_entry(tmp_path: Path) -> None:
+    """In the list of findings and in the group's block, with all lines of the program, under the urgency."""
     rows = [
         {"group": "A<b>", "aspect": aspect, "telegram": text}
         for aspect in ("red", "yellow", "green")
@@ -208,10 +208,8 @@ def test_findings_of_one_cause_have_a_heading(tmp_path: Path) -> None:
     table = _table(tmp_path / "t.csv", *rows)
     _, page = _report(table, tmp_path / "r.html")
     listed = _between(page, "Findings", "Groups and messages")
-    assert re.findall('<p class="several"><bdi>(.*)</bdi></p>', page) == [
-        "F1, 6 times, group A&lt;b&gt;:",
-        "F4, 6 times, group A&lt;b&gt;:",
-    ]
+    assert re.findall('<p class="several"><bdi>(.*)</bdi></p>', page) == ["at worst wrong information:"]
+    assert page.count("look exchanged") == 2 and "F1 1 cause (12)" in listed
     assert listed.count("position wrong</span>") == 6 and page.count("position wrong</span>") == 12
     some = [
         {"nid_c": "1", "nid_bg": "1", "rule": "F1", "aspect": aspect, "balise": balise, "sha256": digest([text])}
@@ -219,8 +217,12 @@ def test_findings_of_one_cause_have_a_heading(tmp_path: Path) -> None:
         for balise, text in (("0", SECOND), ("1", FIRST))
     ]
     _, page = _report(table, tmp_path / "r.html", "--accepted", str(_accepted(tmp_path / "a.csv", *some)))
-    assert "F1, " not in _between(page, "Open findings", "Accepted findings")
-    assert "F1, 4 times, group" in _between(page, "Accepted findings", "What findings mean")
+    still_open, accepted = (
+        _between(page, *heads)
+        for heads in (("Open findings", "Accepted findings"), ("Accepted findings", "What findings mean"))
+    )
+    assert (still_open.count("position wrong</span>"), accepted.count("position wrong</span>")) == (2, 4)
+    assert still_open.count("look exchanged") == accepted.count("look exchanged") == 1
 
 
 def test_a_yes_and_an_empty_refusal(tmp_path: Path) -> None:

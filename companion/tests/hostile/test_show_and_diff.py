@@ -277,7 +277,7 @@ def test_findings_in_another_order(run: Run, table: Write, program: Program) -> 
     new = table("group,aspect,telegram", *reversed(lines), name="new.csv")
     status, out, _ = run("diff", old, new)
     assert status == 1 and [line for line in out if line.startswith(("finding", "    program"))] == [
-        'finding new: row 2  S  aspect "d"  balise 0: aspects not told apart',
+        'finding new: row 2  S  aspect "d"  balise (N_PIG 0): M_MCOUNT 2 is also that of aspect "b", row 4',
         "    program: F16 group 0 aspect 3 balise 0: aspects not told apart",
     ]
     assert any(line.startswith("note: ") and "in the order of the old release" in line for line in out)

@@ -9,6 +9,7 @@ from balisekit.drawing.track import track_pictures, tracks_of
 from balisekit.io import clock
 from balisekit.present.check_text import closing_lines
 from balisekit.present.explanations import explanations
+from balisekit.present.headings import summary
 from balisekit.present.pages import pieces, premises
 from balisekit.present.report import blocks, cover, listed
 from balisekit.present.telegram_text import LEGEND
@@ -41,6 +42,7 @@ def run(options: argparse.Namespace) -> int:
         ["page.css", "picture.css", "track.css"],
         cover=cover(checked, judged, now),
         findings=findings,
+        summary=list(summary(checked, [one.entry for one in findings if not one.accepted], judged is not None)),
         judged=judged is not None,
         explained=[(rule, explanation[rule]) for rule in sorted({place.finding.rule for place in checked.findings})],
         blocks=blocks(checked, line.forms, findings),

@@ -34,7 +34,7 @@ def lines(
     yield from accepted_lines(checked, judged) if judged else ()
     if explained:
         yield from finding_pages(place.finding.rule for place in checked.findings)
-    yield from headings.summary(checked, found, "open finding" if judged else "finding")
+    yield from headings.summary(checked, found, judged is not None)
     decoded = checked.findings or not checked.whole or checked.accepted.raw is not None
     yield from headings.not_decoded(checked) if decoded else ()
     yield from before_last(table)

@@ -77,8 +77,8 @@ def finding_lines(place: Place, before: str = "") -> List[str]:
     return [before + finding_words(place), f"    program: {place.finding.line}"]
 
 
-def summary(checked: Checked, found: Sequence[Entry], what: str = "finding") -> Iterator[str]:
-    """How many causes and findings each rule has, and how many groups have none, which may be no open ones."""
+def summary(checked: Checked, found: Sequence[Entry], are_open: bool) -> Iterator[str]:
+    """How many causes and findings each rule has, and how many groups have none, or no open one."""
     if not found:
         return
     counts: Dict[str, List[int]] = {}
@@ -87,7 +87,11 @@ def summary(checked: Checked, found: Sequence[Entry], what: str = "finding") -> 
     texts = [f"{rule} {_count(causes)}" for rule, causes in counts.items()]
     groups = {place.group.name for entry in found for place in entry.findings if place.group}
     total = len(checked.kept)
-    sound = f"; {total - len(groups)} of {total} group{'s' if total != 1 else ''} without {what}" if total else ""
+    sound = (
+        f"; {total - len(groups)} of {total} group{'s' if total != 1 else ''} without {'open ' if are_open else ''}finding"
+        if total
+        else ""
+    )
     yield ", ".join(texts) + sound
 
 
