@@ -87,11 +87,8 @@ def summary(checked: Checked, found: Sequence[Entry], are_open: bool) -> Iterato
     texts = [f"{rule} {_count(causes)}" for rule, causes in counts.items()]
     groups = {place.group.name for entry in found for place in entry.findings if place.group}
     total = len(checked.kept)
-    sound = (
-        f"; {total - len(groups)} of {total} group{'s' if total != 1 else ''} without {'open ' if are_open else ''}finding"
-        if total
-        else ""
-    )
+    what = f"group{'s' if total != 1 else ''} without {'open ' if are_open else ''}finding"
+    sound = f"; {total - len(groups)} of {total} {what}" if total else ""
     yield ", ".join(texts) + sound
 
 
