@@ -260,7 +260,7 @@ def short(site: Site) -> None:
     reach = places(packet)
     limit = max(places(one) for one in site.said() if one["nid_packet"] in (12, 15))
     values = {name: Decimal(site.values[f"{name}_m"]) * 10 for name in ("reach", "supervised_location", "missing")}
-    assert values == {"reach": reach, "supervised_location": limit, "missing": limit - reach} and reach < limit
+    assert list(values.values()) == [Decimal(one) for one in (reach, limit, limit - reach)] and reach < limit
     infill = any(one["nid_packet"] == 136 for one in site.said())
     assert infill or "from the group of packet 136" not in site.sentence
     group = site.place.group
@@ -346,7 +346,8 @@ def test_random_lines(program: Program, tmp_path: Path) -> None:
 
 def test_random_messages(program: Program, tmp_path: Path) -> None:
     """The same of messages 3: they name no row and no balise."""
-    random, seen = Random(1), Counter[int]()
+    random = Random(1)
+    seen: Counter[int] = Counter()
     texts = program.encode([random_lines.message(random) for _ in range(150)], radio=True)
     (tmp_path / "m.txt").write_text("".join(f"{text.line}\n" for text in texts), "utf-8")
     (tmp_path / "t.csv").write_text(f"group,telegram\nA,{ALONE}\n", "utf-8")
@@ -370,7 +371,7 @@ def of(items: Items, group: str, aspect: str) -> Form:
 
 def pair(speeds: Sequence[int], counters: Sequence[int] = (255, 255)) -> Items:
     """A pair of duplicates with these speeds."""
-    forms = [
+    forms: List[Form] = [
         {**line_table.telegram(900, place, 1, counter, line_table.speeds(12300, 1000)), "m_dup": place + 1}
         for place, counter in enumerate(counters)
     ]
@@ -416,7 +417,8 @@ def pasted(items: Items) -> None:
     items[place] = (*items[place][:5], of(items, "H", "yellow"))
 
 
-MISTAKES: Dict[Callable[[Items], None], Tuple[str, str]] = {
+Mistake = Callable[[Items], None]
+MISTAKES: Dict[Mistake, Tuple[str, str]] = {
     counter_copied: ("F16", 'M_MCOUNT 2 is also that of aspect "yellow", row 4'),
     counter_of_pair: ("F7", 'M_MCOUNT is 5, and 4 in balise "P0" (N_PIG 0), row 36'),
     speed_of_pair: (
@@ -442,7 +444,7 @@ MISTAKES: Dict[Callable[[Items], None], Tuple[str, str]] = {
         "of Signal H (km 22.900)",
     ),
 }
-ROWS = {
+ROWS: Dict[Mistake, Tuple[int, ...]] = {
     counter_copied: (5,),
     counter_of_pair: (37,),
     speed_of_pair: (36,),
@@ -454,7 +456,7 @@ ROWS = {
 
 
 @pytest.mark.parametrize("mistake", MISTAKES)
-def test_a_single_mistake(program: Program, tmp_path: Path, mistake: Callable[[Items], None]) -> None:
+def test_a_single_mistake(program: Program, tmp_path: Path, mistake: Mistake) -> None:
     """In the line of the examples: the entry names the rows and the values that differ."""
     items = list(line_table.items())
     before = table_of(program, tmp_path, items)

@@ -61,24 +61,21 @@ def _united(places: Sequence[Place]) -> Statement:
     return replace(places[0].statement, others=tuple(others))
 
 
-def _of_group(places: Iterable[Place]) -> Iterator[Tuple[Group, List[Place]]]:
-    """The findings of each group."""
+def _by_group(places: Iterable[Place]) -> Dict[str, List[Place]]:
+    """The findings of each group, by its name."""
     known: Dict[str, List[Place]] = {}
-    groups: Dict[str, Group] = {}
     for place in places:
         if place.group is not None:
             known.setdefault(place.group.name, []).append(place)
-            groups[place.group.name] = place.group
-    yield from ((groups[name], some) for name, some in known.items())
+    return known
 
 
 # ---- telegrams of one group in a wrong order
 
 
 class Order(NamedTuple):
-    """Places of some balises that have N_PIG of each other."""
+    """Balises of a group that have N_PIG of each other, in some of its aspects."""
 
-    group: Group
     places: Tuple[Place, ...]
     positions: Tuple[Tuple[int, int], ...]
     """The place of each of these balises, and its N_PIG."""
@@ -86,18 +83,21 @@ class Order(NamedTuple):
 
 def _exchanged(checked: Checked, places: Sequence[Place]) -> List[Cause]:
     """Balises of a group whose N_PIG are those of each other, and what is not found if they are put in that order."""
-    orders = [order for group, some in _of_group(places) for order in _orders(group, some)]
-    groups = {order.group.name: order.group for order in orders}
-    left = _left(checked, [_put_in_order(group, orders) for group in groups.values()])
+    by_group = _by_group(places)
+    orders = {name: list(_orders(some)) for name, some in by_group.items()}
+    groups = [group for group in checked.kept if orders.get(group.name)]
+    left = _left(checked, [_put_in_order(group, orders[group.name]) for group in groups])
     found: List[Cause] = []
-    for order in orders:
-        gone = OF_ORDER - left.pop(order.group.name, OF_ORDER)
-        brought = [place for place in places if place.group is order.group and place.finding.rule in gone]
-        found.append(Cause(1, (*order.places, *brought), _exchange(order)))
+    for group in groups:
+        gone = OF_ORDER - left[group.name]
+        brought = [place for place in by_group[group.name] if place.finding.rule in gone]
+        for order in orders[group.name]:
+            found.append(Cause(1, (*order.places, *brought), _exchange(order)))
+            brought = []
     return found
 
 
-def _orders(group: Group, places: Sequence[Place]) -> Iterator[Order]:
+def _orders(places: Sequence[Place]) -> Iterator[Order]:
     """The F1 of a group, by aspects with the same order of balises."""
     by_aspect: Dict[int, List[Place]] = {}
     for place in places:
@@ -108,16 +108,15 @@ def _orders(group: Group, places: Sequence[Place]) -> Iterator[Order]:
         positions = tuple((place.finding.balise or 0, int(place.statement.values["N_PIG"])) for place in some)
         if sorted(at for at, _ in positions) == sorted(said for _, said in positions):
             alike.setdefault(positions, []).extend(some)
-    yield from (Order(group, tuple(some), positions) for positions, some in alike.items())
+    yield from (Order(tuple(some), positions) for positions, some in alike.items())
 
 
 def _put_in_order(group: Group, orders: Sequence[Order]) -> Group:
     """The group with its balises in the order of N_PIG."""
     positions = dict(group.places)
     for order in orders:
-        if order.group is group:
-            said = dict(order.positions)
-            positions.update((place.row.number, said[place.finding.balise or 0]) for place in order.places if place.row)
+        said = dict(order.positions)
+        positions.update((place.row.number, said[place.finding.balise or 0]) for place in order.places if place.row)
     return by_position(group, positions)
 
 
@@ -187,10 +186,18 @@ def _strange(checked: Checked, places: Sequence[Place]) -> List[Cause]:
     }
     found = [one for group in suspects.values() for one in _strange_of(group, balises)]
     owners: Dict[Identity, Group] = {}
+    strange = {one.balise.rows[0] for one in found}
     for number, group in heads.items():
-        if all(one.balise.row is not balises[number].row for one in found):
+        if number not in strange:
             owners.setdefault(_identity(balises[number]), group)
-    return [Cause(3, tuple(filter(one.brings, places)), _not_of_group(one, owners), one.balise) for one in found]
+    by_group = _by_group(places)
+    for place in places:
+        if place.earlier is not None:
+            by_group.setdefault(place.earlier.name, []).append(place)
+    return [
+        Cause(3, tuple(filter(one.brings, by_group[one.group.name])), _not_of_group(one, owners), one.balise)
+        for one in found
+    ]
 
 
 def _strange_of(group: Group, balises: Mapping[int, Balise]) -> Iterator[Strange]:
