@@ -48,14 +48,14 @@ def _in_pipe(words: List[str]) -> str:
 def test_a_terminal_gets_the_lines_in_colours() -> None:
     """They are those of a pipe, also the long ones."""
     pytest.importorskip("rich")
-    status, shown, _ = _on_terminal(["check", LINE], {}, "stdout", "stderr")
+    status, shown, _ = _on_terminal(["check", LINE], {}, "stdout")
     plain = _in_pipe(["check", LINE])
     assert status == 2 and "\x1b[" in shown and CODES.sub("", shown) == plain and "\x1b" not in plain
 
 
 @pytest.mark.parametrize("more", [{"NO_COLOR": "1"}, {"TERM": "dumb"}, {"TERM": "dumb", "NO_COLOR": "1"}])
 def test_a_terminal_without_colours(more: Dict[str, str]) -> None:
-    assert _on_terminal(["check", LINE], more, "stdout", "stderr")[1] == _in_pipe(["check", LINE])
+    assert _on_terminal(["check", LINE], more, "stdout")[1] == _in_pipe(["check", LINE])
 
 
 def test_a_pipe_beside_a_terminal_is_plain() -> None:
