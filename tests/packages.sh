@@ -20,6 +20,7 @@ python3-junitparser   python:junitparser     JUnit
 python3-jinja2        python:jinja2          pages and pictures
 python3-openpyxl      python:openpyxl        .xlsx
 python3-defusedxml    python:defusedxml      .xlsx
+python3-rich          python:rich            colours on a terminal
 python3-pip           python:pip             installation of balisekit
 python3-hatchling     python:hatchling       installation of balisekit
 mypy                  python:mypy            types of balisekit
