@@ -17,8 +17,8 @@ from cases_of_program import CASES, TOP
 from conftest import Run
 from telegrams import ALONE, FAULTY, FIRST, MESSAGE, OTHER, SECOND
 
-from balisekit.etcs.differences import ADDED, REMOVED, align, differences
 from balisekit.engine.program import Program, Text
+from balisekit.etcs.differences import ADDED, REMOVED, align, differences
 from balisekit.io import csv_writing
 
 Write = Callable[..., Path]

@@ -13,6 +13,7 @@ import os
 import resource
 import signal
 import subprocess
+import sys
 import time
 from pathlib import Path
 from typing import Any, Callable, Dict, List, Tuple
@@ -280,3 +281,19 @@ def test_an_interrupt_while_a_file_is_written(great: Path, program: Program, tmp
     command = _words(program, "report", great, "--force", "--html", tmp_path / "report.html")
     assert _interrupted(command, lambda: len(os.listdir(tmp_path)) > 1) == (3, b"balisekit: interrupted\n")
     assert os.listdir(tmp_path) == ["report.html"] and (tmp_path / "report.html").read_text() == "before"
+
+
+INTERRUPTED_IMPORT = """
+import os, signal
+from balisekit.io.optional_packages import needed
+with needed("jinja2", "a page"):
+    os.kill(os.getpid(), signal.SIGINT)
+    print("imported", flush=True)
+"""
+
+
+def test_an_interrupt_while_a_package_is_imported() -> None:
+    """It waits until the import has ended, which might turn it into the error of a broken package."""
+    environment = {**os.environ, "PYTHONPATH": str(TOP / "companion" / "src")}
+    ended = subprocess.run([sys.executable, "-c", INTERRUPTED_IMPORT], env=environment, capture_output=True)
+    assert ended.stdout == b"imported\n" and ended.stderr.endswith(b"KeyboardInterrupt\n")

@@ -23,8 +23,7 @@ from balisekit.rules.checking import Checked, Place
 from balisekit.rules.entries import entries
 from balisekit.rules.statements import statement
 from balisekit.rules.statements.scene import Balise, Scene
-from balisekit.tables import messages as messages_file
-from balisekit.tables import reader
+from balisekit.tables import messages as messages_file, reader
 
 TOP = Path(__file__).resolve().parents[2]
 SEEDS = 30

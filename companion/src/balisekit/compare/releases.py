@@ -12,8 +12,8 @@ from typing import Dict, List, NamedTuple, Optional, Set, Tuple
 
 from balisekit.compare.moves import Exchanged, Renumbered, exchanged, renumbered
 from balisekit.compare.sides import Known, Pairs, Sent, Side, paired
-from balisekit.etcs.differences import Change, differences
 from balisekit.engine.program import Record
+from balisekit.etcs.differences import Change, differences
 from balisekit.etcs.variables import Form
 from balisekit.rules.checking import Checked, Place, report_on
 from balisekit.tables.grouping import EVERY

@@ -6,13 +6,18 @@ from contextlib import contextmanager
 from typing import Iterator
 
 from balisekit.errors import NoAnswer
+from balisekit.io.interrupts import held
 
 
 @contextmanager
 def needed(name: str, purpose: str) -> Iterator[None]:
-    """Where a package is imported: NoAnswer is raised if it is absent or broken."""
+    """Where a package is imported: NoAnswer is raised if it is absent or broken.
+
+    An import that is interrupted may raise what a broken package raises, so interrupts wait.
+    """
     try:
-        yield
+        with held():
+            yield
     except MemoryError:
         raise
     except Exception as error:  # a broken package raises whatever it likes

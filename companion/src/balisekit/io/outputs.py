@@ -4,7 +4,6 @@ from __future__ import annotations
 import json
 import os
 import shutil
-import signal
 import stat
 import sys
 from contextlib import contextmanager
@@ -12,6 +11,7 @@ from tempfile import SpooledTemporaryFile
 from typing import Iterable, Iterator, List, Mapping, Optional, Protocol, Sequence, Union
 
 from balisekit.errors import NoAnswer, TableError
+from balisekit.io.interrupts import held
 
 INPUT = "it is an input: an output never replaces one"
 IN_MEMORY = 1 << 24
@@ -185,12 +185,9 @@ def placing(outputs: Sequence[Placed], force: bool) -> Iterator[None]:
     """Moves all files to their paths at the end. If the block fails none is moved; a failed move removes new files."""
     try:
         yield
-        signals = signal.pthread_sigmask(signal.SIG_BLOCK, (signal.SIGINT, signal.SIGTERM, signal.SIGHUP))
-        try:
+        with held():
             for output in outputs:
                 output.place(force)
-        finally:
-            signal.pthread_sigmask(signal.SIG_SETMASK, signals)
     except BaseException:
         for output in outputs:
             output.discard()
