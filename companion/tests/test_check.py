@@ -504,7 +504,7 @@ def test_exchanged_telegrams_are_one_entry(run: Run, table: Write, tmp_path: Pat
     run("check", path, "--json", tmp_path / "out.json")
     answer = json.loads((tmp_path / "out.json").read_text("utf-8"))
     out = run("check", path)[1]
-    said = "their telegrams look exchanged: N_PIG is 1 and 0 in place of 0 and 1"
+    said = "their telegrams or their rows look exchanged: N_PIG is 1 and 0 in place of 0 and 1"
     assert [line for line in out if line.endswith(said)] == [
         f'rows 2 to 3  Signal A  km 14.000  balises "A1" (N_PIG 1), "A2" (N_PIG 0): {said}',
         f'rows 4 to 9  Signal B  km 15.000  every aspect  balises "B2" (N_PIG 1), "B1" (N_PIG 0): {said}',

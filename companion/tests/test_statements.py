@@ -485,7 +485,7 @@ MISTAKES: Dict[Mistake, Tuple[str, str]] = {
         "location, the end of the overlap of packet 12, is at 1750 m (km 15.600): 100 m missing",
     ),
     identity_twice: ("F14", "the identity 352/101 (NID_C/NID_BG) is also that of Signal A (km 12.300), rows 2 to 5"),
-    exchanged: ("F1", "their telegrams look exchanged: N_PIG is 1 and 0 in place of 0 and 1"),
+    exchanged: ("F1", "their telegrams or their rows look exchanged: N_PIG is 1 and 0 in place of 0 and 1"),
     wrong_direction: (
         "F12",
         "no packet 27 (international static speed profile) beside packet 12 (movement authority of level 1, V_MAIN 120 "

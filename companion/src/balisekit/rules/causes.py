@@ -134,7 +134,7 @@ def _left(checked: Checked, groups: Sequence[Group]) -> Dict[str, Set[int]]:
 def _exchange(order: Order) -> Statement:
     """What is wrong with the order of balises."""
     wanted, said = ([str(pair[index]) for pair in order.positions] for index in (0, 1))
-    words = "their telegrams look exchanged" if len(said) == 2 else "their telegrams look to be in a wrong order"
+    words = "their telegrams or their rows look " + ("exchanged" if len(said) == 2 else "to be in a wrong order")
     sentence = f"{words}: N_PIG is {_listed(said)} in place of {_listed(wanted)}"
     return Statement(sentence, values={"N_PIG": ", ".join(said), "wanted_N_PIG": ", ".join(wanted)})
 
