@@ -4,7 +4,7 @@ from __future__ import annotations
 
 from decimal import Decimal
 from pathlib import Path
-from typing import Callable, Dict, List, Tuple
+from typing import Callable, Dict, List, Sequence, Tuple
 
 import pytest
 
@@ -81,8 +81,8 @@ ROWS: Dict[str, str] = {
     "gradient,12,,,,1,\ngradient,12,,,,1,": f"row 3, {OVERLAPS} 12.000",
     "level,12,,,,2,\nlevel,12.000,,,falling,1,": "row 3, column km: row 2 has a border at this kilometre already",
     "aspect,,,,,v=120,A/red\naspect,,,,falling,v=100,A/red": "row 3, column name: the aspect A/red is in row 2 already",
-    "speed,,,,,120,\ntrain,12,,,,,": f"row 2, column km: empty: a speed needs a kilometre|row 3, column kind: train is no "
-    f"kind: {KINDS}",
+    "speed,,,,,120,\ntrain,12,,,,,": "row 2, column km: empty: a speed needs a kilometre|"
+    f"row 3, column kind: train is no kind: {KINDS}",
 }
 
 
@@ -135,22 +135,25 @@ def test_spellings(table: Write) -> None:
     assert (read.rows[1].kind, read.rows[1].value) == ("level", "2 NTC:7 0")
 
 
+def shown(stretches: Sequence[plan.Stretch]) -> List[str]:
+    """Stretches in short: from, to and value."""
+    return [f"{each.begin.normalize():f} {each.end and each.end.normalize():f} {each.value}" for each in stretches]
+
+
 def test_gradients_by_way(table: Write) -> None:
     """Without a way the sign is that of a rising train, and a falling one meets the opposite."""
-    read = plan.read(str(table(HEADING, "gradient,12,13,,,-5,", "gradient,13,14,,falling,-3,", "gradient,15,,,,2,")))
-    assert [(each.begin, each.end, each.value) for each in read.stretches("gradient", "", 1)] == [
-        (12, 13, -5),
-        (15, None, 2),
-    ]
-    assert [each.value for each in read.stretches("gradient", "", -1)] == [5, -3, -2]
+    read = plan.read(str(table(HEADING, "gradient,12,13,,,-5,", "gradient,13,14,,falling,-3,", "gradient,15,16,,,2,")))
+    assert shown(read.stretches("gradient", "", 1)) == ["12 13 -5", "15 16 2"]
+    assert shown(read.stretches("gradient", "", -1)) == ["12 13 5", "13 14 -3", "15 16 -2"]
     assert read.stretches("gradient", "other", 1) == []
 
 
 def test_stretches_end_where_the_next_begins(table: Write) -> None:
-    """A row for both ways ends for a rising train at a row that is only for it."""
+    """A row for both ways ends for a rising train at a row that is only for it. The last row never ends."""
     read = plan.read(str(table(HEADING, "speed,12,,,,120,", "speed,13,,,rising,100,", "speed,14,,,,80,")))
-    assert [(each.begin, each.end) for each in read.stretches("speed", "", 1)] == [(12, 13), (13, 14), (14, None)]
-    assert [(each.begin, each.end) for each in read.stretches("speed", "", -1)] == [(12, 14), (14, None)]
+    rising, falling = (read.stretches("speed", "", way) for way in (1, -1))
+    assert shown(rising[:-1]) == ["12 13 24", "13 14 20"] and shown(falling[:-1]) == ["12 14 24"]
+    assert rising[-1].end is None and falling[-1].end is None
 
 
 def test_jumps_and_points(table: Write) -> None:
