@@ -1,0 +1,160 @@
+"""The rows of a track plan as places along the track, and what telegrams and messages say there.
+
+A row whose kilometre is in a gap of the kilometres, or is there twice, has no place: a note names it, and no rule
+compares it.
+"""
+from __future__ import annotations
+
+from decimal import Decimal
+from functools import lru_cache
+from typing import Iterator, Mapping, NamedTuple, Optional, Sequence, Set, Tuple
+
+from balisekit.rules.chainage import Chainage
+from balisekit.rules.decoded import Decoded, Packet, Passage
+from balisekit.rules.rule import Remark, Result
+from balisekit.rules.urgency import Urgency
+from balisekit.tables.names import kilometre, rows_words
+from balisekit.tables.plan import Plan, PlanRow
+
+COMPARED = ("speed", "gradient", "signal", "aspect", "level", "rbc")
+"""The kinds of rows that rules compare."""
+SAYS_NOTHING = "the plan says nothing"
+NO_PLACE = "no kilometre or direction"
+BEHIND_POINT = "behind a point of the plan"
+Values = Mapping[str, Decimal]
+
+
+class Part(NamedTuple):
+    """A speed or gradient of the plan for trains of one way, from one place to another one."""
+
+    row: PlanRow
+    begin: int
+    end: Optional[int]
+    """Without it there is no end."""
+    value: int
+
+
+class Spot(NamedTuple):
+    """A row of the plan with its one place."""
+
+    row: PlanRow
+    place: int
+
+
+class Saying(NamedTuple):
+    """A packet in one direction."""
+
+    passage: Passage
+    packet: Packet
+
+
+class Placed:
+    """A plan beside the decoded data of a table."""
+
+    def __init__(self, decoded: Decoded, plan: Plan) -> None:
+        self.decoded, self.plan = decoded, plan
+        self.parts = lru_cache(maxsize=None)(self._parts)
+        self.spots = lru_cache(maxsize=None)(self._spots)
+
+    def _parts(self, kind: str, track: str, way: int) -> Sequence[Part]:
+        """The speeds or gradients for trains of one way of a track, in the order of the places."""
+        found = []
+        for each in self.plan.stretches(kind, track, way):
+            begin, end = self._place(track, each.begin), self._place(track, each.end)
+            if begin is not None and (each.end is None or end is not None):
+                found.append(Part(each.row, begin, end, each.value))
+        return found
+
+    def _spots(self, kind: str, track: str, way: int) -> Sequence[Spot]:
+        """The rows of a kind that have one place, for trains of one way of a track, in the order of the places."""
+        places = ((row, self._place(track, row.km)) for row in self.plan.places(kind, track, way))
+        return [Spot(row, place) for row, place in places if place is not None]
+
+    def _place(self, track: str, km: Optional[Decimal]) -> Optional[int]:
+        return self.decoded.chainages.get(track, Chainage()).place(km)
+
+    def nearest(self, kind: str, passage: Passage, place: int) -> Optional[Spot]:
+        """The row of a kind, for trains of the passage, that is nearest to a place."""
+        spots = self.spots(kind, passage.track, passage.way or 0)
+        return min(spots, key=lambda spot: abs(spot.place - place), default=None)
+
+    def known_to(self, passage: Passage) -> Optional[int]:
+        """The first point at which the train may leave its track, or None if there is none.
+
+        It is on the track up to the last group of it that a packet 5 of the passage names.
+        """
+        way, start = passage.way, passage.place(0)
+        points = self.spots("point", passage.track, way) if way else ()
+        if not points or way is None or start is None:
+            return None
+        reached = (each.target for each in self.decoded.reached(passage) if each.target)
+        places = (each.place for each in reached if each.group.track == passage.track and each.place is not None)
+        sure = max([way * start, *(way * place for place in places)])
+        return min((spot.place for spot in points if way * spot.place > sure), key=lambda each: way * each, default=None)
+
+    def is_behind_point(self, passage: Passage, place: int) -> bool:
+        """Whether the train may be on another track at this place."""
+        limit = self.known_to(passage)
+        return limit is not None and (place - limit) * (passage.way or 0) > 0
+
+    def sayings(self, *numbers: int) -> Iterator[Saying]:
+        """What is said by packets with these NID_PACKET: each packet once in each direction."""
+        known: Set[Tuple[Packet, str]] = set()
+        for passage in self.decoded.passages:
+            for packet in passage.of(*numbers):
+                if (packet, passage.direction) not in known:
+                    known.add((packet, passage.direction))
+                    yield Saying(passage, packet)
+
+    def result(self, kinds: Sequence[str], found: Sequence[Remark], looked_at: int, skipped: Mapping[str, int]) -> Result:
+        """The result of a rule for these kinds of rows. A plan may have none of them if it has others."""
+        has_own = any(self.plan.of_kind(kind) for kind in kinds)
+        has_others = any(self.plan.of_kind(kind) for kind in COMPARED)
+        return Result(found, looked_at, skipped, list(self._notes(kinds)), has_others and not has_own)
+
+    def _notes(self, kinds: Sequence[str]) -> Iterator[str]:
+        """The rows of these kinds that no rule can compare."""
+        tracks = {data.group.track for data in self.decoded.groups}
+        rows = [row for kind in kinds for row in self.plan.of_kind(kind) if kind != "aspect"]
+        strange = [row.number for row in rows if row.track not in tracks]
+        if strange:
+            yield f"{self.plan.path}: {rows_words(strange)}: the table has no such track"
+        ends = [(row, km) for row in rows if row.track in tracks for km in (row.km, row.km_to) if km is not None]
+        lost = [row.number for row, km in ends if self._place(row.track, km) is None]
+        if lost:
+            yield f"{self.plan.path}: {rows_words(lost)}: not compared, as a jump leaves out or repeats the kilometre"
+
+    def km(self, passage: Passage, place: int) -> str:
+        """The kilometre of a place in words."""
+        return self.decoded.km(passage.track, place)
+
+    def km_value(self, passage: Passage, place: int) -> Decimal:
+        """The kilometre of a place."""
+        return Decimal(self.km(passage, place).split(" ")[-1])
+
+
+def remark(rule: str, sayings: Sequence[Saying], sentence: str, values: Values, urgency: Optional[Urgency] = None) -> Remark:
+    """One remark on what several packets say, at the first of them."""
+    first, packet = sayings[0]
+    own = {each.packet.row.number for each in sayings if each.packet.row and each.passage.group is first.group}
+    others = {each.packet.row.number for each in sayings if each.packet.row} - own
+    groups = {each.passage.group.group.number: each.passage.group.group for each in sayings if each.passage.group}
+    named = [group for group in groups.values() if not first.group or group is not first.group.group]
+    also = f"; {rows_words(others)} too" if others and not first.message else ""
+    return Remark(
+        rule,
+        first.at(packet),
+        sentence + also,
+        values=values,
+        named=named,
+        urgency=urgency,
+        rows=() if first.message else tuple(sorted(own)),
+        others=tuple(sorted(others)),
+        aspects=tuple(dict.fromkeys(each.passage.aspect for each in sayings if each.passage.group is first.group)),
+    )
+
+
+def plan_words(row: PlanRow, with_km: bool = True) -> str:
+    """A row of the plan in a sentence."""
+    return f"row {row.number} of the plan{f', km {kilometre(row.km)}' if with_km else ''}"
+
