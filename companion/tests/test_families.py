@@ -20,9 +20,9 @@ from balisekit.engine.program import Program, Text
 from balisekit.io import csv_writing
 from balisekit.rules import families
 from balisekit.rules.accepted import COLUMNS, ON_CORRECT_DATA
-from balisekit.rules.entries import Urgency
 from balisekit.rules.links import RULES
 from balisekit.rules.rule import Rule
+from balisekit.rules.urgency import Urgency
 
 Write = Callable[..., Path]
 Form = Any
@@ -301,7 +301,6 @@ def test_what_no_entry_can_name(run: Run, table: Write, program: Program, tmp_pa
 
 def test_every_rule_has_an_urgency() -> None:
     """As its page says."""
-    assert set(families.URGENCIES) == {rule.name for rule in RULES}
     words = {
         Urgency.WRONG_INFORMATION: ("wrong information", "old profile"),
         Urgency.WRONG_PLACE: ("wrong place",),
@@ -309,7 +308,7 @@ def test_every_rule_has_an_urgency() -> None:
         Urgency.RULE_ONLY: ("To be looked at",),
     }
     for rule in RULES:
-        assert any(word in rule.parts["How urgent"] for word in words[families.URGENCIES[rule.name]]), rule.name
+        assert any(word in rule.parts["How urgent"] for word in words[rule.urgency]), rule.name
 
 
 def test_a_family_can_be_added(run: Run, program: Program, tmp_path: Path, monkeypatch: pytest.MonkeyPatch) -> None:

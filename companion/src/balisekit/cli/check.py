@@ -5,16 +5,15 @@ import argparse
 import time
 from typing import Tuple
 
-from balisekit.cli import options as shared
+from balisekit.cli import options as shared, settings
 from balisekit.io import clock
 from balisekit.io.outputs import encode, write_json
 from balisekit.present import accepted_text
 from balisekit.present.outcome_text import lines
 from balisekit.rules import accepted, checking
 from balisekit.rules.families import FAMILIES, Outcome, apply
-from balisekit.rules.rule import Options
 
-ONLY = "apply only these families of rules: F, the program's findings; L, links"
+ONLY = "apply only these families of rules: F, the program's findings; L, links; E, remarks"
 
 
 def _families(text: str) -> Tuple[str, ...]:
@@ -27,8 +26,9 @@ def _families(text: str) -> Tuple[str, ...]:
 
 def add_options(parser: argparse.ArgumentParser) -> None:
     """The options of this command."""
-    shared.add(parser, *shared.INPUTS, "--tolerance", "--explain", "--all", "--accepted")
+    shared.add(parser, *shared.INPUTS, "--explain", "--all", "--accepted")
     parser.add_argument("--only", **shared.value("FAMILIES", _families, ONLY))
+    settings.add_options(parser)
     proposal = "write entries for what is open, to be signed, into a new file"
     parser.add_argument("--propose", **shared.output_file(proposal, always_new=True))
     parser.add_argument("--junit", **shared.output_file("write a case for each group and message as JUnit does"))
@@ -79,9 +79,9 @@ def _outcome(options: argparse.Namespace) -> Outcome:
     entries = accepted.read(options.accepted) if options.accepted else None
     program, table, messages = shared.inputs(options)
     letters = options.only or tuple(FAMILIES)
-    if not any(FAMILIES[letter].needs_kilometres for letter in letters):
-        shared.refuse_unused(options, "with --only F", "tolerance")
+    settings.refuse_unused(options, letters)
+    stated = settings.of_line(options)
     if all(FAMILIES[letter].needs_kilometres for letter in letters):
         shared.refuse_without_kilometres(table)
     checked = checking.check(program, table, messages, options.by_position, options.all)
-    return apply(checked, letters, Options(options.tolerance), (entries, day) if entries else None, began)
+    return apply(checked, letters, stated, (entries, day) if entries else None, began)

@@ -40,7 +40,8 @@ def _seconds(text: str) -> float:
     return float(text)
 
 
-def _tolerance(text: str) -> Decimal:
+def tolerance(text: str) -> Decimal:
+    """A number of metres."""
     if not re.fullmatch(r"[0-9]{1,5}([.,][0-9])?", text):
         raise argparse.ArgumentTypeError(f"{text[:40]} is no number of metres: write 5 or 2.5")
     return Decimal(text.replace(",", "."))
@@ -81,7 +82,7 @@ OPTIONS: Dict[str, Dict[str, Any]] = {
     "--json": output_file("write all of the answer as JSON"),
     "--force": flag("replace existing files by the outputs, but never an input"),
     "--aspect": value("NAME", name, ASPECT),
-    "--tolerance": {**value("METRES", _tolerance, TOLERANCE), "default": EXACT},
+    "--tolerance": {**value("METRES", tolerance, TOLERANCE), "default": EXACT},
 }
 READING = ("--sheet", "--columns", "--fill-merged")
 """How tables are read."""

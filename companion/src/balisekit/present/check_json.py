@@ -38,8 +38,8 @@ def as_json(outcome: Outcome) -> Dict[str, Any]:
         "left_out": map(_left_out, checked.left_out),
         "kept": [group.name for group in checked.kept],
         "findings": map(_finding, checked.findings),
-        "rules": rules_json([part.links for part in outcome.parts if part.links]),
-        "notes": [note for part in outcome.parts if part.links for note in part.links.notes],
+        "rules": rules_json([part.applied for part in outcome.parts if part.applied]),
+        "notes": [note for part in outcome.parts if part.applied for note in part.applied.notes],
         "entries": entries_json(outcome),
         "not_decoded": list(not_decoded(checked)),
     }

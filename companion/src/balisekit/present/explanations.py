@@ -11,13 +11,14 @@ from pathlib import Path
 from typing import Dict, Iterable, Iterator, Mapping, NamedTuple, Tuple
 
 from balisekit.rules.families import Family
+from balisekit.rules.rule import CORRECT_DATA
 
 WIDTH = 116
 
-HEADS = ("What it says", "How urgent", "Usual cause", "How to correct it")
+HEADS = ("What it says", "How urgent", "Usual cause", "How to correct it", CORRECT_DATA, "How sure")
 """The paragraphs that `--explain` shows."""
 KEYS = ("says", "urgent", "cause", "remedy")
-"""Their keys of a finding."""
+"""The keys of the first four of a finding."""
 
 
 def explanations() -> Dict[int, Dict[str, str]]:
@@ -40,7 +41,7 @@ def pages(family: Family) -> Iterator[Tuple[str, Page]]:
         for number, page in explanations().items():
             yield f"F{number}", Page(page["name"], dict(zip(HEADS, (page[key] for key in KEYS))))
     for rule in family.rules:
-        yield rule.name, Page(rule.title, {head: _plain(rule.parts.get(head, "")) for head in HEADS})
+        yield rule.name, Page(rule.title, {head: _plain(rule.parts[head]) for head in HEADS if head in rule.parts})
 
 
 def page_lines(named: Iterable[Tuple[str, Page]]) -> Iterator[str]:

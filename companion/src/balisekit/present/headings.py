@@ -4,7 +4,8 @@ from __future__ import annotations
 from typing import Dict, Iterable, Iterator, List, Sequence
 
 from balisekit.rules.checking import Checked, Place
-from balisekit.rules.entries import Entry, Urgency, entry_of, track_of
+from balisekit.rules.entries import Entry, entry_of, track_of
+from balisekit.rules.urgency import Urgency
 from balisekit.tables.names import clean, describe_message, kilometre, quoted, rows_words
 
 URGENCIES: Dict[Urgency, str] = {

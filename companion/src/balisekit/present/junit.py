@@ -78,7 +78,7 @@ def _cases(outcome: Outcome, part: Part) -> Iterator[Case]:
     for accepted in checked.accepted_messages:
         name = describe_message(accepted.message)
         yield _case("message", name, items.get(accepted.message.number, []), judged)
-    for rule in empty_rules(part.links) if part.links else ():
+    for rule in empty_rules(part.applied) if part.applied else ():
         yield Case("rule", rule.split(" ", 1)[0], "error", rule)
     if is_first:
         yield from _bad_messages(checked)

@@ -11,9 +11,10 @@ from balisekit.present.links_text import compared, empty_rules, found, lacking
 from balisekit.rules.accepted import UNNAMED, Item, keys
 from balisekit.rules.checking import Place
 from balisekit.rules.entries import Entry, entry_of
-from balisekit.rules.families import PROVED, Outcome, Part, entry_of_remark
+from balisekit.rules.families import FAMILIES, PROVED, Outcome, Part, entry_of_remark
 from balisekit.tables.names import clean
 
+LINKS = "L"
 NO_KILOMETRES = "no kilometres: rules over the line are not applied"
 SHOWN = 20
 """So many items that no entry can name are listed, and the others are counted."""
@@ -42,11 +43,17 @@ def _part(outcome: Outcome, part: Part) -> Iterator[str]:
     for entry in part.accepted:
         yield from headings.entry_lines(entry)
         yield from (f"    {accepted_words(each)}" for each in outcome.acceptances(entry))
-    if part.links is None:
+    if part.applied is None:
         yield from headings.summary(outcome.checked, part.open, outcome.judged is not None)
         return
-    yield from (f"note: {clean(note)}" for note in part.links.notes)
-    yield compared(part.links)
+    yield from (f"note: {clean(note)}" for note in part.applied.notes)
+    yield from [compared(part.applied)] if part.family.letter == LINKS else _applied(part)
+
+
+def _applied(part: Part) -> Iterator[str]:
+    """Which rules were applied, if these are not the usual ones."""
+    if list(part.family.rules) != list(FAMILIES[part.family.letter].usual):
+        yield f"applied: {', '.join(rule.name for rule in part.family.rules)}"
 
 
 def _listed(entries: Sequence[Entry]) -> Iterator[str]:
@@ -110,9 +117,9 @@ def verdict(outcome: Outcome) -> str:
     It is the program's line and nothing else if other rules have looked at all and found nothing.
     """
     checked = outcome.checked
-    empty = [text for part in outcome.parts if part.links for text in empty_rules(part.links)]
-    of_rules = [part for part in outcome.parts if part.links and (part.items or PROVED not in outcome.letters)]
-    others = [f"{part.family.things}: {found(part.links)}" for part in of_rules if part.links]
+    empty = [text for part in outcome.parts if part.applied for text in empty_rules(part.applied)]
+    of_rules = [part for part in outcome.parts if part.items or PROVED not in outcome.letters]
+    others = [f"{part.family.things}: {found(part.applied)}" for part in of_rules if part.applied]
     if PROVED in outcome.letters:
         own = last_line_of_program(checked)
     else:

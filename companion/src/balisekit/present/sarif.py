@@ -22,8 +22,9 @@ from balisekit.present.headings import entry_lines
 from balisekit.present.outcome_text import closing_lines, not_applied, not_decoded
 from balisekit.present.refusals import message_refused, refused
 from balisekit.rules.accepted import keys
-from balisekit.rules.entries import Entry, Urgency
+from balisekit.rules.entries import Entry
 from balisekit.rules.families import PROVED, Outcome, items_of
+from balisekit.rules.urgency import Urgency
 from balisekit.tables.lines import lines_of_rows
 from balisekit.tables.names import clean
 

@@ -17,6 +17,7 @@ from typing import Dict, Iterable, Iterator, List, Mapping, Optional, Sequence, 
 from balisekit.errors import TableError, TableErrors, faults_of
 from balisekit.io import inputs
 from balisekit.io.csv_writing import plain
+from balisekit.rules import own
 from balisekit.rules.checking import Checked, Place
 from balisekit.rules.rule import Remark
 from balisekit.tables import csv as csv_file
@@ -32,7 +33,7 @@ COLUMNS = (*NEEDED, "until", "sha256")
 ANY = "*"
 NUMBER = ("|[0-9]{1,6}", "no whole number")
 VALUES = {
-    "rule": ("F([1-9]|1[0-6])|L[1-9]", "none of F1 to F16 and L1 to L9"),
+    "rule": ("F([1-9]|1[0-6])|L[1-9]|E([1-9]|1[0-9]|2[0-3])", "none of F1 to F16, L1 to L9 and E1 to E23"),
     **dict.fromkeys(("nid_c", "nid_bg", "balise", "packet"), NUMBER),
     "direction": ("|nominal|reverse", "neither nominal nor reverse"),
     "sha256": ("|[0-9a-f]{64}", "no SHA-256: --propose writes it"),
@@ -47,8 +48,8 @@ ONE_TELEGRAM = ("F1", "F4", "F6", "F9", "L1", "L2", "L3", "L5", "L6", "L9")
 """The findings and remarks about one telegram only."""
 ALL_ASPECTS = ("F3", "F14", "F15", "F16")
 """The findings that compare aspects or groups. The others are about all telegrams of an aspect."""
-ON_CORRECT_DATA = ("F6", "F9", "F10", "F11", "F12", "F13", "F14", "F16")
-"""The rules of the table of findings on correct data in docs/FINDINGS.md."""
+ON_CORRECT_DATA = ("F6", "F9", "F10", "F11", "F12", "F13", "F14", "F16", *own.ON_CORRECT_DATA)
+"""The rules of the table of findings on correct data in docs/FINDINGS.md, and those whose pages name correct data."""
 Key = Tuple[str, ...]
 Item = Union[Place, Remark]
 """What one entry accepts: a finding of the program, or a remark of a rule of balisekit."""
@@ -318,13 +319,22 @@ def _texts(item: Item) -> List[str]:
     if message is not None:
         return [message.text]
     if isinstance(item, Remark):
-        where = item.location
-        return _telegrams(item.rule, where.row, [where.group.group] if where.group else [])
+        return _texts_of_remark(item)
     finding, group = item.finding, item.group
     rule = f"F{finding.rule}"
     if group is not None and finding.aspect is not None and rule not in (*ONE_TELEGRAM, *ALL_ASPECTS):
         return [row.telegram for row in group.aspects[finding.aspect].rows]
     return _telegrams(rule, item.row, [each for each in (group, item.earlier) if each])
+
+
+def _texts_of_remark(remark: Remark) -> List[str]:
+    """The telegrams of its rows, or of its row, or of all rows of its group."""
+    row, groups = remark.location.row, [remark.location.group.group] if remark.location.group else []
+    if remark.rows:
+        return list(
+            {row.number: row.telegram for group in groups for row in group.rows() if row.number in remark.rows}.values()
+        )
+    return [row.telegram] if row and remark.rule[0] == "E" else _telegrams(remark.rule, row, groups)
 
 
 def _telegrams(rule: str, row: Optional[Row], groups: Sequence[Group]) -> List[str]:

@@ -7,27 +7,14 @@ from __future__ import annotations
 
 from dataclasses import dataclass, field
 from decimal import Decimal
-from enum import IntEnum
 from typing import Any, Collection, Dict, List, Mapping, Optional, Sequence, Tuple
 
 from balisekit.rules.causes import Cause, causes
 from balisekit.rules.checking import Checked, Place
 from balisekit.rules.rule import Remark
 from balisekit.rules.statements.scene import BaliseName
+from balisekit.rules.urgency import Urgency
 from balisekit.tables.model import Group, Message, Row
-
-
-class Urgency(IntEnum):
-    """What may follow at worst, the gravest first."""
-
-    WRONG_INFORMATION = 1
-    """A train may go by information that is wrong, is not for it or does not reach far enough."""
-    WRONG_PLACE = 2
-    """A train may believe itself to be somewhere else."""
-    BRAKING = 3
-    """A train may brake or be tripped without need."""
-    RULE_ONLY = 4
-    """No effect on a train is known; a rule of the standard or of this project is broken."""
 
 
 @dataclass(frozen=True)

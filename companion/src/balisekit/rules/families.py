@@ -10,12 +10,14 @@ from datetime import date
 from functools import cached_property
 from typing import Iterator, Mapping, NamedTuple, Optional, Sequence, Tuple
 
+from balisekit.rules import links, meaning
 from balisekit.rules.accepted import Acceptance, Entries, Item, Judged, identities, judge
+from balisekit.rules.applied import Applied, Notes, look_for, no_notes
 from balisekit.rules.checking import Checked, Place
-from balisekit.rules.entries import Entry, Urgency, entries
+from balisekit.rules.entries import Entry, entries
 from balisekit.rules.line import Line
-from balisekit.rules.links import RULES, Links, compare
 from balisekit.rules.location import Identity
+from balisekit.rules.own import RULES
 from balisekit.rules.rule import Options, Remark, Rule
 from balisekit.rules.statements.scene import BaliseName
 
@@ -32,21 +34,26 @@ class Family(NamedTuple):
     """What its rules find."""
     rules: Sequence[Rule] = ()
     """Those of balisekit. The rules F are in the program."""
-    needs_kilometres: bool = False
+    notes: Notes = no_notes
+    """The notes on a line beside those of the rules."""
+
+    @property
+    def needs_kilometres(self) -> bool:
+        """Whether no rule can be applied to a table without kilometres."""
+        return bool(self.rules) and all(rule.needs_kilometres for rule in self.rules)
+
+    @property
+    def usual(self) -> Sequence[Rule]:
+        """The rules that are applied to a table with kilometres if nobody asks for others."""
+        return [rule for rule in self.rules if rule.is_default]
 
 
 FAMILIES: Mapping[str, Family] = {
     "F": Family("F", "findings of the program, proved", "findings"),
-    "L": Family("L", "links, by balisekit's own rules L1 to L9, not proved", "links", RULES, True),
+    "L": Family("L", "links, by balisekit's own rules L1 to L9, not proved", "links", links.RULES, links.notes_on),
+    "E": Family("E", "remarks on what the data mean, by balisekit's own rules, not proved", "remarks", meaning.RULES),
 }
 """In the order of an answer."""
-URGENCIES: Mapping[str, Urgency] = {
-    **dict.fromkeys(("L5", "L8"), Urgency.WRONG_INFORMATION),
-    **dict.fromkeys(("L2", "L6"), Urgency.WRONG_PLACE),
-    **dict.fromkeys(("L1", "L3"), Urgency.BRAKING),
-    **dict.fromkeys(("L4", "L7", "L9"), Urgency.RULE_ONLY),
-}
-"""By the page of each rule of balisekit, what its remarks mean at worst."""
 
 
 @dataclass(frozen=True)
@@ -58,7 +65,7 @@ class Part:
     """The findings or the remarks: what has to be accepted."""
     seconds: float
     """How long it took."""
-    links: Optional[Links] = None
+    applied: Optional[Applied] = None
     """Of rules of balisekit: what each has looked at."""
     open: Sequence[Entry] = ()
     """One for each cause. Those that nobody has accepted are apart from the others."""
@@ -67,7 +74,7 @@ class Part:
     @property
     def empty(self) -> Sequence[Rule]:
         """The rules that had something to look at, and looked at nothing."""
-        return self.links.empty if self.links else ()
+        return self.applied.empty if self.applied else ()
 
     @property
     def entries(self) -> Sequence[Entry]:
@@ -147,12 +154,23 @@ def apply(
     time.perf_counter(): that time belongs to the first part.
     """
     has_kilometres = any(row.km is not None for row in checked.table.rows)
-    known = [family for letter, family in FAMILIES.items() if letter in letters]
-    applied = [family for family in known if has_kilometres or not family.needs_kilometres]
+    asked = [_asked_for(family, options) for letter, family in FAMILIES.items() if letter in letters]
+    able = [family if has_kilometres else _without_kilometres(family) for family in asked]
+    applied = [family for family in able if family.rules or family.letter == PROVED]
     parts = list(_looked_at(checked, applied, options, began))
     items = [item for part in parts for item in part.items]
     judged = judge(items, checked, signed[0], signed[1], [family.letter for family in applied]) if signed else None
-    return Outcome(checked, [_with_entries(checked, part, judged) for part in parts], judged, len(applied) < len(known))
+    return Outcome(checked, [_with_entries(checked, part, judged) for part in parts], judged, able != asked)
+
+
+def _asked_for(family: Family, options: Options) -> Family:
+    """The family with the rules that are applied by default or were asked for."""
+    return family._replace(rules=[rule for rule in family.rules if rule.is_default or options.asks_for(rule.name)])
+
+
+def _without_kilometres(family: Family) -> Family:
+    """The family with the rules that need no kilometres."""
+    return family._replace(rules=[rule for rule in family.rules if not rule.needs_kilometres])
 
 
 def _looked_at(checked: Checked, applied: Sequence[Family], options: Options, began: Optional[float]) -> Iterator[Part]:
@@ -163,9 +181,9 @@ def _looked_at(checked: Checked, applied: Sequence[Family], options: Options, be
         if family.letter == PROVED:
             yield Part(family, checked.findings, time.perf_counter() - begin)
             continue
-        line = line or Line.of(checked)
-        links = compare(line, options, family.rules)
-        yield Part(family, links.remarks, time.perf_counter() - begin, links)
+        line = line or Line.of(checked, options.jumps)
+        found = look_for(line, options, family.rules, family.notes)
+        yield Part(family, found.remarks, time.perf_counter() - begin, found)
 
 
 def _with_entries(checked: Checked, part: Part, judged: Optional[Judged]) -> Part:
@@ -189,15 +207,16 @@ def entry_of_remark(remark: Remark) -> Entry:
     """The entry of a remark."""
     where, group, row = remark.location, remark.location.group, remark.location.row
     rows = [row] if row else group.group.rows() if group else []
+    aspects = (row.aspect,) if row and row.aspect not in ("", "*") else ()
     places = group.group.places if group else {}
     name = BaliseName(row.name, where.n_pig) if row and where.n_pig is not None else None
     return Entry(
         remark.rule,
-        URGENCIES[remark.rule],
+        RULES[remark.rule].urgency if remark.urgency is None else remark.urgency,
         f"{where.packet_words}{remark.sentence}",
-        tuple(sorted({row.number for row in rows})),
+        tuple(sorted(remark.rows or {row.number for row in rows})),
         group.group if group else None,
-        (row.aspect,) if row and row.aspect not in ("", "*") else (),
+        tuple(remark.aspects) or aspects,
         places[row.number] if row and group else None,
         where.number,
         where.direction,
@@ -206,4 +225,5 @@ def entry_of_remark(remark: Remark) -> Entry:
         {name: f"{value:f}" for name, value in remark.values.items()},
         remark=remark,
         balises=(name,) if name else (),
+        other_rows=tuple(remark.others),
     )

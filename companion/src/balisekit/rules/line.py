@@ -5,6 +5,7 @@ whoever has read them: a line of 100,000 rows is asked for each record once.
 """
 from __future__ import annotations
 
+import json
 from bisect import bisect_left, bisect_right
 from dataclasses import dataclass, field
 from decimal import Decimal
@@ -16,7 +17,9 @@ from balisekit.engine.grammar import Finding
 from balisekit.engine.program import Record
 from balisekit.etcs.geometry import kilometres
 from balisekit.etcs.variables import Form
+from balisekit.rules.chainage import Jump
 from balisekit.rules.checking import Checked, Telegrams
+from balisekit.rules.decoded import Decoded, decode
 from balisekit.rules.location import NOT_KNOWN, BaliseGroup, Identity
 from balisekit.rules.passages import Chain, Content, Passages, contents_of
 from balisekit.tables.model import Aspect, Group, Message, Row
@@ -73,9 +76,11 @@ class Line:
     messages: Sequence[Tuple[Message, Form]] = ()
     findings: Mapping[str, Sequence[Finding]] = field(default_factory=dict)
     """What the program has found of a group, by the group's name."""
+    jumps: Sequence[Jump] = ()
+    """Where the kilometres jump."""
 
     @classmethod
-    def of(cls, checked: Checked) -> Line:
+    def of(cls, checked: Checked, jumps: Sequence[Jump] = ()) -> Line:
         """The line of a table whose telegrams have been tried. A refused telegram says nothing of its group."""
         kept = {group.name: group for group in checked.kept}
         groups = [kept.get(group.name, group) for group in checked.table.groups]
@@ -84,7 +89,7 @@ class Line:
             if place.group is not None:
                 findings.setdefault(place.group.name, []).append(place.finding)
         messages = [(each.message, each.form) for each in checked.accepted_messages]
-        return cls(groups, checked.accepted, messages, findings)
+        return cls(groups, checked.accepted, messages, findings, jumps)
 
     @cached_property
     def passages(self) -> Passages:
@@ -112,6 +117,20 @@ class Line:
         for row in (row for group in self.table_groups for row in group.rows()):
             if row.number in self.forms:
                 yield row, Content.of(self.forms[row.number])
+
+    @cached_property
+    def decoded(self) -> Decoded:
+        """All data of the table as a train gets them. Rules that compare more than links and kilometres need them."""
+        return decode(self.groups, self._records(), self.messages, self.jumps)
+
+    def _records(self) -> Iterator[Tuple[Row, Record]]:
+        """The records of the telegrams, in the order of the table."""
+        if isinstance(self.forms, Telegrams):
+            yield from self.forms.decoded()
+            return
+        rows = {row.number: row for group in self.table_groups for row in group.rows() if row.number in self.forms}
+        for number, row in rows.items():
+            yield row, Record(json.dumps(self.forms[number], sort_keys=True, separators=(",", ":")))
 
     @property
     def groups(self) -> Sequence[BaliseGroup]:

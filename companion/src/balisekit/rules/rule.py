@@ -8,13 +8,21 @@ from collections import Counter
 from dataclasses import dataclass, field, replace
 from decimal import Decimal
 from functools import cached_property
-from typing import Callable, Dict, Iterator, List, Mapping, Optional, Sequence, Union
+from typing import Callable, Dict, FrozenSet, Iterator, List, Mapping, Optional, Sequence, Tuple, Union
 
+from balisekit.rules.chainage import Jump
 from balisekit.rules.line import Line
 from balisekit.rules.location import BaliseGroup, Location
 from balisekit.rules.passages import Chain
+from balisekit.rules.urgency import Urgency
 
 REFUSED = "refused"
+CORRECT_DATA, NONE = "Correct data that gets it", "None"
+"""The paragraph of a page, and how it begins if there are none."""
+ALL = "all"
+"""Asks for all rules."""
+LINE_SPEED, RELEASE_SPEED = 350, 40
+"""In km/h, if the user says nothing."""
 
 
 @dataclass(frozen=True)
@@ -22,7 +30,26 @@ class Options:
     """What a user says of the line."""
 
     tolerance: Decimal = Decimal()
-    """How many metres the kilometres of the table may be wrong."""
+    """How many metres the kilometres of the table may be wrong, for the rules L."""
+    tolerance_of_places: Decimal = Decimal(1)
+    """By how many metres places may differ, for the rules E."""
+    line_speed: Optional[int] = None
+    """The greatest speed of the line in km/h, if the user states it."""
+    release_speed: int = RELEASE_SPEED
+    """The greatest release speed of the line in km/h."""
+    jumps: Tuple[Jump, ...] = ()
+    """Where the kilometres jump."""
+    asked: FrozenSet[str] = frozenset()
+    """The rules that were asked for by name, or `all`."""
+
+    @property
+    def greatest_speed(self) -> int:
+        """The speed in km/h above which a speed is remarked."""
+        return LINE_SPEED if self.line_speed is None else self.line_speed
+
+    def asks_for(self, rule: str) -> bool:
+        """Whether a rule, or the part of a rule that is off by default, was asked for."""
+        return not self.asked.isdisjoint({rule, ALL})
 
 
 @dataclass(frozen=True)
@@ -38,6 +65,14 @@ class Remark:
     """The values that the rule has compared, by their names."""
     named: Sequence[BaliseGroup] = ()
     """The other groups that the sentence rests on, if no telegram of its location names them."""
+    urgency: Optional[Urgency] = None
+    """How urgent it is, if it is not as urgent as its rule."""
+    rows: Sequence[int] = ()
+    """The rows that the sentence is about, if they are not the row or the rows of its location."""
+    others: Sequence[int] = ()
+    """The rows that the sentence names beside its own."""
+    aspects: Sequence[str] = ()
+    """The aspects that the sentence is about, if it is not about the row of its location."""
 
 
 @dataclass(frozen=True)
@@ -47,6 +82,9 @@ class Result:
     found: Sequence[Remark]
     looked_at: int
     not_looked_at: Mapping[str, int] = field(default_factory=dict)
+    """A rule that has looked at nothing, and not at something, makes the answer incomplete."""
+    notes: Sequence[str] = ()
+    """What the user should know beside the remarks, a line each."""
 
     @classmethod
     def of_chains(cls, line: Line, look_at: Callable[[Chain], Iterator[Union[Remark, str, None]]]) -> Result:
@@ -88,11 +126,22 @@ class Rule:
     looks_at: str
     page: str
     find: Callable[[Line, Options], Result]
+    urgency: Urgency = Urgency.RULE_ONLY
+    """What its remarks mean at worst, as its page says."""
+    needs_kilometres: bool = False
+    """Whether it is not applied to a table without kilometres."""
+    is_default: bool = True
+    """Whether it is applied if nobody asks for it."""
 
     @cached_property
     def title(self) -> str:
         """What the rule is about, by the first line of its page."""
         return self.page.split("\n", 1)[0].split(": ", 1)[-1].rstrip(".")
+
+    @property
+    def has_correct_data(self) -> bool:
+        """Whether correct data may get a remark of this rule, by its page."""
+        return not self.parts.get(CORRECT_DATA, NONE).startswith(NONE)
 
     @cached_property
     def parts(self) -> Dict[str, str]:

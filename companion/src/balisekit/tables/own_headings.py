@@ -1,10 +1,10 @@
-"""Headings of one's own: a TOML file that names the heading of each column."""
+"""balisekit.toml: headings of one's own, and what a project states of its line."""
 from __future__ import annotations
 
 import os
 import sys
 from difflib import get_close_matches
-from typing import Any, Dict, Mapping, Optional, Sequence
+from typing import Any, Dict, Mapping, Optional, Sequence, Tuple
 
 from balisekit.errors import TableError, faults_of
 from balisekit.io import inputs
@@ -14,7 +14,9 @@ from balisekit.tables.headings import ALIKE, Headings
 
 BESIDE = "balisekit.toml"
 """The file that is read if it is in the folder of the table."""
-COLUMNS_TABLE, EXPECT_TABLE = "columns", "expect"
+COLUMNS_TABLE, EXPECT_TABLE, CHECK_TABLE = "columns", "expect", "check"
+STATED = ("line_speed", "release_speed", "tolerance", "jumps", "rules")
+"""The keys of [check]."""
 SHEET = ("group", "identity", "aspect", "balise", "packet", "element", "variable", "raw", "value", "unit", "km")
 """The columns of a flat table of variables."""
 KNOWN = {COLUMNS_TABLE: tuple(dict.fromkeys((*COLUMNS, *SHEET))), EXPECT_TABLE: SHEET}
@@ -37,22 +39,29 @@ def of_sheet(path: str, named: Optional[str], needed_columns: Sequence[str]) -> 
     return Headings(SHEET, tuple(needed_columns), known, file, bool(named and of_expect))
 
 
+def of_check(path: str, named: Optional[str]) -> Tuple[str, Mapping[str, object]]:
+    """The file that states something of a table's line, and the keys of its [check] with their values."""
+    file = named or beside(path)
+    return file, _read(file)[CHECK_TABLE] if file else {}
+
+
 def beside(path: str) -> str:
     """The path of balisekit.toml in the folder of this file, or nothing if there is none."""
     file = os.path.join(os.path.dirname(path), BESIDE)
     return file if os.path.isfile(file) else ""
 
 
-def _read(path: str) -> Dict[str, Mapping[str, str]]:
+def _read(path: str) -> Dict[str, Mapping[str, Any]]:
     """The tables of a file. Lines at the top are those of [columns]."""
     with faults_of(path):
         form = _parsed(inputs.read(path).content)
-        tables = {name: form.pop(name, {}) for name in (COLUMNS_TABLE, EXPECT_TABLE)}
+        tables = {name: form.pop(name, {}) for name in (COLUMNS_TABLE, EXPECT_TABLE, CHECK_TABLE)}
         if form and tables[COLUMNS_TABLE]:
             raise TableError(f"{next(iter(form))} is outside of [columns]: put all headings of the table there")
         tables[COLUMNS_TABLE] = tables[COLUMNS_TABLE] or form
-        for name, table in tables.items():
-            _look_at(name, table)
+        for name in KNOWN:
+            _look_at(name, tables[name])
+        _look_at_stated(tables[CHECK_TABLE])
     return tables
 
 
@@ -70,6 +79,21 @@ def _parsed(content: bytes) -> Dict[str, Any]:
     return form
 
 
+def _look_at_stated(stated: Any) -> None:
+    """Raises TableError for what is no key of [check]."""
+    if not isinstance(stated, dict):
+        raise TableError(f"{CHECK_TABLE} is no table: write [{CHECK_TABLE}], and a line for each key below it")
+    for name in stated:
+        if name not in STATED:
+            raise TableError(f"[{CHECK_TABLE}] has a key {name}, which is none: {_meant(name, STATED, 'keys')}")
+
+
+def _meant(name: str, known: Sequence[str], what: str) -> str:
+    """For what a name may have been mistyped."""
+    meant = get_close_matches(name, known, 1, ALIKE)
+    return f'did you mean "{meant[0]}"?' if meant else f"the {what} are {', '.join(known)}"
+
+
 def _look_at(table: str, headings: Any) -> None:
     """Raises TableError for what names no column, and for two columns of one heading."""
     if not isinstance(headings, dict):
@@ -77,8 +101,7 @@ def _look_at(table: str, headings: Any) -> None:
     first: Dict[str, str] = {}
     for name, heading in headings.items():
         if name not in KNOWN[table]:
-            meant = get_close_matches(name, KNOWN[table], 1, ALIKE)
-            hint = f'did you mean "{meant[0]}"?' if meant else f"the columns are {', '.join(KNOWN[table])}"
+            hint = _meant(name, KNOWN[table], "columns")
             raise TableError(f"[{table}] names a column {name}, which is none: {hint}")
         if not isinstance(heading, str) or not heading.strip():
             raise TableError(f'the heading of {name} is no text: write {name} = "..."')

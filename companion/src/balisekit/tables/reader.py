@@ -218,7 +218,8 @@ def _balise(cell: str, _: str) -> Optional[int]:
     return int(cell) if cell else None
 
 
-def _km(cell: str, kind: str) -> Optional[Decimal]:
+def kilometre_of(cell: str, kind: str) -> Optional[Decimal]:
+    """The kilometre of a cell, or None for an empty one. TableError is raised for what is none."""
     found = KM.fullmatch(cell.replace("\u2212", "-"))
     if found and kind != "date":
         whole, part, metres, more = found.groups(default="")
@@ -240,7 +241,7 @@ MEANINGS: Dict[str, Callable[[str, str], object]] = {
     "aspect": _name,
     "balise": _balise,
     "name": _name,
-    "km": _km,
+    "km": kilometre_of,
     "track": _name,
     "nominal": _nominal,
 }

@@ -1,10 +1,9 @@
 """The rules L1 to L9: what the groups of a line say of each other, against the kilometres of the table."""
 from __future__ import annotations
 
-from dataclasses import dataclass
-from functools import cached_property
-from typing import Mapping, Sequence, Tuple
+from typing import Sequence
 
+from balisekit.rules.applied import Applied, look_for
 from balisekit.rules.line import Line
 from balisekit.rules.links.l1_unknown_group import RULE as L1
 from balisekit.rules.links.l2_distance import RULE as L2
@@ -16,32 +15,16 @@ from balisekit.rules.links.l7_open_profile import RULE as L7
 from balisekit.rules.links.l8_late_profile import RULE as L8
 from balisekit.rules.links.l9_passed_over import RULE as L9
 from balisekit.rules.links.notes import notes_on
-from balisekit.rules.rule import Options, Remark, Result, Rule
+from balisekit.rules.rule import Options, Rule
 
 RULES = (L1, L2, L3, L4, L5, L6, L7, L8, L9)
-__all__ = ["L2", "RULES", "Links", "compare"]
+__all__ = ["L2", "RULES", "Links", "compare", "notes_on"]
 
 
-@dataclass(frozen=True)
-class Links:
-    """What the rules have found of a line, and what they could not look at."""
-
-    line: Line
-    results: Mapping[Rule, Result]
-    notes: Tuple[str, ...] = ()
-
-    @cached_property
-    def remarks(self) -> Sequence[Remark]:
-        """All that was found, by the order of the table."""
-        found = [remark for result in self.results.values() for remark in result.found]
-        return sorted(found, key=lambda each: (*each.location.order, each.rule))
-
-    @property
-    def empty(self) -> Sequence[Rule]:
-        """The rules that had something to look at, and looked at nothing."""
-        return [rule for rule, result in self.results.items() if result.is_empty]
+Links = Applied
+"""What the rules have found of a line, and what they could not look at."""
 
 
 def compare(line: Line, options: Options = Options(), rules: Sequence[Rule] = RULES) -> Links:
     """Looks for these rules in a line."""
-    return Links(line, {rule: rule.find(line, options) for rule in rules}, tuple(notes_on(line)))
+    return look_for(line, options, rules, notes_on)

@@ -24,6 +24,7 @@ from typing import Iterator, Union
 from balisekit.rules.line import Line
 from balisekit.rules.passages import Chain
 from balisekit.rules.rule import Options, Remark, Result, Rule
+from balisekit.rules.urgency import Urgency
 from balisekit.tables.names import describe_identity
 
 
@@ -41,4 +42,4 @@ def _look_at(chain: Chain) -> Iterator[Union[Remark, str, None]]:
             yield Remark("L1", chain.at(link), sentence)
 
 
-RULE = Rule("L1", "links", __doc__ or "", find)
+RULE = Rule("L1", "links", __doc__ or "", find, Urgency.BRAKING, needs_kilometres=True)

@@ -30,6 +30,7 @@ from balisekit.rules.line import Line
 from balisekit.rules.location import incomparable
 from balisekit.rules.passages import Chain
 from balisekit.rules.rule import Options, Remark, Result, Rule
+from balisekit.rules.urgency import Urgency
 
 DECIMETRES = 10_000
 """In a kilometre."""
@@ -80,4 +81,4 @@ def _metres(distance: Decimal) -> str:
     return f"{text.rstrip('0').rstrip('.') if '.' in text else text} m"
 
 
-RULE = Rule("L2", "links", __doc__ or "", find)
+RULE = Rule("L2", "links", __doc__ or "", find, Urgency.WRONG_PLACE, needs_kilometres=True)

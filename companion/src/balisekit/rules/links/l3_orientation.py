@@ -26,6 +26,7 @@ from balisekit.rules.line import Line
 from balisekit.rules.location import NOT_IN_TABLE
 from balisekit.rules.passages import Chain
 from balisekit.rules.rule import Options, Remark, Result, Rule
+from balisekit.rules.urgency import Urgency
 
 
 def find(line: Line, options: Options) -> Result:
@@ -57,4 +58,4 @@ def _look_at(chain: Chain) -> Iterator[Union[Remark, str, None]]:
             yield Remark("L3", chain.at(link), sentence, here)
 
 
-RULE = Rule("L3", "links", __doc__ or "", find)
+RULE = Rule("L3", "links", __doc__ or "", find, Urgency.BRAKING, needs_kilometres=True)

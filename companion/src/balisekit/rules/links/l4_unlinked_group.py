@@ -23,6 +23,7 @@ from balisekit.rules.line import AFTER_INFILL, Line
 from balisekit.rules.location import BaliseGroup, Location
 from balisekit.rules.passages import Chain
 from balisekit.rules.rule import Options, Remark, Result, Rule
+from balisekit.rules.urgency import Urgency
 from balisekit.tables.names import clean, describe_message, listed
 
 NAMED = 3
@@ -54,4 +55,4 @@ def _sender(chain: Chain) -> str:
     return clean(sender.group.name) if sender else ""
 
 
-RULE = Rule("L4", "groups", __doc__ or "", find)
+RULE = Rule("L4", "groups", __doc__ or "", find, Urgency.RULE_ONLY, needs_kilometres=True)

@@ -22,6 +22,7 @@ from __future__ import annotations
 from balisekit.etcs.packets import packet_name
 from balisekit.rules.line import Line
 from balisekit.rules.rule import REFUSED, Options, Remark, Result, Rule
+from balisekit.rules.urgency import Urgency
 
 
 def find(line: Line, options: Options) -> Result:
@@ -41,4 +42,4 @@ def find(line: Line, options: Options) -> Result:
     return Result(found, len(single) - unread, {REFUSED: unread})
 
 
-RULE = Rule("L5", "single balises", __doc__ or "", find)
+RULE = Rule("L5", "single balises", __doc__ or "", find, Urgency.WRONG_INFORMATION, needs_kilometres=True)

@@ -18,6 +18,7 @@ from __future__ import annotations
 
 from balisekit.rules.line import Line
 from balisekit.rules.rule import REFUSED, Options, Remark, Result, Rule
+from balisekit.rules.urgency import Urgency
 
 
 def find(line: Line, options: Options) -> Result:
@@ -27,4 +28,4 @@ def find(line: Line, options: Options) -> Result:
     return Result(found, line.passages.headers, {REFUSED: sum(len(group.unread) for group in line.groups)})
 
 
-RULE = Rule("L6", "headers", __doc__ or "", find)
+RULE = Rule("L6", "headers", __doc__ or "", find, Urgency.WRONG_PLACE, needs_kilometres=True)

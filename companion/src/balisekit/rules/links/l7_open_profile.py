@@ -21,6 +21,7 @@ from __future__ import annotations
 from balisekit.rules.line import Line
 from balisekit.rules.passages import PROFILES
 from balisekit.rules.rule import Options, Remark, Result, Rule
+from balisekit.rules.urgency import Urgency
 
 
 def find(line: Line, options: Options) -> Result:
@@ -34,4 +35,4 @@ def find(line: Line, options: Options) -> Result:
     return Result(found, line.passages.profile_count)
 
 
-RULE = Rule("L7", "profiles", __doc__ or "", find)
+RULE = Rule("L7", "profiles", __doc__ or "", find, Urgency.RULE_ONLY, needs_kilometres=True)

@@ -23,6 +23,7 @@ from balisekit.etcs.variables import metres
 from balisekit.rules.line import Line
 from balisekit.rules.passages import PROFILES
 from balisekit.rules.rule import Options, Remark, Result, Rule
+from balisekit.rules.urgency import Urgency
 
 
 def find(line: Line, options: Options) -> Result:
@@ -36,4 +37,4 @@ def find(line: Line, options: Options) -> Result:
     return Result(found, line.passages.profile_count)
 
 
-RULE = Rule("L8", "profiles", __doc__ or "", find)
+RULE = Rule("L8", "profiles", __doc__ or "", find, Urgency.WRONG_INFORMATION, needs_kilometres=True)

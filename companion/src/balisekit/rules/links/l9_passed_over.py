@@ -28,6 +28,7 @@ from balisekit.rules.line import Line
 from balisekit.rules.location import BaliseGroup, incomparable
 from balisekit.rules.passages import Chain
 from balisekit.rules.rule import Options, Remark, Result, Rule
+from balisekit.rules.urgency import Urgency
 from balisekit.tables.names import listed
 
 
@@ -58,4 +59,4 @@ def _remark(chain: Chain, before: BaliseGroup, after: BaliseGroup, groups: Seque
     return Remark("L9", chain.location, sentence, groups[0], {"groups_passed_over": Decimal(count)}, groups)
 
 
-RULE = Rule("L9", "pairs", __doc__ or "", find)
+RULE = Rule("L9", "pairs", __doc__ or "", find, Urgency.RULE_ONLY, needs_kilometres=True)

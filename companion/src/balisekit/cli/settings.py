@@ -1,0 +1,108 @@
+"""What a user states of the line: by options, else by the table [check] of balisekit.toml beside the table."""
+from __future__ import annotations
+
+import argparse
+import os
+import re
+from typing import Any, Callable, Dict, FrozenSet, Mapping, Sequence
+
+from balisekit.cli import options as shared
+from balisekit.errors import TableError, faults_of
+from balisekit.rules import jumps as jumps_file, meaning
+from balisekit.rules.rule import ALL, LINE_SPEED, RELEASE_SPEED, Options
+from balisekit.tables import own_headings
+
+GREATEST = 600
+"""The greatest speed in km/h that a variable of ETCS has."""
+NAMES = [rule.name for rule in meaning.RULES]
+JUMPS = "a CSV file with km, km_after and track: where the kilometres jump"
+RULES = "apply these rules E too, and their parts that are off by default: E2,E20 or all"
+
+
+def _speed(text: str) -> int:
+    """A speed in km/h."""
+    if not re.fullmatch("[0-9]{1,3}", text) or not 0 < int(text) <= GREATEST:
+        raise argparse.ArgumentTypeError(f"{text[:40]} is no speed in km/h from 1 to {GREATEST}")
+    return int(text)
+
+
+def _rules(text: str) -> FrozenSet[str]:
+    """Names of rules E, or `all`."""
+    names = [name.strip() for name in text.split(",")]
+    if [name.lower() for name in names] == [ALL]:
+        return frozenset({ALL})
+    unknown = [name for name in names if name.upper() not in NAMES]
+    if unknown:
+        known = f"the rules are {', '.join(NAMES)}"
+        raise argparse.ArgumentTypeError(f"{unknown[0][:40] or 'nothing'} is no rule: write all or E7,E11; {known}")
+    return frozenset(name.upper() for name in names)
+
+
+KINDS: Mapping[str, Callable[[str], Any]] = {
+    "line_speed": _speed,
+    "release_speed": _speed,
+    "tolerance": shared.tolerance,
+    "jumps": str,
+    "rules": _rules,
+}
+"""What reads the value of each key of [check]."""
+
+
+def add_options(parser: argparse.ArgumentParser) -> None:
+    """The options that state what the line is."""
+    shared.add(parser, "--tolerance", help=f"{shared.TOLERANCE}; 1 for the rules E")
+    speed = f"the greatest speed of the line, for the rules E; {LINE_SPEED} without it"
+    release = f"the greatest release speed of the line, for the rules E; {RELEASE_SPEED} without it"
+    parser.add_argument("--line-speed", **shared.value("KM/H", _speed, speed))
+    parser.add_argument("--release-speed", **shared.value("KM/H", _speed, release))
+    parser.add_argument("--jumps", **shared.input_file(JUMPS))
+    parser.add_argument("--rules", **shared.value("RULES", _rules, RULES))
+
+
+def refuse_unused(options: argparse.Namespace, letters: Sequence[str]) -> None:
+    """Raises TableError if an option is given that the rules of these families do not use."""
+    purpose = f"with --only {','.join(letters)}"
+    if "E" not in letters:
+        shared.refuse_unused(options, purpose, "line_speed", "release_speed", "jumps", "rules")
+    if set(letters) == {"F"}:
+        shared.refuse_unused(options, purpose, "tolerance")
+
+
+def of_line(options: argparse.Namespace) -> Options:
+    """What the options and balisekit.toml state. TableError is raised for a value of the file that is none."""
+    stated = {**_of_file(options), **_given(options)}
+    more: Dict[str, Any] = {}
+    if "tolerance" in stated:
+        more["tolerance"] = more["tolerance_of_places"] = stated["tolerance"]
+    return Options(
+        **more,
+        line_speed=stated.get("line_speed"),
+        release_speed=stated.get("release_speed", RELEASE_SPEED),
+        jumps=jumps_file.read(stated["jumps"]) if "jumps" in stated else (),
+        asked=stated.get("rules", frozenset()),
+    )
+
+
+def _given(options: argparse.Namespace) -> Dict[str, Any]:
+    """The options that were given."""
+    values = {name: getattr(options, name) for name in KINDS}
+    return {name: value for name, value in values.items() if value is not None and value is not shared.EXACT}
+
+
+def _of_file(options: argparse.Namespace) -> Dict[str, Any]:
+    """What the table [check] of the file has. A path is seen from the folder of the file."""
+    path, values = own_headings.of_check(options.table, options.columns)
+    with faults_of(path):
+        found = {name: _value(name, value) for name, value in values.items()}
+    if "jumps" in found:
+        found["jumps"] = os.path.join(os.path.dirname(path), found["jumps"])
+    return found
+
+
+def _value(name: str, value: object) -> Any:
+    """A value of the file as that of an option."""
+    words = ",".join(map(str, value)) if isinstance(value, list) else str(value)
+    try:
+        return KINDS[name](words)
+    except argparse.ArgumentTypeError as error:
+        raise TableError(f"[check] {name}: {error}") from error

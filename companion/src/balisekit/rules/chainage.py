@@ -1,0 +1,62 @@
+"""Kilometres and places along a track: where the kilometres jump, the places do not.
+
+A place is a whole number of decimetres along the track, counted as the kilometres of its beginning do. Kilometres that
+are finer than a decimetre are rounded.
+"""
+from __future__ import annotations
+
+from dataclasses import dataclass
+from decimal import ROUND_HALF_EVEN, Decimal
+from typing import NamedTuple, Optional, Sequence, Tuple
+
+from balisekit.etcs.geometry import kilometre_of
+
+DECIMETRES = Decimal(10_000)
+"""In a kilometre."""
+
+
+class Jump(NamedTuple):
+    """A jump of the kilometres: in the direction in which they rise, `before` is followed by `after`."""
+
+    before: Decimal
+    after: Decimal
+    track: str = ""
+
+
+def decimetres(km: Decimal) -> int:
+    """A kilometre in whole decimetres."""
+    return int((km * DECIMETRES).to_integral_value(ROUND_HALF_EVEN))
+
+
+@dataclass(frozen=True)
+class Chainage:
+    """The kilometres of one track, with their jumps in the order of the kilometres."""
+
+    jumps: Tuple[Tuple[int, int], ...] = ()
+    """`before` and `after` in decimetres."""
+
+    @classmethod
+    def of(cls, jumps: Sequence[Jump], track: str) -> Chainage:
+        """The kilometres of a track with those of the jumps that are on it."""
+        own = [(decimetres(jump.before), decimetres(jump.after)) for jump in jumps if jump.track == track]
+        return cls(tuple(sorted(own)))
+
+    def place(self, km: Optional[Decimal]) -> Optional[int]:
+        """The place of a kilometre. It is None for one that is in a gap of the kilometres, or that is there twice."""
+        if km is None:
+            return None
+        at, shift = decimetres(km), 0
+        for before, after in self.jumps:
+            if min(before, after) < at < max(before, after):
+                return None
+            shift += before - after if at >= max(before, after) else 0
+        return at + shift
+
+    def words(self, place: int) -> str:
+        """The kilometre of a place as it is written."""
+        shift = 0
+        for before, after in self.jumps:
+            if place <= before + shift:
+                break
+            shift += before - after
+        return kilometre_of(place - shift)

@@ -1,0 +1,26 @@
+"""The rules E1 to E23: what the data mean, as far as the table itself shows that it is unlikely to be meant.
+
+A rule is added so:
+
+1. Write `eN_what_is_wrong.py`, with fewer than 150 lines. Its docstring is its page: the title, then the paragraphs
+   `What it says`, `How urgent`, `Usual cause`, `What may happen`, `How to correct it`, `Correct data that gets it`
+   (it begins with `None` if there are none), `Example` and `How sure`.
+2. Write `find(line, options) -> Result`. `line.decoded` has all packets and passages, `line.groups` the groups, and
+   `line.chains` the linking packets with their groups. `options` has what the user states of the line, and
+   `options.asks_for("E2")` says whether the part that is off by default is wanted.
+3. A `Remark` has the location (`Passage.at`, `GroupData.location`, `GroupData.of_packet`), one sentence with the values
+   and their units, and these values by name. It has no reason for which it may be accepted.
+4. Put the `Rule` into RULES below. State its urgency, `needs_kilometres`, and `is_default=False` if it is less than
+   85 % sure. Then run `python3 companion/tests/rules_page.py`, which writes its section of docs/REMARKS.md.
+5. Test a hit, no hit, and the correct data that the page names, by one change of `meaning_line.py`.
+
+`Result.not_looked_at` counts only what the user could supply, such as a kilometre: a rule that has looked at nothing
+but has such a count makes the answer incomplete.
+"""
+from __future__ import annotations
+
+from balisekit.rules.meaning.e7_aspects_alike import RULE as E7
+from balisekit.rules.meaning.e11_spacing import RULE as E11
+
+RULES = (E7, E11)
+__all__ = ["RULES"]

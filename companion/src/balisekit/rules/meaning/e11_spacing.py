@@ -1,0 +1,102 @@
+"""E11: spacing of balises.
+
+What it says. By the column km two neighbouring balises of one group are less than 2.3 m apart, or more than 12 m. With
+a `--line-speed` above 180 km/h the least spacing is 3.0 m. One unit of the last decimal of the kilometres is allowed in
+either direction. The rule passes over a group whose balises all have one kilometre. It also compares the column
+`nominal` with the direction in which the kilometres of the balises go (SUBSET-036 and SUBSET-040, installation of
+balise groups).
+
+How urgent. At worst a wrong place: distances of the group count from its first balise.
+
+Usual cause. A kilometre was mistyped. A row belongs to another group. The balises were exchanged in the table, or the
+column `nominal` was filled in for the other direction.
+
+What may happen. Balises that are too close disturb each other, and a train may miss one. A balise that is too far from
+the one before it is not taken for a part of the group.
+
+How to correct it. Correct the kilometre, the group of the row or the column `nominal`.
+
+Correct data that gets it. A spacing that was allowed as an exception on the track. A jump of the kilometres between two
+balises of one group.
+
+Example. The second balise of group C is at km 12.033, 33 m from the first one at km 12.000.
+
+How sure. 88 %: the distances were written from memory of the standard.
+"""
+from __future__ import annotations
+
+from decimal import Decimal
+from typing import Dict, Iterator, List, Tuple
+
+from balisekit.rules.line import Line
+from balisekit.rules.location import BaliseGroup, Location
+from balisekit.rules.rule import Options, Remark, Result, Rule
+from balisekit.rules.urgency import Urgency
+from balisekit.tables.model import Row
+from balisekit.tables.names import kilometre
+
+LEAST, LEAST_FAST, GREATEST = Decimal("2.3"), Decimal("3.0"), Decimal(12)
+"""In metres."""
+FAST = 180
+"""Above this line speed in km/h the greater least spacing holds."""
+WORDS = {"rising": 1, "falling": -1}
+
+
+def find(line: Line, options: Options) -> Result:
+    """Looks at each two neighbours of a group."""
+    least = LEAST_FAST if options.line_speed is not None and options.line_speed > FAST else LEAST
+    unit, found, looked_at = Decimal(line.decoded.resolution) / 10, [], 0
+    for group in line.groups:
+        places = _places(group)
+        if len({km for _, km in places}) > 1:
+            looked_at += len(places) - 1
+            found += [*_spacing(group, places, least, unit), *_direction(group, places)]
+    return Result(found, looked_at)
+
+
+def _places(group: BaliseGroup) -> List[Tuple[Row, Decimal]]:
+    """The first row of each balise that has a kilometre, in nominal order."""
+    known: Dict[int, Tuple[Row, Decimal]] = {}
+    for aspect in group.group.aspects:
+        for position, row in enumerate(aspect.rows):
+            if row.km is not None:
+                known.setdefault(position, (row, row.km))
+    return [known[position] for position in sorted(known)]
+
+
+def _spacing(group: BaliseGroup, places: List[Tuple[Row, Decimal]], least: Decimal, unit: Decimal) -> Iterator[Remark]:
+    for (before, from_km), (row, km) in zip(places, places[1:]):
+        metres = abs(km - from_km) * 1000
+        if least - unit <= metres <= GREATEST + unit:
+            continue
+        limit = f"less than {least}" if metres < least else f"more than {GREATEST}"
+        sentence = (
+            f"{_number(metres)} m from the balise before it in the group, row {before.number} (km "
+            f"{kilometre(from_km)}): that is {limit} m, and one unit of the last decimal of the kilometres is "
+            f"{_number(unit)} m"
+        )
+        yield Remark("E11", Location(group, row), sentence, values={"spacing_m": metres}, others=(before.number,))
+
+
+def _number(value: Decimal) -> str:
+    """A number without zeros behind it."""
+    text = f"{value:f}"
+    return text.rstrip("0").rstrip(".") if "." in text else text
+
+
+def _direction(group: BaliseGroup, places: List[Tuple[Row, Decimal]]) -> Iterator[Remark]:
+    """The column `nominal` beside the kilometres, if these go one way."""
+    steps = {(km > before) - (km < before) for (_, before), (_, km) in zip(places, places[1:])} - {0}
+    rows = [row for row in group.group.rows() if row.nominal]
+    if len(steps) != 1 or not rows or {WORDS.get(row.nominal) for row in rows} == steps:
+        return
+    words = "rise" if steps == {1} else "fall"
+    first, last = places[0][1], places[-1][1]
+    sentence = (
+        f"the column nominal says {rows[0].nominal}, and the kilometres of the balises {words} in nominal direction, "
+        f"from km {kilometre(first)} to km {kilometre(last)}"
+    )
+    yield Remark("E11", Location(group), sentence, values={"first_km": first, "last_km": last})
+
+
+RULE = Rule("E11", "neighbouring balises", __doc__ or "", find, Urgency.WRONG_PLACE, needs_kilometres=True)

@@ -1,0 +1,114 @@
+"""E7: aspects that say the same.
+
+What it says. Two or more aspects of a group have equal packets in every balise, apart from M_MCOUNT, and a packet 12
+among them has a V_MAIN above 0. The line names the aspects. If no packet 12 of such aspects has a V_MAIN above 0, one
+note for the whole table counts them: a stop aspect, a dark signal and a substitution aspect often share their packets.
+
+How urgent. At worst wrong information: one of the aspects allows what another aspect is meant to allow.
+
+Usual cause. The telegram of one aspect was copied, and its packets were not changed.
+
+What may happen. A train that passes the more restrictive aspect gets the authority and the speed of the other one.
+
+How to correct it. Compare both telegrams with the aspect table of the signal, and make the packets of the wrong one.
+
+Correct data that gets it. One aspect that the table has under two names.
+
+Example. Signal B has the packets of green at yellow: both allow 120 km/h for 1,400 m.
+
+How sure. 93 %.
+"""
+from __future__ import annotations
+
+from decimal import Decimal
+from typing import Iterator, List, NamedTuple, Sequence, Tuple
+
+from balisekit.rules.decoded import GroupData, Packet, Telegram
+from balisekit.rules.line import Line
+from balisekit.rules.location import Location
+from balisekit.rules.rule import Options, Remark, Result, Rule
+from balisekit.rules.urgency import Urgency
+from balisekit.tables.model import Aspect
+from balisekit.tables.names import clean, listed, quoted
+
+NAMED = 5
+
+
+class Alike(NamedTuple):
+    """Aspects of a group whose packets are the same."""
+
+    data: GroupData
+    aspects: Sequence[Aspect]
+    packets: Sequence[Packet]
+    """Those of the first of the aspects."""
+
+    @property
+    def names(self) -> List[str]:
+        """What the aspects are called."""
+        return [aspect.name for aspect in self.aspects]
+
+    @property
+    def speeds(self) -> List[int]:
+        """Each V_MAIN above 0, in km/h."""
+        return [packet.form["v_main"] * 5 for packet in self.packets if packet.number == 12 and packet.form["v_main"]]
+
+
+def find(line: Line, options: Options) -> Result:
+    """Looks at the aspects of each group."""
+    several = [data for data in line.decoded.groups if len(data.group.group.aspects) > 1]
+    alike = [each for data in several for each in _alike(data)]
+    stops = [each for each in alike if not each.speeds]
+    return Result([_remark(each) for each in alike if each.speeds], len(several), notes=list(_note(stops)))
+
+
+def _alike(data: GroupData) -> Iterator[Alike]:
+    """The aspects that say the same, together."""
+    classes: List[Tuple[List[Telegram], List[Aspect]]] = []
+    for aspect in data.group.group.aspects:
+        if any(row.number not in data.telegrams for row in aspect.rows):
+            continue
+        telegrams = [data.telegrams[row.number] for row in aspect.rows]
+        known = next((own for first, own in classes if _are_alike(first, telegrams)), None)
+        if known is None:
+            classes.append((telegrams, [aspect]))
+        else:
+            known.append(aspect)
+    for telegrams, aspects in classes:
+        if len(aspects) > 1:
+            yield Alike(data, aspects, [packet for telegram in telegrams for packet in telegram.packets])
+
+
+def _are_alike(some: Sequence[Telegram], others: Sequence[Telegram]) -> bool:
+    """Whether the packets of all balises are the same. A fixed balise has one row for all aspects."""
+    return all(one is other or one.forms == other.forms for one, other in zip(some, others))
+
+
+def _remark(alike: Alike) -> Remark:
+    rows = [row for aspect in alike.aspects for row in aspect.rows]
+    controlled = {row.number for row in rows if rows.count(row) < len(alike.aspects)}
+    speed = max(alike.speeds)
+    sentence = (
+        f"the aspects {_names(alike.names)} have the same packets in every balise, with V_MAIN {speed} km/h: one of "
+        "them may be a copy"
+    )
+    values = {"v_main_kmh": Decimal(speed)}
+    where = Location(alike.data.group)
+    return Remark("E7", where, sentence, values=values, rows=tuple(sorted(controlled)), aspects=tuple(alike.names))
+
+
+def _note(stops: Sequence[Alike]) -> Iterator[str]:
+    """How many groups have such aspects without a V_MAIN above 0."""
+    groups = list(dict.fromkeys(each.data.group.group.name for each in stops))
+    if groups:
+        count = f"{len(groups)} groups" if len(groups) > 1 else "1 group"
+        yield (
+            f"E7: in {count} aspects without a V_MAIN above 0 have the same packets, such as the aspects "
+            f"{_names(stops[0].names)} of {clean(groups[0])}"
+        )
+
+
+def _names(names: Sequence[str]) -> str:
+    return listed([quoted(name) for name in names], NAMED)
+
+
+RULE = Rule("E7", "groups with aspects", __doc__ or "", find, Urgency.WRONG_INFORMATION)
