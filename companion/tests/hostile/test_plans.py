@@ -160,7 +160,7 @@ def test_jumps_and_points(table: Write) -> None:
     """What rules need of them: where the kilometres jump, and the points between two places."""
     rows = ["jump,15,16,1,,,", "jump,20,18,1,,,", "point,14,,1,rising,,W1", "point,17,,1,,,W2", "point,17,,2,,,W3"]
     read = plan.read(str(table(HEADING, *rows)))
-    assert list(read.jumps) == [plan.Jump(Decimal(15), Decimal(16), "1"), plan.Jump(Decimal(20), Decimal(18), "1")]
+    assert list(read.jumps) == [(Decimal(15), Decimal(16), "1"), (Decimal(20), Decimal(18), "1")]
 
     def names(begin: int, end: int, way: int = 0) -> List[str]:
         return [each.name for each in read.points_between("1", Decimal(begin), Decimal(end), way)]

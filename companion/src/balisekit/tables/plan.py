@@ -38,7 +38,7 @@ from balisekit.tables.cells import ERROR, GREATEST_NAME, Sheet
 from balisekit.tables.headings import ALIKE, Headings, compared
 from balisekit.tables.names import kilometre
 from balisekit.tables.plan_values import Terms, Value
-from balisekit.tables.reader import MEANINGS, head_of
+from balisekit.tables.reader import head_of, kilometre_of
 
 COLUMNS = ("kind", "km", "km_to", "track", "way", "value", "name")
 NEEDED = COLUMNS[:1]
@@ -109,14 +109,6 @@ class Stretch(NamedTuple):
     """A speed as it is sent, or a gradient in per mille, uphill positive for a train of that way."""
 
 
-class Jump(NamedTuple):
-    """A place at which the kilometres of a track jump."""
-
-    km: Decimal
-    km_after: Decimal
-    track: str
-
-
 @dataclass(frozen=True)
 class Plan:
     """A track plan."""
@@ -149,9 +141,9 @@ class Plan:
         ]
 
     @cached_property
-    def jumps(self) -> Sequence[Jump]:
-        """Where the kilometres jump."""
-        return [Jump(row.km, row.km_to or row.km, row.track) for row in self.of_kind("jump")]
+    def jumps(self) -> Sequence[Tuple[Decimal, Decimal, str]]:
+        """Where the kilometres jump: the kilometres before and after it, and the track."""
+        return [(row.km, row.km_to or row.km, row.track) for row in self.of_kind("jump")]
 
     @cached_property
     def aspects(self) -> Mapping[str, Sequence[PlanRow]]:
@@ -166,6 +158,11 @@ class Plan:
         low, high = min(begin, end), max(begin, end)
         rows = self.places("point", track, way) if way else self.of_kind("point")
         return [row for row in rows if row.track == track and low <= row.km <= high]
+
+
+def aspect_name(group: str, aspect: str) -> str:
+    """What a plan calls an aspect of the table."""
+    return group if aspect in ("", "*") else f"{group}/{aspect}"
 
 
 def read(path: str) -> Plan:
@@ -246,7 +243,7 @@ def _row(number: int, cells: Mapping[str, str]) -> PlanRow:
 
 def _kilometres(kind: str, cells: Mapping[str, str]) -> Tuple[Decimal, Optional[Decimal]]:
     """Where a row begins and ends."""
-    km, km_to = (_read(name, _kilometre, cells) for name in ("km", "km_to"))
+    km, km_to = (_read(name, lambda text: kilometre_of(text, ""), cells) for name in ("km", "km_to"))
     if km is None and kind != "aspect":
         raise TableError(f"empty: a {kind} needs a kilometre", column="km")
     if km_to is not None and kind not in (*STRETCHES, "jump"):
@@ -257,11 +254,6 @@ def _kilometres(kind: str, cells: Mapping[str, str]) -> Tuple[Decimal, Optional[
         why = f"{kilometre(km_to)} is {'the same as' if km_to == km else 'before'} km {kilometre(km)}"
         raise TableError(why, column="km_to")
     return km or Decimal(), km_to
-
-
-def _kilometre(text: str) -> Optional[Decimal]:
-    km = MEANINGS["km"](text, "")
-    return km if isinstance(km, Decimal) else None
 
 
 def _value(kind: str, text: str) -> Value:

@@ -65,6 +65,7 @@ ASPECT_KEYS: Dict[str, Callable[[str], Optional[int]]] = {
     "release": release,
 }
 """The keys of an aspect's value, and how the value of each is read."""
+LENGTHS = ("end", "overlap")
 
 
 def terms(text: str) -> Terms:
@@ -120,6 +121,12 @@ def speed_word(value: int) -> str:
 def terms_text(found: Terms) -> str:
     """What an aspect gives, as a plan writes it."""
     return " ".join(f"{key}={term_word(key, value)}" for key, value in found.items())
+
+
+def term_words(key: str, value: Optional[int]) -> str:
+    """The value of a key of an aspect in a sentence."""
+    unit = "" if value is None or key == "release" and value in RELEASE.values() else "m" if key in LENGTHS else "km/h"
+    return f"{term_word(key, value)} {unit}".strip()
 
 
 def term_word(key: str, value: Optional[int]) -> str:

@@ -5,13 +5,15 @@ from collections import Counter
 from dataclasses import dataclass, field
 from typing import Dict, Iterator, List, NamedTuple, Optional, Tuple
 
-from balisekit.rules.decoded import SPEEDS, Stretch, allowance
-from balisekit.rules.plan.placed import BEHIND_POINT, NO_PLACE, SAYS_NOTHING, Part, Placed, Saying
+from balisekit.rules.decoded import GRADIENTS, SPEEDS, Stretch, allowance
+from balisekit.rules.track_plan.placed import BEHIND_POINT, NO_PLACE, SAYS_NOTHING, Counts, Part, Placed, Saying
 from balisekit.rules.rule import Options
 
-KINDS = {SPEEDS: "speed", 21: "gradient"}
+KINDS = {SPEEDS: "speed", GRADIENTS: "gradient"}
 """The kinds of rows of the plan, by NID_PACKET of the profiles that are compared with them."""
 NO_END = "an open profile without authority"
+Span = Tuple[int, int]
+"""The first and the last place of a stretch, in the direction of passage."""
 
 
 class Difference(NamedTuple):
@@ -31,10 +33,8 @@ class Compared:
 
     differences: List[List[Difference]] = field(default_factory=list)
     """Those of one row of the plan and one other value together."""
-    looked_at: int = 0
-    """How many elements are compared from their beginning to their end."""
-    skipped: "Counter[str]" = field(default_factory=Counter)
-    """How many are not, by the reason."""
+    counts: Counts = field(default_factory=Counter)
+    """How many elements are compared from their beginning to their end, and how many are not."""
 
 
 def compare(placed: Placed, number: int, options: Options) -> Compared:
@@ -44,7 +44,7 @@ def compare(placed: Placed, number: int, options: Options) -> Compared:
     for saying in placed.sayings(number):
         for place, element in enumerate(saying.packet.stretches):
             tolerance = placed.decoded.tolerance(options.tolerance_of_places, allowance(saying.packet, place + 2))
-            ends, why = _ends(placed, saying, element)
+            ends, why = _known(placed, saying, span(saying, element))
             if ends is not None:
                 parts = list(_parts(placed, saying, number, *ends))
                 for part, begin, end in parts:
@@ -54,26 +54,28 @@ def compare(placed: Placed, number: int, options: Options) -> Compared:
                 covered = sum(abs(end - begin) for _, begin, end in parts)
                 if not parts or abs(ends[1] - ends[0]) - covered > tolerance:
                     why = SAYS_NOTHING
-            compared.looked_at += not why
-            compared.skipped.update([why] if why else [])
+            compared.counts[why] += 1
     compared.differences = list(known.values())
     return compared
 
 
-def _ends(placed: Placed, saying: Saying, element: Stretch) -> Tuple[Optional[Tuple[int, int]], str]:
-    """The places of an element as far as it can be compared, and why it cannot be compared to its end."""
+def span(saying: Saying, element: Stretch) -> Tuple[Optional[Span], str]:
+    """The places of an element, or why they are not known. An open profile ends as the authority beside it does."""
     passage, reach = saying.passage, element.end
     if reach is None:
         reach = max((each.authority.supervised for each in passage.authorities), default=0)
         if reach <= element.begin:
             return None, NO_END
-    begin, end, way = passage.place(element.begin), passage.place(reach), passage.way
-    if begin is None or end is None or way is None:
-        return None, NO_PLACE
-    limit = placed.known_to(passage)
-    if limit is None or way * (limit - end) >= 0:
-        return (begin, end), ""
-    return (None if way * (limit - begin) <= 0 else (begin, limit)), BEHIND_POINT
+    begin, end = passage.place(element.begin), passage.place(reach)
+    return ((begin, end), "") if begin is not None and end is not None and passage.way else (None, NO_PLACE)
+
+
+def _known(placed: Placed, saying: Saying, found: Tuple[Optional[Span], str]) -> Tuple[Optional[Span], str]:
+    """The same up to the point at which the train may leave the track."""
+    ends, limit, way = found[0], placed.known_to(saying.passage), saying.passage.way or 0
+    if ends is None or limit is None or way * (limit - ends[1]) >= 0:
+        return found
+    return (None if way * (limit - ends[0]) <= 0 else (ends[0], limit)), BEHIND_POINT
 
 
 def _parts(placed: Placed, saying: Saying, number: int, begin: int, end: int) -> Iterator[Tuple[Part, int, int]]:

@@ -1,10 +1,10 @@
 """X4: aspect other than in the route table of the plan.
 
 What it says. The packet 12 of an aspect differs from the row of the plan for this signal and aspect: in V_MAIN, in the
-distance from the group to the end of authority, in the length of the overlap, or in the release speed. The release speed
-is that of the overlap, or that of the danger point if there is no overlap. Lengths are in metres and speeds in km/h.
-Lengths may differ by the rounding of Q_SCALE and by `--tolerance`. A row of the plan for an aspect without a packet 12
-for that way is named too. What follows a packet 136 is not compared (SUBSET-026, 7.4.2.1 and 7.5.1).
+distance from the group to the end of authority, in the length of the overlap, or in the release speed. The release
+speed is that of the overlap, or that of the danger point if there is no overlap. Lengths are in metres and speeds in
+km/h. Lengths may differ by the rounding of Q_SCALE and by `--tolerance`. A row of the plan for an aspect without a
+packet 12 for that way is named too. What follows a packet 136 is not compared (SUBSET-026, 7.4.2 and 7.5.1).
 
 How urgent. At worst wrong information: the aspect allows another speed or another distance than its route.
 
@@ -23,21 +23,20 @@ from __future__ import annotations
 
 from collections import Counter
 from decimal import Decimal
-from typing import Dict, Iterator, List, NamedTuple, Optional
+from typing import Dict, Iterator, List, NamedTuple, Optional, Set
 
 from balisekit.rules.decoded import Decoded, GroupData, Packet, Passage, allowance
 from balisekit.rules.line import Line
-from balisekit.rules.plan.placed import NO_PLACE, SAYS_NOTHING, Placed, Saying, plan_words, remark
+from balisekit.rules.track_plan.placed import NO_PLACE, SAYS_NOTHING, Placed, Saying, plan_words, remark
 from balisekit.rules.rule import Options, Remark, Result, Rule
 from balisekit.rules.urgency import Urgency
 from balisekit.tables.names import rows_words
 from balisekit.tables.plan import WAY_WORDS, PlanRow, aspect_name
-from balisekit.tables.plan_values import STEP, Terms, term_words
+from balisekit.tables.plan_values import LENGTHS, STEP, Terms, term_words
 
 AUTHORITY = 12
 FIELDS = {"v": "V_MAIN", "end": "the end of authority", "overlap": "the overlap", "release": "the release speed"}
 UNITS = {"v": "kmh", "end": "m", "overlap": "m", "release": "kmh"}
-LENGTHS = ("end", "overlap")
 
 
 class Site(NamedTuple):
@@ -51,26 +50,23 @@ class Site(NamedTuple):
 
 def find(line: Line, options: Options) -> Result:
     """Compares each packet 12 of each aspect."""
-    placed = Placed(line.decoded, options.plan)
+    placed, counts = Placed(line, options), Counter[str]()
     found: List[Remark] = []
-    looked_at, skipped, matched = 0, Counter[str](), set()
+    matched: Set[int] = set()
     for passage in line.decoded.passages:
         own = [] if passage.message else passage.of(AUTHORITY)
         rows = placed.plan.aspects.get(_name(passage), ()) if own else ()
         fitting = [row for row in rows if row.way in (0, passage.way)]
         matched.update(row.number for row in fitting)
         for packet in own:
-            if not fitting:
-                skipped[NO_PLACE if rows and passage.way is None else SAYS_NOTHING] += 1
-            looked_at += bool(fitting)
+            counts["" if fitting else NO_PLACE if rows and passage.way is None else SAYS_NOTHING] += 1
             found += [each for row in fitting for each in _compare(Saying(passage, packet), row, options)]
     sites = _sites(line.decoded)
     left = [row for rows in placed.plan.aspects.values() for row in rows if row.number not in matched]
     found += [_lacking(sites[row.name], row) for row in left if row.name in sites and sites[row.name].is_read]
-    result = placed.result(["aspect"], found, looked_at, skipped)
     strange = [row.number for row in left if row.name not in sites]
     notes = [f"{placed.plan.path}: {rows_words(strange)}: the table has no such aspect"] if strange else []
-    return result.with_notes(notes)
+    return placed.result(["aspect"], found, counts, notes)
 
 
 def terms_of(packet: Packet) -> Terms:
@@ -105,7 +101,10 @@ def _compare(saying: Saying, row: PlanRow, options: Options) -> Iterator[Remark]
     allowed = {"end": more + allowance(packet, packet.lengths), "overlap": more + allowance(packet)}
     differ = [key for key, value in row.terms.items() if not _is_alike(said.get(key), value, allowed.get(key, 0))]
     if differ:
-        texts = [f"{FIELDS[key]} is {term_words(key, said.get(key))}, and {term_words(key, row.terms[key])}" for key in differ]
+        texts = [
+            f"{FIELDS[key]} is {term_words(key, said.get(key))}, and {term_words(key, row.terms[key])}"
+            for key in differ
+        ]
         values = {}
         for key in differ:
             for name, value in ((f"{key}_{UNITS[key]}", said.get(key)), (f"plan_{key}_{UNITS[key]}", row.terms[key])):

@@ -1,9 +1,10 @@
 """X1: speed other than in the plan.
 
-What it says. A static speed profile (packet 27) has a V_STATIC that is not the line speed of the plan, on a stretch that
-is longer than the tolerance. Both speeds are in km/h. Speeds for train categories are not compared, nor what follows a
-packet 136. If the plan has a point ahead at which the train may leave the track, the stretch behind it is compared only
-up to the last group of the track that a packet 5 of the same message names (SUBSET-026, 7.4.2.4 and 7.5.1).
+What it says. A static speed profile (packet 27) has a V_STATIC that is not the line speed of the plan, on a stretch
+that is longer than the tolerance. Both speeds are in km/h. Speeds for train categories are not compared, nor what
+follows a packet 136. If the plan has a point ahead at which the train may leave the track, the stretch behind it is
+compared only up to the last group of the track that a packet 5 of the same message names (SUBSET-026, 7.4.2 and
+7.5.1).
 
 How urgent. At worst wrong information: the train may run faster than the track allows. A lower speed than that of the
 plan only slows trains.
@@ -27,8 +28,8 @@ from typing import Sequence
 
 from balisekit.rules.decoded import SPEEDS
 from balisekit.rules.line import Line
-from balisekit.rules.plan.placed import Placed, plan_words, remark
-from balisekit.rules.plan.stretches import Difference, compare
+from balisekit.rules.track_plan.placed import Placed, plan_words, remark
+from balisekit.rules.track_plan.stretches import Difference, compare
 from balisekit.rules.rule import Options, Remark, Result, Rule
 from balisekit.rules.urgency import Urgency
 from balisekit.tables.plan_values import STEP
@@ -36,18 +37,18 @@ from balisekit.tables.plan_values import STEP
 
 def find(line: Line, options: Options) -> Result:
     """Compares each element of each speed profile."""
-    placed = Placed(line.decoded, options.plan)
+    placed = Placed(line, options)
     compared = compare(placed, SPEEDS, options)
     found = [_remark(placed, each) for each in compared.differences]
-    return placed.result(["speed"], found, compared.looked_at, compared.skipped)
+    return placed.result(["speed"], found, compared.counts)
 
 
 def _remark(placed: Placed, differences: Sequence[Difference]) -> Remark:
     saying, begin, end, said, part = differences[0]
     passage = saying.passage
     sentence = (
-        f"V_STATIC is {said * STEP} km/h from {placed.km(passage, begin)} to {placed.km(passage, end)}, and the line speed "
-        f"is {part.value * STEP} km/h by {plan_words(part.row, with_km=False)}"
+        f"V_STATIC is {said * STEP} km/h from {placed.km(passage, begin)} to {placed.km(passage, end)}, and the line "
+        f"speed is {part.value * STEP} km/h by {plan_words(part.row, with_km=False)}"
     )
     values = {
         "v_static_kmh": Decimal(said * STEP),

@@ -3,7 +3,7 @@
 What it says. A gradient profile (packet 21) has a gradient that is not that of the plan, on a stretch that is longer
 than the tolerance. Both are in per mille with their sign: uphill is positive as the train meets it, by Q_GDIR in the
 packet. The plan's sign is that of the row's way. What follows a packet 136 is not compared, nor the track behind a
-point, as in X1 (SUBSET-026, 7.4.2.3 and 7.5.1).
+point, as in X1 (SUBSET-026, 7.4.2 and 7.5.1).
 
 How urgent. At worst wrong information: with a gradient that is less downhill than the track the train brakes too late.
 A gradient that is more downhill is on the safe side, and makes it brake early.
@@ -27,18 +27,18 @@ from typing import Sequence
 
 from balisekit.rules.decoded import GRADIENTS
 from balisekit.rules.line import Line
-from balisekit.rules.plan.placed import Placed, plan_words, remark
-from balisekit.rules.plan.stretches import Difference, compare
+from balisekit.rules.track_plan.placed import Placed, plan_words, remark
+from balisekit.rules.track_plan.stretches import Difference, compare
 from balisekit.rules.rule import Options, Remark, Result, Rule
 from balisekit.rules.urgency import Urgency
 
 
 def find(line: Line, options: Options) -> Result:
     """Compares each element of each gradient profile."""
-    placed = Placed(line.decoded, options.plan)
+    placed = Placed(line, options)
     compared = compare(placed, GRADIENTS, options)
     found = [_remark(placed, each) for each in compared.differences]
-    return placed.result(["gradient"], found, compared.looked_at, compared.skipped)
+    return placed.result(["gradient"], found, compared.counts)
 
 
 def _remark(placed: Placed, differences: Sequence[Difference]) -> Remark:

@@ -6,15 +6,15 @@ compares it.
 from __future__ import annotations
 
 from decimal import Decimal
-from functools import lru_cache
-from typing import Iterator, Mapping, NamedTuple, Optional, Sequence, Set, Tuple
+from typing import Dict, Iterable, Iterator, Mapping, NamedTuple, Optional, Sequence, Set, Tuple
 
 from balisekit.rules.chainage import Chainage
-from balisekit.rules.decoded import Decoded, Packet, Passage
-from balisekit.rules.rule import Remark, Result
+from balisekit.rules.decoded import Packet, Passage
+from balisekit.rules.line import Line
+from balisekit.rules.rule import Options, Remark, Result
 from balisekit.rules.urgency import Urgency
 from balisekit.tables.names import kilometre, rows_words
-from balisekit.tables.plan import Plan, PlanRow
+from balisekit.tables.plan import Lane, Plan, PlanRow
 
 COMPARED = ("speed", "gradient", "signal", "aspect", "level", "rbc")
 """The kinds of rows that rules compare."""
@@ -22,6 +22,8 @@ SAYS_NOTHING = "the plan says nothing"
 NO_PLACE = "no kilometre or direction"
 BEHIND_POINT = "behind a point of the plan"
 Values = Mapping[str, Decimal]
+Counts = Dict[str, int]
+"""How many things were compared, by no reason, and how many were not, by the reason."""
 
 
 class Part(NamedTuple):
@@ -51,46 +53,50 @@ class Saying(NamedTuple):
 class Placed:
     """A plan beside the decoded data of a table."""
 
-    def __init__(self, decoded: Decoded, plan: Plan) -> None:
-        self.decoded, self.plan = decoded, plan
-        self.parts = lru_cache(maxsize=None)(self._parts)
-        self.spots = lru_cache(maxsize=None)(self._spots)
+    def __init__(self, line: Line, options: Options) -> None:
+        self.decoded, self.plan = line.decoded, options.plan or Plan()
+        self._parts: Dict[Lane, Sequence[Part]] = {}
+        self._spots: Dict[Lane, Sequence[Spot]] = {}
 
-    def _parts(self, kind: str, track: str, way: int) -> Sequence[Part]:
-        """The speeds or gradients for trains of one way of a track, in the order of the places."""
-        found = []
-        for each in self.plan.stretches(kind, track, way):
-            begin, end = self._place(track, each.begin), self._place(track, each.end)
-            if begin is not None and (each.end is None or end is not None):
-                found.append(Part(each.row, begin, end, each.value))
-        return found
+    def parts(self, kind: str, track: str, way: int) -> Sequence[Part]:
+        """The speeds or gradients for trains of one way of a track, in the order of the kilometres."""
+        lane = kind, track, way
+        if lane not in self._parts:
+            stretches = self.plan.stretches(kind, track, way)
+            ends = ((each, self.place(track, each.begin), self.place(track, each.end)) for each in stretches)
+            self._parts[lane] = [
+                Part(each.row, begin, end, each.value)
+                for each, begin, end in ends
+                if begin is not None and (each.end is None or end is not None)
+            ]
+        return self._parts[lane]
 
-    def _spots(self, kind: str, track: str, way: int) -> Sequence[Spot]:
-        """The rows of a kind that have one place, for trains of one way of a track, in the order of the places."""
-        places = ((row, self._place(track, row.km)) for row in self.plan.places(kind, track, way))
-        return [Spot(row, place) for row, place in places if place is not None]
+    def spots(self, kind: str, track: str, way: int) -> Sequence[Spot]:
+        """The rows of a kind that have one place, for trains of one way of a track, in the order of the kilometres."""
+        lane = kind, track, way
+        if lane not in self._spots:
+            places = ((row, self.place(track, row.km)) for row in self.plan.places(kind, track, way))
+            self._spots[lane] = [Spot(row, place) for row, place in places if place is not None]
+        return self._spots[lane]
 
-    def _place(self, track: str, km: Optional[Decimal]) -> Optional[int]:
+    def place(self, track: str, km: Optional[Decimal]) -> Optional[int]:
+        """The place of a kilometre, if it has one."""
         return self.decoded.chainages.get(track, Chainage()).place(km)
-
-    def nearest(self, kind: str, passage: Passage, place: int) -> Optional[Spot]:
-        """The row of a kind, for trains of the passage, that is nearest to a place."""
-        spots = self.spots(kind, passage.track, passage.way or 0)
-        return min(spots, key=lambda spot: abs(spot.place - place), default=None)
 
     def known_to(self, passage: Passage) -> Optional[int]:
         """The first point at which the train may leave its track, or None if there is none.
 
         It is on the track up to the last group of it that a packet 5 of the passage names.
         """
-        way, start = passage.way, passage.place(0)
-        points = self.spots("point", passage.track, way) if way else ()
-        if not points or way is None or start is None:
+        way, start = passage.way or 0, passage.place(0)
+        points = self.spots("point", passage.track, way)
+        if not points or start is None:
             return None
-        reached = (each.target for each in self.decoded.reached(passage) if each.target)
-        places = (each.place for each in reached if each.group.track == passage.track and each.place is not None)
-        sure = max([way * start, *(way * place for place in places)])
-        return min((spot.place for spot in points if way * spot.place > sure), key=lambda each: way * each, default=None)
+        targets = (each.target for each in self.decoded.reached(passage))
+        places = (each.place for each in targets if each and each.group.track == passage.track)
+        sure = max([way * start, *(way * place for place in places if place is not None)])
+        ahead = [way * spot.place for spot in points if way * spot.place > sure]
+        return way * min(ahead) if ahead else None
 
     def is_behind_point(self, passage: Passage, place: int) -> bool:
         """Whether the train may be on another track at this place."""
@@ -106,11 +112,14 @@ class Placed:
                     known.add((packet, passage.direction))
                     yield Saying(passage, packet)
 
-    def result(self, kinds: Sequence[str], found: Sequence[Remark], looked_at: int, skipped: Mapping[str, int]) -> Result:
+    def result(
+        self, kinds: Sequence[str], found: Sequence[Remark], counts: Counts, notes: Iterable[str] = ()
+    ) -> Result:
         """The result of a rule for these kinds of rows. A plan may have none of them if it has others."""
         has_own = any(self.plan.of_kind(kind) for kind in kinds)
         has_others = any(self.plan.of_kind(kind) for kind in COMPARED)
-        return Result(found, looked_at, skipped, list(self._notes(kinds)), has_others and not has_own)
+        looked_at = counts.pop("", 0)
+        return Result(found, looked_at, counts, [*self._notes(kinds), *notes], has_others and not has_own)
 
     def _notes(self, kinds: Sequence[str]) -> Iterator[str]:
         """The rows of these kinds that no rule can compare."""
@@ -120,7 +129,7 @@ class Placed:
         if strange:
             yield f"{self.plan.path}: {rows_words(strange)}: the table has no such track"
         ends = [(row, km) for row in rows if row.track in tracks for km in (row.km, row.km_to) if km is not None]
-        lost = [row.number for row, km in ends if self._place(row.track, km) is None]
+        lost = [row.number for row, km in ends if self.place(row.track, km) is None]
         if lost:
             yield f"{self.plan.path}: {rows_words(lost)}: not compared, as a jump leaves out or repeats the kilometre"
 
@@ -133,7 +142,14 @@ class Placed:
         return Decimal(self.km(passage, place).split(" ")[-1])
 
 
-def remark(rule: str, sayings: Sequence[Saying], sentence: str, values: Values, urgency: Optional[Urgency] = None) -> Remark:
+def nearest(spots: Sequence[Spot], place: int) -> Spot:
+    """The one of some rows that is nearest to a place."""
+    return min(spots, key=lambda spot: abs(spot.place - place))
+
+
+def remark(
+    rule: str, sayings: Sequence[Saying], sentence: str, values: Values, urgency: Optional[Urgency] = None
+) -> Remark:
     """One remark on what several packets say, at the first of them."""
     first, packet = sayings[0]
     own = {each.packet.row.number for each in sayings if each.packet.row and each.passage.group is first.group}
@@ -157,4 +173,3 @@ def remark(rule: str, sayings: Sequence[Saying], sentence: str, values: Values, 
 def plan_words(row: PlanRow, with_km: bool = True) -> str:
     """A row of the plan in a sentence."""
     return f"row {row.number} of the plan{f', km {kilometre(row.km)}' if with_km else ''}"
-

@@ -1,11 +1,11 @@
 """X3: end of authority at no signal of the plan.
 
-What it says. A movement authority ends at a place at which the plan has no signal for trains of that way. The line names
-the nearest signal of the plan and how far it is away. Authorities are packets 12 with V_MAIN above 0, and packets 15;
-one ends where its sections and its end section end. Only rounding is allowed: one unit of Q_SCALE, half a unit for each
-further section, and one unit of the last decimal of the kilometres. `--tolerance` allows more. If the plan has a signal
-on a track for one way, it needs all signals of it at which authorities end. An end behind a point of the plan is not
-compared, as in X1 (SUBSET-026, 7.4.2.1 and 7.5.1).
+What it says. A movement authority ends at a place at which the plan has no signal for trains of that way. The line
+names the nearest signal of the plan and how far it is away. Authorities are packets 12 with V_MAIN above 0, and packets
+15; one ends where its sections and its end section end. Only rounding is allowed: one unit of Q_SCALE, half a unit for
+each further section, and one unit of the last decimal of the kilometres. `--tolerance` allows more. If the plan has a
+signal on a track for one way, it needs all signals of it at which authorities end. An end behind a point of the plan is
+not compared, as in X1 (SUBSET-026, 7.4.2 and 7.5.1).
 
 How urgent. At worst wrong information: the train may pass the signal before its authority ends.
 
@@ -28,7 +28,17 @@ from typing import Dict, List, NamedTuple, Optional, Sequence, Tuple
 
 from balisekit.rules.decoded import AUTHORITIES, Packet, allowance
 from balisekit.rules.line import Line
-from balisekit.rules.plan.placed import BEHIND_POINT, NO_PLACE, SAYS_NOTHING, Placed, Saying, Spot, plan_words, remark
+from balisekit.rules.track_plan.placed import (
+    BEHIND_POINT,
+    NO_PLACE,
+    SAYS_NOTHING,
+    Placed,
+    Saying,
+    Spot,
+    nearest,
+    plan_words,
+    remark,
+)
 from balisekit.rules.rule import Options, Remark, Result, Rule
 from balisekit.rules.urgency import Urgency
 from balisekit.tables.names import clean
@@ -36,27 +46,25 @@ from balisekit.tables.plan_values import metres
 
 
 class End(NamedTuple):
-    """An end of authority at no signal."""
+    """An end of authority, and the nearest signal of the plan."""
 
     saying: Saying
     place: int
-    nearest: Spot
+    signal: Spot
 
 
 def find(line: Line, options: Options) -> Result:
     """Compares each end of authority."""
-    placed = Placed(line.decoded, options.plan)
-    looked_at, skipped = 0, Counter[str]()
+    placed, counts = Placed(line, options), Counter[str]()
     found: Dict[Tuple[int, int], List[End]] = {}
     for saying in placed.sayings(*AUTHORITIES):
         if gives_way(saying.packet):
             end, why = _end(placed, saying)
-            looked_at += end is not None
-            skipped.update([why] if why else [])
+            counts[why] += 1
             tolerance = line.decoded.tolerance(options.tolerance, allowance(saying.packet, saying.packet.lengths))
-            if end and abs(end.place - end.nearest.place) > tolerance:
-                found.setdefault((end.nearest.row.number, end.place), []).append(end)
-    return placed.result(["signal"], [_remark(placed, each) for each in found.values()], looked_at, skipped)
+            if end and abs(end.place - end.signal.place) > tolerance:
+                found.setdefault((end.signal.row.number, end.place), []).append(end)
+    return placed.result(["signal"], [_remark(placed, each) for each in found.values()], counts)
 
 
 def gives_way(packet: Packet) -> bool:
@@ -70,28 +78,24 @@ def _end(placed: Placed, saying: Saying) -> Tuple[Optional[End], str]:
     place = passage.place(saying.packet.authority.end)
     if place is None or passage.way is None:
         return None, NO_PLACE
-    nearest = placed.nearest("signal", passage, place)
-    if nearest is None:
+    spots = placed.spots("signal", passage.track, passage.way)
+    if not spots:
         return None, SAYS_NOTHING
     if placed.is_behind_point(passage, place):
         return None, BEHIND_POINT
-    return End(saying, place, nearest), ""
+    return End(saying, place, nearest(spots, place)), ""
 
 
 def _remark(placed: Placed, ends: Sequence[End]) -> Remark:
-    saying, place, nearest = ends[0]
-    passage, apart = saying.passage, abs(place - nearest.place)
-    name = f" {clean(nearest.row.name)}" if nearest.row.name else ""
-    side = "behind" if (place - nearest.place) * (passage.way or 0) > 0 else "before"
+    saying, place, signal = ends[0]
+    passage, apart = saying.passage, abs(place - signal.place)
+    name = f", {clean(signal.row.name)}" if signal.row.name else ""
+    side = "beyond" if (place - signal.place) * (passage.way or 0) > 0 else "short of"
     sentence = (
-        f"the authority ends at {placed.km(passage, place)}, {metres(apart)} m {side} the nearest signal{name} of the plan "
-        f"({plan_words(nearest.row)})"
+        f"the authority ends at {placed.km(passage, place)}, {metres(apart)} m {side} the nearest signal of the "
+        f"plan{name} ({plan_words(signal.row)})"
     )
-    values = {
-        "km": placed.km_value(passage, place),
-        "plan_km": nearest.row.km,
-        "metres_apart": Decimal(apart) / 10,
-    }
+    values = {"km": placed.km_value(passage, place), "plan_km": signal.row.km, "metres_apart": Decimal(apart) / 10}
     return remark("X3", [each.saying for each in ends], sentence, values)
 
 
