@@ -4,7 +4,7 @@ from __future__ import annotations
 import argparse
 import os
 import re
-from typing import Any, Callable, Dict, FrozenSet, Mapping, Sequence
+from typing import Any, Callable, Dict, FrozenSet, Mapping, Sequence, Tuple
 
 from balisekit.cli import options as shared
 from balisekit.errors import TableError, faults_of
@@ -83,15 +83,21 @@ def of_line(options: argparse.Namespace) -> Options:
     if "tolerance" in stated:
         more["tolerance"] = more["tolerance_of_places"] = stated["tolerance"]
     plan = plan_file.read(stated["plan"]) if "plan" in stated else None
-    jumps = jumps_file.read(stated["jumps"]) if "jumps" in stated else ()
+    own_jumps = jumps_file.read(stated["jumps"]) if "jumps" in stated else ()
     return Options(
         **more,
         line_speed=stated.get("line_speed"),
         release_speed=stated.get("release_speed", RELEASE_SPEED),
-        jumps=(*jumps, *(Jump(*each) for each in (plan.jumps if plan else ()))),
+        jumps=(*own_jumps, *(Jump(*each) for each in (plan.jumps if plan else ()))),
         plan=plan,
         asked=stated.get("rules", frozenset()),
     )
+
+
+def jumps(options: argparse.Namespace) -> Tuple[Jump, ...]:
+    """Where the kilometres jump, by the option or by balisekit.toml."""
+    path = options.jumps or _of_file(options).get("jumps")
+    return jumps_file.read(path) if path else ()
 
 
 def _given(options: argparse.Namespace) -> Dict[str, Any]:

@@ -175,6 +175,21 @@ def read(path: str) -> Plan:
     return Plan(path, file.sha256, rows, sheet.notes)
 
 
+def cells(row: PlanRow) -> Sequence[str]:
+    """A row as a plan writes it, in the order of COLUMNS."""
+    km = "" if row.kind == "aspect" and not row.km else kilometre(row.km)
+    km_to = "" if row.km_to is None else kilometre(row.km_to)
+    return row.kind, km, km_to, row.track, WAY_WORDS[row.way], _value_text(row), row.name
+
+
+def _value_text(row: PlanRow) -> str:
+    if row.kind == "speed":
+        return values.speed_word(row.number_value)
+    if row.kind == "aspect":
+        return values.terms_text(row.terms)
+    return "" if row.value is None else str(row.value)
+
+
 def _head(sheet: Sheet, headings: Headings) -> Tuple[int, Dict[str, int]]:
     """The row of the headings, and where each column is. A column that is not known is refused: it may be mistyped."""
     place = headings.row_of(sheet.rows)

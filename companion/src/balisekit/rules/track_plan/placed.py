@@ -5,6 +5,7 @@ compares it.
 """
 from __future__ import annotations
 
+from bisect import bisect_left, bisect_right
 from decimal import Decimal
 from typing import Dict, Iterable, Iterator, Mapping, NamedTuple, Optional, Sequence, Set, Tuple
 
@@ -56,6 +57,8 @@ class Placed:
     def __init__(self, line: Line, options: Options) -> None:
         self.decoded, self.plan = line.decoded, options.plan or Plan()
         self._parts: Dict[Lane, Sequence[Part]] = {}
+        self._begins: Dict[Lane, Sequence[int]] = {}
+        self._limits: Dict[Passage, Optional[int]] = {}
         self._spots: Dict[Lane, Sequence[Spot]] = {}
 
     def parts(self, kind: str, track: str, way: int) -> Sequence[Part]:
@@ -64,19 +67,32 @@ class Placed:
         if lane not in self._parts:
             stretches = self.plan.stretches(kind, track, way)
             ends = ((each, self.place(track, each.begin), self.place(track, each.end)) for each in stretches)
-            self._parts[lane] = [
+            found = [
                 Part(each.row, begin, end, each.value)
                 for each, begin, end in ends
                 if begin is not None and (each.end is None or end is not None)
             ]
+            self._parts[lane] = sorted(found, key=lambda part: part.begin)
+            self._begins[lane] = [part.begin for part in self._parts[lane]]
         return self._parts[lane]
+
+    def parts_within(self, kind: str, passage: Passage, low: int, high: int) -> Iterator[Tuple[Part, int, int]]:
+        """The speeds or gradients for trains of the passage between two places, each with its part of the stretch."""
+        lane = kind, passage.track, passage.way or 0
+        parts = self.parts(*lane)
+        first = max(bisect_right(self._begins[lane], low) - 1, 0)
+        for part in (parts[index] for index in range(first, bisect_left(self._begins[lane], high))):
+            last = high if part.end is None else min(high, part.end)
+            if max(low, part.begin) < last:
+                yield part, max(low, part.begin), last
 
     def spots(self, kind: str, track: str, way: int) -> Sequence[Spot]:
         """The rows of a kind that have one place, for trains of one way of a track, in the order of the kilometres."""
         lane = kind, track, way
         if lane not in self._spots:
             places = ((row, self.place(track, row.km)) for row in self.plan.places(kind, track, way))
-            self._spots[lane] = [Spot(row, place) for row, place in places if place is not None]
+            found = [Spot(row, place) for row, place in places if place is not None]
+            self._spots[lane] = sorted(found, key=lambda spot: spot.place)
         return self._spots[lane]
 
     def place(self, track: str, km: Optional[Decimal]) -> Optional[int]:
@@ -88,6 +104,11 @@ class Placed:
 
         It is on the track up to the last group of it that a packet 5 of the passage names.
         """
+        if passage not in self._limits:
+            self._limits[passage] = self._known_to(passage)
+        return self._limits[passage]
+
+    def _known_to(self, passage: Passage) -> Optional[int]:
         way, start = passage.way or 0, passage.place(0)
         points = self.spots("point", passage.track, way)
         if not points or start is None:
@@ -139,12 +160,20 @@ class Placed:
 
     def km_value(self, passage: Passage, place: int) -> Decimal:
         """The kilometre of a place."""
-        return Decimal(self.km(passage, place).split(" ")[-1])
+        return self.kilometre(passage.track, place)
+
+    def kilometre(self, track: str, place: int) -> Decimal:
+        """The kilometre of a place of a track."""
+        return Decimal(self.decoded.km(track, place).split(" ")[-1])
 
 
 def nearest(spots: Sequence[Spot], place: int) -> Spot:
-    """The one of some rows that is nearest to a place."""
-    return min(spots, key=lambda spot: abs(spot.place - place))
+    """The one of some rows, in the order of their places, that is nearest to a place."""
+    low, high = 0, len(spots) - 1
+    while low < high:
+        middle = (low + high) // 2
+        low, high = (middle + 1, high) if spots[middle].place < place else (low, middle)
+    return min(spots[max(low - 1, 0) : low + 1], key=lambda spot: abs(spot.place - place))
 
 
 def remark(

@@ -3,7 +3,7 @@ from __future__ import annotations
 
 from collections import Counter
 from dataclasses import dataclass, field
-from typing import Dict, Iterator, List, NamedTuple, Optional, Tuple
+from typing import Dict, List, NamedTuple, Optional, Tuple
 
 from balisekit.rules.decoded import GRADIENTS, SPEEDS, Stretch, allowance
 from balisekit.rules.track_plan.placed import BEHIND_POINT, NO_PLACE, SAYS_NOTHING, Counts, Part, Placed, Saying
@@ -46,12 +46,13 @@ def compare(placed: Placed, number: int, options: Options) -> Compared:
             tolerance = placed.decoded.tolerance(options.tolerance_of_places, allowance(saying.packet, place + 2))
             ends, why = _known(placed, saying, span(saying, element))
             if ends is not None:
-                parts = list(_parts(placed, saying, number, *ends))
-                for part, begin, end in parts:
-                    if part.value != element.value and abs(end - begin) > tolerance:
+                parts = list(placed.parts_within(KINDS[number], saying.passage, min(ends), max(ends)))
+                for part, low, high in parts:
+                    if part.value != element.value and high - low > tolerance:
                         key = part.row.number, element.value, saying.passage.way or 0
-                        known.setdefault(key, []).append(Difference(saying, begin, end, element.value, part))
-                covered = sum(abs(end - begin) for _, begin, end in parts)
+                        places = (low, high) if ends[0] < ends[1] else (high, low)
+                        known.setdefault(key, []).append(Difference(saying, *places, element.value, part))
+                covered = sum(high - low for _, low, high in parts)
                 if not parts or abs(ends[1] - ends[0]) - covered > tolerance:
                     why = SAYS_NOTHING
             compared.counts[why] += 1
@@ -76,12 +77,3 @@ def _known(placed: Placed, saying: Saying, found: Tuple[Optional[Span], str]) ->
     if ends is None or limit is None or way * (limit - ends[1]) >= 0:
         return found
     return (None if way * (limit - ends[0]) <= 0 else (ends[0], limit)), BEHIND_POINT
-
-
-def _parts(placed: Placed, saying: Saying, number: int, begin: int, end: int) -> Iterator[Tuple[Part, int, int]]:
-    """The parts of the plan within a stretch, each with its places in the direction of passage."""
-    low, high, way = min(begin, end), max(begin, end), saying.passage.way or 0
-    for part in placed.parts(KINDS[number], saying.passage.track, way):
-        first, last = max(low, part.begin), high if part.end is None else min(high, part.end)
-        if first < last:
-            yield (part, first, last) if way > 0 else (part, last, first)
