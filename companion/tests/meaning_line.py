@@ -95,11 +95,11 @@ class Line:
     """In km/h."""
 
     def __post_init__(self) -> None:
-        random = Random(self.seed)
+        random = Random(68 if self.seed is None else self.seed)
         self.sites = sorted(self._sites(random), key=lambda site: site.place)
         low, high = self.begin - 20_000, self.sites[-1].place + 20_000
-        self.gradients = _steps(random, low, high, lambda: random.randint(-20, 20), self.seed is None)
-        self.speeds = _steps(random, low, high, lambda: random.choice((80, 100, 120, 140, 160)), self.seed is None)
+        self.gradients = _steps(random, low, high, lambda: random.randint(-20, 20))
+        self.speeds = _steps(random, low, high, lambda: random.choice((80, 100, 120, 140, 160)))
 
     def _sites(self, random: Random) -> Iterator[Site]:
         """The groups of the line."""
@@ -274,9 +274,8 @@ def telegram(site: Site, position: int, counter: int, *packets: Form) -> Form:
     }
 
 
-def _steps(random: Random, low: int, high: int, value: Callable[[], int], usual: bool) -> Steps:
-    """Steps along the track. The usual ones are always the same."""
-    random = Random(68) if usual else random
+def _steps(random: Random, low: int, high: int, value: Callable[[], int]) -> Steps:
+    """Steps along the track."""
     found, at = [], low
     while at < high:
         found.append((at, value()))
