@@ -1,0 +1,146 @@
+"""The rules E: sound lines get no remark, and one changed field gets the remark of its rule."""
+from __future__ import annotations
+
+import copy
+from pathlib import Path
+from typing import Any, Callable, List
+
+import meaning_line
+import pytest
+from conftest import Run
+from meaning_line import SOUND, Line, Row, change, random_line
+
+from balisekit.engine.program import Program
+from balisekit.rules import checking, meaning
+from balisekit.rules.line import Line as LineOfTable
+from balisekit.rules.rule import CORRECT_DATA, Options, Remark
+from balisekit.tables import reader
+
+Change = Callable[[List[Row]], Any]
+HEADS = (
+    "What it says",
+    "How urgent",
+    "Usual cause",
+    "What may happen",
+    "How to correct it",
+    CORRECT_DATA,
+    "Example",
+    "How sure",
+)
+NAMES = [rule.name for rule in meaning.RULES]
+
+
+def written(program: Program, path: Path, line: Line = Line(), *changes: Change) -> Path:
+    """The table of a line with these changes of its rows."""
+    rows = copy.deepcopy(line.rows)
+    for each in changes:
+        each(rows)
+    path.write_text(meaning_line.table(program, rows), "utf-8")
+    return path
+
+
+def remarks(program: Program, path: Path, options: Options = Options(), names: List[str] = NAMES) -> List[Remark]:
+    """What the rules with these names remark on a table, those that are off by default too."""
+    line = LineOfTable.of(checking.check(program, reader.read(str(path))), options.jumps)
+    return [each for rule in meaning.RULES if rule.name in names for each in rule.find(line, options).found]
+
+
+@pytest.mark.parametrize("name", SOUND)
+def test_sound_lines(run: Run, program: Program, tmp_path: Path, name: str) -> None:
+    status, out, _ = run("check", written(program, tmp_path / "t.csv", SOUND[name]), "--only", "E", "--rules", "all")
+    assert status == 0 and out[-1] == "remarks: none found", out
+    assert (meaning_line.FOLDER / f"{name}.csv").read_text("utf-8") == (tmp_path / "t.csv").read_text("utf-8")
+
+
+@pytest.mark.parametrize("part", [range(5), pytest.param(range(5, 1000), marks=pytest.mark.slow)])
+def test_random_sound_lines(program: Program, tmp_path: Path, part: range) -> None:
+    for seed in part:
+        found = remarks(program, written(program, tmp_path / "t.csv", random_line(seed)), Options())
+        assert not found, (seed, found[0].sentence)
+
+
+def test_pages() -> None:
+    """Each has all paragraphs, how sure the rule is, and no more than 150 lines; a rule below 85 % is off."""
+    for rule in meaning.RULES:
+        assert tuple(rule.parts) == HEADS, rule.name
+        sure = int(rule.parts["How sure"].split(" ", 1)[0])
+        assert rule.is_default == (sure >= 85) and "%" in rule.parts["How sure"]
+    for path in sorted(Path(meaning.__file__).parent.glob("e*.py")):
+        assert len(path.read_text("utf-8").splitlines()) < 150, path
+
+
+def _copied(rows: List[Row]) -> None:
+    """The packets of green at yellow of signal 4."""
+    yellow, green = (next(row for row in rows if (row.group, row.aspect) == ("Signal 4", each)) for each in AHEAD)
+    yellow.form["packets"] = green.form["packets"]
+
+
+AHEAD = ("yellow", "green")
+
+
+def test_e7(run: Run, program: Program, tmp_path: Path) -> None:
+    path = written(program, tmp_path / "t.csv", Line(), _copied)
+    status, out, _ = run("check", path)
+    speed = change(Line().rows, "Signal 4", "green", 12)["v_main"] * 5
+    assert status == 1 and out[-1] == "program: yes: groups 15, messages 0; remarks: 1 found (E7 1)"
+    assert (
+        'rows 16 to 17  Signal 4  km 14.500  aspects "yellow", "green": E7: the aspects "yellow", "green" have the '
+        f"same packets in every balise, with V_MAIN {speed} km/h: one of them may be a copy"
+    ) in out
+
+
+def test_e7_of_stop_aspects_is_a_note(run: Run, program: Program, tmp_path: Path) -> None:
+    def stop(rows: List[Row]) -> None:
+        for row in rows:
+            if row.aspect == "yellow" and row.group in ("Signal 4", "Signal 5"):
+                row.form["packets"] = next(
+                    each for each in rows if (each.group, each.aspect) == (row.group, "red")
+                ).form["packets"]
+
+    status, out, _ = run("check", written(program, tmp_path / "t.csv", Line(), stop), "--only", "E")
+    assert out[-2:] == ["aspects found: 3 in 15 groups", "remarks: none found"] and status == 0
+    note = "E7: in 2 groups aspects without a V_MAIN above 0 have the same packets, such as the aspects "
+    assert f'note: {note}"red", "yellow" of Signal 4' in out
+
+
+def _moved(metres: int) -> Change:
+    """The second balise of signal 4 is this far from the first one."""
+
+    def move(rows: List[Row]) -> None:
+        for row in rows:
+            if row.group == "Signal 4" and row.balise == 1:
+                row.place = 14_500 + metres
+
+    return move
+
+
+@pytest.mark.parametrize(
+    "metres, fast, found", [(33, 0, 1), (13, 0, 0), (14, 0, 1), (2, 0, 0), (1, 200, 1), (2, 200, 0)]
+)
+def test_e11(program: Program, tmp_path: Path, metres: int, fast: int, found: int) -> None:
+    """12 m and 2.3 m, or 3 m above 180 km/h, with one unit of the last decimal."""
+    options = Options(line_speed=fast or None)
+    made = remarks(program, written(program, tmp_path / "t.csv", Line(), _moved(metres)), options)
+    assert [(each.rule, each.values["spacing_m"]) for each in made] == [("E11", metres)] * found
+
+
+def test_e11_and_the_column_nominal(run: Run, program: Program, tmp_path: Path) -> None:
+    path = written(program, tmp_path / "t.csv")
+    head, *rows = path.read_text("utf-8").splitlines()
+    lines = [f"{head},nominal", *(f"{row},{'falling' if row.startswith('Signal 4,') else ''}" for row in rows)]
+    path.write_text("\n".join(lines), "utf-8")
+    (one,) = remarks(program, path)
+    assert one.rule == "E11" and one.sentence == (
+        "the column nominal says falling, and the kilometres of the balises rise in nominal direction, from km 14.500 "
+        "to km 14.503"
+    )
+
+
+def test_e11_needs_kilometres(run: Run, program: Program, tmp_path: Path) -> None:
+    """The other rules E are applied to a table without."""
+    path = written(program, tmp_path / "t.csv", Line(), _copied, _moved(33))
+    head, *rows = [line.split(",") for line in path.read_text("utf-8").splitlines()]
+    path.write_text("\n".join(",".join([*row[:2], *row[3:]]) for row in (head, *rows)), "utf-8")
+    status, out, _ = run("check", path)
+    assert status == 1 and out[-1].endswith("; remarks: 1 found (E7 1)")
+    assert "no kilometres: rules over the line are not applied" in out
