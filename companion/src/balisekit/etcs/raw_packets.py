@@ -7,13 +7,14 @@ from __future__ import annotations
 
 from contextlib import suppress
 from dataclasses import dataclass, field
-from typing import Any, Dict, List, NamedTuple, Optional, Sequence, Union
+from functools import lru_cache
+from typing import Any, Dict, List, NamedTuple, Optional, Sequence, Union, cast
 
 from balisekit.engine.records import BODIES, Form
 from balisekit.etcs.raw_layouts import Layout, Many, One, Part, Rest, layout_of, variables
 
 OWN = "balisekit's own layout: not proved, not compared with a print"
-NOT_CERTAIN = f"layout not certain: {OWN}"
+NOT_CERTAIN = "layout not certain: balisekit's own, not proved, not compared with a print"
 
 
 class RawField(NamedTuple):
@@ -66,16 +67,27 @@ class _End(Exception):
     """The body ends within a variable."""
 
 
-def body_bits(packet: Form, from_track: bool = True) -> str:
-    """The bits of a body, as a text of 0 and 1, without those that only fill up its last byte."""
-    digits, count = packet["body"], packet["l_packet"] - BODIES[from_track][0]
-    return f"{int(digits, 16):0{4 * len(digits)}b}"[:count] if digits else ""
+def body_bits(count: int, body: str, from_track: bool) -> str:
+    """The bits of a body, as a text of 0 and 1: as many as L_PACKET says, without those that fill up the last byte."""
+    return f"{int(body, 16):0{4 * len(body)}b}"[: count - BODIES[from_track][0]] if body else ""
 
 
 def content_of(packet: Form, from_track: bool = True) -> Optional[Content]:
     """What is in the body of a packet. One that the program reads, or whose layout is not known, has nothing."""
+    return _content(packet["nid_packet"], packet["l_packet"], packet["body"], from_track) if "body" in packet else None
+
+
+@lru_cache(maxsize=1 << 12)
+def _content(number: int, count: int, body: str, from_track: bool) -> Optional[Content]:
+    """What is in a body. It is asked for by notes, places and values of one packet, so it is kept."""
+    layout = layout_of(number, from_track)
+    return _Reader(layout, body_bits(count, body, from_track)).read() if layout else None
+
+
+def layout_words(packet: Form, from_track: bool = True) -> str:
+    """In few words whose layout a packet is read by. One that the program reads, or that nobody reads, has none."""
     layout = layout_of(packet["nid_packet"], from_track) if "body" in packet else None
-    return _Reader(layout, body_bits(packet, from_track)).read() if layout else None
+    return "" if layout is None else "balisekit's own layout" if layout.is_certain else "layout not certain"
 
 
 def content_notes(form: Form) -> Dict[str, str]:
@@ -93,8 +105,8 @@ def with_contents(form: Form, keeps_bodies: bool = True) -> Form:
     if not any("body" in packet for packet in form["packets"]):
         return form
     from_track = form.get("nid_message") != 136
-    packets: Any = [with_content(packet, from_track, keeps_bodies) for packet in form["packets"]]
-    return {**form, "packets": packets}
+    packets = [with_content(packet, from_track, keeps_bodies) for packet in form["packets"]]
+    return cast(Form, {**form, "packets": packets})
 
 
 def with_content(packet: Form, from_track: bool = True, keeps_body: bool = True) -> Form:
@@ -103,8 +115,7 @@ def with_content(packet: Form, from_track: bool = True, keeps_body: bool = True)
     if content is None:
         return packet
     own = {key: value for key, value in packet.items() if keeps_body or key != "body" or not content.is_complete}
-    read: Any = {**own, **content.values}
-    return read
+    return cast(Form, {**own, **content.values})
 
 
 def fields_of(packet: Form, from_track: bool = True) -> Optional[Form]:
@@ -117,8 +128,7 @@ def fields_of(packet: Form, from_track: bool = True) -> Optional[Form]:
     if content is None or not content.layout.is_certain or content.fault:
         return None
     head = {key: value for key, value in packet.items() if key != "body"}
-    read: Any = {**head, **content.values}
-    return read
+    return cast(Form, {**head, **content.values})
 
 
 def fault_of(packet: Form, from_track: bool = True) -> Optional[RawFault]:
@@ -218,6 +228,10 @@ class _Reader:
         bits = self.take(part.name, key, width)
         whole = bits + "0" * (-len(bits) % 8)
         octets = bytes(int(whole[at : at + 8], 2) for at in range(0, len(whole), 8))
-        values[part.key] = octets.decode("latin-1") if part.count else octets.hex()
+        values[part.key] = _text(octets) if part.count else octets.hex()
         self.note(part.name, key, width, values[part.key])
 
+
+def _text(octets: bytes) -> str:
+    """Characters of ISO 8859-1. Those that cannot be printed are written as their numbers."""
+    return "".join(each if each.isprintable() else f"\\x{ord(each):02x}" for each in octets.decode("latin-1"))

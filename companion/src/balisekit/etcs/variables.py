@@ -164,17 +164,18 @@ def _raw_words(variable: raw_layouts.Variable) -> Words:
 
     def words(value: int, around: Around) -> str:
         span = variable.span_of(value)
-        return "spare" if span is None else span.words or _with_unit(value, variable.unit, around)
+        return "spare" if span is None else span.words or _with_unit(value, variable, around)
 
     return words
 
 
-def _with_unit(value: int, unit: str, around: Around) -> str:
+def _with_unit(value: int, variable: raw_layouts.Variable, around: Around) -> str:
     """A number without a meaning of its own, in the unit of its variable."""
+    unit = variable.unit
     if unit == "Q_SCALE":
         return distance()(value, around)
     if unit == "digits":
-        return f"{value:x}".rstrip("f") or "no digit"
+        return f"{value:0{variable.bits // 4}x}".rstrip("f") or "no digit"
     if unit == "identity":
         return f"NID_C {value >> 14}, NID_BG {value & 16_383}"
     if unit == "‰" and value:
@@ -187,6 +188,11 @@ def _raw_keys() -> Iterator[Tuple[str, raw_layouts.Variable]]:
     """The keys of balisekit's own layouts that the program's JSON does not have."""
     for layout in raw_layouts.layouts().values():
         yield from ((one.key, one.variable) for one in raw_layouts.all_ones(layout.fields) if one.key not in VARIABLES)
+
+
+def _raw_name(key: str, variable: raw_layouts.Variable) -> str:
+    """The name of a variable whose key is not its name. One that an object has twice is the second one."""
+    return f"{variable.name} (2)" if key == f"{variable.name.lower()}_2" else variable.name
 
 
 RAW_TEXTS = {"other_data": "other data", "x_text": "X_TEXT"}
@@ -220,7 +226,7 @@ NAMES = {
     "prv_nid_c": "NID_C of NID_PRVLRBG",
     "prv_nid_bg": "NID_BG of NID_PRVLRBG",
     **RAW_TEXTS,
-    **{key: variable.name for key, variable in _raw_keys() if key != variable.name.lower()},
+    **{key: _raw_name(key, variable) for key, variable in _raw_keys() if key != variable.name.lower()},
 }
 """The variables whose keys are not the standard's names in small letters."""
 
