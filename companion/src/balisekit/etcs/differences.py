@@ -90,7 +90,7 @@ def _packet_words(packet: Form, around: Around, direction: str = "") -> str:
 
 
 def _with_contents(old: Form, new: Form, before: Around, after: Around) -> Tuple[Values, Values]:
-    """Two packets of one number with the variables of their bodies, and without bodies if both are read to their ends."""
+    """Two packets of one number with the variables of their bodies. Bodies are left out if both are read completely."""
     if old == new:
         return old, new
     contents = content_of(old, before.from_track), content_of(new, after.from_track)

@@ -14,7 +14,7 @@ from balisekit.present.telegram_text import Shown, form_lines
 def bit_lines(digits: str, form: Form) -> Iterator[str]:
     """A line for each field. NoAnswer is raised if the fields found here have other numbers than the program's JSON.
 
-    The fields of a body that is read by balisekit's own layout follow it, since the JSON has nothing to compare them with.
+    The fields of a body that is read by balisekit's own layout follow it. The JSON has nothing to compare them with.
     """
     is_message, from_track = "nid_message" in form, form.get("nid_message") != 136
     fields = message_fields(bits_of(digits)) if is_message else telegram_fields(user_bits(digits))

@@ -1,7 +1,7 @@
 """A telegram or radio message in words: each number of the program's JSON with its name, unit and raw value.
 
-Lines are made by going through the JSON itself, so nothing of it is left out. What follows ` = ` is balisekit's own, and
-so are the variables of packets that the program keeps as bits.
+Lines are made by going through the JSON itself, so nothing of it is left out. What follows ` = ` is balisekit's own,
+and so are the variables of packets that the program keeps as bits.
 """
 from __future__ import annotations
 
