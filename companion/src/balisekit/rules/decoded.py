@@ -17,6 +17,7 @@ from typing import Callable, Dict, Iterable, Iterator, List, Mapping, NamedTuple
 from balisekit.engine.program import Record
 from balisekit.etcs import geometry
 from balisekit.etcs.geometry import DIRECTIONS, INFILL, NOMINAL, Site
+from balisekit.etcs.raw_packets import fields_of
 from balisekit.etcs.variables import Form, unit_dm
 from balisekit.rules.chainage import Chainage, Jump
 from balisekit.rules.location import BaliseGroup, Identity, Location
@@ -36,12 +37,7 @@ KEPT = 1 << 12
 """So many texts of packets are kept with their objects: many telegrams have the same packets."""
 
 
-def no_fields(packet: Form) -> Optional[Form]:
-    """The fields of a packet that is kept as bits. None says that its layout is not known."""
-    return None
-
-
-FIELDS_OF: Callable[[Form], Optional[Form]] = no_fields
+FIELDS_OF: Callable[[Form], Optional[Form]] = fields_of
 """What decodes a packet that is kept as bits. Its fields are put beside the keys of the packet."""
 
 
