@@ -26,7 +26,7 @@ Example. Group F announces level 2 at km 20.050, and the plan has the border at 
 from __future__ import annotations
 
 from collections import Counter
-from typing import Dict, Iterator, List, Sequence, Set, Tuple
+from typing import Dict, Iterator, List, Optional, Sequence, Set, Tuple
 
 from balisekit.rules.decoded import allowance
 from balisekit.rules.line import Line
@@ -53,7 +53,7 @@ WORDS = {"level": "level", "rbc": "RBC"}
 def find(line: Line, options: Options) -> Result:
     """Compares each packet about a border, and looks for borders of the plan without one."""
     placed, counts = Placed(line, options), Counter[str]()
-    found: Dict[Tuple[int, int, str], List[Tuple[Border, int, Spot]]] = {}
+    found: Dict[Tuple[int, Optional[int], str], List[Tuple[Border, int, Spot]]] = {}
     named: Set[int] = set()
     for saying in placed.sayings(*NUMBERS):
         border = border_of(saying)
@@ -63,8 +63,10 @@ def find(line: Line, options: Options) -> Result:
         named.update(spot.row.number for spot in spots)
         counts[why] += 1
         tolerance = line.decoded.tolerance(options.tolerance, allowance(saying.packet))
-        if not why and not any(_is_alike(border, place, spot, tolerance) for spot in spots):
-            found.setdefault((spots[0].row.number, place, border.text), []).append((border, place, spots[0]))
+        if why or any(_is_there(border, place, spot, tolerance) and spot.row.value == border.text for spot in spots):
+            continue
+        elsewhere = None if _is_there(border, place, spots[0], tolerance) else place
+        found.setdefault((spots[0].row.number, elsewhere, border.text), []).append((border, place, spots[0]))
     remarks = [_remark(placed, each) for each in found.values()]
     left = [row for kind in BORDERS for row in placed.plan.of_kind(kind) if row.number not in named]
     remarks += [] if counts[NOT_DECODED] else [each for row in left for each in _unnamed(placed, row)]
@@ -93,9 +95,9 @@ def _wanted(placed: Placed, border: Border) -> Tuple[Sequence[Spot], int, str]:
     return found, place, "" if found else SAYS_NOTHING
 
 
-def _is_alike(border: Border, place: int, spot: Spot, tolerance: int) -> bool:
-    is_there = not border.has_place or abs(spot.place - place) <= tolerance
-    return is_there and border.text == spot.row.text_value
+def _is_there(border: Border, place: int, spot: Spot, tolerance: int) -> bool:
+    """Whether a packet says no other place of a border than the plan."""
+    return not border.has_place or abs(spot.place - place) <= tolerance
 
 
 def _remark(placed: Placed, said: Sequence[Tuple[Border, int, Spot]]) -> Remark:
