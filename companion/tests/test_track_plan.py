@@ -74,6 +74,11 @@ def with_rbc(rows: List[Row]) -> None:
     fixed(rows, "Signal 5").append(rbc_order(700))
 
 
+def other_session(rows: List[Row]) -> None:
+    """A session with another RBC behind the border."""
+    fixed(rows, "Signal 8").append(session((352, 18)))
+
+
 def written(program: Program, path: Path, line: Line = Line(), *changes: Change) -> Path:
     """The table of a line with these changes of its rows."""
     rows = copy.deepcopy(line.rows)
@@ -324,7 +329,15 @@ def test_x5_of_packets_without_a_place(program: Program, tmp_path: Path) -> None
         f"level 0 at km 20.500, and level 2 NTC:7 from km 20.000 on by row {len(rows) + 2} of the plan"
     ]
     wrong = [{**row, "value": "352/16"} if row["kind"] == "rbc" else row for row in rows]
-    assert "; ".join(each.sentence for each in remarks(line, wrong, tmp_path)).count("RBC 352/17") == 2
+    (found,) = remarks(line, wrong, tmp_path)
+    row = rows.index(of_kind(rows, "rbc")) + 2
+    assert (
+        found.sentence
+        == f"RBC 352/17 begins at km 16.700, and RBC 352/16 at km 16.700 by row {row} of the plan; row 18 too"
+    )
+    line = read(program, written(program, tmp_path / "t.csv", SOUND["level-border"], with_rbc, other_session))
+    (found,) = remarks(line, rows, tmp_path)
+    assert found.sentence == f"RBC 352/18 at km 20.500, and RBC 352/17 from km 16.700 on by row {row} of the plan"
 
 
 def test_x5_of_a_border_that_no_packet_names(sound: Tuple[LineOfTable, List[Cells]], tmp_path: Path) -> None:

@@ -181,7 +181,7 @@ def remark(
 ) -> Remark:
     """One remark on what several packets say, at the first of them."""
     first, packet = sayings[0]
-    rows = [each.packet.row for each in sayings if each.packet.row]
+    rows = sorted((each.packet.row for each in sayings if each.packet.row), key=lambda row: row.number)
     own = {each.packet.row.number for each in sayings if each.packet.row and each.passage.group is first.group}
     others = {row.number for row in rows} - own
     groups = {each.passage.group.group.number: each.passage.group.group for each in sayings if each.passage.group}
