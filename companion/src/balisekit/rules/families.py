@@ -42,11 +42,6 @@ class Family(NamedTuple):
         """Whether no rule can be applied to a table without kilometres."""
         return bool(self.rules) and all(rule.needs_kilometres for rule in self.rules)
 
-    @property
-    def usual(self) -> Sequence[Rule]:
-        """The rules that are applied to a table with kilometres if nobody asks for others."""
-        return [rule for rule in self.rules if rule.is_default]
-
 
 FAMILIES: Mapping[str, Family] = {
     "F": Family("F", "findings of the program, proved", "findings"),
