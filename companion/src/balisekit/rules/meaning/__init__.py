@@ -19,6 +19,7 @@ but has such a count makes the answer incomplete.
 """
 from __future__ import annotations
 
+from balisekit.rules.meaning.e1_raw_packet import RULE as E1
 from balisekit.rules.meaning.e2_ranges import RULE as E2
 from balisekit.rules.meaning.e3_authority import RULE as E3
 from balisekit.rules.meaning.e4_profile import RULE as E4
@@ -26,5 +27,5 @@ from balisekit.rules.meaning.e5_both_directions import RULE as E5
 from balisekit.rules.meaning.e7_aspects_alike import RULE as E7
 from balisekit.rules.meaning.e11_spacing import RULE as E11
 
-RULES = (E2, E3, E4, E5, E7, E11)
+RULES = (E1, E2, E3, E4, E5, E7, E11)
 __all__ = ["RULES"]
