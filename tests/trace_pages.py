@@ -1,8 +1,8 @@
 """What is made of the table of variables: for tests/trace.
 
-A part of a page between `<!-- made: WHAT -->` and `<!-- /made -->` is made. WHAT is `trace`, or `bits LAYOUT` for how
-many bits a layout has, or `rows LAYOUT`, `rows LAYOUT to VARIABLE`, `rows LAYOUT after VARIABLE` for its variables too,
-or `keys packet`, `keys train packet`, `keys message` for their JSON.
+A part of a page between `<!-- made: WHAT -->` and `<!-- /made -->` is made. WHAT is `trace`, or `raw` for packets that the
+program keeps as bits, or `bits LAYOUT` for how many bits a layout has, or `rows LAYOUT`, `rows LAYOUT to VARIABLE`,
+`rows LAYOUT after VARIABLE` for its variables too, or `keys packet`, `keys train packet`, `keys message` for their JSON.
 """
 import re
 
@@ -127,13 +127,22 @@ def add_keys(found, name, number, rows, prefix="", given=""):
         add_keys(found, *one)
 
 
-PARTS = {"trace": trace_part, "rows": rows_part, "bits": bits_part, "keys": keys_part}
+def raw_part(trace, _):
+    """The rows about packets that the program keeps as bits."""
+    head = ["Layouts", "Variable", "Bits", "Numbers", "Unit", "Section", "Doubt", "Compared"]
+    return table(head, [[it.layouts, it.variable and f"{it.variable}: {it.meaning}" or it.meaning, it.bits,
+                         numbers_text(it), it.unit, it.section, it.doubt,
+                         f"{it.compared}, {it.date}" if it.compared else ""] for it in trace.raw])
+
+
+PARTS = {"trace": trace_part, "raw": raw_part, "rows": rows_part, "bits": bits_part, "keys": keys_part}
 
 
 def made_texts(trace):
     """The text of each file that has something made of the table."""
     texts = {path: path.read_text(encoding="utf-8") for path in {FORMATS, *COUNTING}}
-    count = f"{sum(bool(it.compared) for it in trace.rows)} of {len(trace.rows)} rows"
+    rows = trace.rows + trace.raw
+    count = f"{sum(bool(it.compared) for it in rows)} of {len(rows)} rows"
     for path in COUNTING:
         texts[path], times = COUNT.subn(count, texts[path])
         if not times:

@@ -1,7 +1,8 @@
 """The table of variables, docs/assurance/trace.csv: its rows, the layouts that they belong to, and its words.
 
 A row is about a variable of one or more layouts, in the order of the bits, or, without a variable, about a layout or a
-rule of findings:
+rule of findings. Rows whose layouts begin with `raw` are about packets that the program keeps as bits: trace_raw makes
+them.
 
 - `numbers`: those that are read, with the meaning of each; `counted` if only the count of what is read is.
 - `fault`: what any other number is refused as.
@@ -21,6 +22,7 @@ from itertools import groupby
 from runner import TOP
 
 COUNTED, EACH = "counted", "each"
+RAW = "raw "  # how the layouts begin of packets that the program keeps as bits
 TABLE = TOP / "docs/assurance/trace.csv"
 COLUMNS = "layouts variable bits numbers fault when key unit meaning section doubt compared date sum".split()
 LONGEST_PACKET = 8191
@@ -58,6 +60,10 @@ class Row(namedtuple("Row", COLUMNS)):
     def is_rule(self):
         """Whether it is about a rule of findings, and not about bits."""
         return self.layouts.startswith("rule ")
+
+    def is_raw(self):
+        """Whether it is about a packet that the program keeps as bits."""
+        return self.layouts.startswith(RAW)
 
     def spans(self):
         """The numbers that are read, with their words."""

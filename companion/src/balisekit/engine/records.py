@@ -40,6 +40,8 @@ class Form(TypedDict, total=False):
     nid_packet: Annotated[int, range(255)]
     q_dir: UpToTwo
     l_packet: Annotated[int, range(8192)]
+    body: str
+    nid_vbcmk: Annotated[int, range(64)]
     q_scale: UpToTwo
     v_main: Speed
     end_speed: Speed
@@ -50,7 +52,6 @@ class Form(TypedDict, total=False):
     q_link: Bit
     prv_nid_c: Country
     prv_nid_bg: GroupNumber
-    nid_vbcmk: Annotated[int, range(64)]
     q_linkorientation: Bit
     q_linkreaction: UpToTwo
     q_locacc: Annotated[int, range(64)]
@@ -99,7 +100,6 @@ class Form(TypedDict, total=False):
     nid_ntc: Byte
     l_ackleveltr: Distance
     transitions: Annotated[List[Form], 1, 32]
-    body: str
     packets: List[Form]
 
 

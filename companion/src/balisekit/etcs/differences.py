@@ -1,7 +1,8 @@
 """What differs between two telegrams or messages, field by field, with units.
 
 Packets are paired by number, direction and order. Items of a list are paired so that the fewest fields differ: a list
-that grew shows its new item, and not all that moved.
+that grew shows its new item, and not all that moved. Packets that the program keeps as bits are compared by variables
+if their layout is known.
 """
 from __future__ import annotations
 
@@ -9,10 +10,12 @@ from dataclasses import dataclass
 from typing import Any, Callable, Dict, Iterator, List, Optional, Sequence, Tuple
 
 from balisekit.etcs.packets import packet_name
+from balisekit.etcs.raw_packets import content_of, layout_words, with_content
 from balisekit.etcs.variables import (
     DIRECTIONS,
     LABELS,
     Around,
+    Form,
     Values,
     in_order,
     value_texts,
@@ -51,7 +54,7 @@ class Change:
         return f"{where}{self.kind}: {self.old or self.new}"
 
 
-def differences(old: Values, new: Values) -> List[Change]:
+def differences(old: Form, new: Form) -> List[Change]:
     """All that differs between two forms."""
     before, after = (Around(from_track=form.get("nid_message") != 136) for form in (old, new))
     changes = list(_object("", old, new, before, after))
@@ -63,9 +66,9 @@ def differences(old: Values, new: Values) -> List[Change]:
             changes.append(_packet_alone(REMOVED, f"packet {was} of the old one", old["packets"][was], before))
         elif was is not None and now is not None:
             packet = new["packets"][now]
-            names = [packet_name(packet["nid_packet"], after.from_track), DIRECTIONS.get(packet.get("q_dir", -1), "")]
-            label = f"packet {now} ({', '.join(filter(None, names))})"
-            changes += _object(label, old["packets"][was], packet, before, after)
+            label = f"packet {now} ({_packet_words(packet, after, DIRECTIONS.get(packet.get('q_dir', -1), ''))})"
+            packets = _with_contents(old["packets"][was], packet, before, after)
+            changes += _object(label, *packets, before, after)
     both = [now for _, now in sorted((was, now) for was, now in pairs if was is not None and now is not None)]
     return [*changes, Change(MOVED, "")] if both != sorted(both) else changes
 
@@ -75,8 +78,24 @@ def packet_differences(old: Values, new: Values) -> List[Change]:
     return list(_object("", old, new, Around(), Around()))
 
 
-def _packet_alone(kind: str, place: str, packet: Values, around: Around) -> Change:
-    return _part(f"{place} ({packet_name(packet['nid_packet'], around.from_track)})", kind, packet, around)
+def _packet_alone(kind: str, place: str, packet: Form, around: Around) -> Change:
+    read = with_content(packet, around.from_track, keeps_body=False)
+    return _part(f"{place} ({_packet_words(packet, around)})", kind, read, around)
+
+
+def _packet_words(packet: Form, around: Around, direction: str = "") -> str:
+    """The name of a packet, its direction, and by which layout it is read if that is balisekit's own."""
+    names = packet_name(packet["nid_packet"], around.from_track), direction, layout_words(packet, around.from_track)
+    return ", ".join(filter(None, names))
+
+
+def _with_contents(old: Form, new: Form, before: Around, after: Around) -> Tuple[Values, Values]:
+    """Two packets of one number with the variables of their bodies. Bodies are left out if both are read completely."""
+    if old == new:
+        return old, new
+    contents = content_of(old, before.from_track), content_of(new, after.from_track)
+    keeps = not all(content and content.is_complete for content in contents)
+    return with_content(old, before.from_track, keeps), with_content(new, after.from_track, keeps)
 
 
 def packet_pairs(old: Sequence[Values], new: Sequence[Values]) -> List[Pair]:

@@ -7,9 +7,10 @@ from functools import lru_cache
 from typing import Iterator, Mapping, NamedTuple, Optional, Tuple, Union
 
 from balisekit.etcs.places import Here, packet_kilometres
+from balisekit.etcs.raw_packets import content_of, with_content
 from balisekit.etcs.variables import BESIDE, LABELS, NO_FORM, Around, Form, Values, in_order, value_words, variable_name
 
-NUMBER = re.compile(r"\+?(-?\d+(?:\.\d+)?) (m|km/h|s|‰|mm|bits)(?:, .*| to either side)?")
+NUMBER = re.compile(r"\+?(-?\d+(?:\.\d+)?) (m|km/h|s|‰|mm|bits|days|A|m/s²)(?:, .*| to either side)?")
 """Words that are a number with its unit."""
 CANT = "cant deficiency "
 
@@ -32,7 +33,7 @@ class Variable(NamedTuple):
 
 
 def variables(form: Form, here: Here = Here()) -> Iterator[Variable]:
-    """The variables of a telegram, in the order of its bits."""
+    """The variables of a telegram, in the order of its bits: those of raw packets, too, whose layout is known."""
     around = Around()
     header = {key: value for key, value in form.items() if key != "packets"}
     yield from _object(("", ""), header, "", around, {})
@@ -41,7 +42,11 @@ def variables(form: Form, here: Here = Here()) -> Iterator[Variable]:
         number = packet["nid_packet"]
         counts[number] += 1
         label = f"{number} ({counts[number]})" if counts[number] > 1 else str(number)
-        yield from _object((label, ""), packet, "", around, packet_kilometres(index, packet, here))
+        own = _object((label, ""), with_content(packet), "", around, packet_kilometres(index, packet, here))
+        content = content_of(packet)
+        yield from own if content is None else (
+            each._replace(value=content.words) if each.name == "body" else each for each in own
+        )
 
 
 def _object(

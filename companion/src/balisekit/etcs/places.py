@@ -2,12 +2,13 @@
 from __future__ import annotations
 
 from dataclasses import dataclass, field
-from itertools import accumulate
+from itertools import accumulate, chain
 from typing import Callable, Dict, Iterator, List, Mapping, NamedTuple, Optional, Sequence, Tuple
 
 from balisekit.etcs import geometry
 from balisekit.etcs.geometry import DIRECTIONS, ELEMENT_KEYS, Kilometres, Origin, holds, kilometres
-from balisekit.etcs.variables import Form, metres, unit_dm
+from balisekit.etcs.raw_packets import fields_of
+from balisekit.etcs.variables import Form, Values, metres, unit_dm
 from balisekit.tables.model import Group
 from balisekit.tables.names import quoted
 
@@ -122,8 +123,10 @@ def place_notes(form: Form, here: Here) -> Dict[str, str]:
 
 
 def _notes(packet: Form, origin: Origin, place: Place) -> Dict[str, str]:
-    """The notes of a packet whose distances have this origin."""
-    notes = dict(NOTES[packet["nid_packet"]](packet, place)) if packet["nid_packet"] in NOTES else {}
+    """The notes of a packet whose distances have this origin. A raw packet needs a certain layout that it fits."""
+    packet = fields_of(packet) or packet
+    known = "body" not in packet and packet["nid_packet"] in NOTES
+    notes = dict(NOTES[packet["nid_packet"]](packet, place)) if known else {}
     if origin in ORIGINS:
         notes[""] = "; ".join(filter(None, [ORIGINS[origin], notes.get("")]))
     return notes
@@ -173,11 +176,36 @@ def _level_notes(packet: Form, place: Place) -> Notes:
         yield "", f"at {place(packet['d_leveltr'] * unit_dm(packet))}"
 
 
+def _stretch_notes(packet: Values, place: Place) -> Notes:
+    """From where to where a restriction or a factor of adhesion holds, or the reversing area is."""
+    for path, begin, end in _stretches(packet):
+        yield path, f"from {place(begin)}" + ("" if end is None else f" to {place(end)}")
+
+
+def _mode_notes(packet: Values, place: Place) -> Notes:
+    """Where each mode begins and ends, and from where on the driver acknowledges it."""
+    unit = unit_dm(packet)
+    for (path, begin, end), element in zip(_stretches(packet), packet["elements"]):
+        stretch = f"from {place(begin)}" + ("" if end is None else f" to {place(end)}")
+        acknowledged = place(begin - element["l_ackmamode"] * unit)
+        yield path, f"{stretch}; acknowledged from {acknowledged}" if element["l_ackmamode"] else stretch
+
+
+def _point_notes(packet: Values, place: Place) -> Notes:
+    """Where the RBC changes, the section of a repositioned authority ends, or initial states are resumed."""
+    for path, at in _points(packet):
+        yield "", f"at {place(at)}"
+
+
 NOTES: Mapping[int, Callable[[Form, Place], Notes]] = {
     5: _linking_notes,
     **dict.fromkeys((12, 15), _authority_notes),
     **dict.fromkeys((21, 27), _profile_notes),
     41: _level_notes,
+    **dict.fromkeys((65, 71, 138), _stretch_notes),
+    68: lambda packet, place: chain(_stretch_notes(packet, place), _point_notes(packet, place)),
+    80: _mode_notes,
+    **dict.fromkeys((16, 131), _point_notes),
 }
 
 
@@ -188,7 +216,9 @@ def packet_kilometres(index: int, packet: Form, here: Here) -> Dict[str, str]:
     each has its own.
     """
     ways = [way for way in DIRECTIONS if holds(packet, way)]
-    if here.kilometres.group is None or index in here.passages or packet["nid_packet"] not in PLACES:
+    packet = fields_of(packet) or packet
+    is_known = "body" not in packet and packet["nid_packet"] in PLACES
+    if here.kilometres.group is None or index in here.passages or not is_known:
         return {}
     found = {}
     for path, place in PLACES[packet["nid_packet"]](packet):
@@ -233,11 +263,58 @@ def _level_places(packet: Form) -> Iterator[Tuple[str, int]]:
         yield "/d_leveltr", packet["d_leveltr"] * unit_dm(packet)
 
 
+STRETCHES: Mapping[int, Tuple[str, str]] = {
+    65: ("d_tsr", "l_tsr"),
+    68: ("d_trackcond", "l_trackcond"),
+    71: ("d_adhesion", "l_adhesion"),
+    80: ("d_mamode", "l_mamode"),
+    138: ("d_startreverse", "l_reversearea"),
+}
+"""The keys of distance and length of raw packets. Each element of 68 and 80 counts from where the one before begins."""
+POINTS: Mapping[int, str] = {16: "l_section", 68: "d_trackinit", 131: "d_rbctr"}
+"""The keys of a distance without a length."""
+INFINITE, NOW = {"l_mamode": 32_767}, {"d_rbctr": 32_767}
+
+
+def _stretches(packet: Values) -> Iterator[Tuple[str, int, Optional[int]]]:
+    """From where to where each part of a raw packet is, by its path. An infinite one has no end."""
+    distance, length = STRETCHES[packet["nid_packet"]]
+    unit, begin = unit_dm(packet), 0
+    elements = packet.get("elements", [packet] if distance in packet else [])
+    for index, element in enumerate(elements):
+        begin += element[distance] * unit
+        end = None if element[length] == INFINITE.get(length) else begin + element[length] * unit
+        yield f"/elements/{index}" if "elements" in packet else "", begin, end
+
+
+def _points(packet: Values) -> Iterator[Tuple[str, int]]:
+    key = POINTS[packet["nid_packet"]]
+    if key in packet and packet[key] != NOW.get(key):
+        yield f"/{key}", packet[key] * unit_dm(packet)
+
+
+def _stretch_places(packet: Values) -> Iterator[Tuple[str, int]]:
+    distance, length = STRETCHES[packet["nid_packet"]]
+    for path, begin, end in _stretches(packet):
+        yield f"{path}/{distance}", begin
+        yield from () if end is None else [(f"{path}/{length}", end)]
+
+
+def _mode_places(packet: Values) -> Iterator[Tuple[str, int]]:
+    yield from _stretch_places(packet)
+    for (path, begin, _), element in zip(_stretches(packet), packet["elements"]):
+        yield f"{path}/l_ackmamode", begin - element["l_ackmamode"] * unit_dm(packet)
+
+
 PLACES: Mapping[int, Callable[[Form], Iterator[Tuple[str, int]]]] = {
     5: _link_places,
     **dict.fromkeys((12, 15), _authority_places),
     **dict.fromkeys((21, 27), _element_places),
     41: _level_places,
+    **dict.fromkeys((65, 71, 138), _stretch_places),
+    68: lambda packet: chain(_stretch_places(packet), _points(packet)),
+    80: _mode_places,
+    **dict.fromkeys((16, 131), _points),
 }
 """The places of each kind of packet in decimetres from the group, by the path of what is there."""
 

@@ -1,14 +1,18 @@
 """What the variables of telegrams and messages are called, and what their numbers mean (SUBSET-026, 7.5.1).
 
 Each key of the program's JSON that has a number is in `VARIABLES`: a function gives it with a unit or by name.
-Each other key has a label. A number that needs neither unit nor name has no words.
+Each other key has a label. A number that needs neither unit nor name has no words. `WORDS` has the keys of packets
+that balisekit reads by its own layouts as well.
 """
 from __future__ import annotations
 
+from decimal import Decimal
 from functools import lru_cache
-from typing import Any, Callable, Dict, Iterable, List, Mapping, NamedTuple, Optional, Sequence, Union
+from graphlib import TopologicalSorter
+from typing import Any, Callable, Dict, Iterable, Iterator, List, Mapping, NamedTuple, Optional, Sequence, Tuple, Union
 
 from balisekit.engine import records
+from balisekit.etcs import raw_layouts
 from balisekit.etcs.packets import MESSAGES, packet_name
 
 Form = records.Form
@@ -60,8 +64,10 @@ def written(text: str, special: Mapping[int, str] = {}) -> Words:
 
 
 def distance(special: Mapping[int, str] = {}) -> Words:
-    """A distance in the unit of its packet."""
-    return lambda value, around: special.get(value) or metres(value * unit_dm(around.packet))
+    """A distance in the unit of its packet. A raw packet may have a spare Q_SCALE."""
+    return lambda value, around: special.get(value) or (
+        metres(value * unit_dm(around.packet)) if around.packet.get("q_scale", 0) < 3 else "in no unit"
+    )
 
 
 def speed(special: Mapping[int, str] = {}) -> Words:
@@ -120,7 +126,7 @@ VARIABLES: Dict[str, Words] = {
     **dict.fromkeys(("m_level", "m_leveltr"), listed("level 0 | level NTC | level 1 | level 2 | level 3")),
     "nid_message": named(MESSAGES, "not named here"),
     "user_bits": named({210: "short telegram", 830: "long telegram"}),
-    "m_version": named({32: "2.0", 33: "2.1"}),
+    "m_version": named({16: "1.0", 17: "1.1", 32: "2.0", 33: "2.1"}, ""),
     "n_pig": POSITION,
     "n_total": lambda value, around: f"{value + 1} balise{'s' if value else ''}",
     "m_dup": listed("no duplicate | duplicate of the next balise | duplicate of the previous balise"),
@@ -151,8 +157,66 @@ VARIABLES: Dict[str, Words] = {
     "m_mode": MODE,
     "d_leveltr": distance({32_767: "now"}),
 }
-_PLACES = {key: place for place, key in enumerate(Form.__annotations__)}
-LABELS = {key: key.removesuffix("s").replace("_", " ") for key in _PLACES if key not in VARIABLES}
+
+
+def _raw_words(variable: raw_layouts.Variable) -> Words:
+    """The words of a variable that only balisekit's own layouts have."""
+
+    def words(value: int, around: Around) -> str:
+        span = variable.span_of(value)
+        return "spare" if span is None else span.words or _with_unit(value, variable, around)
+
+    return words
+
+
+def _with_unit(value: int, variable: raw_layouts.Variable, around: Around) -> str:
+    """A number without a meaning of its own, in the unit of its variable."""
+    unit = variable.unit
+    if unit == "Q_SCALE":
+        return distance()(value, around)
+    if unit == "digits":
+        return f"{value:0{variable.bits // 4}x}".rstrip("f") or "no digit"
+    if unit == "identity":
+        return f"NID_C {value >> 14}, NID_BG {value & 16_383}"
+    if unit == "‰" and value:
+        return f"{'+' if around.parent.get('q_gdir') else '-'}{value} ‰"
+    factor, _, name = unit.rpartition(" ")
+    return f"{value * Decimal(factor or 1)} {name}" if unit else ""
+
+
+def _raw_keys() -> Iterator[Tuple[str, raw_layouts.Variable]]:
+    """The keys of balisekit's own layouts that the program's JSON does not have."""
+    for layout in raw_layouts.layouts().values():
+        yield from ((one.key, one.variable) for one in raw_layouts.all_ones(layout.fields) if one.key not in VARIABLES)
+
+
+def _raw_name(key: str, variable: raw_layouts.Variable) -> str:
+    """The name of a variable whose key is not its name. One that an object has twice is the second one."""
+    return f"{variable.name} (2)" if key == f"{variable.name.lower()}_2" else variable.name
+
+
+RAW_TEXTS = {"other_data": "other data", "x_text": "X_TEXT"}
+"""Keys of balisekit's own layouts that have a text, with their names."""
+WORDS: Mapping[str, Words] = {
+    **{key: _raw_words(variable) for key, variable in _raw_keys()},
+    **dict.fromkeys(RAW_TEXTS, named({}, "")),
+    **VARIABLES,
+}
+
+
+def _ordered() -> List[str]:
+    """All keys in an order in which the keys of each object are in the order of its bits."""
+    objects = (each for layout in raw_layouts.layouts().values() for each in raw_layouts.objects(layout.fields))
+    chains = [list(Form.__annotations__), *(keys if inside else ["body", *keys] for inside, keys in objects)]
+    before: Dict[str, List[str]] = {}
+    for chain in chains:
+        for place, key in enumerate(chain):
+            before.setdefault(key, []).extend(chain[place - 1 : place] if place else [])
+    return list(TopologicalSorter(before).static_order())
+
+
+_PLACES = {key: place for place, key in enumerate(_ordered())}
+LABELS = {key: key.removesuffix("s").replace("_", " ") for key in _PLACES if key not in WORDS}
 LABELS["transitions"] = "choice"
 """The names of parts and of their items."""
 NAMES = {
@@ -161,6 +225,8 @@ NAMES = {
     "end_timeout": "T_LOA",
     "prv_nid_c": "NID_C of NID_PRVLRBG",
     "prv_nid_bg": "NID_BG of NID_PRVLRBG",
+    **RAW_TEXTS,
+    **{key: _raw_name(key, variable) for key, variable in _raw_keys() if key != variable.name.lower()},
 }
 """The variables whose keys are not the standard's names in small letters."""
 
@@ -174,10 +240,15 @@ def variable_name(key: str, parent: Values) -> str:
     """The standard's name of the variable that this key of `parent` holds."""
     if key == "nc":
         return "NC_CDDIFF" if parent.get("q_diff") == 0 else "NC_DIFF"
-    return NAMES.get(key) or (key.upper() if key in VARIABLES else key)
+    return NAMES.get(key) or (key.upper() if key in WORDS else key)
 
 
-BESIDE: Mapping[str, str] = {"g_a": "q_gdir", "q_gdir": "g_a", "nc": "q_diff"}
+BESIDE: Mapping[str, str] = {
+    "g_a": "q_gdir",
+    "q_gdir": "g_a",
+    "nc": "q_diff",
+    **dict.fromkeys(("g_tsr", "g_pbdsr"), "q_gdir"),
+}
 """The keys whose words need the value of another key beside them. `body` needs its packet."""
 
 
@@ -207,11 +278,16 @@ def value_words(key: str, value: Union[int, str], around: Around) -> str:
     """The value in words, with its unit; nothing if it needs none, or its key is not known here."""
     if isinstance(value, str):
         return _body_words(around) if key == "body" else ""
-    return VARIABLES[key](value, around) if key in VARIABLES else ""
+    return WORDS[key](value, around) if key in WORDS else ""
 
 
 def _body_words(around: Around) -> str:
     """How many bits of a body count: all but the packet's head, which has no Q_DIR from train to track."""
     head = 23 if around.from_track else 21
     count = around.packet.get("l_packet", head) - head
-    return f"{count} bits, not decoded" if count else "no bits"
+    is_read = bool(around.packet.keys() - HEAD)
+    return f"{count} bit{'s' if count > 1 else ''}{'' if is_read else ', not decoded'}" if count else "no bits"
+
+
+HEAD = {"nid_packet", "q_dir", "l_packet", "body"}
+"""The keys of a packet that is kept as bits. One that balisekit reads by its own layout has more."""

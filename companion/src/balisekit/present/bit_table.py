@@ -6,30 +6,46 @@ from typing import Dict, Iterator, List, Mapping, Union
 from balisekit.errors import NoAnswer
 from balisekit.etcs.layout import Field, bits_of, message_fields, telegram_fields, user_bits
 from balisekit.etcs.packets import packet_name
+from balisekit.etcs.raw_packets import Content, content_of
 from balisekit.etcs.variables import Form
 from balisekit.present.telegram_text import Shown, form_lines
 
 
 def bit_lines(digits: str, form: Form) -> Iterator[str]:
-    """A line for each field. NoAnswer is raised if the fields found here have other numbers than the program's JSON."""
-    is_message = "nid_message" in form
+    """A line for each field. NoAnswer is raised if the fields found here have other numbers than the program's JSON.
+
+    The fields of a body that is read by balisekit's own layout follow it. The JSON has nothing to compare them with.
+    """
+    is_message, from_track = "nid_message" in form, form.get("nid_message") != 136
     fields = message_fields(bits_of(digits)) if is_message else telegram_fields(user_bits(digits))
     known = {shown.path: shown for line in form_lines(form) for shown in line.values}
-    _compare(fields, {path: shown.raw for path, shown in known.items() if path != "/user_bits"})
+    contents = [content_of(packet, from_track) for packet in form["packets"]]
+    own = {f"/packets/{place}{each.path}" for place, read in enumerate(contents) if read for each in read.fields}
+    _compare(fields, {path: shown.raw for path, shown in known.items() if path not in {*own, "/user_bits"}})
     packet = None
     for field in fields:
         if field.packet is not None and field.packet != packet:
             packet = field.packet
-            name = packet_name(field.number or 0, form.get("nid_message") != 136)
-            yield f"  packet {packet}: {name}"
-        yield f"    {_place(field):<17} {_words(field, known)}"
+            yield f"  packet {packet}: {packet_name(field.number or 0, from_track)}"
+        yield f"    {_place(field.at, field.width):<17} {_words(field, known)}"
+        content = contents[packet] if field.name == "body" and packet is not None else None
+        yield from _content_lines(content, field, f"/packets/{packet}", known) if content else ()
 
 
-def _place(field: Field) -> str:
+def _content_lines(content: Content, body: Field, path: str, known: Mapping[str, Shown]) -> Iterator[str]:
+    """The variables of a body, each with its bits, and by which layout they were read."""
+    yield f"        {content.words}:" if content.fields else f"        {content.words}"
+    start = body.at - (23 if content.layout.from_track else 21)
+    for each in content.fields:
+        words = known[path + each.path].text if each.path else f"{each.name} {each.raw}"
+        yield f"        {_place(start + each.at, each.width):<17} {words}"
+
+
+def _place(at: int, width: int) -> str:
     """The first and the last bit of a field. The body of a packet may be empty."""
-    if field.width < 2:
-        return f"bit {field.at}" if field.width else "no bits"
-    return f"bits {field.at} to {field.at + field.width - 1}"
+    if width < 2:
+        return f"bit {at}" if width else "no bits"
+    return f"bits {at} to {at + width - 1}"
 
 
 def _words(field: Field, known: Mapping[str, Shown]) -> str:

@@ -1,6 +1,7 @@
 """A telegram or radio message in words: each number of the program's JSON with its name, unit and raw value.
 
-Lines are made by going through the JSON itself, so nothing of it is left out. What follows ` = ` is balisekit's own.
+Lines are made by going through the JSON itself, so nothing of it is left out. What follows ` = ` is balisekit's own,
+and so are the variables of packets that the program keeps as bits.
 """
 from __future__ import annotations
 
@@ -9,7 +10,8 @@ from functools import lru_cache
 from typing import Iterator, List, Mapping, NamedTuple, Sequence, Tuple, Union
 
 from balisekit.etcs.places import Here, place_notes
-from balisekit.etcs.variables import LABELS, VARIABLES, Around, Form, Values, in_order, value_texts
+from balisekit.etcs.raw_packets import content_notes, with_contents
+from balisekit.etcs.variables import LABELS, WORDS, Around, Form, Values, in_order, value_texts
 
 WIDTH = 118
 LABEL_WIDTH = 22
@@ -53,8 +55,9 @@ class Line(NamedTuple):
 def form_lines(form: Form, here: Here = Here()) -> List[Line]:
     """The lines of a telegram, or of a radio message."""
     around = Around(from_track=form.get("nid_message") != 136)
-    notes = place_notes(form, here) if around.from_track else {}
-    return list(_lines("message" if "nid_message" in form else "header", 0, form, "", around, notes))
+    notes = {**(place_notes(form, here) if around.from_track else {}), **content_notes(form)}
+    label = "message" if "nid_message" in form else "header"
+    return list(_lines(label, 0, with_contents(form), "", around, notes))
 
 
 @lru_cache(maxsize=1024)
@@ -65,7 +68,7 @@ def _steps(keys: Tuple[str, ...]) -> List[Tuple[Tuple[str, ...], str]]:
     """
     steps: List[Tuple[Tuple[str, ...], str]] = []
     for key in in_order(keys):
-        if key not in VARIABLES:
+        if key not in WORDS:
             steps.append(((), key))
         elif key == END_SECTION or not steps or steps[-1][1]:
             steps.append(((key,), ""))
@@ -92,7 +95,8 @@ def _lines(label: str, depth: int, form: Values, path: str, around: Around, note
         elif isinstance(value, dict):
             yield from _lines(name, depth + 1, value, f"{path}/{part}", inner, notes)
         else:
-            yield Line(depth + 1, "", path, (part,), form, value_texts((part,), form, inner))
+            note = notes.get(f"{path}/{part}", "")
+            yield Line(depth + 1, "", path, (part,), form, value_texts((part,), form, inner), note)
 
 
 def text_of(line: Line) -> str:

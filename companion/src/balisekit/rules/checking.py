@@ -23,8 +23,9 @@ GREATEST_REFUSED = 10_000
 ALL_HELP = f"go on after {GREATEST_REFUSED:,} refused telegrams or messages"
 ENCODE = json.JSONEncoder().encode
 BODY = re.compile('"body":"[^"]*","l_packet":[0-9]+,"nid_packet":([0-9]+)')
-Raw = Dict[int, List[int]]
-"""The rows, or the lines of a file of messages, by the NID_PACKET of packets that are kept as bits."""
+Raw = Dict[Tuple[int, bool], List[int]]
+"""The rows, or the lines of a file of messages, by the NID_PACKET of packets that the program keeps as bits, and whether
+these go from track to train."""
 NO_FINDING = Finding("", 0, "")
 Answer = TypeVar("Answer")
 Thing = TypeVar("Thing")
@@ -33,8 +34,9 @@ Thing = TypeVar("Thing")
 def note_raw(raw: Raw, number: int, record: Record) -> None:
     """Puts the packets of a record that are kept as bits beside this row, or line of a file of messages."""
     if '"body"' in record.line:
+        from_track = '"nid_message":136' not in record.line
         for packet in set(BODY.findall(record.line)):
-            raw.setdefault(int(packet), []).append(number)
+            raw.setdefault((int(packet), from_track), []).append(number)
 
 
 class Telegrams(Mapping[int, Form]):
