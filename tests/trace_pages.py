@@ -127,10 +127,16 @@ def add_keys(found, name, number, rows, prefix="", given=""):
         add_keys(found, *one)
 
 
+def compared_of(rows):
+    """How many of these rows were compared with a print."""
+    return f"{sum(bool(it.compared) for it in rows)} of {len(rows)}"
+
+
 def raw_part(trace, _):
     """The rows about packets that the program keeps as bits."""
     head = ["Layouts", "Variable", "Bits", "Numbers", "Unit", "Section", "Doubt", "Compared"]
-    return table(head, [[it.layouts, it.variable and f"{it.variable}: {it.meaning}" or it.meaning, it.bits,
+    count = f"Compared with a print: {compared_of(trace.raw)} of these rows.\n\n"
+    return count + table(head, [[it.layouts, it.variable and f"{it.variable}: {it.meaning}" or it.meaning, it.bits,
                          numbers_text(it), it.unit, it.section, it.doubt,
                          f"{it.compared}, {it.date}" if it.compared else ""] for it in trace.raw])
 
@@ -141,8 +147,7 @@ PARTS = {"trace": trace_part, "raw": raw_part, "rows": rows_part, "bits": bits_p
 def made_texts(trace):
     """The text of each file that has something made of the table."""
     texts = {path: path.read_text(encoding="utf-8") for path in {FORMATS, *COUNTING}}
-    rows = trace.rows + trace.raw
-    count = f"{sum(bool(it.compared) for it in rows)} of {len(rows)} rows"
+    count = f"{compared_of(trace.rows)} rows"
     for path in COUNTING:
         texts[path], times = COUNT.subn(count, texts[path])
         if not times:

@@ -17,6 +17,7 @@ from conftest import Run
 from telegrams import ALONE, MESSAGE, OTHER, SPARE
 
 from balisekit.io import csv_writing
+from balisekit.rules import meaning
 from balisekit.rules.accepted import COLUMNS
 
 Write = Callable[..., Path]
@@ -78,6 +79,7 @@ def test_each_example_is_as_the_schemas_say(run: Run, tmp_path: Path, path: Path
     rules = log["tool"]["driver"]["rules"]
     assert all(rules[result["ruleIndex"]]["id"] == result["ruleId"] for result in log["results"])
     names = [*(f"F{number}" for number in range(1, 17)), *(f"L{number}" for number in range(1, 10))]
+    names += [rule.name for rule in meaning.RULES if rule.is_default]
     assert [rule["id"] for rule in rules] == ["refused", *names]
 
 
@@ -155,11 +157,12 @@ def test_junit_has_a_suite_for_each_family(run: Run, table: Write, tmp_path: Pat
     out = tmp_path / "out.xml"
     assert run("check", LINKS, "--junit", out)[0] == 1
     top = ElementTree.parse(out).getroot()
-    proved, links = top
+    proved, links, remarks = top
     assert proved.get("name") == f"balisecheck {LINKS}" and links.get("name") == f"balisekit links {LINKS}"
     assert (proved.get("failures"), links.get("failures"), top.get("failures")) == ("0", "1", "1")
-    times = [float(each.get("time") or "") for each in (proved, links, top)]
-    assert 0 < times[0] < 60 and 0 < times[1] and abs(times[0] + times[1] - times[2]) < 0.002
+    assert remarks.get("name") == f"balisekit remarks {LINKS}" and remarks.get("failures") == "0"
+    *times, total = [float(each.get("time") or "") for each in (*top, top)]
+    assert 0 < times[0] < 60 and 0 < times[1] and abs(sum(times) - total) < 0.003
     failed = [case for case in links if case.find("failure") is not None]
     assert [case.get("name") for case in failed] == ["A"] and "first link: B (km 11.000) is 1010 m" in str(
         failed[0][0].text
@@ -170,7 +173,7 @@ def test_junit_has_a_suite_for_each_family(run: Run, table: Write, tmp_path: Pat
     assert run("check", LINKS, "--accepted", signed(file), "--junit", out, "--force")[0] == 0
     top = ElementTree.parse(out).getroot()
     assert top.get("skipped") == "1" and top[1].get("skipped") == "1"
-    assert "no open findings or links" in str(top[0].findtext("system-out"))
+    assert "no open findings, links or remarks" in str(top[0].findtext("system-out"))
 
 
 def test_junit_of_a_rule_that_looked_at_nothing(run: Run, table: Write, tmp_path: Path) -> None:

@@ -28,6 +28,7 @@ Write = Callable[..., Path]
 Form = Any
 SIGNED = {"reason": "looked at", "who": "J. Doe", "date": "2026-01-02"}
 PROVED, OWN = "findings of the program, proved:", "links, by balisekit's own rules L1 to L9, not proved:"
+MEANT = "remarks on what the data mean, by balisekit's own rules, not proved:"
 
 
 @pytest.fixture(autouse=True)
@@ -88,7 +89,10 @@ def test_only(run: Run, program: Program, tmp_path: Path) -> None:
     assert out[1:] == ["aspects found: 1 in 4 groups", "program: yes: groups 4, messages 0"]
     status, out, _ = run("check", path, "--only", "L")
     assert status == 1 and PROVED not in out and OWN in out and out[-1] == "links: 1 found (L2 1)"
-    assert run("check", path, "--only", "l,f") == run("check", path, "--only", "F,L") == run("check", path)
+    assert run("check", path, "--only", "l,f") == run("check", path, "--only", "F,L")
+    assert run("check", path, "--only", "e,l,f") == run("check", path)
+    status, out, _ = run("check", path, "--only", "E")
+    assert status == 0 and out[1:] == [f"{MEANT} none", "aspects found: 1 in 4 groups", "remarks: none found"]
     assert run("check", path, "--tolerance", "5")[0] == 0
     assert run("check", path, "--only", "F", "--tolerance", "5")[2] == [
         "balisekit: --tolerance is not used with --only F"
@@ -143,7 +147,7 @@ def test_one_file_accepts_both(run: Run, program: Program, tmp_path: Path) -> No
     assert status == 0 and out[-3:] == [
         "program: no: findings 1; links: 1 found (L2 1)",
         "findings 1, links 1: accepted 2, open 0; accepted though no case of correct data has them: L2 1",
-        "no open findings or links; accepted though no case of correct data has them: L2 1",
+        "no open findings, links or remarks; accepted though no case of correct data has them: L2 1",
     ]
     assert out.count("    accepted: looked at (J. Doe, 2026-01-02)") == 2
     status, out, _ = run("check", path, "--accepted", file, "--only", "F")
@@ -210,8 +214,8 @@ ENTRY = {"nid_c": "1", "nid_bg": "1", **SIGNED, "sha256": "0" * 64}
         ({"rule": "F8", "aspect": "*", "balise": "0"}, "aspect", "F8 is not accepted by * as aspect"),
         ({"rule": "L2", "aspect": "*", "until": "2026-12-31"}, "aspect", "L2 is not accepted by * as aspect"),
         ({"rule": "F10", "nid_c": "", "nid_bg": "", "message": "m", "direction": "*"}, "until", "an entry with * that"),
-        ({"rule": "L10"}, "rule", "L10 is none of F1 to F16 and L1 to L9"),
-        ({"rule": "L0"}, "rule", "L0 is none of F1 to F16 and L1 to L9"),
+        ({"rule": "L10"}, "rule", "L10 is none of F1 to F16, L1 to L9 and E1 to E23"),
+        ({"rule": "L0"}, "rule", "L0 is none of F1 to F16, L1 to L9 and E1 to E23"),
     ],
 )
 def test_entries_that_are_too_broad(
@@ -229,7 +233,7 @@ def test_rules_of_the_table_of_correct_data() -> None:
     page = (TOP / "docs" / "FINDINGS.md").read_text("utf-8").split("## Findings on correct data")[1].split("\n### ")[0]
     rows = [line.split(" | ") for line in page.splitlines() if line.startswith("| ")][1:]
     rules = {word for row in rows for word in re.findall(r"\bF[0-9]+\b", row[1])}
-    assert len(rows) == 9 and rules == set(ON_CORRECT_DATA)
+    assert len(rows) == 9 and rules == {rule for rule in ON_CORRECT_DATA if rule[0] == "F"}
 
 
 def switched(program: Program, counters: str, speeds: List[int]) -> List[str]:
@@ -252,7 +256,8 @@ def test_a_reason_is_true_of_the_data(
     run: Run, table: Write, program: Program, tmp_path: Path, counters: str, speeds: List[int], has_reason: bool
 ) -> None:
     rows = proposed(run, table(*switched(program, counters, speeds)), tmp_path / "p.csv")
-    assert rows and {row["rule"] for row in rows} == {"F16"}
+    assert rows and {row["rule"] for row in rows} - {"E7"} == {"F16"}
+    assert has_reason or ("E7" in {row["rule"] for row in rows}) == (speeds[1] == speeds[2])
     assert all(("one counter in all aspects" in row["reason"]) == has_reason for row in rows)
     assert has_reason or not any(row["reason"] for row in rows)
 
@@ -319,7 +324,7 @@ def test_a_family_can_be_added(run: Run, program: Program, tmp_path: Path, monke
     path = line(program, tmp_path / "t.csv")
     status, out, _ = run("check", path, "--only", "F,L,E")
     assert status == 0 and out.count("remarks, by balisekit's own rules E1 to E1, not proved: none") == 1
-    assert json.dumps(out).count("compared: ") == 2
+    assert json.dumps(out).count("compared: ") == 1
 
 
 def test_checksums_of_remarks(run: Run, program: Program, tmp_path: Path) -> None:

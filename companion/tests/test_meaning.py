@@ -144,4 +144,3 @@ def test_e11_needs_kilometres(run: Run, program: Program, tmp_path: Path) -> Non
     status, out, _ = run("check", path)
     assert status == 1 and out[-1].endswith("; remarks: 1 found (E7 1)")
     assert "no kilometres: rules over the line are not applied" in out
-    assert any(line.startswith("applied: E") and "E11" not in line for line in out)

@@ -46,7 +46,8 @@ def verdict_lines(judged: Judged, last: str, whole: bool, letters: str = "F") ->
         return
     yield from (last, counts(judged, letters))
     if not (judged.open or judged.faults):
-        things = " or ".join(FAMILIES[letter].things for letter in letters)
+        *first, last_things = [FAMILIES[letter].things for letter in letters]
+        things = " or ".join(filter(None, [", ".join(first), last_things]))
         by_any = f"; accepted by *: {judged.accepted_by_any}" if judged.accepted_by_any else ""
         yield f"no open {things}{by_any}{_against_the_rule(judged)}"
 

@@ -11,7 +11,7 @@ from balisekit.present.links_text import compared, empty_rules, found, lacking
 from balisekit.rules.accepted import UNNAMED, Item, keys
 from balisekit.rules.checking import Place
 from balisekit.rules.entries import Entry, entry_of
-from balisekit.rules.families import FAMILIES, PROVED, Outcome, Part, entry_of_remark
+from balisekit.rules.families import PROVED, Outcome, Part, entry_of_remark
 from balisekit.tables.names import clean
 
 LINKS = "L"
@@ -51,8 +51,8 @@ def _part(outcome: Outcome, part: Part) -> Iterator[str]:
 
 
 def _applied(part: Part) -> Iterator[str]:
-    """Which rules were applied, if these are not the usual ones."""
-    if list(part.family.rules) != list(FAMILIES[part.family.letter].usual):
+    """Which rules were applied, if a rule was asked for that is off by default."""
+    if not all(rule.is_default for rule in part.family.rules):
         yield f"applied: {', '.join(rule.name for rule in part.family.rules)}"
 
 

@@ -1,0 +1,104 @@
+"""What a project states of its line: by options, or by [check] of balisekit.toml beside the table."""
+from __future__ import annotations
+
+from decimal import Decimal
+from pathlib import Path
+from typing import List
+
+import pytest
+from conftest import Run
+from meaning_line import Line
+from test_meaning import written
+
+from balisekit.engine.program import Program
+from balisekit.rules.chainage import Chainage, Jump
+
+
+def test_a_project_states_its_line_once(run: Run, program: Program, tmp_path: Path) -> None:
+    """Balises 2.8 m apart are far enough up to 180 km/h only. An option takes the place of the key."""
+    path = written(program, tmp_path / "t.csv", Line())
+    path.write_text(path.read_text("utf-8").replace(",14.503,", ",14.5028,"), "utf-8")
+    assert run("check", path)[0] == 0
+    assert run("check", path, "--line-speed", "200")[0] == 1
+    file = tmp_path / "balisekit.toml"
+    file.write_text(
+        "[check]\nline_speed = 200\nrules = ['E7', 'E11']\ntolerance = 2.5\n[columns]\nkm = 'km'\n", "utf-8"
+    )
+    assert run("check", path)[0] == 1
+    assert run("check", path, "--line-speed", "180")[0] == 0
+    assert run("check", path, "--only", "F")[0] == 0
+
+
+@pytest.mark.parametrize(
+    "toml, why",
+    [
+        ("[check]\nspeed = 1", "[check] has a key speed, which is none: the keys are line_speed, release_speed, "),
+        ("[check]\nline_sped = 1", '[check] has a key line_sped, which is none: did you mean "line_speed"?'),
+        ("[check]\nline_speed = 900", "[check] line_speed: 900 is no speed in km/h from 1 to 600"),
+        ("[check]\nline_speed = true", "[check] line_speed: True is no speed in km/h from 1 to 600"),
+        ("[check]\ntolerance = 'x'", "[check] tolerance: x is no number of metres: write 5 or 2.5"),
+        ("[check]\nrules = ['E99']", "[check] rules: E99 is no rule: write all or E7,E11; the rules are E"),
+        ("check = 3", "check is no table: write [check], and a line for each key below it"),
+    ],
+)
+def test_bad_values(run: Run, program: Program, tmp_path: Path, toml: str, why: str) -> None:
+    path = written(program, tmp_path / "t.csv", Line(5))
+    (tmp_path / "balisekit.toml").write_text(toml, "utf-8")
+    status, out, err = run("check", path)
+    assert (status, out) == (2, []) and err[0].startswith(f"balisekit: {tmp_path / 'balisekit.toml'}: {why}"), err
+
+
+@pytest.mark.parametrize(
+    "words, why",
+    [
+        (["--line-speed", "0"], "0 is no speed in km/h from 1 to 600"),
+        (["--release-speed", "4.5"], "4.5 is no speed in km/h from 1 to 600"),
+        (["--rules", "E7,"], "nothing is no rule: write all or E7,E11"),
+        (["--rules", "L1"], "L1 is no rule"),
+        (["--only", "F,L", "--rules", "all"], "--rules is not used with --only F,L"),
+        (["--only", "L", "--line-speed", "100"], "--line-speed is not used with --only L"),
+    ],
+)
+def test_bad_options(run: Run, program: Program, tmp_path: Path, words: List[str], why: str) -> None:
+    status, out, err = run("check", written(program, tmp_path / "t.csv", Line(5)), *words)
+    assert (status, out) == (2, []) and why in err[-1]
+
+
+JUMPS = [
+    ("km,km_after,track\n12.0,x,\n", "row 2, column km_after: x is no kilometre"),
+    ("km,km_after\n12,12\n", "row 2: km and km_after are the same: that is no jump"),
+    ("km,km_after\n12,\n", "row 2, column km_after: there is no kilometre"),
+    ("a,b\n1,2\n", "no row has the headings km and km_after"),
+]
+
+
+@pytest.mark.parametrize("text, why", JUMPS)
+def test_bad_jumps(run: Run, program: Program, tmp_path: Path, text: str, why: str) -> None:
+    """The path is seen from the folder of balisekit.toml."""
+    path = written(program, tmp_path / "t.csv", Line(5))
+    (tmp_path / "j.csv").write_text(text, "utf-8")
+    (tmp_path / "balisekit.toml").write_text("[check]\njumps = 'j.csv'\n", "utf-8")
+    status, out, err = run("check", path)
+    assert (status, out) == (2, []) and err[0].startswith(f"balisekit: {tmp_path / 'j.csv'}: {why}"), err
+    assert run("check", path, "--jumps", tmp_path / "none.csv")[0] == 2
+
+
+def test_places_do_not_jump() -> None:
+    """A gap of 200 m at km 12, and 100 m that are there twice at km 20."""
+    jumps = [
+        Jump(Decimal("12.000"), Decimal("12.200")),
+        Jump(Decimal("20.1"), Decimal("20.0")),
+        Jump(*2 * [Decimal()], "2"),
+    ]
+    chainage = Chainage.of(jumps, "")
+    kilometres = ("11.9", "12.0", "12.1", "12.2", "13", "20.05", "20.2")
+    places = [chainage.place(Decimal(km)) for km in kilometres]
+    assert places == [119_000, 120_000, None, 120_000, 128_000, None, 201_000]
+    assert [chainage.words(place) for place in (119_000, 120_000, 120_001, 128_000, 201_000)] == [
+        "11.900",
+        "12.000",
+        "12.2001",
+        "13.000",
+        "20.200",
+    ]
+    assert Chainage().place(None) is None
