@@ -15,7 +15,7 @@ from itertools import accumulate
 from typing import Callable, Dict, Iterable, Iterator, List, Mapping, NamedTuple, Optional, Sequence, Tuple, cast
 
 from balisekit.engine.program import Record
-from balisekit.etcs import geometry
+from balisekit.etcs import geometry, raw_packets
 from balisekit.etcs.geometry import DIRECTIONS, INFILL, NOMINAL, Site
 from balisekit.etcs.variables import Form, unit_dm
 from balisekit.rules.chainage import Chainage, Jump
@@ -36,12 +36,7 @@ KEPT = 1 << 12
 """So many texts of packets are kept with their objects: many telegrams have the same packets."""
 
 
-def no_fields(packet: Form) -> Optional[Form]:
-    """The fields of a packet that is kept as bits. None says that its layout is not known."""
-    return None
-
-
-FIELDS_OF: Callable[[Form], Optional[Form]] = no_fields
+FIELDS_OF: Callable[[Form], Optional[Form]] = raw_packets.fields_of
 """What decodes a packet that is kept as bits. Its fields are put beside the keys of the packet."""
 
 

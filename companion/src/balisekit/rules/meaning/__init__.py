@@ -21,6 +21,8 @@ from __future__ import annotations
 
 from balisekit.rules.meaning.e7_aspects_alike import RULE as E7
 from balisekit.rules.meaning.e11_spacing import RULE as E11
+from balisekit.rules.meaning.e12_end_of_authority import RULE as E12
+from balisekit.rules.meaning.e14_exact_distance import RULE as E14
 
-RULES = (E7, E11)
+RULES = (E7, E11, E12, E14)
 __all__ = ["RULES"]
