@@ -24,9 +24,12 @@ from balisekit.rules.meaning.e11_spacing import RULE as E11
 from balisekit.rules.meaning.e12_end_of_authority import RULE as E12
 from balisekit.rules.meaning.e13_profiles_disagree import RULE as E13
 from balisekit.rules.meaning.e14_exact_distance import RULE as E14
+from balisekit.rules.meaning.e15_infill_is_its_signal import RULE as E15
+from balisekit.rules.meaning.e16_single_balise import RULE as E16
 from balisekit.rules.meaning.e17_links_to_the_end import RULE as E17
 from balisekit.rules.meaning.e18_level_transition import RULE as E18
+from balisekit.rules.meaning.e19_gradients_of_both_directions import RULE as E19
 from balisekit.rules.meaning.e22_temporary_restriction import RULE as E22
 
-RULES = (E7, E11, E12, E13, E14, E17, E18, E22)
+RULES = (E7, E11, E12, E13, E14, E15, E16, E17, E18, E19, E22)
 __all__ = ["RULES"]

@@ -32,7 +32,7 @@ from typing import Dict, Iterator, List, Sequence, Tuple
 from balisekit.rules.decoded import GRADIENTS, SPEEDS, Decoded, Packet, allowance
 from balisekit.rules.line import Line
 from balisekit.rules.meaning.along import leaves
-from balisekit.rules.meaning.profiles import Aspect, Piece, Profiles, agree, lanes_of, pieces_of
+from balisekit.rules.meaning.profiles import Piece, Profiles, agree, lanes_of, pieces_of
 from balisekit.rules.meaning.words import source
 from balisekit.rules.rule import Options, Remark, Result, Rule
 from balisekit.rules.urgency import Urgency
@@ -102,7 +102,7 @@ def _remarks(decoded: Decoded, differences: Sequence[Difference]) -> Iterator[Re
         is_rear = counts[id(each.rear)] >= counts[id(each.ahead)]
         if counts[id(each.rear)] == counts[id(each.ahead)]:
             piece = each.pieces[0]
-            is_rear = bool(_cause(piece.rear, piece.ahead, piece.low) or not _cause(piece.ahead, piece.rear, piece.low))
+            is_rear = bool(_cause(each.rear, each.ahead, piece, True) or not _cause(each.ahead, each.rear, piece, False))
         by_group.setdefault(id(each.rear if is_rear else each.ahead), []).append((each, is_rear))
     for some in by_group.values():
         yield _remark(decoded, some)
@@ -114,13 +114,14 @@ def _remark(decoded: Decoded, some: Sequence[Tuple[Difference, bool]]) -> Remark
     piece, way, track = difference.pieces[0], difference.rear.way, difference.rear.track
     own, other = (piece.rear, piece.ahead) if is_rear else (piece.ahead, piece.rear)
     own_value, other_value = own.value_at(piece.low), other.value_at(piece.low)
+    groups = (difference.rear, difference.ahead) if is_rear else (difference.ahead, difference.rear)
     name, unit = ("V_STATIC", "km/h") if own.packet.number == SPEEDS else ("G_A", "per mille")
     factor = 5 if own.packet.number == SPEEDS else 1
     more = sum(len(each.pieces) for each, _ in some) - 1
     sentence = (
         f"{name} is {own_value * factor:{'+' if factor == 1 else ''}} {unit} from {decoded.km(track, piece.low * way)} to "
         f"{decoded.km(track, piece.high * way)}, and {other_value * factor:{'+' if factor == 1 else ''}} {unit} by "
-        f"{source(other.passage, other.packet)}{_cause(own, other, piece.low)}"
+        f"{source(other.passage, other.packet)}{_cause(*groups, piece, is_rear)}"
         + (f"; they differ on {more} other stretch{'es' if more > 1 else ''} too" if more else "")
     )
     values = {f"{name.lower()}": Decimal(own_value * factor), f"other_{name.lower()}": Decimal(other_value * factor)}
@@ -137,18 +138,19 @@ def _row(difference: Difference, is_rear: bool) -> int:
     return packet.row.number if packet.row else 0
 
 
-def _cause(own: Aspect, other: Aspect, place: int) -> str:
-    """What looks like the cause, if the first profile is the wrong one."""
-    value, other_value = own.value_at(place), other.value_at(place)
-    if own.packet.number == SPEEDS and value == 5 * other_value:
+def _cause(own: Profiles, other: Profiles, piece: Piece, is_rear: bool) -> str:
+    """What looks like the cause, if the first group is the wrong one."""
+    aspects = (piece.rear, piece.ahead) if is_rear else (piece.ahead, piece.rear)
+    value, other_value = (each.value_at(piece.low) for each in aspects)
+    if aspects[0].packet.number == SPEEDS and value == 5 * other_value:
         return ": is V_STATIC in km/h instead of steps of 5 km/h?"
-    if own.packet.number == GRADIENTS and value == -other_value:
+    if aspects[0].packet.number == GRADIENTS and value == -other_value:
         return ": is Q_GDIR wrong?"
     for factor in FACTORS:
-        for scaled, words in ((own.scaled(factor), "large"), (own.scaled(1, factor), "small")):
-            if scaled.agrees_with(other):
-                inverse = "small" if words == "large" else "large"
-                return f": are its distances {factor} times too {inverse}, by Q_SCALE?"
+        if own.longest.scaled(factor).agrees_with(other.longest):
+            return f": are its distances {factor} times too small, by Q_SCALE?"
+        if own.longest.scaled(1, factor).agrees_with(other.longest):
+            return f": are its distances {factor} times too large, by Q_SCALE?"
     return ""
 
 
