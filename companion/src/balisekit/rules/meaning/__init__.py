@@ -29,7 +29,10 @@ from balisekit.rules.meaning.e16_single_balise import RULE as E16
 from balisekit.rules.meaning.e17_links_to_the_end import RULE as E17
 from balisekit.rules.meaning.e18_level_transition import RULE as E18
 from balisekit.rules.meaning.e19_gradients_of_both_directions import RULE as E19
+from balisekit.rules.meaning.e20_one_description import RULE as E20
+from balisekit.rules.meaning.e21_session_for_level_2 import RULE as E21
 from balisekit.rules.meaning.e22_temporary_restriction import RULE as E22
+from balisekit.rules.meaning.e23_one_header import RULE as E23
 
-RULES = (E7, E11, E12, E13, E14, E15, E16, E17, E18, E19, E22)
+RULES = (E7, E11, E12, E13, E14, E15, E16, E17, E18, E19, E20, E21, E22, E23)
 __all__ = ["RULES"]

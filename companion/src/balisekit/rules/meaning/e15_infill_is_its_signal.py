@@ -26,7 +26,7 @@ How sure. 88 %.
 from __future__ import annotations
 
 from decimal import Decimal
-from typing import Any, Iterator, List, NamedTuple, Optional, Sequence, Tuple
+from typing import Any, Iterator, List, Mapping, NamedTuple, Optional, Sequence, Tuple
 
 from balisekit.etcs.geometry import DIRECTIONS
 from balisekit.etcs.packets import packet_name
@@ -51,6 +51,8 @@ class Apart(NamedTuple):
     name: str
     own: str
     other: str
+    values: Mapping[str, Decimal] = {}
+    """Both numbers as they are sent."""
 
 
 def find(line: Line, options: Options) -> Result:
@@ -65,7 +67,7 @@ def find(line: Line, options: Options) -> Result:
             identity = reference.form.get("nid_c", country), reference.form["nid_bg"]
             target = decoded.by_identity.get(identity)
             if target is not None:
-                found += [*_ahead(passage, passage.group, reference, target), *_differences(passage, target)]
+                found += list(_ahead(passage, passage.group, reference, target)) or list(_differences(passage, target))
             elif identity[1] != NOT_KNOWN:
                 unknown.append((passage, reference, identity))
     extents, notes = extents_of(decoded) if unknown else {}, set()
@@ -117,8 +119,8 @@ def _differences(passage: Passage, target: GroupData) -> Iterator[Remark]:
                     f"{first.name} is {first.own} in the infill, and {first.other} in the packet {number} "
                     f"({packet_name(number)}) of {source(signal, other)}"
                 )
-                others_rows = (other.row.number,) if other.row else ()
-                yield Remark("E15", passage.at(packet), sentence, target.group, others=others_rows)
+                rows = (other.row.number,) if other.row else ()
+                yield Remark("E15", passage.at(packet), sentence, target.group, first.values, others=rows)
 
 
 def _apart(one: Packet, other: Packet) -> Iterator[Apart]:
@@ -140,7 +142,7 @@ def _compared(
             yield from _compared(values[0], values[1], packets, where, allowed)
         elif isinstance(values[0], list) and isinstance(values[1], list):
             for place, (mine, its) in enumerate(zip(*values)):
-                words = f"{where} of the {ordinal(place)} of {key}"
+                words = f" of the {ordinal(place)} {key.removesuffix('s')}{where}"
                 yield from _compared(mine, its, packets, words, allowed)
             if len(values[0]) != len(values[1]):
                 yield Apart(f"the number of {key}{where}", str(len(values[0])), str(len(values[1])))
@@ -148,7 +150,9 @@ def _compared(
             mine, its = (
                 _words(key, value, packet, parent) for value, packet, parent in zip(values, packets, (own, theirs))
             )
-            yield Apart(f"{variable_name(key, own)}{where}", mine, its)
+            numbers = {key: values[0], f"{key}_of_signal": values[1]}
+            sent = {name: Decimal(value) for name, value in numbers.items() if isinstance(value, int)}
+            yield Apart(f"{variable_name(key, own)}{where}", mine, its, sent)
 
 
 def _differ(key: str, values: Sequence[Any], packets: Sequence[Packet], allowed: int) -> bool:
