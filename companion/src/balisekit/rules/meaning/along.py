@@ -2,9 +2,9 @@
 from __future__ import annotations
 
 from decimal import Decimal
-from typing import Dict, Iterator, Mapping, NamedTuple, Optional, Sequence, Tuple
+from typing import Dict, Iterator, List, Mapping, NamedTuple, Optional, Sequence, Tuple
 
-from balisekit.rules.decoded import LINKING, Decoded, GroupData, Packet, Passage, allowance
+from balisekit.rules.decoded import AUTHORITIES, LINKING, Decoded, GroupData, Packet, Passage, allowance
 from balisekit.rules.rule import Options
 
 Lane = Tuple[str, int]
@@ -22,42 +22,57 @@ class End(NamedTuple):
     passage: Passage
     packet: Packet
 
+    @property
+    def distance(self) -> int:
+        """From the group to it."""
+        return abs(self.place - (self.passage.place(0) or 0))
+
     def differs(self, other: End, decoded: Decoded, options: Options) -> bool:
         """Whether this is another place."""
         parts = (allowance(each.packet, each.packet.lengths) for each in (self, other))
         return abs(self.place - other.place) > decoded.tolerance(options.tolerance_of_places, *parts)
 
 
-def ends_of(decoded: Decoded) -> Iterator[End]:
+def ends_of(decoded: Decoded) -> Sequence[End]:
     """The ends of packets 12 with a V_MAIN above 0, and of packets 15, if their places are known."""
+    if ends_of not in decoded.worked_out:
+        decoded.worked_out[ends_of] = list(_ends(decoded))
+    found: Sequence[End] = decoded.worked_out[ends_of]
+    return found
+
+
+def _ends(decoded: Decoded) -> Iterator[End]:
     for passage in decoded.passages:
-        if passage.way is not None:
-            for packet in passage.said:
-                if packet.number == 12 and packet.form["v_main"] or packet.number == 15:
-                    place = passage.place(packet.authority.end)
-                    if place is not None:
-                        yield End(place, passage, packet)
+        for packet in passage.said:
+            if (packet.number == 12 and packet.form["v_main"] or packet.number == 15) and passage.way is not None:
+                form = packet.form
+                lengths = sum(section["l_section"] for section in form["sections"]) + form["l_endsection"]
+                place = passage.place(lengths * packet.unit)
+                if place is not None:
+                    yield End(place, passage, packet)
 
 
-class Names:
-    """The groups that packets 5 name, worked out once for each packet: aspects share those of fixed balises."""
+def names_of(decoded: Decoded, passage: Passage) -> Sequence[Name]:
+    """All that the packets 5 of a passage name, in their order."""
+    packets = [packet for packet in passage.said if packet.number == LINKING]
+    if len(packets) == 1:
+        return _names(decoded, passage, packets[0])
+    return [name for packet in packets for name in _names(decoded, passage, packet)]
 
-    def __init__(self, decoded: Decoded) -> None:
-        self._decoded = decoded
-        self._known: Dict[int, Sequence[Name]] = {}
 
-    def of(self, passage: Passage) -> Sequence[Name]:
-        """All that the packets 5 of a passage name, in their order."""
-        packets = [packet for packet in passage.said if packet.number == LINKING]
-        if len(packets) == 1:
-            return self._of(passage, packets[0])
-        return [name for packet in packets for name in self._of(passage, packet)]
-
-    def _of(self, passage: Passage, packet: Packet) -> Sequence[Name]:
-        if id(packet) not in self._known:
-            named = self._decoded.reached(passage, [packet])
-            self._known[id(packet)] = [(each.distance, each.target) for each in named]
-        return self._known[id(packet)]
+def _names(decoded: Decoded, passage: Passage, packet: Packet) -> Sequence[Name]:
+    """Those of one packet, worked out once: aspects share the packets of fixed balises."""
+    known: Dict[int, Sequence[Name]] = decoded.worked_out.setdefault(names_of, {})
+    found = known.get(id(packet))
+    if found is None:
+        country = passage.group.group.identity[0] if passage.group and passage.group.group.identity else 0
+        unit, distance, by_identity, made = packet.unit, 0, decoded.by_identity, []
+        for link in packet.form["links"]:
+            distance += link["d_link"] * unit
+            country = link.get("nid_c", country)
+            made.append((distance, by_identity.get((country, link["nid_bg"]))))
+        found = known[id(packet)] = made
+    return found
 
 
 def lane_of(passage: Passage) -> Lane:
@@ -67,13 +82,16 @@ def lane_of(passage: Passage) -> Lane:
 
 def extents_of(decoded: Decoded) -> Mapping[Lane, Extent]:
     """From which place to which one the groups are that give an authority."""
-    found: Dict[Lane, Extent] = {}
+    places: Dict[Lane, List[int]] = {}
     for data in decoded.groups:
-        for passage in data.passages if data.place is not None else ():
-            if passage.way is not None and data.place is not None and passage.authorities:
-                low, high = found.get(lane_of(passage), (data.place, data.place))
-                found[lane_of(passage)] = min(low, data.place), max(high, data.place)
-    return found
+        own = {
+            passage.way
+            for passage in data.passages
+            if any(packet.number in AUTHORITIES for packet in passage.said)
+        }
+        for way in own - {None} if data.place is not None else ():
+            places.setdefault((data.group.track, way or 0), []).append(data.place or 0)
+    return {lane: (min(some), max(some)) for lane, some in places.items()}
 
 
 def leaves(options: Options, decoded: Decoded, passage: Passage, place: int) -> bool:

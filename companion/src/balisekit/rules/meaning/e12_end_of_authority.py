@@ -34,7 +34,7 @@ from typing import Dict, Iterator, List, Optional, Sequence, Tuple
 from balisekit.etcs.variables import metres
 from balisekit.rules.decoded import Decoded, GroupData, allowance
 from balisekit.rules.line import Line
-from balisekit.rules.meaning.along import End, Lane, Names, ends_of, extents_of, lane_of, leaves
+from balisekit.rules.meaning.along import End, Lane, ends_of, extents_of, lane_of, leaves, names_of
 from balisekit.rules.meaning.words import merged, source
 from balisekit.rules.rule import Options, Remark, Result, Rule
 from balisekit.rules.urgency import Urgency
@@ -49,13 +49,12 @@ def find(line: Line, options: Options) -> Result:
     linked: Dict[Tuple[Lane, GroupData], List[End]] = {}
     unlinked: Dict[Lane, List[End]] = {}
     ends: List[Tuple[Lane, End]] = []
-    names = Names(decoded)
     for end in ends_of(decoded):
         lane, looked_at = lane_of(end.passage), looked_at + 1
         if leaves(options, decoded, end.passage, end.place):
             continue
         ends.append((lane, end))
-        target = _target(names, end)
+        target = _target(decoded, end)
         if target is not None:
             linked.setdefault((lane, target), []).append(end)
         elif not end.passage.of(5):
@@ -73,14 +72,22 @@ def find(line: Line, options: Options) -> Result:
     return Result(merged(found.values()), looked_at)
 
 
-def _target(names: Names, end: End) -> Optional[GroupData]:
-    """The group to which the authority leads, by its packets 5."""
-    distance, named = end.packet.authority.end, names.of(end.passage)
-    nearest = min(named, key=lambda each: abs(each[0] - distance), default=None)
-    if nearest is None or abs(nearest[0] - distance) <= NEAR:
-        return nearest[1] if nearest else None
-    before = [each for each in named if each[0] <= distance]
-    return before[-1][1] if before and len(before) < len(named) else None
+def _target(decoded: Decoded, end: End) -> Optional[GroupData]:
+    """The group to which the authority leads, by its packets 5. One that is elsewhere by the kilometres is none."""
+    named = names_of(decoded, end.passage)
+    if not named:
+        return None
+    distance = end.distance
+    at, target = min(named, key=lambda each: abs(each[0] - distance))
+    if abs(at - distance) > NEAR:
+        before = [each for each in named if each[0] <= distance]
+        if not before or len(before) == len(named):
+            return None
+        at, target = before[-1]
+    by_links = end.passage.place(at)
+    if target is None or target.place is None or by_links is None or abs(by_links - target.place) > NEAR:
+        return None
+    return target
 
 
 def _parts(ends: List[End]) -> Iterator[List[End]]:
@@ -109,7 +116,7 @@ def _compare(
         if end.differs(usual, decoded, options):
             track = end.passage.track
             sentence = (
-                f"the authority ends at {decoded.km(track, end.place)}, {metres(end.packet.authority.end)} from the "
+                f"the authority ends at {decoded.km(track, end.place)}, {metres(end.distance)} from the "
                 f"group by L_SECTION and L_ENDSECTION; {same} other{'s' if same > 1 else ''}{where}, such as that of "
                 f"{source(usual.passage, usual.packet)}, end{'s' if same == 1 else ''} at "
                 f"{decoded.km(track, usual.place)}: they differ by {metres(abs(end.place - usual.place))}"
@@ -128,7 +135,7 @@ def _between(decoded: Decoded, options: Options, end: End) -> Iterator[Remark]:
     tolerance = decoded.tolerance(options.tolerance_of_places, allowance(end.packet, end.packet.lengths))
     if STANDS + tolerance < apart <= NEAR:
         sentence = (
-            f"the authority ends at {decoded.km(track, end.place)}, {metres(end.packet.authority.end)} from the group "
+            f"the authority ends at {decoded.km(track, end.place)}, {metres(end.distance)} from the group "
             f"by L_SECTION and L_ENDSECTION: the nearest group, {group.group}, is {metres(apart)} from there"
         )
         values = {"end_m": Decimal(end.place) / 10, "nearest_group_m": Decimal(group.place) / 10}

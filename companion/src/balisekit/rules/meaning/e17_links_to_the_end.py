@@ -30,7 +30,7 @@ from typing import Dict, Iterator, List, Tuple
 from balisekit.etcs.variables import metres
 from balisekit.rules.decoded import Decoded, GroupData
 from balisekit.rules.line import Line
-from balisekit.rules.meaning.along import End, Lane, Names, ends_of, lane_of, leaves
+from balisekit.rules.meaning.along import End, Lane, ends_of, lane_of, leaves, names_of
 from balisekit.rules.meaning.words import merged
 from balisekit.rules.rule import Options, Remark, Result, Rule
 from balisekit.rules.urgency import Urgency
@@ -84,7 +84,7 @@ def find(line: Line, options: Options) -> Result:
 def _lanes(decoded: Decoded) -> Dict[Lane, Reach]:
     """The links and groups of each track and way."""
     lanes: Dict[Lane, Reach] = {}
-    names, known = Names(decoded), set()
+    known = set()
     for passage in decoded.passages:
         way, data = passage.way, passage.group
         if way is None or data is None or data.place is None:
@@ -93,7 +93,7 @@ def _lanes(decoded: Decoded) -> Dict[Lane, Reach]:
         if (data, way) not in known and not passage.message and any(each.number < 254 for each in passage.said):
             known.add((data, way))
             lane.groups.append(data.place * way)
-        named = names.of(passage)
+        named = names_of(decoded, passage)
         if named:
             lane.links.append((data.place * way, data.place * way + max(distance for distance, _ in named)))
     for lane in lanes.values():

@@ -30,7 +30,7 @@ from typing import Dict, Iterator, List, NamedTuple, Optional, Sequence, Tuple
 from balisekit.etcs.variables import metres
 from balisekit.rules.decoded import GRADIENTS, Decoded, allowance
 from balisekit.rules.line import Line
-from balisekit.rules.meaning.profiles import Aspect, lanes_of
+from balisekit.rules.meaning.profiles import Aspect, Profiles, lanes_of
 from balisekit.rules.meaning.words import source
 from balisekit.rules.rule import Options, Remark, Result, Rule
 from balisekit.rules.urgency import Urgency
@@ -69,11 +69,34 @@ def find(line: Line, options: Options) -> Result:
     for track in {track for track, _ in lanes}:
         both = [lanes.get((track, way), ()) for way in (1, -1)]
         looked_at += min(map(len, both))
-        if all(both):
+        if all(both) and _may_differ(*both):
             steps = [[step for each in some for step in _steps(each.longest, way)] for some, way in zip(both, (1, -1))]
             found += list(_uphill(decoded, options, _least(*steps, True)))
             found += list(_downhill(decoded, _least(*steps, False)))
     return Result(found, looked_at)
+
+
+def _may_differ(rising: Sequence[Profiles], falling: Sequence[Profiles]) -> bool:
+    """Whether the nearest groups of both ways differ, or some groups give nothing as far as the next one."""
+    lanes: List[List[Tuple[int, int, int]]] = []
+    for lane in (rising, falling):
+        steps: List[Tuple[int, int, int]] = []
+        for each, after in zip(lane, [*lane[1:], None]):
+            until = each.reach if after is None else after.begin
+            if each.reach < until:
+                return True
+            steps += [(low, min(high, until), value) for low, high, value in each.longest.stretches if low < until]
+        lanes.append(steps)
+    one, other = lanes[0], [(-high, -low, value) for low, high, value in reversed(lanes[1])]
+    first = second = 0
+    while first < len(one) and second < len(other):
+        low, high, value = one[first]
+        other_low, other_high, other_value = other[second]
+        is_apart = value + other_value > UP or max(value, other_value) <= DOWN
+        if is_apart and max(low, other_low) < min(high, other_high):
+            return True
+        first, second = first + (high <= other_high), second + (other_high <= high)
+    return False
 
 
 def _steps(aspect: Aspect, way: int) -> Iterator[Step]:

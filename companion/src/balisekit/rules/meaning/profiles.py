@@ -10,12 +10,13 @@ from functools import cached_property
 from typing import Dict, Iterator, List, Mapping, NamedTuple, Optional, Sequence, Tuple
 
 from balisekit.etcs.geometry import ELEMENT_KEYS
-from balisekit.rules.decoded import SPEEDS, Decoded, GroupData, Packet, Passage
+from balisekit.rules.decoded import LINKING, SPEEDS, Decoded, GroupData, Packet, Passage
 
 APART = 5
 """By how many per mille gradients of two groups may differ."""
 Step = Tuple[int, int, int]
 """From a place to another one, a value."""
+Lanes = Mapping[Tuple[str, int], Sequence["Profiles"]]
 
 
 @dataclass(eq=False)
@@ -33,12 +34,21 @@ class Aspect:
     @cached_property
     def stretches(self) -> Sequence[Step]:
         """Its stretches with an end, by their places."""
-        up, down, origin = self.numerator, self.denominator, self.origin
-        known = self.packet.stretches
-        if up == down:
-            return [(origin + each.begin, origin + each.end, each.value) for each in known if each.end is not None]
-        scaled = [(each.begin * up // down, each.end * up // down, each.value) for each in known if each.end is not None]
-        return [(origin + begin, origin + end, value) for begin, end, value in scaled]
+        packet, up, down, origin = self.packet, self.numerator, self.denominator, self.origin
+        distance, key, mark = ELEMENT_KEYS[packet.number]
+        unit, is_speed = packet.unit, packet.number == SPEEDS
+        found: List[Step] = []
+        at, begin, before = 0, 0, mark
+        for each in packet.form["elements"]:
+            at += each[distance] * unit
+            place = origin + at if up == down else origin + at * up // down
+            if before != mark:
+                found.append((begin, place, value))
+            before, begin = each[key], place
+            if before == mark:
+                break
+            value = before if is_speed or each["q_gdir"] else -before
+        return found
 
     @cached_property
     def _begins(self) -> List[int]:
@@ -46,11 +56,13 @@ class Aspect:
 
     @cached_property
     def reach(self) -> int:
-        """Where the last stretch ends, or the last one with an end begins."""
+        """Where the last stretch with an end ends."""
         distance, value, mark = ELEMENT_KEYS[self.packet.number]
-        sent = self.packet.form["elements"]
-        if sent[-1][value] == mark and all(each[value] != mark for each in sent[:-1]):
-            return self.origin + sum(each[distance] for each in sent) * self.packet.unit
+        total = 0
+        for each in self.packet.form["elements"]:
+            total += each[distance]
+            if each[value] == mark:
+                return self.origin + total * self.packet.unit
         return self.stretches[-1][1] if self.stretches else self.origin
 
     def step_at(self, place: int) -> Optional[int]:
@@ -90,9 +102,9 @@ class Profiles:
     @cached_property
     def longest(self) -> Aspect:
         """The profile that reaches farthest."""
-        return max(self.aspects, key=lambda each: each.reach)
+        return self.aspects[0] if len(self.aspects) == 1 else max(self.aspects, key=lambda each: each.reach)
 
-    @property
+    @cached_property
     def reach(self) -> int:
         """How far it reaches."""
         return self.longest.reach
@@ -109,7 +121,8 @@ class Profiles:
     @cached_property
     def _differ(self) -> bool:
         """Whether its aspects have different packets 5."""
-        return len({tuple(id(packet) for packet in each.passage.of(5)) for each in self.aspects}) > 1
+        first, *others = ([packet for packet in each.passage.said if packet.number == LINKING] for each in self.aspects)
+        return any(each != first for each in others)
 
 
 class Piece(NamedTuple):
@@ -130,8 +143,16 @@ class Piece(NamedTuple):
                 yield each
 
 
-def lanes_of(decoded: Decoded, number: int) -> Mapping[Tuple[str, int], Sequence[Profiles]]:
+def lanes_of(decoded: Decoded, number: int) -> Lanes:
     """The profiles of this NID_PACKET, by track and way, in the order of passing."""
+    known = lanes_of, number
+    if known not in decoded.worked_out:
+        decoded.worked_out[known] = _lanes(decoded, number)
+    found: Lanes = decoded.worked_out[known]
+    return found
+
+
+def _lanes(decoded: Decoded, number: int) -> Lanes:
     lanes: Dict[Tuple[str, int], List[Profiles]] = {}
     for data in decoded.groups:
         if data.place is None:
