@@ -1,7 +1,7 @@
 """Makes the sections of docs/LINKS.md and docs/REMARKS.md: `python3 companion/tests/rules_page.py`.
 
-Each is made of the pages of its rules. The introduction of a document, and the outputs of the examples, are its own and stay as they are. A rule without a
-section gets one, in the order of the rules.
+Each is made of the pages of its rules. The introduction of a document, and the outputs of the examples, are its own and
+stay as they are. A rule without a section gets one, in the order of the rules.
 """
 from __future__ import annotations
 

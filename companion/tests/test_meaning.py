@@ -2,11 +2,14 @@
 from __future__ import annotations
 
 import copy
+import json
+from decimal import Decimal
 from pathlib import Path
 from typing import Any, Callable, List
 
 import meaning_line
 import pytest
+import rules_page
 from conftest import Run
 from meaning_line import SOUND, Line, Row, change, random_line
 
@@ -121,7 +124,7 @@ def test_e11(program: Program, tmp_path: Path, metres: int, fast: int, found: in
     """12 m and 2.3 m, or 3 m above 180 km/h, with one unit of the last decimal."""
     options = Options(line_speed=fast or None)
     made = remarks(program, written(program, tmp_path / "t.csv", Line(), _moved(metres)), options)
-    assert [(each.rule, each.values["spacing_m"]) for each in made] == [("E11", metres)] * found
+    assert [(each.rule, each.values["spacing_m"]) for each in made] == [("E11", Decimal(metres))] * found
 
 
 def test_e11_and_the_column_nominal(run: Run, program: Program, tmp_path: Path) -> None:
@@ -144,3 +147,42 @@ def test_e11_needs_kilometres(run: Run, program: Program, tmp_path: Path) -> Non
     status, out, _ = run("check", path)
     assert status == 1 and out[-1].endswith("; remarks: 1 found (E7 1)")
     assert "no kilometres: rules over the line are not applied" in out
+
+
+def test_other_outputs(run: Run, program: Program, tmp_path: Path) -> None:
+    """A remark is in the report, in the JSON and in a proposal, whose signed entry accepts it as correct data may."""
+    path = written(program, tmp_path / "t.csv", Line(), _copied)
+    sentence = "have the same packets in every balise"
+    assert run("report", path, "--html", tmp_path / "r.html")[0] == 0
+    assert (tmp_path / "r.html").read_text("utf-8").count(sentence) == 1
+    run("check", path, "--json", tmp_path / "a.json", "--propose", tmp_path / "p.csv")
+    answer = json.loads((tmp_path / "a.json").read_text("utf-8"))
+    (entry,) = answer["entries"]
+    assert (entry["rule"], entry["proved"], entry["rows"], entry["aspects"]) == ("E7", False, [16, 17], list(AHEAD))
+    assert answer["rules"]["E7"]["looked_at"] == 15 and not answer["rules"]["E7"]["not_looked_at"]
+    proposal = (tmp_path / "p.csv").read_text("utf-8")
+    assert proposal.splitlines()[1].startswith("E7,352,4,,,,,,,,,,")
+    signed = tmp_path / "s.csv"
+    signed.write_text(proposal.replace("E7,352,4,,,,,,,,,,", "E7,352,4,,,,,,one aspect,J. Doe,2026-01-02,,"), "utf-8")
+    status, out, _ = run("check", path, "--accepted", signed)
+    assert status == 0 and out[-1] == "no open findings, links or remarks"
+    assert run("report", path, "--html", tmp_path / "r.html", "--force", "--accepted", signed)[0] == 0
+    assert "accepted: one aspect (J. Doe, 2026-01-02)" in (tmp_path / "r.html").read_text("utf-8")
+    other = written(program, tmp_path / "t.csv", Line(), _copied, _farther)
+    assert run("check", other, "--accepted", signed)[0] == 1
+
+
+def _farther(rows: List[Row]) -> None:
+    """The authority of yellow and green of signal 4 is 10 m longer."""
+    change(rows, "Signal 4", "green", 12)["l_endsection"] += 10
+
+
+def test_explain(run: Run, program: Program, tmp_path: Path) -> None:
+    out = run("check", written(program, tmp_path / "t.csv", Line(), _copied), "--explain")[1]
+    assert "E7: aspects that say the same" in out and any("How sure. 93 %." in line for line in out)
+
+
+def test_the_page_is_made_of_the_rules() -> None:
+    for document, rules in rules_page.DOCUMENTS.items():
+        text = document.read_text("utf-8")
+        assert rules_page.page(text, rules) == text

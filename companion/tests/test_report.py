@@ -497,9 +497,10 @@ def test_messages_that_cannot_be_drawn(
 def test_findings_stand_before_what_a_yes_means(tmp_path: Path) -> None:
     """The cover has a link to it."""
     _, page = _report(LINE, tmp_path / "r.html")
-    wanted = ["What was left out", "Findings", "What a yes means", "The track", "Groups and messages"]
+    own = "Remarks on what the data mean, by balisekit's own rules, not proved"
+    wanted = ["What was left out", "Findings", own, "What a yes means", "The track", "Groups and messages"]
     headings = re.findall("<h2[^>]*>(.+?)</h2>", page)
-    assert headings[:5] == wanted and page.count('id="yes"') == 1
+    assert headings[:6] == wanted and page.count('id="yes"') == 1
     assert page.index('<a href="#yes">') < page.index('<div class="finding"><a href="#g') < page.index('id="yes"')
 
 

@@ -88,7 +88,7 @@ def test_places_do_not_jump() -> None:
     jumps = [
         Jump(Decimal("12.000"), Decimal("12.200")),
         Jump(Decimal("20.1"), Decimal("20.0")),
-        Jump(*2 * [Decimal()], "2"),
+        Jump(Decimal(1), Decimal(2), "2"),
     ]
     chainage = Chainage.of(jumps, "")
     kilometres = ("11.9", "12.0", "12.1", "12.2", "13", "20.05", "20.2")

@@ -3,7 +3,7 @@ from __future__ import annotations
 
 import argparse
 
-from balisekit.cli import options as shared
+from balisekit.cli import options as shared, settings
 from balisekit.cli.selection import check_aspect
 from balisekit.drawing.track import track_pictures, tracks_of
 from balisekit.io import clock
@@ -11,12 +11,12 @@ from balisekit.present.check_text import closing_lines
 from balisekit.present.explanations import explanations
 from balisekit.present.headings import summary
 from balisekit.present.pages import pieces, premises
-from balisekit.present.report import blocks, cover, listed
+from balisekit.present.report import blocks, cover, listed, remarked
 from balisekit.present.telegram_text import LEGEND
 from balisekit.rules import accepted
+from balisekit.rules.families import apply
 from balisekit.rules.line import Line
 from balisekit.rules.links import L2, compare
-from balisekit.rules.rule import Options
 from balisekit.tables.names import clean
 
 DISTANCE = "one whose distance differs from the kilometres (L2, a rule of balisekit)"
@@ -26,18 +26,20 @@ def add_options(parser: argparse.ArgumentParser) -> None:
     """The options of this command."""
     shared.add(parser, *shared.INPUTS)
     parser.add_argument("--html", **shared.output_file("where to write"), required=True)
-    shared.add(parser, "--force", "--accepted", "--all", "--aspect", "--tolerance")
+    shared.add(parser, "--force", "--accepted", "--all", "--aspect")
+    settings.add_options(parser)
 
 
 def run(options: argparse.Namespace) -> int:
     """Does it. The answer is the exit status."""
-    now = clock.now()
+    now, stated = clock.now(), settings.of_line(options)
     checked, judged = shared.judged(options, now)
     check_aspect(checked.table, options.aspect)
     findings = listed(checked, judged)
     explanation = explanations()
     line = Line.of(checked)
-    links = compare(line, Options(options.tolerance), [L2])
+    links = compare(line, stated, [L2])
+    outcome = apply(checked, ["E"], stated, (judged.entries, now.date()) if judged else None)
     page = pieces(
         "report.html",
         ["page.css", "picture.css", "track.css"],
@@ -45,6 +47,8 @@ def run(options: argparse.Namespace) -> int:
         findings=findings,
         summary=list(summary(checked, [one.entry for one in findings if not one.accepted], judged is not None)),
         judged=judged is not None,
+        remarks=remarked(outcome),
+        remark_notes=[clean(note) for part in outcome.parts if part.applied for note in part.applied.notes],
         explained=[(rule, explanation[rule]) for rule in sorted({place.finding.rule for place in checked.findings})],
         blocks=blocks(checked, line.forms, findings),
         legend=LEGEND,

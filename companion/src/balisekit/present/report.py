@@ -21,6 +21,7 @@ from balisekit.rules.accepted import Judged
 from balisekit.rules.aspect_counts import aspects_found
 from balisekit.rules.checking import AcceptedMessage, Checked
 from balisekit.rules.entries import Entry, entries
+from balisekit.rules.families import Outcome
 from balisekit.rules.remarks import remarks
 from balisekit.tables.model import Group
 from balisekit.tables.names import clean, describe_balise, describe_group, describe_message, describe_rows, passed_over
@@ -114,6 +115,17 @@ def listed(checked: Checked, judged: Optional[Judged] = None) -> List[Listed]:
             dict.fromkeys(accepted_words(reasons[line]) for line in entry.quoted if line in reasons),
         )
         for some in (still_open, accepted)
+        for entry, heading in zip(some, headings.first_of_each(some))
+    ]
+
+
+def remarked(outcome: Outcome) -> List[Listed]:
+    """The entries of rules of balisekit, the open ones first."""
+    ids = {group.name: f"g{index}" for index, group in enumerate(outcome.checked.table.groups)}
+    return [
+        _listed(entry, ids, heading, dict.fromkeys(map(accepted_words, outcome.acceptances(entry))))
+        for part in outcome.parts
+        for some in (part.open, part.accepted)
         for entry, heading in zip(some, headings.first_of_each(some))
     ]
 

@@ -16,7 +16,7 @@ from typing import Any, Callable, Dict, Iterable, Iterator, List, Mapping, Named
 
 from balisekit.engine.program import Record
 from balisekit.etcs import geometry, raw_packets
-from balisekit.etcs.geometry import DIRECTIONS, INFILL, NOMINAL, Site
+from balisekit.etcs.geometry import DIRECTIONS, ELEMENT_KEYS, INFILL, NOMINAL, Site
 from balisekit.etcs.variables import Form, unit_dm
 from balisekit.rules.chainage import Chainage, Jump
 from balisekit.rules.location import BaliseGroup, Identity, Location
@@ -81,12 +81,19 @@ class Packet:
 
     @cached_property
     def stretches(self) -> Tuple[Stretch, ...]:
-        """Of a packet 21 or 27: its elements before the end mark."""
-        is_speed = self.number == SPEEDS
-        return tuple(
-            Stretch(each.begin, each.end, each.value if is_speed or each.form["q_gdir"] else -each.value, each.form)
-            for each in self.profile.elements
-        )
+        """Of a packet 21 or 27: its elements before the end mark. They are those of `profile`, made in less time."""
+        distance, value, mark = ELEMENT_KEYS[self.number]
+        unit, is_speed, at, made = self.unit, self.number == SPEEDS, 0, []
+        elements = self.form["elements"]
+        ends = [*accumulate(each[distance] for each in elements), None]
+        for each, end in zip(elements, ends[1:]):
+            at += each[distance]
+            own = each[value]
+            if own == mark:
+                break
+            signed = own if is_speed or each["q_gdir"] else -own
+            made.append(Stretch(at * unit, None if end is None else end * unit, signed, each))
+        return tuple(made)
 
     @property
     def lengths(self) -> int:
