@@ -12,11 +12,27 @@ from dataclasses import dataclass, field
 from decimal import ROUND_CEILING, Decimal
 from functools import cached_property
 from itertools import accumulate
-from typing import Any, Callable, Dict, Iterable, Iterator, List, Mapping, NamedTuple, Optional, Sequence, Tuple, cast
+from typing import (
+    Any,
+    Callable,
+    Dict,
+    Iterable,
+    Iterator,
+    List,
+    Mapping,
+    NamedTuple,
+    Optional,
+    Sequence,
+    Set,
+    Tuple,
+    Union,
+    cast,
+)
 
 from balisekit.engine.program import Record
-from balisekit.etcs import geometry, raw_packets
+from balisekit.etcs import geometry
 from balisekit.etcs.geometry import DIRECTIONS, ELEMENT_KEYS, INFILL, NOMINAL, Site
+from balisekit.etcs.raw_packets import fields_of
 from balisekit.etcs.variables import Form, unit_dm
 from balisekit.rules.chainage import Chainage, Jump
 from balisekit.rules.location import BaliseGroup, Identity, Location
@@ -36,7 +52,7 @@ KEPT = 1 << 12
 """So many texts of packets are kept with their objects: many telegrams have the same packets."""
 
 
-FIELDS_OF: Callable[[Form], Optional[Form]] = raw_packets.fields_of
+FIELDS_OF: Callable[[Form], Optional[Form]] = fields_of
 """What decodes a packet that is kept as bits. Its fields are put beside the keys of the packet."""
 
 
@@ -256,6 +272,23 @@ class Decoded:
         return [*(passage for group in self.groups for passage in group.passages), *self.messages]
 
     @cached_property
+    def sent(self) -> Mapping[int, Sequence[Tuple[Union[GroupData, Passage], Packet]]]:
+        """By NID_PACKET: each packet once, with the group or the message that sends it."""
+        found: Dict[int, List[Tuple[Union[GroupData, Passage], Packet]]] = {}
+        for data in self.groups:
+            for telegram in data.telegrams.values():
+                for packet in telegram.packets:
+                    found.setdefault(packet.number, []).append((data, packet))
+        seen: Set[int] = set()
+        for passage in self.messages:
+            reference = [passage.reference] if passage.reference else []
+            for packet in (*passage.said, *reference, *passage.infill):
+                if id(packet) not in seen:
+                    seen.add(id(packet))
+                    found.setdefault(packet.number, []).append((passage, packet))
+        return found
+
+    @cached_property
     def by_identity(self) -> Mapping[Identity, GroupData]:
         """The first group of each identity."""
         found: Dict[Identity, GroupData] = {}
@@ -357,7 +390,7 @@ def _of_message(decoded: Decoded, message: Message, form: Form) -> Iterator[Pass
     if form["nid_message"] != 3:
         return
     group = decoded.by_identity.get((form["nid_c"], form["nid_bg"]))
-    packets = _packets(form["packets"])
+    packets = _packets([_with_fields(packet) for packet in form["packets"]])
     for index, direction in enumerate(DIRECTIONS):
         own = [each for each in packets if index in HOLDING[each.form.get("q_dir", 2)]]
         if own:

@@ -19,7 +19,16 @@ but has such a count makes the answer incomplete.
 """
 from __future__ import annotations
 
+from balisekit.rules.meaning.e1_raw_packet import RULE as E1
+from balisekit.rules.meaning.e2_ranges import RULE as E2
+from balisekit.rules.meaning.e3_authority import RULE as E3
+from balisekit.rules.meaning.e4_profile import RULE as E4
+from balisekit.rules.meaning.e5_both_directions import RULE as E5
+from balisekit.rules.meaning.e6_packets import RULE as E6
 from balisekit.rules.meaning.e7_aspects_alike import RULE as E7
+from balisekit.rules.meaning.e8_aspect_lacks import RULE as E8
+from balisekit.rules.meaning.e9_aspect_order import RULE as E9
+from balisekit.rules.meaning.e10_aspects_contradict import RULE as E10
 from balisekit.rules.meaning.e11_spacing import RULE as E11
 from balisekit.rules.meaning.e12_end_of_authority import RULE as E12
 from balisekit.rules.meaning.e13_profiles_disagree import RULE as E13
@@ -34,5 +43,8 @@ from balisekit.rules.meaning.e21_session_for_level_2 import RULE as E21
 from balisekit.rules.meaning.e22_temporary_restriction import RULE as E22
 from balisekit.rules.meaning.e23_one_header import RULE as E23
 
-RULES = (E7, E11, E12, E13, E14, E15, E16, E17, E18, E19, E20, E21, E22, E23)
+RULES = (
+    E1, E2, E3, E4, E5, E6, E7, E8, E9, E10, E11, E12,
+    E13, E14, E15, E16, E17, E18, E19, E20, E21, E22, E23,
+)
 __all__ = ["RULES"]

@@ -1,0 +1,147 @@
+"""E10: aspects that contradict each other about the track.
+
+What it says. For one stretch of track two aspects of a group have different V_STATIC, or signed gradients more than 5 ‰
+apart. The rule compares them as far as the packets 5 of both name the same groups. Without packets 5 it compares them
+only if both authorities end at the same place. Stretches that are shorter than `--tolerance` and the rounding of the
+lengths are passed over. One remark names the aspect that most others disagree with (SUBSET-026, 3.11).
+
+How urgent. At worst wrong information: one of the aspects has a speed or gradient that the track does not have.
+
+Usual cause. The profile of one aspect was not made anew, or has the sign, the scale or the unit wrong.
+
+What may happen. The train gets a speed that is too great, or a gradient that is too favourable, at one of the aspects.
+
+How to correct it. Compare both profiles with the track, and correct the wrong one.
+
+Correct data that gets it. Aspects for different routes, which part before the last group that both name.
+
+Example. At Signal B yellow has 120 km/h from 500 m to 1,000 m, and green 100 km/h.
+
+How sure. 87 %.
+"""
+from __future__ import annotations
+
+from itertools import combinations
+from typing import Dict, Iterator, List, NamedTuple, Optional, Sequence, Tuple
+
+from balisekit.etcs.variables import metres
+from balisekit.rules.decoded import GRADIENTS, LINKING, SPEEDS, Packet, Passage
+from balisekit.rules.line import Line
+from balisekit.rules.meaning.sent import by_culprit, distance, overlaps, speed, tolerance
+from balisekit.rules.rule import Options, Remark, Result, Rule
+from balisekit.rules.urgency import Urgency
+from balisekit.tables.names import listed, quoted
+
+STEEPER = 5
+"""By so many per mille gradients may differ."""
+NAMED = 5
+
+
+class Contrary(NamedTuple):
+    """A stretch of which two aspects say different things, from one distance to another one."""
+
+    packets: Tuple[Packet, Packet]
+    begin: int
+    end: int
+    values: Tuple[int, int]
+
+    @property
+    def turned(self) -> Contrary:
+        """The same with the other aspect first."""
+        return self._replace(packets=self.packets[::-1], values=self.values[::-1])
+
+
+Pairs = Dict[Tuple[str, str], Contrary]
+
+
+def find(line: Line, options: Options) -> Result:
+    """Compares the aspects of each group in each direction."""
+    found: List[Remark] = []
+    count = 0
+    for data in line.decoded.groups:
+        by_direction: Dict[str, List[Passage]] = {}
+        for passage in data.passages if len(data.group.group.aspects) > 1 else ():
+            if passage.of(GRADIENTS, SPEEDS):
+                by_direction.setdefault(passage.direction, []).append(passage)
+        for some in by_direction.values():
+            count += 1
+            found += _of_group(line, options, some) if len(some) > 1 else ()
+    return Result(found, count)
+
+
+def _of_group(line: Line, options: Options, some: Sequence[Passage]) -> Iterator[Remark]:
+    common = [(one, other, _common(line, options, one, other)) for one, other in combinations(some, 2)]
+    for number in (SPEEDS, GRADIENTS):
+        pairs: Pairs = {}
+        for one, other, reach in common:
+            contrary = _compared(line, options, one.of(number), other.of(number), reach) if reach else None
+            if contrary:
+                pairs[one.aspect, other.aspect] = contrary
+        for culprit, others in by_culprit(list(pairs)):
+            yield _remark(some, pairs, culprit, others)
+
+
+def _common(line: Line, options: Options, one: Passage, other: Passage) -> int:
+    """How far the packets 5 of both name the same groups, or both authorities go if no packet 5 is there."""
+    mine, its = one.of(LINKING), other.of(LINKING)
+    if mine and [packet.form for packet in mine] == [packet.form for packet in its]:
+        return max(sum(link["d_link"] for link in packet.form["links"]) * packet.unit for packet in mine)
+    if mine or its:
+        reach = 0
+        for here, there in zip(line.decoded.reached(one), line.decoded.reached(other)):
+            if here.identity != there.identity:
+                break
+            reach = min(here.distance, there.distance)
+        return reach
+    if not (one.authorities and other.authorities):
+        return 0
+    ends = [max(each.authorities, key=lambda packet: packet.authority.end) for each in (one, other)]
+    first, second = (packet.authority.end for packet in ends)
+    is_same = abs(first - second) <= tolerance(line, options, *((packet, packet.lengths) for packet in ends))
+    return min(first, second) if is_same else 0
+
+
+def _compared(
+    line: Line, options: Options, mine: Sequence[Packet], its: Sequence[Packet], reach: int
+) -> Optional[Contrary]:
+    """The first stretch of which both say different things."""
+    for one in mine:
+        for other in its:
+            if one is other or one.form == other.form:
+                continue
+            for begin, end, here, there in overlaps(one.stretches, other.stretches, reach):
+                if not _differ(one.number, here, there):
+                    continue
+                if end - begin > tolerance(line, options, *((each, len(each.stretches)) for each in (one, other))):
+                    return Contrary((one, other), begin, end, (here, there))
+    return None
+
+
+def _differ(number: int, here: int, there: int) -> bool:
+    return here != there if number == SPEEDS else abs(here - there) > STEEPER
+
+
+def _remark(some: Sequence[Passage], pairs: Pairs, culprit: str, others: Sequence[str]) -> Remark:
+    """The aspect that differs, with the first stretch on which it does."""
+    own = [pairs.get((culprit, other)) or pairs[other, culprit].turned for other in others]
+    first = own[0]
+    number = first.packets[0].number
+    said = [f"{quoted(name)} has {_words(number, value)}" for name, value in zip((culprit, others[0]), first.values)]
+    more = f"; {quoted(culprit)} differs from {listed([quoted(name) for name in others[1:]], NAMED)} too"
+    sentence = f"from {metres(first.begin)} to {metres(first.end)} from the group {said[0]}, and {said[1]}"
+    factor = 50 if number == SPEEDS else 10
+    values = {
+        "begin_m": distance(first.begin),
+        "end_m": distance(first.end),
+        **{f"value_{place}": distance(value * factor) for place, value in enumerate(first.values, 1)},
+    }
+    rows = sorted({packet.row.number for each in own for packet in each.packets if packet.row})
+    words = sentence + (more if others[1:] else "")
+    return Remark("E10", some[0].at(), words, values=values, rows=rows, aspects=[culprit, *others])
+
+
+def _words(number: int, value: int) -> str:
+    return f"V_STATIC {speed(value)}" if number == SPEEDS else f"a gradient of {value:+} ‰" if value else "0 ‰"
+
+
+RULE = Rule("E10", "groups with several aspects", __doc__ or "", find, Urgency.WRONG_INFORMATION)

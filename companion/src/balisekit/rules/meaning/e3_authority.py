@@ -1,0 +1,112 @@
+"""E3: authority that contradicts itself.
+
+What it says. In a packet 12 or 15 a D_SECTIONTIMERSTOPLOC is greater than the length of its section. Or
+D_ENDTIMERSTARTLOC or D_STARTOL is greater than the sum of all lengths, if that sum is above 0. Or the overlap ends
+before the danger point. Or V_LOA is above V_MAIN. Or V_LOA is 0 and T_LOA is not 1,023, which means that it never runs
+out. Or V_LOA is above 0, and a danger point or an overlap is there. Or V_MAIN is above 0 and the sum of all lengths
+is 0. Or an L_SECTION is 0 (SUBSET-026, 3.8 and 7.4.2).
+
+How urgent. At worst wrong information: one of the two values of the sentence is not what was meant.
+
+Usual cause. A length was changed, and the timers, the overlap or the danger point were not. Q_SCALE was changed for
+some of the values. Or a value of another signal was copied.
+
+What may happen. A timer starts or stops at a place that the train never passes. A train supervises an overlap that ends
+before its danger point. Or it may run at V_MAIN without any length.
+
+How to correct it. Compare both values of the sentence with the design of the signal, and correct the wrong one.
+
+Correct data that gets it. National rules for timers: a timer that stops, or starts, in rear of the group on purpose.
+
+Example. The overlap of Signal B ends 20 m after the end of authority, and the danger point is 50 m after it.
+
+How sure. 88 %.
+"""
+from __future__ import annotations
+
+from decimal import Decimal
+from itertools import chain
+from typing import Iterator, List
+
+from balisekit.etcs.variables import Form, metres
+from balisekit.rules.decoded import AUTHORITIES, Packet
+from balisekit.rules.line import Line
+from balisekit.rules.meaning.sent import Fault, distance, kmh, of_packets, speed
+from balisekit.rules.rule import Options, Result, Rule
+from balisekit.rules.urgency import Urgency
+from balisekit.tables.names import ordinal
+
+ENDLESS = 1023
+"""The T_LOA that means that the limit of authority never runs out."""
+
+
+def find(line: Line, options: Options) -> Result:
+    """Looks at each packet 12 and 15."""
+    return of_packets("E3", line, AUTHORITIES, _faults)
+
+
+def _faults(packet: Packet) -> List[Fault]:
+    form, unit = packet.form, packet.unit
+    total = (sum(section["l_section"] for section in form["sections"]) + form["l_endsection"]) * unit
+    return list(chain(_sections(form, unit), _starts(form, unit, total), _overlap(form, unit), _limit(form, total)))
+
+
+def _sections(form: Form, unit: int) -> Iterator[Fault]:
+    """The lengths of the sections, and where their timers stop."""
+    for place, section in enumerate(form["sections"]):
+        name = f"the {ordinal(place)} section"
+        if section["l_section"] == 0:
+            yield Fault(f"L_SECTION of {name} is 0 m", {"l_section_m": distance(0)})
+        else:
+            yield from _stop(section, section["l_section"] * unit, f"{name}, L_SECTION", unit)
+    yield from _stop(form, form["l_endsection"] * unit, "the end section, L_ENDSECTION", unit)
+
+
+def _stop(form: Form, length: int, name: str, unit: int) -> Iterator[Fault]:
+    stop = form["section_timer"]["d_sectiontimerstoploc"] * unit if "section_timer" in form else 0
+    if stop > length:
+        words = f"D_SECTIONTIMERSTOPLOC {metres(stop)} is beyond {name} {metres(length)}"
+        yield Fault(words, {"d_sectiontimerstoploc_m": distance(stop), "length_m": distance(length)})
+
+
+def _starts(form: Form, unit: int, total: int) -> Iterator[Fault]:
+    """Where the timers of the end section and of the overlap start, which counts back from the end of authority."""
+    starts = {}
+    if "end_timer" in form:
+        starts["D_ENDTIMERSTARTLOC"] = form["end_timer"]["d_endtimerstartloc"] * unit
+    if "overlap" in form:
+        starts["D_STARTOL"] = form["overlap"]["d_startol"] * unit
+    for name, start in starts.items():
+        if start > total > 0:
+            words = f"{name} {metres(start)} is greater than the sum of all lengths, {metres(total)}"
+            yield Fault(words, {f"{name.lower()}_m": distance(start), "lengths_m": distance(total)})
+
+
+def _overlap(form: Form, unit: int) -> Iterator[Fault]:
+    if "overlap" not in form or "danger_point" not in form:
+        return
+    overlap, danger = form["overlap"]["d_ol"] * unit, form["danger_point"]["d_dp"] * unit
+    if overlap < danger:
+        words = f"the overlap ends before the danger point: D_OL {metres(overlap)}, D_DP {metres(danger)}"
+        yield Fault(words, {"d_ol_m": distance(overlap), "d_dp_m": distance(danger)})
+
+
+def _limit(form: Form, total: int) -> Iterator[Fault]:
+    """V_LOA and T_LOA beside V_MAIN, the length, the danger point and the overlap."""
+    main, limit = form.get("v_main"), form["end_speed"]
+    if main is not None and limit > main:
+        words = f"V_LOA {speed(limit)} is above V_MAIN {speed(main)}"
+        yield Fault(words, {"v_loa_kmh": kmh(limit), "v_main_kmh": kmh(main)})
+    if limit == 0 and form["end_timeout"] != ENDLESS:
+        seconds = form["end_timeout"]
+        yield Fault(f"T_LOA is {seconds} s and V_LOA is 0 km/h", {"t_loa_s": Decimal(seconds)})
+    names = [name for key, name in (("danger_point", "a danger point"), ("overlap", "an overlap")) if key in form]
+    if limit > 0 and names:
+        words = f"V_LOA is {speed(limit)}, and {' and '.join(names)} is there, which is for V_LOA 0 km/h"
+        yield Fault(words, {"v_loa_kmh": kmh(limit)})
+    if main and total == 0:
+        words = f"V_MAIN is {speed(main)}, and the sum of all lengths is 0 m"
+        yield Fault(words, {"v_main_kmh": kmh(main), "lengths_m": distance(0)})
+
+
+RULE = Rule("E3", "authorities", __doc__ or "", find, Urgency.WRONG_INFORMATION)

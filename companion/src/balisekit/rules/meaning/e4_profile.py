@@ -1,0 +1,127 @@
+"""E4: profile that contradicts itself.
+
+What it says. In a packet 21 or 27 an element after the first one has D_GRADIENT or D_STATIC 0, an element follows an
+end mark, or the end mark is the first element. Or a V_STATIC is 0 km/h. Or an element repeats the gradient, or the
+speed, Q_FRONT and categories, of the one before it. Or an element has a train category twice, the V_DIFF by cant
+deficiency falls while NC_CDDIFF rises, or one of them is below V_STATIC (SUBSET-026, 3.11 and 7.4.2).
+
+How urgent. At worst wrong information: a speed or gradient holds at another place, or for other trains, than was meant.
+
+Usual cause. The elements were sorted wrongly, or one was entered twice. A distance was forgotten. An end mark is left
+from a shorter profile, or a value of the categories was mistyped.
+
+What may happen. Of two elements at one place only one can hold. What follows an end mark is not used. A repeated
+element often stands for a change that was meant.
+
+How to correct it. Compare the elements with the profile of the track, and correct or remove the wrong one.
+
+Correct data that gets it. A speed of 0 km/h beyond a buffer stop.
+
+Example. The third element of the gradient profile of Signal B has D_GRADIENT 0 m, as if it were at the place of the
+second one.
+
+How sure. 90 %.
+"""
+from __future__ import annotations
+
+from decimal import Decimal
+from typing import Iterator, List, Optional, Sequence, Tuple
+
+from balisekit.etcs.geometry import ELEMENT_KEYS
+from balisekit.etcs.variables import CANT, Form
+from balisekit.rules.decoded import GRADIENTS, SPEEDS, Packet
+from balisekit.rules.line import Line
+from balisekit.rules.meaning.sent import Fault, kmh, of_packets, speed
+from balisekit.rules.rule import Options, Result, Rule
+from balisekit.rules.urgency import Urgency
+from balisekit.tables.names import ordinal
+
+CANT_DEFICIENCY = 0
+"""The Q_DIFF of a difference by cant deficiency."""
+
+
+def find(line: Line, options: Options) -> Result:
+    """Looks at each packet 21 and 27."""
+    return of_packets("E4", line, (GRADIENTS, SPEEDS), _faults)
+
+
+def _faults(packet: Packet) -> List[Fault]:
+    _, value, mark = ELEMENT_KEYS[packet.number]
+    elements = packet.form["elements"]
+    ended = next((place for place, each in enumerate(elements) if each[value] == mark), None)
+    own = elements if ended is None else elements[:ended]
+    return [*_end(elements, ended), *_steps(packet, own), *_speeds(packet, own)]
+
+
+def _end(elements: Sequence[Form], ended: Optional[int]) -> Iterator[Fault]:
+    """Where the end mark is."""
+    if ended == 0:
+        yield Fault("the end mark is the first element", {})
+    elif ended is not None and ended < len(elements) - 1:
+        behind = len(elements) - 1 - ended
+        words = (
+            f"{behind} element{' follows' if behind == 1 else 's follow'} the end mark, the {ordinal(ended)} element"
+        )
+        yield Fault(words, {"elements": Decimal(behind)})
+
+
+def _steps(packet: Packet, own: Sequence[Form]) -> Iterator[Fault]:
+    """Each element beside the one before it."""
+    key = ELEMENT_KEYS[packet.number][0]
+    all_of_them = packet.form["elements"][: len(own) + 1]
+    for place, (before, each) in enumerate(zip(all_of_them, all_of_them[1:]), 1):
+        name = f"the {ordinal(place)} element"
+        if each[key] == 0:
+            yield Fault(
+                f"{key.upper()} of {name} is 0 m: it begins where the one before it does", {"distance_m": Decimal()}
+            )
+        elif place < len(own) and _said(packet, before) == _said(packet, each):
+            value, words = _value(packet, each)
+            yield Fault(f"{name} repeats the one before it, {words}", {"value": Decimal(value)})
+
+
+def _said(packet: Packet, element: Form) -> object:
+    """What an element says, apart from its distance."""
+    if packet.number == GRADIENTS:
+        return element["g_a"] * (1 if element["q_gdir"] else -1)
+    return element["v_static"], element["q_front"], element["differences"]
+
+
+def _value(packet: Packet, element: Form) -> Tuple[int, str]:
+    if packet.number == SPEEDS:
+        return element["v_static"] * 5, f"V_STATIC {speed(element['v_static'])}"
+    value = element["g_a"] * (1 if element["q_gdir"] else -1)
+    return value, f"{value:+} ‰" if value else "0 ‰"
+
+
+def _speeds(packet: Packet, own: Sequence[Form]) -> Iterator[Fault]:
+    """The speeds of each element, and those of train categories."""
+    for place, element in enumerate(own if packet.number == SPEEDS else ()):
+        name = f"the {ordinal(place)} element"
+        if element["v_static"] == 0:
+            yield Fault(f"V_STATIC of {name} is 0 km/h", {"v_static_kmh": kmh(0)})
+        if element["differences"]:
+            yield from _categories(element, name)
+
+
+def _categories(element: Form, name: str) -> Iterator[Fault]:
+    differences = element["differences"]
+    kinds = [(each["q_diff"] != CANT_DEFICIENCY, each["nc"]) for each in differences]
+    if len(set(kinds)) < len(kinds):
+        yield Fault(f"{name} has a train category twice", {"categories": Decimal(len(kinds))})
+    by_cant = sorted((each["nc"], each["v_diff"]) for each in differences if each["q_diff"] == CANT_DEFICIENCY)
+    for (low, faster), (high, slower) in zip(by_cant, by_cant[1:]):
+        if slower < faster:
+            words = f"V_DIFF of {name} is {speed(faster)} for {_cant(low)}, and {speed(slower)} for {_cant(high)}"
+            yield Fault(words, {"v_diff_kmh": kmh(faster), "v_diff_of_more_cant_kmh": kmh(slower)})
+    for cant, value in by_cant:
+        if value < element["v_static"]:
+            words = f"V_DIFF of {name} is {speed(value)} for {_cant(cant)}, and V_STATIC {speed(element['v_static'])}"
+            yield Fault(words, {"v_diff_kmh": kmh(value), "v_static_kmh": kmh(element["v_static"])})
+
+
+def _cant(number: int) -> str:
+    return f"cant deficiency {CANT[number]} mm" if number in CANT else f"NC_CDDIFF {number}"
+
+
+RULE = Rule("E4", "profiles", __doc__ or "", find, Urgency.WRONG_INFORMATION)

@@ -1,0 +1,112 @@
+"""E6: packets of one message.
+
+What it says. A balise has a packet 15, 57, 58, 63 or 140, which only radio sends. Or packet 0 is not the first packet
+of its telegram. Or in one direction there are two packets 5, where what follows a packet 136 is counted by itself. With
+`--rules E6` it also names, in one direction, two packets 2, 3, 12, 15, 16, 21, 27, 41, 45, 46, 80, 131, 132, 136, 137,
+141 or 254, and in a message 3 a packet 0, 6, 12, 16, 46, 90, 132 to 137, 145 or 254 (SUBSET-026, 7.4 and 8.4.4).
+
+How urgent. At worst wrong information: nobody knows which of two packets a train uses.
+
+Usual cause. Telegrams or messages were put together from parts that both have the packet. A packet was copied from a
+message of the other kind.
+
+What may happen. The train may use only one of two packets, or reject the message. A packet that a balise cannot send is
+not used.
+
+How to correct it. Remove the packet that is too many, or put packet 0 at the beginning.
+
+Correct data that gets it. None is known of the part that is always on. The other part names packets of the same kind
+that have different contents on purpose.
+
+Example. Both balises of Signal B have a packet 5 for the nominal direction.
+
+How sure. 96 %. The part that is off by default is 80 % sure.
+"""
+from __future__ import annotations
+
+from decimal import Decimal
+from typing import Dict, FrozenSet, Iterator, List, Sequence, Tuple
+
+from balisekit.etcs.packets import packet_name
+from balisekit.rules.decoded import LINKING, Packet, Passage
+from balisekit.rules.line import Line
+from balisekit.rules.meaning.sent import Fault, Owner, located, remark, sent
+from balisekit.rules.rule import Options, Remark, Result, Rule
+from balisekit.rules.urgency import Urgency
+from balisekit.tables.names import ordinal, rows_words
+
+COVER_MARKER = 0
+BY_RADIO = (15, 57, 58, 63, 140)
+ONCE = frozenset({2, 3, 12, 15, 16, 21, 27, 41, 45, 46, 80, 131, 132, 136, 137, 141, 254})
+"""Those that are named twice only if it is asked for."""
+NOT_BY_RADIO = (0, 6, 12, 16, 46, 90, 132, 133, 134, 135, 136, 137, 145, 254)
+
+
+def find(line: Line, options: Options) -> Result:
+    """Looks at each packet, and at what is said in each direction."""
+    asked = options.asks_for("E6")
+    found = [*_of_balises(line)]
+    found += _twice(line, ONCE | {LINKING} if asked else frozenset({LINKING}))
+    found += _of_messages(line) if asked else ()
+    return Result(found, len(line.decoded.passages))
+
+
+def _of_balises(line: Line) -> Iterator[Remark]:
+    """Packets that no balise sends, and a packet 0 that is not the first one."""
+    for owner, packet in sent(line.decoded, *BY_RADIO):
+        if packet.row is not None:
+            yield _remark(owner, packet, "a balise has it, and only radio sends it")
+    for owner, packet in sent(line.decoded, COVER_MARKER):
+        if packet.row is not None and packet.place > 0:
+            words = (
+                f"it is the {ordinal(packet.place)} packet of its telegram, and a train looks for it at the beginning"
+            )
+            yield _remark(owner, packet, words)
+
+
+def _of_messages(line: Line) -> Iterator[Remark]:
+    """Packets that a message 3 does not have."""
+    for owner, packet in sent(line.decoded, *NOT_BY_RADIO):
+        if packet.row is None:
+            yield _remark(owner, packet, "a message 3 has it, and only balises, loops or radio infill units send it")
+
+
+def _remark(owner: Owner, packet: Packet, words: str) -> Remark:
+    return remark("E6", located(owner, packet), [Fault(words, {"nid_packet": Decimal(packet.number)})])
+
+
+def _twice(line: Line, numbers: FrozenSet[int]) -> Iterator[Remark]:
+    """Packets that are said twice in one direction. Those of several aspects are named once."""
+    seen: Dict[Tuple[int, ...], None] = {}
+    for passage in line.decoded.passages:
+        reference = [passage.reference] if passage.reference else []
+        for part in (passage.said, [*reference, *passage.infill]):
+            for packets in _several(part, numbers):
+                key = tuple(id(packet) for packet in packets)
+                if key not in seen:
+                    seen[key] = None
+                    yield _several_remark(passage, packets)
+
+
+def _several(part: Sequence[Packet], numbers: FrozenSet[int]) -> List[List[Packet]]:
+    own = [packet.number for packet in part if packet.number in numbers]
+    if len(own) == len(set(own)):
+        return []
+    twice = sorted(number for number in set(own) if own.count(number) > 1)
+    return [[packet for packet in part if packet.number == number] for number in twice]
+
+
+def _several_remark(passage: Passage, packets: List[Packet]) -> Remark:
+    number, last = packets[0].number, packets[-1]
+    rows = [packet.row.number for packet in packets if packet.row]
+    where = f", in {rows_words(rows)}" if len(set(rows)) > 1 else ""
+    words = (
+        f"a train gets {len(packets)} packets {number} ({packet_name(number)}) in {passage.direction} "
+        f"direction{where}: nobody knows which of them it uses"
+    )
+    others = sorted({row for row in rows if last.row and row != last.row.number})
+    made = remark("E6", passage.at(last), [Fault(words, {"packets": Decimal(len(packets))})])
+    return Remark(made.rule, made.location, made.sentence, values=made.values, others=others)
+
+
+RULE = Rule("E6", "passages", __doc__ or "", find, Urgency.WRONG_INFORMATION)

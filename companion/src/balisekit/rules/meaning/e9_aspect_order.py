@@ -1,0 +1,119 @@
+"""E9: aspects in the wrong order.
+
+What it says. In the table the authority of one aspect is mostly shorter than that of another aspect: in at least three
+cases, and in four of five in which a group has both with a V_MAIN above 0. The rule names a group in which it is
+longer, and at the lowest urgency one in which both are equal. It also names an aspect with V_MAIN 0 if the aspect of
+this name has a V_MAIN above 0 in at least three other cases and in four of five, and the reverse. `--tolerance` and the
+rounding of the lengths are allowed (SUBSET-026, 3.8).
+
+How urgent. At worst wrong information: the restrictive aspect gives the longer authority.
+
+Usual cause. The telegrams of two aspects were exchanged, or the table names the aspects of one signal in another order.
+
+What may happen. At yellow the train gets the authority of green, and may run beyond a signal at danger. A red aspect
+with a V_MAIN above 0 does not stop the train.
+
+How to correct it. Exchange the telegrams of the two aspects, or correct their names.
+
+Correct data that gets it. A signal before a buffer stop or a level border: both aspects end there, and are equal. An
+aspect that one signal uses otherwise than all others.
+
+Example. In 14 of 15 cases yellow ends before green, and at Signal B green ends at 1,400 m and yellow at 2,900 m.
+
+How sure. 86 %.
+"""
+from __future__ import annotations
+
+from typing import Dict, Iterator, List, Optional, Sequence, Tuple
+
+from balisekit.etcs.variables import metres
+from balisekit.rules.line import Line
+from balisekit.rules.meaning.aspect_cases import Case, Counts, Pair, against_the_order, cases_of, is_usual, pairs_of
+from balisekit.rules.meaning.sent import by_culprit, distance, kmh, speed
+from balisekit.rules.rule import Options, Remark, Result, Rule
+from balisekit.rules.urgency import Urgency
+from balisekit.tables.names import listed, quoted
+
+NAMED = 5
+
+
+def find(line: Line, options: Options) -> Result:
+    """Compares the aspects of each name over the table."""
+    cases = cases_of(line)
+    return Result([*_ends(line, options, cases), *_stops(cases)], len(cases))
+
+
+def _ends(line: Line, options: Options, cases: Sequence[Sequence[Case]]) -> Iterator[Remark]:
+    """Authorities against the order that most cases show."""
+    counts: Counts = {}
+    wrong: Dict[Tuple[int, str], List[Pair]] = {}
+    for pair in against_the_order(pairs_of(line, options, cases), counts):
+        wrong.setdefault((id(pair.first.passage.group), pair.first.passage.direction), []).append(pair)
+    for some in wrong.values():
+        yield from _of_group(some, counts)
+
+
+def _of_group(some: Sequence[Pair], counts: Counts) -> Iterator[Remark]:
+    """One remark for each aspect that is not where it should be, then those of equal ends."""
+    contrary = {frozenset(pair.names): pair for pair in some if pair.longer < 0}
+    for culprit, others in by_culprit([pair.names for pair in contrary.values()]):
+        pair = contrary[frozenset((culprit, others[0]))]
+        more = f"; {quoted(culprit)} is not in order with {listed(list(map(quoted, others[1:])), NAMED)} either"
+        yield _remark(pair, f"{_ends_words(pair)}, {_usually(pair, counts)}{more if others[1:] else ''}")
+    for pair in some:
+        if pair.longer == 0 and not _are_copies(pair):
+            yield _remark(pair, f"{_ends_words(pair)}, which is equal, {_usually(pair, counts)}", Urgency.RULE_ONLY)
+
+
+def _are_copies(pair: Pair) -> bool:
+    """Whether both aspects say the same: then another rule names them."""
+    one, other = ([packet.form for packet in case.passage.said] for case in (pair.first, pair.second))
+    return one == other
+
+
+def _ends_words(pair: Pair) -> str:
+    ends = [
+        f"{quoted(case.passage.aspect)} ends {metres(case.end)} from the group" for case in (pair.first, pair.second)
+    ]
+    return f"the authority of {ends[0]} and that of {ends[1]}"
+
+
+def _usually(pair: Pair, counts: Counts) -> str:
+    count, of_how_many = counts[pair.names]
+    first, second = map(quoted, pair.names)
+    return f"and in {count} of {of_how_many} cases of the table that of {first} ends before that of {second}"
+
+
+def _remark(pair: Pair, words: str, urgency: Optional[Urgency] = None) -> Remark:
+    cases = sorted((pair.first, pair.second), key=lambda case: case.packet.row.number if case.packet.row else 0)
+    where = pair.first.passage.at()
+    values = {"first_end_m": distance(pair.first.end), "second_end_m": distance(pair.second.end)}
+    rows = [case.packet.row.number for case in cases if case.packet.row]
+    aspects = [case.passage.aspect for case in cases]
+    return Remark("E9", where, words, values=values, urgency=urgency, rows=rows, aspects=aspects)
+
+
+def _stops(cases: Sequence[Sequence[Case]]) -> Iterator[Remark]:
+    """V_MAIN 0 or above 0 against what most aspects of this name have."""
+    by_name: Dict[str, List[Case]] = {}
+    for own in cases:
+        for case in own:
+            by_name.setdefault(case.passage.aspect, []).append(case)
+    for name, some in by_name.items():
+        for odd, usual in ((0, 1), (1, 0)):
+            few = [case for case in some if bool(case.packet.form["v_main"]) == bool(odd)]
+            count = len(some) - len(few)
+            if few and is_usual(count, len(some)):
+                yield from (_stop(case, count, len(some), "above 0" if usual else "0") for case in few)
+
+
+def _stop(case: Case, count: int, of_how_many: int, usual: str) -> Remark:
+    main = case.packet.form["v_main"]
+    words = (
+        f"V_MAIN of the aspect {quoted(case.passage.aspect)} is {speed(main)}, and in {count} of {of_how_many} cases "
+        f"of the table it is {usual}"
+    )
+    return Remark("E9", case.passage.at(case.packet), words, values={"v_main_kmh": kmh(main)})
+
+
+RULE = Rule("E9", "groups with several aspects", __doc__ or "", find, Urgency.WRONG_INFORMATION)

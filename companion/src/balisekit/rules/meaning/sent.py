@@ -1,0 +1,103 @@
+"""What several rules E need: each packet of a table once, what is wrong with it, and values in words."""
+from __future__ import annotations
+
+from collections import Counter
+from decimal import Decimal
+from typing import Callable, Dict, Iterator, List, Mapping, NamedTuple, Sequence, Tuple, TypeVar, Union
+
+from balisekit.rules.decoded import Decoded, GroupData, Packet, Passage, Stretch, allowance
+from balisekit.rules.line import Line
+from balisekit.rules.location import Location
+from balisekit.rules.rule import Options, Remark, Result
+
+Owner = Union[GroupData, Passage]
+"""The group, or the message, that sends a packet."""
+Key = TypeVar("Key")
+
+
+class Fault(NamedTuple):
+    """What is wrong with a packet: a sentence, and the values that it has."""
+
+    words: str
+    values: Mapping[str, Decimal]
+
+
+def sent(decoded: Decoded, *numbers: int) -> Iterator[Tuple[Owner, Packet]]:
+    """Each packet with these NID_PACKET once, and who sends it: those of groups, then those of messages."""
+    for number in numbers:
+        yield from decoded.sent.get(number, ())
+
+
+def located(owner: Owner, packet: Packet) -> Location:
+    """Where a packet is, for a remark about no direction."""
+    if isinstance(owner, GroupData):
+        return owner.of_packet(packet)
+    return owner.at(packet)._replace(direction="")
+
+
+def of_packets(rule: str, line: Line, numbers: Sequence[int], look_at: Callable[[Packet], List[Fault]]) -> Result:
+    """Looks at each packet with these numbers. All faults of a packet are one remark."""
+    found, count = [], 0
+    for owner, packet in sent(line.decoded, *numbers):
+        count += 1
+        faults = look_at(packet)
+        if faults:
+            found.append(remark(rule, located(owner, packet), faults))
+    return Result(found, count)
+
+
+def remark(rule: str, location: Location, faults: Sequence[Fault]) -> Remark:
+    """One remark about these faults."""
+    values: Dict[str, Decimal] = {}
+    for fault in faults:
+        for name, value in fault.values.items():
+            values[name if name not in values else f"{name}_{len(values)}"] = value
+    return Remark(rule, location, "; ".join(fault.words for fault in faults), values=values)
+
+
+def tolerance(line: Line, options: Options, *parts: Tuple[Packet, int]) -> int:
+    """By how many decimetres sums of so many lengths of these packets may differ."""
+    allowed = (allowance(packet, lengths) for packet, lengths in parts)
+    return line.decoded.tolerance(options.tolerance_of_places, *allowed)
+
+
+def speed(value: int) -> str:
+    """A speed, and how it is sent: `500 km/h [100]`."""
+    return f"{value * 5} km/h [{value}]"
+
+
+def kmh(value: int) -> Decimal:
+    """A speed in km/h, as a value of a remark."""
+    return Decimal(value * 5)
+
+
+def distance(decimetres: int) -> Decimal:
+    """A distance in metres, as a value of a remark."""
+    return Decimal(decimetres) / 10
+
+
+def by_culprit(pairs: Sequence[Tuple[Key, Key]]) -> Iterator[Tuple[Key, List[Key]]]:
+    """Of things that disagree in pairs: the one that most others disagree with, these others, and so on with the rest.
+
+    One thing that is wrong disagrees with all others, and that is one remark.
+    """
+    left = list(pairs)
+    while left:
+        (culprit, _), *_ = Counter(each for pair in left for each in reversed(pair)).most_common(1)
+        yield culprit, [other for pair in left for other in pair if culprit in pair and other != culprit]
+        left = [pair for pair in left if culprit not in pair]
+
+
+def overlaps(some: Sequence[Stretch], others: Sequence[Stretch], reach: int) -> Iterator[Tuple[int, int, int, int]]:
+    """The stretches that two profiles share, up to a distance, with both values."""
+    place = 0
+    for one in some:
+        while place < len(others):
+            other = others[place]
+            ends = [reach if end is None else min(end, reach) for end in (one.end, other.end)]
+            begin = max(one.begin, other.begin)
+            if begin < min(ends):
+                yield begin, min(ends), one.value, other.value
+            if ends[1] >= ends[0]:
+                break
+            place += 1

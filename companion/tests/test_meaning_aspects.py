@@ -1,0 +1,207 @@
+"""The rules E8 to E10: aspects of one group beside each other, and beside those of the table."""
+from __future__ import annotations
+
+from pathlib import Path
+from typing import Any, Callable, List, Sequence, Tuple
+
+from meaning_line import Line, Row, change
+from test_meaning import remarks, written
+from test_meaning_packets import FIXED, GREEN, RED, SHORT, YELLOW, element_with, packet_with, packets_added, raw, row_of
+
+from balisekit.engine.program import Program
+from balisekit.rules.rule import Options, Remark
+from balisekit.rules.urgency import Urgency
+
+Change = Callable[[List[Row]], Any]
+PROFILES = "21 (gradient profile), 27 (international static speed profile)"
+FOUR = Line(signals=6, aspects=(RED, YELLOW, GREEN, "blue"))
+
+
+def found(program: Program, path: Path, rule: str, *changes: Change, line: Line = SHORT) -> Sequence[Remark]:
+    """The remarks of one rule."""
+    made = remarks(program, written(program, path, line, *changes), Options(), [rule])
+    assert all(each.values for each in made)
+    return made
+
+
+def said(made: Sequence[Remark]) -> List[Tuple[Any, ...]]:
+    """The rows and sentences of remarks."""
+    return [(each.rows, each.sentence) for each in made]
+
+
+def telegram(rows: List[Row], signal: int, aspect: str) -> Any:
+    """The telegram of an aspect."""
+    return next(row.form for row in rows if (row.group, row.aspect) == (f"Signal {signal}", aspect))
+
+
+def without(signal: int, aspect: str, *numbers: int) -> Change:
+    """Removes packets."""
+
+    def remove(rows: List[Row]) -> None:
+        form = telegram(rows, signal, aspect)
+        form["packets"] = [each for each in form["packets"] if each["nid_packet"] not in numbers]
+
+    return remove
+
+
+def turned(signal: int, aspect: str) -> Change:
+    """All packets of an aspect are for the other direction."""
+
+    def turn(rows: List[Row]) -> None:
+        for packet in telegram(rows, signal, aspect)["packets"]:
+            packet["q_dir"] = 1 - packet["q_dir"]
+
+    return turn
+
+
+def exchanged(signal: int) -> Change:
+    """Yellow and green have each other's packets."""
+
+    def exchange(rows: List[Row]) -> None:
+        one, other = (telegram(rows, signal, aspect) for aspect in (YELLOW, GREEN))
+        one["packets"], other["packets"] = other["packets"], one["packets"]
+
+    return exchange
+
+
+def test_e8_of_the_other_direction(program: Program, tmp_path: Path) -> None:
+    """Green, and red: each of them is one remark. Two aspects are too few."""
+    made = found(program, tmp_path / "t.csv", "E8", turned(2, GREEN), turned(4, RED))
+    words = "only for the other direction than all other aspects with them"
+    packets = f"packets 12 (movement authority of level 1), {PROFILES}"
+    assert said(made) == [
+        ((row_of(2, GREEN),), f'the aspect "green" has {packets} {words}'),
+        ((row_of(4, RED),), f'the aspect "red" has {packets} {words}'),
+    ]
+    two = Line(signals=6, aspects=(RED, GREEN))
+    assert not found(program, tmp_path / "t.csv", "E8", turned(2, GREEN), line=two)
+
+
+def test_e8_of_packets_that_lack(program: Program, tmp_path: Path) -> None:
+    """One of three aspects with a V_MAIN above 0 lacks a profile. If two of them lack it, nothing is said."""
+    some = [without(2, GREEN, 27), without(3, GREEN, 21, 27), without(4, GREEN, 21), without(4, YELLOW, 21)]
+    made = found(program, tmp_path / "t.csv", "E8", *some, line=FOUR)
+    ending = "in nominal direction, which all others with a V_MAIN above 0 have"
+    assert [each.sentence for each in made] == [
+        f'the aspect "green" lacks packet 27 (international static speed profile) {ending}',
+        f'the aspect "green" lacks packets {PROFILES} {ending}',
+    ]
+    assert not found(program, tmp_path / "t.csv", "E8", *some)
+
+
+def test_e8_of_stop_aspects(program: Program, tmp_path: Path) -> None:
+    """Five of six have packet 137 with stop; a "go" is none. With four of six nobody knows."""
+    stops = [packets_added(signal, RED, raw(137, "0")) for signal in range(1, 6)]
+    words = (
+        'a stop aspect, V_MAIN 0 km/h, without a packet 137 (stop if in staff responsible) with "stop": 5 of 6 stop '
+        "aspects of the table have it"
+    )
+    others: List[List[Change]] = [[], [packets_added(6, RED, raw(137, "1"))]]
+    for last in others:
+        (one,) = found(program, tmp_path / "t.csv", "E8", *stops, *last)
+        assert (one.sentence, one.location.row and one.location.row.number) == (words, row_of(6, RED))
+    assert not found(program, tmp_path / "t.csv", "E8", *stops[1:])
+    assert not found(program, tmp_path / "t.csv", "E8", *stops, packets_added(6, RED, raw(137, "0")))
+
+
+def test_e8_of_packets_132(program: Program, tmp_path: Path) -> None:
+    """Of three stop aspects of one group one lacks it. Of two nobody knows which is right."""
+    stop = [packet_with(2, aspect, 12, v_main=0) for aspect in (YELLOW, GREEN)]
+    danger = [packets_added(2, aspect, raw(132, "0")) for aspect in (RED, GREEN)]
+    (one,) = found(program, tmp_path / "t.csv", "E8", *stop, *danger)
+    assert one.location.row and one.location.row.number == row_of(2, YELLOW)
+    assert one.sentence.endswith('without a packet 132 (danger for shunting information), which "red", "green" have')
+    assert not found(program, tmp_path / "t.csv", "E8", stop[0], danger[0])
+
+
+def test_e9(program: Program, tmp_path: Path) -> None:
+    (one,) = found(program, tmp_path / "t.csv", "E9", exchanged(3))
+    assert (one.rows, sorted(one.aspects), one.urgency) == (
+        [row_of(3, YELLOW), row_of(3, GREEN)],
+        [GREEN, YELLOW],
+        None,
+    )
+    assert one.sentence == (
+        'the authority of "yellow" ends 3000 m from the group and that of "green" ends 1500 m from the group, and in 5 '
+        'of 6 cases of the table that of "yellow" ends before that of "green"'
+    )
+
+
+def test_e9_of_equal_ends(program: Program, tmp_path: Path) -> None:
+    """They are of the lowest urgency. Within the tolerance they are equal; the same telegram is for another rule."""
+
+    def as_green(rows: List[Row]) -> None:
+        telegram(rows, 3, YELLOW)["packets"] = telegram(rows, 3, GREEN)["packets"]
+
+    (one,) = found(program, tmp_path / "t.csv", "E9", packet_with(3, YELLOW, 12, l_endsection=3002))
+    assert one.urgency == Urgency.RULE_ONLY and "3002 m from the group" in one.sentence and "is equal" in one.sentence
+    assert not found(program, tmp_path / "t.csv", "E9", packet_with(3, YELLOW, 12, l_endsection=2990))
+    assert not found(program, tmp_path / "t.csv", "E9", as_green)
+
+
+def test_e9_needs_cases(program: Program, tmp_path: Path) -> None:
+    """Four of six cases are no order, and nor are two groups."""
+    assert not found(program, tmp_path / "t.csv", "E9", exchanged(3), exchanged(4))
+    assert not found(program, tmp_path / "t.csv", "E9", exchanged(2), line=Line(signals=3))
+
+
+def test_e9_of_several_aspects_is_one_remark(program: Program, tmp_path: Path) -> None:
+    (one,) = found(program, tmp_path / "t.csv", "E9", packet_with(3, YELLOW, 12, l_endsection=6000), line=FOUR)
+    assert one.sentence.endswith('; "yellow" is not in order with "green" either') and YELLOW in one.aspects
+
+
+def test_e9_of_stops(program: Program, tmp_path: Path) -> None:
+    """A red aspect that does not stop, and a green one that does."""
+    changes = [packet_with(3, RED, 12, v_main=8, l_endsection=500), packet_with(4, GREEN, 12, v_main=0)]
+    made = found(program, tmp_path / "t.csv", "E9", *changes)
+    assert [(each.location.row and each.location.row.number, each.sentence) for each in made] == [
+        (row_of(3, RED), 'V_MAIN of the aspect "red" is 40 km/h [8], and in 5 of 6 cases of the table it is 0'),
+        (
+            row_of(4, GREEN),
+            'V_MAIN of the aspect "green" is 0 km/h [0], and in 5 of 6 cases of the table it is above 0',
+        ),
+    ]
+
+
+def test_e10(program: Program, tmp_path: Path) -> None:
+    """Speeds, and gradients more than 5 ‰ apart. Beyond the last common link nothing is compared."""
+    changes = [
+        element_with(1, YELLOW, 27, 0, v_static=24),
+        element_with(2, YELLOW, 21, 0, g_a=change(SHORT.rows, "Signal 2", YELLOW, 21)["elements"][0]["g_a"] + 6),
+        element_with(3, YELLOW, 21, 0, g_a=change(SHORT.rows, "Signal 3", YELLOW, 21)["elements"][0]["g_a"] + 5),
+    ]
+    made = found(program, tmp_path / "t.csv", "E10", *changes)
+    assert [(each.aspects[0], list(each.rows)) for each in made] == [
+        (YELLOW, [row_of(signal, aspect) for aspect in (RED, YELLOW, GREEN)]) for signal in (1, 2)
+    ]
+    assert made[0].sentence == (
+        'from 0 m to 200 m from the group "yellow" has V_STATIC 120 km/h [24], and "red" has V_STATIC 100 km/h [20]; '
+        '"yellow" differs from "green" too'
+    )
+
+
+def test_e10_as_far_as_both_name_the_same_groups(program: Program, tmp_path: Path) -> None:
+    """Without common links the routes may part. Without links the ends of both authorities decide."""
+    wrong = element_with(1, GREEN, 27, 0, v_static=24)
+
+    def linked(aspect: str, *numbers: int) -> Change:
+        links = change(SHORT.rows, "Signal 1", FIXED, 5)["links"]
+        own = [{**link, "nid_bg": number} for link, number in zip(links, numbers)]
+        return packets_added(1, aspect, {"nid_packet": 5, "q_dir": 1, "q_scale": 1, "links": own})
+
+    def unlinked(rows: List[Row]) -> None:
+        telegram(rows, 1, FIXED)["packets"] = []
+
+    path = tmp_path / "t.csv"
+    parted = [unlinked, linked(RED, 2), linked(YELLOW, 2, 3), linked(GREEN, 9, 3)]
+    assert not found(program, path, "E10", *parted, wrong)
+    common = [unlinked, linked(RED, 8), linked(YELLOW, 2, 3), linked(GREEN, 2, 4)]
+    (one,) = found(program, path, "E10", *common, wrong)
+    assert one.values["end_m"] == 1500 and "to 1500 m from the group" in one.sentence
+    assert not found(program, path, "E10", unlinked, wrong)
+    assert found(program, path, "E10", unlinked, wrong, packet_with(1, YELLOW, 12, l_endsection=3000))
+
+
+def test_e10_of_one_wrong_aspect_is_one_remark(program: Program, tmp_path: Path) -> None:
+    (one,) = found(program, tmp_path / "t.csv", "E10", element_with(2, GREEN, 27, 0, v_static=60), line=FOUR)
+    assert one.aspects[0] == GREEN and len(one.aspects) >= 3 and "V_STATIC 300 km/h [60]" in one.sentence

@@ -1,0 +1,355 @@
+"""The rules E1 to E6: each is about one telegram or message."""
+from __future__ import annotations
+
+from pathlib import Path
+from typing import Any, Callable, List, Tuple
+
+from meaning_line import Line, Row, change
+from test_meaning import remarks, written
+
+from balisekit.engine.program import Program
+from balisekit.rules import checking, meaning
+from balisekit.rules.line import Line as LineOfTable
+from balisekit.rules.rule import ALL, Options
+from balisekit.tables import messages as messages_file, reader
+
+Change = Callable[[List[Row]], Any]
+SHORT = Line(signals=6)
+ASKED = Options(asked=frozenset({ALL}))
+RED, YELLOW, GREEN, FIXED = "red", "yellow", "green", "*"
+
+
+def row_of(signal: int, aspect: str) -> int:
+    """The row of an aspect of a signal in the table of the short line."""
+    return next(
+        number for number, row in enumerate(SHORT.rows, 2) if (row.group, row.aspect) == (f"Signal {signal}", aspect)
+    )
+
+
+def packet_with(signal: int, aspect: str, number: int, **values: Any) -> Change:
+    """Sets these values in a packet. One that is None is removed."""
+
+    def set_values(rows: List[Row]) -> None:
+        form = change(rows, f"Signal {signal}", aspect, number)
+        form.update(values)
+        for key, value in values.items():
+            if value is None:
+                del form[key]
+
+    return set_values
+
+
+def element_with(signal: int, aspect: str, number: int, place: int, **values: Any) -> Change:
+    """Sets these values in an element of a profile."""
+    return lambda rows: change(rows, f"Signal {signal}", aspect, number)["elements"][place].update(values)
+
+
+def packets_added(signal: int, aspect: str, *packets: Any, place: int = 99) -> Change:
+    """Puts packets into a telegram."""
+
+    def add(rows: List[Row]) -> None:
+        form = next(row.form for row in rows if (row.group, row.aspect) == (f"Signal {signal}", aspect))
+        form["packets"][place:place] = packets
+
+    return add
+
+
+def raw(number: int, bits: str, direction: int = 1) -> Any:
+    """A packet that is kept as bits, with these bits behind L_PACKET."""
+    whole = bits + "0" * (-len(bits) % 8)
+    body = "".join(f"{int(whole[at:at + 8], 2):02x}" for at in range(0, len(whole), 8))
+    return {"nid_packet": number, "q_dir": direction, "l_packet": 23 + len(bits), "body": body}
+
+
+def restriction(speed: int, more: str = "") -> Any:
+    """A packet 65: 100 m, from 200 m on."""
+    return raw(65, f"01{7:08b}{200:015b}{100:015b}0{speed:07b}{more}")
+
+
+def found(
+    program: Program, path: Path, rule: str, changes: List[Change], options: Options = Options()
+) -> List[Tuple[int, str]]:
+    """The rows and the sentences of the remarks of one rule."""
+    made = remarks(program, written(program, path, SHORT, *changes), options, [rule])
+    assert all(each.values or "end mark" in each.sentence for each in made)
+    return [(each.location.row.number if each.location.row else 0, each.sentence) for each in made]
+
+
+def test_e1(program: Program, tmp_path: Path) -> None:
+    """Too many bits, and a spare number. What fits, and a packet whose layout nobody knows, is passed over."""
+    changes = [
+        packets_added(1, RED, restriction(8, "00000000")),
+        packets_added(2, RED, restriction(121)),
+        packets_added(3, RED, restriction(120), raw(99, "1010")),
+    ]
+    made = found(program, tmp_path / "t.csv", "E1", changes)
+    assert [row for row, _ in made] == [row_of(1, RED), row_of(2, RED)]
+    assert "8 bits more than its layout" in made[0][1] and "V_TSR has the spare number 121" in made[1][1]
+    assert made[0][1].endswith("; its L_PACKET is 79 bits")
+
+
+def test_e2(program: Program, tmp_path: Path) -> None:
+    """The limits themselves and special values are no remark."""
+    changes = [
+        packet_with(1, YELLOW, 12, v_main=100),
+        element_with(2, YELLOW, 27, 0, v_static=71, differences=[{"q_diff": 0, "nc": 0, "v_diff": 72}]),
+        element_with(3, YELLOW, 21, 0, g_a=41),
+        packet_with(4, YELLOW, 12, overlap={"d_startol": 0, "t_ol": 1, "d_ol": 200, "v_releaseol": 9}),
+        packets_added(5, RED, restriction(71), place=0),
+        packets_added(5, YELLOW, raw(80, f"01{1:05b}{'0' * 15}{0:02b}{100:07b}{'0' * 31}"[:62]), place=0),
+        packet_with(6, YELLOW, 12, v_main=70, overlap={"d_startol": 0, "t_ol": 1, "d_ol": 200, "v_releaseol": 8}),
+        element_with(6, YELLOW, 21, 0, g_a=40),
+    ]
+    made = found(program, tmp_path / "t.csv", "E2", changes)
+    assert [each for each in made if each[0] != row_of(5, YELLOW)] == [
+        (row_of(1, YELLOW), "V_MAIN is 500 km/h [100], above 350 km/h, the greatest speed of the line"),
+        (row_of(4, YELLOW), "V_RELEASEOL is 45 km/h [9], above 40 km/h, the greatest release speed of the line"),
+        (row_of(3, YELLOW), "G_A of the first element is 41 ‰, above 40 ‰"),
+        (
+            row_of(2, YELLOW),
+            "V_STATIC of the first element is 355 km/h [71], above 350 km/h, the greatest speed of the line; V_DIFF of "
+            "the first element is 360 km/h [72], above 350 km/h, the greatest speed of the line",
+        ),
+        (row_of(5, RED), "V_TSR is 355 km/h [71], above 350 km/h, the greatest speed of the line"),
+    ]
+
+
+def test_e2_of_a_mode_profile(program: Program, tmp_path: Path) -> None:
+    """V_MAMODE 127 is the national value, and 71 is above the limit."""
+    profile = [f"{place:015b}{0:02b}{speed:07b}{100:015b}{50:015b}0" for place, speed in ((0, 127), (200, 71))]
+    one = raw(80, f"01{profile[0]}{1:05b}{profile[1]}")
+    assert found(program, tmp_path / "t.csv", "E2", [packets_added(1, RED, one)]) == [
+        (
+            row_of(1, RED),
+            "V_MAMODE of the second element is 355 km/h [71], above 350 km/h, the greatest speed of the line",
+        )
+    ]
+
+
+def test_e2_by_the_speeds_of_the_line(program: Program, tmp_path: Path) -> None:
+    """The signals allow 100 to 160 km/h. Several values of one packet are one remark."""
+    made = found(program, tmp_path / "t.csv", "E2", [], Options(line_speed=120))
+    assert made and all("above 120 km/h, the greatest speed of the line" in each for _, each in made)
+    assert len({row for row, _ in made}) * 2 >= len(made)
+    changes = [packet_with(1, YELLOW, 12, overlap={"d_startol": 0, "t_ol": 1, "d_ol": 200, "v_releaseol": 8})]
+    assert len(found(program, tmp_path / "t.csv", "E2", changes, Options(release_speed=35))) == 1
+
+
+def test_e2_above_the_profile_is_asked_for(program: Program, tmp_path: Path) -> None:
+    changes = [packet_with(1, YELLOW, 12, v_main=24)]
+    assert found(program, tmp_path / "t.csv", "E2", changes) == []
+    assert found(program, tmp_path / "t.csv", "E2", changes, ASKED) == [
+        (row_of(1, YELLOW), "V_MAIN is 120 km/h [24], above the greatest speed of the profile with it, 100 km/h [20]")
+    ]
+    faster = element_with(1, YELLOW, 27, 0, differences=[{"q_diff": 0, "nc": 4, "v_diff": 24}])
+    assert found(program, tmp_path / "t.csv", "E2", [*changes, faster], ASKED) == []
+
+
+def overlap(start: int, length: int) -> Any:
+    """An overlap in metres."""
+    return {"d_startol": start, "t_ol": 60, "d_ol": length, "v_releaseol": 126}
+
+
+def test_e3(program: Program, tmp_path: Path) -> None:
+    timer = {"t_sectiontimer": 60, "d_sectiontimerstoploc": 700}
+    changes = [
+        packet_with(1, YELLOW, 12, sections=[{"l_section": 600, "section_timer": timer}], l_endsection=900),
+        packet_with(1, GREEN, 12, sections=[{"l_section": 0}]),
+        packet_with(2, YELLOW, 12, end_timer={"t_endtimer": 60, "d_endtimerstartloc": 1501}),
+        packet_with(2, GREEN, 12, overlap=overlap(3001, 200)),
+        packet_with(3, YELLOW, 12, danger_point={"d_dp": 201, "v_releasedp": 126}),
+        packet_with(3, GREEN, 12, end_speed=100, overlap=None),
+        packet_with(4, YELLOW, 12, end_timeout=60),
+        packet_with(4, GREEN, 12, end_speed=4),
+        packet_with(5, YELLOW, 12, l_endsection=0),
+        packet_with(5, GREEN, 12, section_timer={**timer, "d_sectiontimerstoploc": 3001}),
+    ]
+    main = change(SHORT.rows, "Signal 3", GREEN, 12)["v_main"]
+    assert found(program, tmp_path / "t.csv", "E3", changes) == [
+        (row_of(1, YELLOW), "D_SECTIONTIMERSTOPLOC 700 m is beyond the first section, L_SECTION 600 m"),
+        (row_of(1, GREEN), "L_SECTION of the first section is 0 m"),
+        (row_of(2, YELLOW), "D_ENDTIMERSTARTLOC 1501 m is greater than the sum of all lengths, 1500 m"),
+        (row_of(2, GREEN), "D_STARTOL 3001 m is greater than the sum of all lengths, 3000 m"),
+        (row_of(3, YELLOW), "the overlap ends before the danger point: D_OL 200 m, D_DP 201 m"),
+        (row_of(3, GREEN), f"V_LOA 500 km/h [100] is above V_MAIN {main * 5} km/h [{main}]"),
+        (row_of(4, YELLOW), "T_LOA is 60 s and V_LOA is 0 km/h"),
+        (row_of(4, GREEN), "V_LOA is 20 km/h [4], and an overlap is there, which is for V_LOA 0 km/h"),
+        (row_of(5, YELLOW), f"V_MAIN is {_main(5)}, and the sum of all lengths is 0 m"),
+        (row_of(5, GREEN), "D_SECTIONTIMERSTOPLOC 3001 m is beyond the end section, L_ENDSECTION 3000 m"),
+    ]
+
+
+def _main(signal: int) -> str:
+    main = change(SHORT.rows, f"Signal {signal}", YELLOW, 12)["v_main"]
+    return f"{main * 5} km/h [{main}]"
+
+
+def test_e3_of_equal_values(program: Program, tmp_path: Path) -> None:
+    """Each limit itself is in order, and so is a stop aspect with an overlap and without length."""
+    timer = {"t_sectiontimer": 60, "d_sectiontimerstoploc": 1500}
+    changes = [
+        packet_with(1, YELLOW, 12, section_timer=timer, end_timer={"t_endtimer": 60, "d_endtimerstartloc": 1500}),
+        packet_with(2, YELLOW, 12, overlap=overlap(1500, 200), danger_point={"d_dp": 200, "v_releasedp": 126}),
+        packet_with(3, YELLOW, 12, end_speed=_raw_main(3), end_timeout=60, overlap=None),
+        packet_with(4, RED, 12, overlap=overlap(300, 200)),
+    ]
+    assert found(program, tmp_path / "t.csv", "E3", changes) == []
+
+
+def _raw_main(signal: int) -> int:
+    main: int = change(SHORT.rows, f"Signal {signal}", YELLOW, 12)["v_main"]
+    return main
+
+
+def gradients(*elements: Tuple[int, int]) -> Any:
+    """The elements of a gradient profile: distances in metres, and signed gradients."""
+    return [{"d_gradient": at, "q_gdir": int(0 <= value < 255), "g_a": abs(value)} for at, value in elements]
+
+
+def speeds(*elements: Tuple[int, int]) -> Any:
+    """The elements of a speed profile."""
+    return [{"d_static": at, "v_static": value, "q_front": 0, "differences": []} for at, value in elements]
+
+
+def with_differences(*differences: Tuple[int, int, int]) -> Any:
+    """A speed profile of 100 km/h with the speeds of categories: Q_DIFF, NC and V_DIFF."""
+    elements = speeds((0, 20), (1700, 127))
+    elements[0]["differences"] = [{"q_diff": kind, "nc": nc, "v_diff": value} for kind, nc, value in differences]
+    return elements
+
+
+def test_e4(program: Program, tmp_path: Path) -> None:
+    changes = [
+        packet_with(1, YELLOW, 21, elements=gradients((0, 3), (0, 5), (1700, 255))),
+        packet_with(2, YELLOW, 21, elements=gradients((0, 3), (1700, 255), (100, 5), (100, 255))),
+        packet_with(3, YELLOW, 21, elements=gradients((0, 255))),
+        packet_with(4, YELLOW, 21, elements=gradients((0, 3), (500, 3), (1200, 255))),
+        packet_with(5, YELLOW, 21, elements=gradients((0, 3), (1700, -3), (0, 255))),
+        packet_with(1, GREEN, 27, elements=speeds((0, 20), (1000, 0), (2200, 127))),
+        packet_with(2, GREEN, 27, elements=speeds((0, 20), (1000, 20), (2200, 127))),
+        packet_with(3, GREEN, 27, elements=with_differences((0, 2, 24), (0, 2, 25))),
+        packet_with(4, GREEN, 27, elements=with_differences((0, 2, 24), (0, 4, 22))),
+        packet_with(5, GREEN, 27, elements=with_differences((0, 2, 19), (1, 0, 10))),
+    ]
+    assert found(program, tmp_path / "t.csv", "E4", changes) == [
+        (row_of(1, YELLOW), "D_GRADIENT of the second element is 0 m: it begins where the one before it does"),
+        (row_of(2, YELLOW), "2 elements follow the end mark, the second element"),
+        (row_of(3, YELLOW), "the end mark is the first element"),
+        (row_of(4, YELLOW), "the second element repeats the one before it, +3 ‰"),
+        (row_of(5, YELLOW), "D_GRADIENT of the third element is 0 m: it begins where the one before it does"),
+        (row_of(1, GREEN), "V_STATIC of the second element is 0 km/h"),
+        (row_of(2, GREEN), "the second element repeats the one before it, V_STATIC 100 km/h [20]"),
+        (row_of(3, GREEN), "the first element has a train category twice"),
+        (
+            row_of(4, GREEN),
+            "V_DIFF of the first element is 120 km/h [24] for cant deficiency 130 mm, and 110 km/h [22] for cant "
+            "deficiency 165 mm",
+        ),
+        (
+            row_of(5, GREEN),
+            "V_DIFF of the first element is 95 km/h [19] for cant deficiency 130 mm, and V_STATIC 100 km/h [20]",
+        ),
+    ]
+
+
+def test_e4_of_profiles_in_order(program: Program, tmp_path: Path) -> None:
+    """Equal speeds with other categories or another Q_FRONT are no repetition; freight trains may be slower."""
+    again = with_differences((0, 2, 20), (0, 4, 20), (1, 0, 10), (2, 0, 12))
+    again[1:1] = speeds((500, 20))
+    front = speeds((0, 20), (500, 20), (1200, 127))
+    front[1]["q_front"] = 1
+    changes = [
+        packet_with(1, YELLOW, 27, elements=again[:2] + again[2:]),
+        packet_with(2, YELLOW, 27, elements=front),
+        packet_with(3, YELLOW, 21, elements=gradients((0, 3), (500, -3), (1200, 255))),
+    ]
+    made = found(program, tmp_path / "t.csv", "E4", changes)
+    assert made == [(row_of(1, YELLOW), "the first element has a train category twice")]
+
+
+def level(direction: int, distance: int) -> Any:
+    """A level transition order."""
+    order = [{"m_leveltr": 2, "l_ackleveltr": 0}]
+    return {"nid_packet": 41, "q_dir": direction, "q_scale": 1, "d_leveltr": distance, "transitions": order}
+
+
+def test_e5(program: Program, tmp_path: Path) -> None:
+    """Several packets of one telegram are one remark. A level that changes at the group may do so both ways."""
+
+    def all_of_them(rows: List[Row]) -> None:
+        for number in (12, 21, 27):
+            change(rows, "Signal 1", YELLOW, number)["q_dir"] = 2
+
+    changes = [
+        all_of_them,
+        packets_added(2, RED, level(2, 500)),
+        packets_added(3, RED, level(2, 0)),
+        packets_added(4, RED, level(2, 32_767)),
+        packets_added(5, RED, raw(44, "0" * 9, 2), raw(137, "0", 2)),
+        packets_added(6, RED, {**restriction(8), "q_dir": 2}),
+    ]
+    words = "and Q_DIR 2, both directions: the place would be on both sides of the group"
+    assert found(program, tmp_path / "t.csv", "E5", changes) == [
+        (
+            row_of(1, YELLOW),
+            "the packets 12 (movement authority of level 1), 21 (gradient profile), 27 (international static speed "
+            "profile) have distances, and Q_DIR 2, both directions: their places would be on both sides of the group",
+        ),
+        (row_of(6, RED), f"it has a distance, {words}"),
+        (row_of(2, RED), f"it has a distance, D_LEVELTR 500 m, {words}"),
+    ]
+
+
+def test_e6(program: Program, tmp_path: Path) -> None:
+    second = {"nid_packet": 5, "q_dir": 1, "q_scale": 1, "links": change(SHORT.rows, "Signal 3", FIXED, 5)["links"]}
+    cover = {"nid_packet": 0, "nid_vbcmk": 1}
+    reference = raw(136, f"0{2:014b}")
+    changes = [
+        packets_added(1, RED, raw(58, "0" * 40), raw(140, "1" * 32)),
+        packets_added(2, RED, cover),
+        packets_added(2, GREEN, cover, place=0),
+        packets_added(3, YELLOW, second),
+        packets_added(4, YELLOW, {**second, "q_dir": 0}),
+        packets_added(4, GREEN, reference, second),
+    ]
+    assert found(program, tmp_path / "t.csv", "E6", changes) == [
+        (row_of(1, RED), "a balise has it, and only radio sends it"),
+        (row_of(1, RED), "a balise has it, and only radio sends it"),
+        (row_of(2, RED), "it is the fourth packet of its telegram, and a train looks for it at the beginning"),
+        (
+            row_of(3, YELLOW),
+            f"a train gets 2 packets 5 (linking) in nominal direction, in rows {row_of(3, FIXED)} and "
+            f"{row_of(3, YELLOW)}: nobody knows which of them it uses",
+        ),
+    ]
+
+
+def test_e6_names_other_packets_if_asked(program: Program, tmp_path: Path) -> None:
+    def twice(rows: List[Row]) -> None:
+        packets_added(1, YELLOW, change(rows, "Signal 1", GREEN, 21))(rows)
+
+    assert found(program, tmp_path / "t.csv", "E6", [twice]) == []
+    assert found(program, tmp_path / "t.csv", "E6", [twice], ASKED) == [
+        (
+            row_of(1, YELLOW),
+            "a train gets 2 packets 21 (gradient profile) in nominal direction: nobody knows which of them it uses",
+        )
+    ]
+
+
+def test_messages_are_looked_at(program: Program, tmp_path: Path) -> None:
+    """A message 3 with a packet of balises, a V_LOA with T_LOA, and an authority for both directions."""
+    authority: Any = {"q_dir": 2, "q_scale": 1, "end_speed": 0, "end_timeout": 30, "sections": [], "l_endsection": 900}
+    packets = [{"nid_packet": 15, **authority}, {"nid_packet": 254, "q_dir": 1, "l_packet": 23, "body": ""}]
+    form = {"nid_message": 3, "t_train": 1, "m_ack": 0, "nid_c": 352, "nid_bg": 1, "packets": packets}
+    (text,) = program.encode([form], radio=True)
+    path = tmp_path / "m.txt"
+    path.write_text(f"{getattr(text, 'line')}\n", "utf-8")
+    table = reader.read(str(written(program, tmp_path / "t.csv", SHORT)))
+    line = LineOfTable.of(checking.check(program, table, messages_file.read(str(path))))
+    made = [each for rule in meaning.RULES if rule.name in ("E3", "E5", "E6") for each in rule.find(line, ASKED).found]
+    assert [(each.rule, each.location.message is not None, each.location.direction) for each in made] == [
+        ("E3", True, ""),
+        ("E5", True, ""),
+        ("E6", True, ""),
+    ]
