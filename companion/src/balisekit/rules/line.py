@@ -17,7 +17,7 @@ from balisekit.engine.grammar import Finding
 from balisekit.engine.program import Record
 from balisekit.etcs.geometry import kilometres
 from balisekit.etcs.variables import Form
-from balisekit.rules.chainage import Jump
+from balisekit.rules.chainage import Chainage, Jump
 from balisekit.rules.checking import Checked, Telegrams
 from balisekit.rules.decoded import Decoded, decode
 from balisekit.rules.location import NOT_KNOWN, BaliseGroup, Identity
@@ -167,6 +167,12 @@ class Line:
         for groups in along.values():
             groups.sort(key=lambda each: each.km or Decimal())
         return along
+
+    @cached_property
+    def places(self) -> Sequence[Optional[int]]:
+        """The place of each group along its track in decimetres, in the order of the table, by the jumps."""
+        chainages = {track: Chainage.of(self.jumps, track) for track in {group.track for group in self.groups}}
+        return [chainages[group.track].place(group.km) for group in self.groups]
 
     @cached_property
     def linked(self) -> Mapping[str, LinkedGroups]:

@@ -1,0 +1,171 @@
+"""E15: infill that is not its signal.
+
+What it says. A packet 136 names a group that the table has not, or that is not ahead of the infill group. Or a packet
+12, 21, 27 or 80 after it differs from that of the named group, in the aspect with the same name and in the direction in
+which the train passes that group: in a distance, a speed, a time or any other field but Q_DIR and Q_SCALE. Distances are
+compared in metres; if Q_SCALE differs, the greater unit is allowed. Packets that only one of the groups has are passed
+over. If the infill group is the last one of the track that gives an authority in its direction, a group that the table
+has not is a note: it may be beyond the table. The layouts of packets 80 and 136 are balisekit's own (SUBSET-026, 3.6.2
+and 7.4.2).
+
+How urgent. At worst wrong information: the train gets another aspect than the signal shows.
+
+Usual cause. The infill was not made anew when the telegrams of the signal were changed, or was copied from the wrong
+aspect.
+
+What may happen. A train releases its brake for an aspect that the signal does not show.
+
+How to correct it. Copy the packets of the signal to behind packet 136, aspect by aspect.
+
+Correct data that gets it. Infill that says less than its signal on purpose, such as a lower V_MAIN.
+
+Example. At yellow the infill of signal 4 has L_ENDSECTION 1,350 m, and signal 4 has 1,500 m.
+
+How sure. 88 %.
+"""
+from __future__ import annotations
+
+from decimal import Decimal
+from typing import Any, Iterator, List, Mapping, NamedTuple, Optional, Sequence, Tuple
+
+from balisekit.etcs.geometry import DIRECTIONS
+from balisekit.etcs.packets import packet_name
+from balisekit.etcs.variables import Around, metres, value_words, variable_name
+from balisekit.rules.decoded import GroupData, Packet, Passage
+from balisekit.rules.line import Line
+from balisekit.rules.location import NOT_KNOWN, Identity
+from balisekit.rules.meaning.along import Extent, extents_of, lane_of
+from balisekit.rules.meaning.words import merged, source
+from balisekit.rules.rule import Options, Remark, Result, Rule
+from balisekit.rules.urgency import Urgency
+from balisekit.tables.names import clean, describe_identity, ordinal
+
+COMPARED = (12, 21, 27, 80)
+NOT_COMPARED = {"q_dir", "q_scale", "l_packet", "body", "nid_packet"}
+INFINITE = 32_767
+
+
+class Apart(NamedTuple):
+    """A field that differs."""
+
+    name: str
+    own: str
+    other: str
+    values: Mapping[str, Decimal] = {}
+    """Both numbers as they are sent."""
+
+
+def find(line: Line, options: Options) -> Result:
+    """Looks at what follows each packet 136."""
+    decoded, found, looked_at = line.decoded, [], 0
+    unknown: List[Tuple[Passage, Packet, Identity]] = []
+    for passage in decoded.passages:
+        reference = passage.reference
+        if reference is not None and passage.group is not None and "nid_bg" in reference.form:
+            looked_at += 1
+            country = passage.group.group.identity[0] if passage.group.group.identity else 0
+            identity = reference.form.get("nid_c", country), reference.form["nid_bg"]
+            target = decoded.by_identity.get(identity)
+            if target is not None:
+                found += list(_ahead(passage, passage.group, reference, target)) or list(_differences(passage, target))
+            elif identity[1] != NOT_KNOWN:
+                unknown.append((passage, reference, identity))
+    extents, notes = extents_of(decoded) if unknown else {}, set()
+    for passage, reference, identity in unknown:
+        words = f"packet 136 names {describe_identity(identity)}, which the table has not"
+        if passage.group and _is_last(passage, extents.get(lane_of(passage))):
+            notes.add(f"E15: {clean(passage.group.group.group.name)}: {words}: it may be beyond the table")
+        else:
+            values = {"nid_c": Decimal(identity[0]), "nid_bg": Decimal(identity[1])}
+            found.append(Remark("E15", passage.at(reference), words, None, values))
+    return Result(merged(found), looked_at, notes=sorted(notes))
+
+
+def _is_last(passage: Passage, extent: Optional[Extent]) -> bool:
+    """Whether no group ahead gives an authority. Without a place or a way that is not known."""
+    place, way = passage.group.place if passage.group else None, passage.way
+    if place is None or way is None or extent is None:
+        return True
+    return place * way >= max(each * way for each in extent)
+
+
+def _ahead(passage: Passage, group: GroupData, reference: Packet, target: GroupData) -> Iterator[Remark]:
+    """Whether the named group is ahead."""
+    if group.place is None or target.place is None or passage.way is None or group.group.track != target.group.track:
+        return
+    ahead = (target.place - group.place) * passage.way
+    if ahead <= 0:
+        sentence = f"packet 136 names {target.group}, which is {metres(-ahead)} in rear of {group.group}"
+        yield Remark("E15", passage.at(reference), sentence, target.group, {"ahead_m": Decimal(ahead) / 10})
+
+
+def _signal(passage: Passage, target: GroupData) -> Optional[Passage]:
+    """What the train gets from the named group, in the aspect with the same name."""
+    way = passage.way
+    direction = next((each for each in DIRECTIONS if way and target.group.along(each) == way), passage.direction)
+    same = (each for each in target.passages if each.aspect == passage.aspect and each.direction == direction)
+    return next(same, None)
+
+
+def _differences(passage: Passage, target: GroupData) -> Iterator[Remark]:
+    signal = _signal(passage, target)
+    for number in COMPARED if signal else ():
+        own = [packet for packet in passage.infill if packet.number == number]
+        others = signal.of(number) if signal else []
+        for packet, other in zip(own, others):
+            first = next(_apart(packet, other), None)
+            if signal and first:
+                sentence = (
+                    f"{first.name} is {first.own} in the infill, and {first.other} in the packet {number} "
+                    f"({packet_name(number)}) of {source(signal, other)}"
+                )
+                rows = (other.row.number,) if other.row else ()
+                yield Remark("E15", passage.at(packet), sentence, target.group, first.values, others=rows)
+
+
+def _apart(one: Packet, other: Packet) -> Iterator[Apart]:
+    """The fields that differ. Distances may differ by the greater unit if Q_SCALE differs."""
+    allowed = 0 if one.unit == other.unit else max(one.unit, other.unit)
+    yield from _compared(one.form, other.form, (one, other), "", allowed)
+
+
+def _compared(
+    own: Any, theirs: Any, packets: Tuple[Packet, Packet], where: str, allowed: int
+) -> Iterator[Apart]:
+    """The fields of two objects that differ, by their order in the first one."""
+    keys: List[str] = [key for key in own if key not in NOT_COMPARED] + [key for key in theirs if key not in own]
+    for key in keys:
+        if key in NOT_COMPARED:
+            continue
+        values: Sequence[Any] = own.get(key), theirs.get(key)
+        if isinstance(values[0], dict) and isinstance(values[1], dict):
+            yield from _compared(values[0], values[1], packets, where, allowed)
+        elif isinstance(values[0], list) and isinstance(values[1], list):
+            for place, (mine, its) in enumerate(zip(*values)):
+                words = f" of the {ordinal(place)} {key.removesuffix('s')}{where}"
+                yield from _compared(mine, its, packets, words, allowed)
+            if len(values[0]) != len(values[1]):
+                yield Apart(f"the number of {key}{where}", str(len(values[0])), str(len(values[1])))
+        elif _differ(key, values, packets, allowed):
+            mine, its = (
+                _words(key, value, packet, parent) for value, packet, parent in zip(values, packets, (own, theirs))
+            )
+            numbers = {key: values[0], f"{key}_of_signal": values[1]}
+            sent = {name: Decimal(value) for name, value in numbers.items() if isinstance(value, int)}
+            yield Apart(f"{variable_name(key, own)}{where}", mine, its, sent)
+
+
+def _differ(key: str, values: Sequence[Any], packets: Sequence[Packet], allowed: int) -> bool:
+    numbers = all(isinstance(value, int) for value in values)
+    if numbers and key[:2] in ("d_", "l_") and INFINITE not in values:
+        return abs(values[0] * packets[0].unit - values[1] * packets[1].unit) > allowed
+    return bool(values[0] != values[1])
+
+
+def _words(key: str, value: Any, packet: Packet, parent: Any) -> str:
+    if not isinstance(value, (int, str)):
+        return "absent" if value is None else "present"
+    return value_words(key, value, Around(packet.form, parent)) or str(value)
+
+
+RULE = Rule("E15", "infill", __doc__ or "", find, Urgency.WRONG_INFORMATION)
