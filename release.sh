@@ -93,16 +93,21 @@ has_a_number() {
 }
 
 store() {
-    local line
+    local line before=$room/before
     is_committed crates.txt HANDLES crates
     is_right out './build'
     has_a_number
     mkdir -p "$dist"
+    cp -a dist "$before"
     install -m 755 out/balisecheck "$dist/balisecheck"
     papers out/balisecheck >"$dist/ABOUT"
     line="$version $(said commit "$dist") $(said sources "$dist") $(said program "$dist")"
     grep -q "^$line " dist/RELEASES || echo "$line $(date -u +%F)" >>dist/RELEASES
-    BALISECHECK=$PWD/out/balisecheck tests/dist
+    if ! BALISECHECK=$PWD/out/balisecheck tests/dist; then
+        rm -rf "$dist"
+        cp -a "$before/." dist
+        fail 'not stored, since tests/dist failed'
+    fi
     echo "stored: commit dist" >&2
 }
 
