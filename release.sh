@@ -20,8 +20,8 @@ trap 'rm -rf "$room"' EXIT
 dist=dist/x86_64-linux
 version=$(cat VERSION)
 # What is handed out beside the program.
-handed=(balisecheck.1 balisekit install.sh README.md CHANGELOG.md LICENSE-APACHE LICENSE-MIT THIRD-PARTY.md companion
-    dist/RELEASES docs schemas examples)
+handed=(balisecheck.1 balisekit install.sh README.md CHANGELOG.md ERRATA.md LICENSE-APACHE LICENSE-MIT THIRD-PARTY.md
+    companion dist/RELEASES docs schemas examples)
 # Where the number of the program stands.
 numbered=(VERSION balisecheck.1 crates/balisecheck/src/help.rt companion/src/balisekit/__init__.py examples/ci/*.yml)
 
@@ -93,16 +93,21 @@ has_a_number() {
 }
 
 store() {
-    local line
+    local line before=$room/before
     is_committed crates.txt HANDLES crates
     is_right out './build'
     has_a_number
     mkdir -p "$dist"
+    cp -a dist "$before"
     install -m 755 out/balisecheck "$dist/balisecheck"
     papers out/balisecheck >"$dist/ABOUT"
     line="$version $(said commit "$dist") $(said sources "$dist") $(said program "$dist")"
     grep -q "^$line " dist/RELEASES || echo "$line $(date -u +%F)" >>dist/RELEASES
-    BALISECHECK=$PWD/out/balisecheck tests/dist
+    if ! BALISECHECK=$PWD/out/balisecheck tests/dist; then
+        rm -rf "$dist"
+        cp -a "$before/." dist
+        fail 'not stored, since tests/dist failed'
+    fi
     echo "stored: commit dist" >&2
 }
 
@@ -114,6 +119,7 @@ tree() {
     install -m 644 "$3" "$1/$dist/ABOUT"
     dist/pack/readme "$1"
     dist/pack/manual "$1"
+    dist/pack/links "$1"
     (cd "$1" && find . -type f ! -name SHA256SUMS -printf '%P\0' | LC_ALL=C sort -z | xargs -0 sha256sum >SHA256SUMS)
 }
 
@@ -133,7 +139,7 @@ pack() {
     dist/pack/wheel "$room/$name" "$1" "$4"
     dist/pack/deb "$room/$name" "$1" "$4"
     dist/pack/spdx.py "$room/$name" >"$1/balisecheck-$version$4.spdx.json"
-    sed "s/@VERSION@/$version/g; s/@MARK@/$4/g; s/@BUILD@/${4:+-0untested}/g" dist/pack/release.md >"$1/README.md"
+    sed "${4:+s/^@UNTESTED@//}; /^@UNTESTED@/d; s/@VERSION@/$version/g; s/@MARK@/$4/g; s/@BUILD@/${4:+-0untested}/g" dist/pack/release.md >"$1/README.md"
 }
 
 # sums DIR: checksums of all files there.

@@ -38,6 +38,8 @@ COMMANDS: Dict[str, Sequence[str]] = {
     "--version": ["--version"],
     "check": ["check", "OLD.csv"],
     "check --json": ["check", "OLD.csv", "--json", "OUT"],
+    "check --only F": ["check", "OLD.csv", "--only", "F"],
+    "check --only F --json": ["check", "OLD.csv", "--only", "F", "--json", "OUT"],
     "links": ["links", "OLD.csv"],
     "diff": ["diff", "OLD.csv", "NEW.csv"],
     "check .xlsx": ["check", "OLD.xlsx"],
@@ -138,7 +140,7 @@ def main() -> None:
                     figures[kit].append(run(command, Path(room)))
             for kit, measured in figures.items():
                 seconds, memory = (statistics.median(column) for column in zip(*measured))
-                print(f"{name:14} {seconds:7.2f} s {memory:7.0f} MB   {kit}", flush=True)
+                print(f"{name:21} {seconds:7.2f} s {memory:7.0f} MB   {kit}", flush=True)
 
 
 if __name__ == "__main__":

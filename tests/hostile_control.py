@@ -89,7 +89,7 @@ def reported(program, name, where, wrong):
     wrapper.chmod(0o755)
     said = {**os.environ, "BALISECHECK": str(wrapper), "CC": "none", "HOSTILE_SECONDS": str(SECONDS)}
     ran = subprocess.run([HERE / "hostile", "--few"], env=said, capture_output=True, text=True,
-                         check=False, timeout=120)
+                         check=False, timeout=900)  # (it only ends a run that hangs)
     last = re.search(r"hostile use: \d+ passed, (\d+) failed\n\Z", ran.stdout)
     return int(last[1]) if last and ran.returncode == (last[1] != "0") else None
 

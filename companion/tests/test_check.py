@@ -1,22 +1,26 @@
 """`balisekit check` from outside: what it says, its statuses, and that no yes is said of a part."""
 from __future__ import annotations
 
+import gc
 import html
 import json
 import os
 import subprocess
+import weakref
 from importlib.util import find_spec
 from pathlib import Path
-from typing import Callable, List
+from typing import Callable, Iterator, List, Union
 
 import line_table
 import pytest
 from conftest import Run
 from telegrams import ALONE, FAULTY, FIRST, MESSAGE, OTHER, SECOND, SPARE
 
-from balisekit.engine.program import Program
+from balisekit.engine.grammar import Refusal
+from balisekit.engine.program import Program, Record
 from balisekit.present import explanations as explain
 from balisekit.rules import checking
+from balisekit.tables.reader import read
 
 Write = Callable[..., Path]
 TOP = Path(__file__).resolve().parents[2]
@@ -282,6 +286,33 @@ def test_json_has_all_of_the_answer(run: Run, table: Write, tmp_path: Path) -> N
     ]
     assert answer["findings"][0]["earlier_group"] == "Signal B" and answer["rest"] == "no: findings 3"
     assert len(answer["table"]["sha256"]) == len(answer["program"]["sha256"]) == 64
+
+
+def test_json_needs_each_telegram_decoded_once(
+    run: Run, table: Write, tmp_path: Path, monkeypatch: pytest.MonkeyPatch
+) -> None:
+    decoded: List[str] = []
+    decode = Program.decode
+
+    def counted(self: Program, lines: List[str]) -> Iterator[Union[Record, Refusal]]:
+        decoded.extend(lines)
+        return decode(self, lines)
+
+    monkeypatch.setattr(Program, "decode", counted)
+    assert run("check", "--only", "F", table(*SOUND), "--json", tmp_path / "out.json")[0] == 0
+    assert decoded == [FIRST, SECOND, OTHER]
+
+
+def test_an_answer_is_freed_without_a_search_for_cycles(table: Write, program: Program) -> None:
+    """`main` searches for none."""
+    gc.disable()
+    try:
+        checked = checking.check(program, read(str(table(*SOUND, f"Signal C,C1,16,,{OTHER}"))))
+        read_table = weakref.ref(checked.table)
+        del checked
+        assert read_table() is None
+    finally:
+        gc.enable()
 
 
 def test_document(run: Run, table: Write, tmp_path: Path, program: Program) -> None:

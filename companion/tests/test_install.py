@@ -111,6 +111,17 @@ def test_in_a_clone_the_start_script_stands_for_its_program(tmp_path: Path, monk
     assert program_file.find(None) == str(program)
 
 
+def test_a_start_script_that_lost_its_mode(tmp_path: Path, monkeypatch: pytest.MonkeyPatch) -> None:
+    """Some tools unpack a zip without the modes. The start script then reports which files need them."""
+    monkeypatch.delenv("BALISECHECK")
+    (tmp_path / "companion").mkdir()
+    (tmp_path / "companion" / "pyproject.toml").touch()
+    (tmp_path / "balisecheck").write_text("#!/bin/sh\necho 'balisecheck: not built: chmod +x it' >&2\nexit 3\n")
+    monkeypatch.setattr(program_file, "TOP", tmp_path)
+    with pytest.raises(NoAnswer, match=r"balisecheck names no program: balisecheck: not built: chmod \+x it"):
+        program_file.find(None)
+
+
 def test_a_start_script_that_does_not_end(tmp_path: Path, monkeypatch: pytest.MonkeyPatch) -> None:
     """It has a minute: it sums up all sources, which takes long on a machine that does much else."""
     monkeypatch.delenv("BALISECHECK")

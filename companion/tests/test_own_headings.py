@@ -57,8 +57,28 @@ def test_a_heading_that_is_not_there(table: Write) -> None:
     path = table("group,telegram,BG-Name,Begriff,Telegramm (hex)", f"A,{ALONE},B,x,{OTHER}")
     assert refusal(path, columns=str(file)) == (
         'table.csv: row 1: no column km ("Kilometer" by c.toml): the headings are group, telegram, BG-Name, Begriff, '
-        'Telegramm (hex); give --columns FILE, a text file with the lines km = ".."'
+        "Telegramm (hex); correct c.toml"
     )
+
+
+@pytest.mark.parametrize(
+    "heading, cells, said",
+    [
+        ("Gruppe,Text", "A,", '{ group = "..", telegram = "Text" }'),
+        ("Gruppe,km,Text", "A,12.300,", '{ group = "..", telegram = "Text" }'),
+        ("Gruppe,PK,Text", "A,12+300,", '{ group = "..", telegram = "Text", km = "PK" }'),
+        ("Gruppe,Stand,Text", "A,2.1,", '{ group = "..", telegram = "Text" }'),
+        ('group,"Kilometer ""neu""",Text', "A,0.300,", '{ telegram = "Text", km = "Kilometer \\"neu\\"" }'),
+        ("Gruppe,,Text", "A,12.300,", '{ group = "..", telegram = "Text" }'),
+    ],
+)
+def test_the_line_that_a_refusal_gives_is_toml(table: Write, heading: str, cells: str, said: str) -> None:
+    """The file with this line and the heading of `group` makes the table readable."""
+    path = table(heading, f"{cells}{ALONE}")
+    line = refusal(path).rsplit("a text file with the line ", 1)[1]
+    assert line == f"columns = {said}"
+    file = table(content=line.replace("..", "Gruppe").encode(), name="c.toml")
+    assert tables.read(str(path), columns=str(file)).rows[0].group == "A"
 
 
 @pytest.mark.parametrize(
@@ -150,8 +170,9 @@ class TestWorkbooks:
         path, file = self.book(tmp_path, sheets, self.MERGED), tmp_path / "columns.toml"
         assert run("check", path)[2] == [
             f"balisekit: {path}: row 3: sheet Balisen: no column group and no column telegram: the headings are "
-            "BG-Name, Kilometer, Begriff, Telegramm (hex); give --columns FILE, a text file with the lines "
-            'group = "..", telegram = "Telegramm (hex)"; --sheet names another sheet: Deckblatt'
+            "BG-Name, Kilometer, Begriff, Telegramm (hex); give --columns FILE, a text file with the line "
+            'columns = { group = "..", telegram = "Telegramm (hex)", km = "Kilometer" }; --sheet names another sheet: '
+            "Deckblatt"
         ]
         file.write_text(GERMAN, "utf-8")
         status, _, err = run("check", path, "--columns", file)

@@ -146,7 +146,7 @@ BAD: Sequence[Any] = [
     (
         ["Signal,Text", f"A,{ALONE}"],
         "row 1: no column group and no column telegram: the headings are Signal, Text; give --columns FILE, a text "
-        'file with the lines group = "..", telegram = "Text"',
+        'file with the line columns = { group = "..", telegram = "Text" }',
     ),
     (["group,name", "A,B"], "row 1: no column telegram: the headings are group, name; give --columns FILE, a text"),
     (

@@ -97,7 +97,7 @@ UNREADABLE: List[Tuple[bytes, str]] = [
     (
         b"group,tele\xe2\x80\x8bgram\nA,00\n",
         "row 1: no column telegram: the headings are group, tele\\u200bgram; give --columns FILE, a text file with the "
-        'lines telegram = ".."',
+        'line columns = { telegram = ".." }',
     ),
 ]
 

@@ -16,7 +16,7 @@ STYLES = (
 )
 """How lines begin, and their style."""
 PAUSE = 1.0
-"""After so many seconds the line appears, and is written anew."""
+"""Seconds until the line first appears, and between its updates."""
 CLEARED = "\r\x1b[2K"
 _working: Optional[Callable[[], None]] = None
 """What ends the line that is shown."""

@@ -21,7 +21,7 @@ from balisekit.tables.names import passed_over
 TABLE = "a CSV file or an .xlsx with the columns group and telegram"
 TIMEOUT = "wait this long for each answer of the program; without it a minute, and more for a large input"
 ASPECT = "which aspect of the groups a track shows; without it the first one of each group"
-TOLERANCE = "by how much the kilometres of the table may be wrong, beside Q_LOCACC; 0 else"
+TOLERANCE = "the error to allow for in the kilometres of the table, in addition to Q_LOCACC; without it 0"
 EXACT = Decimal()
 """The tolerance without --tolerance."""
 
@@ -74,7 +74,7 @@ OPTIONS: Dict[str, Dict[str, Any]] = {
     "--sheet": value("NAME", name, "which sheet of an .xlsx"),
     "--columns": input_file('headings of your own: a TOML file with lines such as telegram = "Telegram (hex)"'),
     "--fill-merged": flag("give all cells of a merged area of an .xlsx the value of its first cell"),
-    "--program": value("PATH", name, "the program balisecheck, in place of the one found"),
+    "--program": value("PATH", name, "use this balisecheck instead of the one that would be found"),
     "--timeout": value("SECONDS", _seconds, TIMEOUT),
     "--explain": flag("show cause and remedy of each finding"),
     "--all": flag(checking.ALL_HELP),

@@ -43,7 +43,8 @@ def _stored(script: str) -> str:
     """The program that the start script would run."""
     try:
         environment = {**os.environ, "BALISECHECK_PATH": "1"}
-        run = subprocess.run([script], stdin=subprocess.DEVNULL, capture_output=True, env=environment, timeout=SECONDS)
+        words = ["/bin/sh", script]  # (a tree from a zip may have lost the modes, which the script reports)
+        run = subprocess.run(words, stdin=subprocess.DEVNULL, capture_output=True, env=environment, timeout=SECONDS)
     except OSError as error:
         raise NoAnswer(f"{script}: {error.strerror}") from error
     except subprocess.TimeoutExpired as error:

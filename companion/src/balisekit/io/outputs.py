@@ -194,7 +194,7 @@ def placing(outputs: Sequence[Placed], force: bool) -> Iterator[None]:
         raise
 
 
-encode = json.JSONEncoder(ensure_ascii=False, separators=(",", ":")).encode
+encode = json.JSONEncoder(ensure_ascii=False, separators=(",", ":"), check_circular=False).encode
 """The JSON of a value, by Python's encoder in C, which serves only without `indent`."""
 
 

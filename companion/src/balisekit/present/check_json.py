@@ -41,7 +41,7 @@ def as_json(outcome: Outcome) -> Dict[str, Any]:
         "rules": rules_json([part.applied for part in outcome.parts if part.applied]),
         "notes": [note for part in outcome.parts if part.applied for note in part.applied.notes],
         "entries": entries_json(outcome),
-        "not_decoded": list(not_decoded(checked)),
+        "not_decoded": not_decoded(checked),
     }
 
 

@@ -4,7 +4,7 @@ from __future__ import annotations
 import json
 import re
 from dataclasses import dataclass, replace
-from functools import cached_property, lru_cache
+from functools import cached_property, lru_cache, partial
 from typing import Dict, Iterable, Iterator, List, Mapping, Optional, Sequence, Set, Tuple, TypeVar
 
 from balisekit.engine.grammar import Finding, Refusal, Verdict
@@ -325,6 +325,16 @@ def _correct(scene: Scene) -> str:
     return row_of(scene.finding, [[balise.form for balise in aspect] for aspect in scene.aspects])
 
 
+def _scene(groups: Sequence[Group], records: Mapping[int, Record], index: int) -> Scene:
+    """All telegrams of a group."""
+    group = groups[index]
+    forms = {row.number: records[row.number].form for row in group.rows()}
+    aspects = [
+        [Balise(row, forms[row.number], place) for place, row in enumerate(aspect.rows)] for aspect in group.aspects
+    ]
+    return Scene(NO_FINDING, aspects, [aspect.name for aspect in group.aspects], kilometres(group))
+
+
 class _Names:
     """What the numbers of findings stand for in the table. NoAnswer is raised for what was not handed in."""
 
@@ -336,7 +346,8 @@ class _Names:
         heads = [_head(group) for group in readable.kept] if of_identity else []
         rows = {row.number for row in (*heads, *(row for group in groups for row in group.rows()))}
         self._records = {row.number: record for row, record in readable.accepted.decoded(sorted(rows))}
-        self._scene = lru_cache(maxsize=1)(self._new_scene)
+        # (the findings of a group are together; a method of this object would be a cycle)
+        self._scene = lru_cache(maxsize=1)(partial(_scene, readable.kept, self._records))
         self._first = list(self._first_groups()) if of_identity else []
 
     def _first_groups(self) -> Iterator[Group]:
@@ -362,15 +373,6 @@ class _Names:
         name = None if finding.aspect is None and len(group.aspects) > 1 else aspect.name
         balise = None if row is None else scene.own.name
         return Place(finding, group, name, row, None, earlier, statement(scene), balise, _correct(scene))
-
-    def _new_scene(self, index: int) -> Scene:
-        """All telegrams of a group. Its findings stand together, so that one group at a time is kept."""
-        group = self._readable.kept[index]
-        forms = {row.number: self._records[row.number].form for row in group.rows()}
-        aspects = [
-            [Balise(row, forms[row.number], place) for place, row in enumerate(aspect.rows)] for aspect in group.aspects
-        ]
-        return Scene(NO_FINDING, aspects, [aspect.name for aspect in group.aspects], kilometres(group))
 
     def _site(self, finding: Finding) -> Tuple[Group, Aspect, Optional[Row]]:
         """The group, the aspect and the balise of a finding.

@@ -5,7 +5,7 @@ import csv
 import io
 import re
 from itertools import islice
-from typing import Callable, Iterable, Iterator, List, TextIO, Tuple
+from typing import Callable, Iterator, List, Sequence, TextIO, Tuple
 
 from balisekit.errors import TableError
 from balisekit.tables.cells import Sheet
@@ -27,8 +27,9 @@ def read(content: bytes, headings: Headings = Headings()) -> Sheet:
     separator = ""
     if text[:4].lower() == "sep=" and text[5:6] in ("\r", "\n"):
         separator, text = text[4], text[5:].removeprefix("\r").removeprefix("\n")
-    separator = separator or _separator(text, headings)
-    return Sheet(encoding, separator, _rows(text, separator), notes=notes)
+    lines = _lines(text)
+    separator = separator or _separator(lines, headings)
+    return Sheet(encoding, separator, _rows(lines, separator), notes=notes)
 
 
 def stream(content: bytes, headings: Headings) -> Tuple[Sheet, Callable[[], Iterator[List[str]]]]:
@@ -43,7 +44,7 @@ def stream(content: bytes, headings: Headings) -> Tuple[Sheet, Callable[[], Iter
 
     head = opened().read(HEAD)
     named = re.match("sep=(.)\r?\n", head, re.IGNORECASE)
-    separator = named[1] if named else _separator(head, headings)
+    separator = named[1] if named else _separator(_lines(head), headings)
 
     def rows() -> Iterator[List[str]]:
         file, number = opened(), 0
@@ -58,11 +59,11 @@ def stream(content: bytes, headings: Headings) -> Tuple[Sheet, Callable[[], Iter
     return Sheet(encoding, separator, list(islice(rows(), SEARCHED + 1))), rows
 
 
-def _separator(text: str, headings: Headings) -> str:
+def _separator(lines: Sequence[str], headings: Headings) -> str:
     """The one by which one of the first rows has the needed columns, and the most that are known."""
     best, most = ",", 0
     for separator in SEPARATORS:
-        for row in _first_rows(text, separator):
+        for row in _first_rows(lines, separator):
             found = headings.places(row).keys()
             known = len(found) + (len(headings.known) if found >= set(headings.needed) else 0)
             if known > most:
@@ -70,19 +71,19 @@ def _separator(text: str, headings: Headings) -> str:
     return best
 
 
-def _first_rows(text: str, separator: str) -> Iterator[List[str]]:
+def _first_rows(lines: Sequence[str], separator: str) -> Iterator[List[str]]:
     """The rows that may have the headings, up to one that this separator cannot read."""
     try:
-        yield from islice(_reader(text, separator), SEARCHED)
+        yield from islice(csv.reader(lines, delimiter=separator, strict=True), SEARCHED)
     except csv.Error:
         return
 
 
-def _rows(text: str, separator: str) -> List[List[str]]:
+def _rows(lines: Sequence[str], separator: str) -> List[List[str]]:
     rows: List[List[str]] = []
     before = csv.field_size_limit(GREATEST_CELL)
     try:
-        rows.extend(_reader(text, separator))
+        rows.extend(csv.reader(lines, delimiter=separator, strict=True))
     except csv.Error as error:
         raise TableError(_why(str(error)), row=len(rows) + 1) from error
     finally:
@@ -90,12 +91,10 @@ def _rows(text: str, separator: str) -> List[List[str]]:
     return rows
 
 
-def _reader(text: str, separator: str) -> Iterator[List[str]]:
+def _lines(text: str) -> Sequence[str]:
     # (StringIO takes four bytes for each character, and splitlines ends lines at more characters than CSV does.)
-    lines: Iterable[str] = (
-        io.StringIO(text, newline="") if any(end in text for end in OTHER_ENDS) else text.splitlines(keepends=True)
-    )
-    return csv.reader(lines, delimiter=separator, strict=True)
+    is_plain = not any(end in text for end in OTHER_ENDS)
+    return text.splitlines(keepends=True) if is_plain else list(io.StringIO(text, newline=""))
 
 
 def _why(error: str) -> str:

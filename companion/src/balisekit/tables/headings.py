@@ -14,6 +14,8 @@ SEARCHED = 20
 ALIKE = 0.75
 """How much of a heading has to be as in a known one to be taken for it."""
 TELEGRAM = re.compile("[0-9A-Fa-f]{20,}")
+KILOMETRE = re.compile(r"-?[0-9]{1,4}(?:[.,][0-9]{1,6}|\+[0-9]{3})?")
+TO_THE_METRE = re.compile("[.,+][0-9]{3}")
 
 
 @dataclass(frozen=True)
@@ -79,11 +81,23 @@ class Headings:
             )
         named = [f'{name} ("{self.own[name]}" by {self.source})' if name in self.own else name for name in missing]
         found = ", ".join(shown(cell) for cell in row if shown(cell))[:GREATEST_NAME]
-        at = _telegrams_at(rows, place)
-        own = {"telegram": shown(row[at])} if at is not None and at < len(row) and shown(row[at]) else {}
-        lines = ", ".join(f"{name} = {json.dumps(own.get(name, '..'), ensure_ascii=False)}" for name in missing)
         why = f"no column {' and no column '.join(named)}: the headings are {found}"
-        return TableError(f"{why}; give --columns FILE, a text file with the lines {lines}", row=place + 1)
+        remedies = [f"correct {self.source}"] if self.source else []
+        if not self.strict:
+            remedies.append(f"give --columns FILE, a text file with the line {self._line(rows, place)}")
+        return TableError(f"{why}; {', or '.join(remedies)}", row=place + 1)
+
+    def _line(self, rows: Sequence[Sequence[str]], place: int) -> str:
+        """The line of TOML that names the columns that are missing, and the one that seems to have kilometres."""
+        row, missing = rows[place], self.missing(rows[place])
+        found = {"telegram": _telegrams_at(rows, place)}
+        if "telegram" in self.needed and "km" not in self.places(row):
+            found["km"] = _kilometres_at(rows, place)
+        there = {name: at for name, at in found.items() if at is not None and at < len(row)}
+        own = {name: shown(row[at]) for name, at in there.items() if shown(row[at])}
+        names = [*missing, *(["km"] if "km" in own else [])]
+        pairs = [f"{name} = {json.dumps(own.get(name, '..'), ensure_ascii=False)}" for name in names]
+        return f"columns = {{ {', '.join(pairs)} }}"
 
     def likely(self, rows: Sequence[Sequence[str]]) -> int:
         """The row that should have the headings: the last one above a telegram, else the one with the most of them."""
@@ -118,3 +132,13 @@ def _telegrams_at(rows: Sequence[Sequence[str]], place: int) -> Optional[int]:
     """The column with a telegram in one of the next rows."""
     cells = ((at, cell) for row in rows[place + 1 : place + 1 + SEARCHED] for at, cell in enumerate(row))
     return next((at for at, cell in cells if TELEGRAM.fullmatch(digits(cell))), None)
+
+
+def _kilometres_at(rows: Sequence[Sequence[str]], place: int) -> Optional[int]:
+    """The first column that has kilometres only in the next rows, one of them to the metre."""
+    for at in range(len(rows[place])):
+        texts = [kind_and_text(row[at])[1].strip() for row in rows[place + 1 : place + 1 + SEARCHED] if at < len(row)]
+        cells = list(filter(None, texts))
+        if all(map(KILOMETRE.fullmatch, cells)) and any(map(TO_THE_METRE.search, cells)):
+            return at
+    return None

@@ -5,6 +5,7 @@ import re
 from decimal import Decimal
 from difflib import get_close_matches
 from itertools import islice
+from operator import getitem, itemgetter
 from typing import Any, Callable, Dict, Iterator, List, Mapping, Optional, Sequence, Tuple
 
 from balisekit.errors import TableError, TableErrors, faults_of
@@ -124,15 +125,15 @@ def _passed_over(sheet: Sheet, place: int, places: Mapping[str, int]) -> Tuple[s
 def _rows(sheet: Sheet, place: int, places: Dict[str, int]) -> Tuple[Row, ...]:
     """The rows below the heading that have a cell with something in it."""
     columns = [_Column(name, places.get(name, ABSENT), meaning) for name, meaning in MEANINGS.items()]
-    reading = [(column, column.place) for column in columns if column.name != "telegram"]
-    telegrams, at, is_plain = columns[0], places["telegram"], DIGITS.fullmatch
+    telegrams, *others = columns
+    at, others_of, is_plain = telegrams.place, itemgetter(*(column.place for column in others)), DIGITS.fullmatch
     width, rows, wide = len(sheet.rows[place]), [], False
     begin = end_of_heading(place + 1, sheet.merged, places.values())
     for number, cells in _filled(sheet, begin, width):
         cell = cells[at]
         telegram = cell if is_plain(cell) else telegrams[cell]
-        group, *others = [column[cells[place]] for column, place in reading]
-        rows.append(Row(number, group, telegram, cell.strip(), *others))
+        values: List[Any] = list(map(getitem, others, others_of(cells)))
+        rows.append(Row(number, values[0], telegram, cell.strip(), *values[1:]))
         wide = wide or len(cells) > width + 1
     faults = list(_faults(sheet, columns, begin, width)) if wide or any(column.faults for column in columns) else []
     if faults:
