@@ -306,10 +306,11 @@ BODIES: List[Tuple[int, bool, str, Values]] = [
 ]
 #: The variables of packet 3 up to Q_NVKINT, each with its bits.
 NATIONAL = (
-    "q_scale/2 d_validnv/15 nid_c/10 n_iter/5 v_nvshunt/7 v_nvstff/7 v_nvonsight/7 "
-    "v_nvlimsuperv/7 v_nvunfit/7 v_nvrel/7 d_nvroll/15 q_nvsbtsmperm/1 q_nvemrrls/1 q_nvguiperm/1 q_nvsbfbperm/1 q_nvinhsmicperm/1 v_nvallowovtrp/7 "
-    "v_nvsupovtrp/7 d_nvovtrp/15 t_nvovtrp/8 d_nvpotrp/15 m_nvcontact/2 t_nvcontact/8 m_nvderun/1 d_nvstff/15 "
-    "q_nvdriver_adhes/1 a_nvmaxredadh1/6 a_nvmaxredadh2/6 a_nvmaxredadh3/6 q_nvlocacc/6 m_nvavadh/5 m_nvebcl/4"
+    "q_scale/2 d_validnv/15 nid_c/10 n_iter/5 v_nvshunt/7 v_nvstff/7 v_nvonsight/7 v_nvlimsuperv/7 v_nvunfit/7 "
+    "v_nvrel/7 d_nvroll/15 q_nvsbtsmperm/1 q_nvemrrls/1 q_nvguiperm/1 q_nvsbfbperm/1 q_nvinhsmicperm/1 "
+    "v_nvallowovtrp/7 v_nvsupovtrp/7 d_nvovtrp/15 t_nvovtrp/8 d_nvpotrp/15 m_nvcontact/2 t_nvcontact/8 "
+    "m_nvderun/1 d_nvstff/15 q_nvdriver_adhes/1 a_nvmaxredadh1/6 a_nvmaxredadh2/6 a_nvmaxredadh3/6 q_nvlocacc/6 "
+    "m_nvavadh/5 m_nvebcl/4"
 )
 
 
@@ -591,7 +592,7 @@ def row_of(program: Program, *packets: Form) -> str:
 
 
 def test_commands(program: Program, run: Run, table: Write, tmp_path: Path) -> None:
-    """What the program keeps as bits is shown, written and compared, and `check` does not call it judged."""
+    """What the program keeps as bits is shown, written and compared, and `check` says that the program does not."""
     packets = [packet(65, spelled(TSR.format(16))), packet(88, spelled("1/2 3/8 500/15 30/15 0/1")), packet(33, "101")]
     old = table(HEAD, row_of(program, *packets), name="old.csv")
     new = table(HEAD, row_of(program, packet(65, spelled(TSR.format(8))), *packets[1:]), name="new.csv")
@@ -617,8 +618,8 @@ def test_commands(program: Program, run: Run, table: Write, tmp_path: Path) -> N
     _, out, _ = run("check", old)
     assert [line for line in out if "packet" in line] == [
         "not decoded: packet 33 in 1 telegram (row 2)",
-        "not judged by the program: packet 65 in 1 telegram (row 2)",
-        "not judged by the program, layout not certain: packet 88 in 1 telegram (row 2)",
+        "not decoded by the program: packet 65 in 1 telegram (row 2)",
+        "not decoded by the program, layout not certain: packet 88 in 1 telegram (row 2)",
     ]
 
 
