@@ -618,8 +618,8 @@ def test_commands(program: Program, run: Run, table: Write, tmp_path: Path) -> N
     _, out, _ = run("check", old)
     assert [line for line in out if "packet" in line] == [
         "not decoded: packet 33 in 1 telegram (row 2)",
-        "not decoded by the program: packet 65 in 1 telegram (row 2)",
-        "not decoded by the program, layout not certain: packet 88 in 1 telegram (row 2)",
+        "decoded only by balisekit: packet 65 in 1 telegram (row 2)",
+        "decoded only by balisekit, layout not certain: packet 88 in 1 telegram (row 2)",
     ]
 
 
