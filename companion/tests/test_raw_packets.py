@@ -623,6 +623,37 @@ def test_commands(program: Program, run: Run, table: Write, tmp_path: Path) -> N
     ]
 
 
+def test_pictures(program: Program, run: Run, table: Write) -> None:
+    """Restrictions, modes, conditions and levels are drawn, with places, and whose layout it is."""
+    pytest.importorskip("jinja2")
+    level: Any = {"nid_packet": 41, "q_dir": 1, "q_scale": 1, "d_leveltr": 900}
+    level["transitions"] = [{"m_leveltr": 1, "nid_ntc": 9, "l_ackleveltr": 0}]
+    packets = [
+        packet(65, spelled(TSR.format(16))),
+        packet(65, spelled(TSR.format(8)), q_dir=0),
+        packet(65, spelled(TSR.format(127))),
+        packet(80, spelled("1/2 400/15 0/2 8/7 32767/15 50/15 1/1 0/5")),
+        packet(68, spelled("1/2 0/1 100/15 0/15 4/4 0/5")),
+        packet(88, spelled("1/2 3/8 500/15 30/15 0/1")),
+        level,
+    ]
+    path = table(HEAD, row_of(program, *packets))
+    for words, limit in (["--group", "A"], "m, km 14"), (["--track"], "km 14"):
+        status, out, _ = run("draw", path, *words)
+        picture = "\n".join(out).replace("&#39;", "'")
+        titles = re.findall(f"<title>([^<]*); {TRACK_NOTE}, [^<]*</title>", picture)
+        assert status == 0 and sorted(title.partition(",")[0] for title in titles) == [
+            "mode on sight",
+            "temporary speed restriction 40 km/h",
+            "temporary speed restriction 80 km/h",
+            "track condition radio hole",
+        ]
+        assert re.search(
+            rf"temporary speed restriction 80 km/h, from [^<]*{limit}\.350 to [^<]*{limit}\.650; ", picture
+        )
+        assert "change to level NTC 9, at " in picture and "level crossing" not in picture and "spare" not in picture
+
+
 def test_bits(program: Program, run: Run, table: Write) -> None:
     """Each variable has its bits of the telegram, and so have those that the JSON would leave out."""
     path = table(HEAD, row_of(program, packet(66, spelled("3/8")), packet(46, spelled("2/3 1/5 1/3 9/8 1/2"))))
