@@ -557,6 +557,25 @@ def test_example() -> None:
     assert [answer.count(f": {rule.name}: ") for rule in track_plan.RULES] == [1] * 5
 
 
+def test_report(run: Run, tmp_path: Path) -> None:
+    """The page has the remarks and the counts of the last line, and its status is that of the program."""
+    pytest.importorskip("jinja2")
+    words = ("report", TOP / plan_example.TABLE, "--html", tmp_path / "a.html")
+    assert run(*words, "--plan", TOP / plan_example.PLAN)[0] == 0
+    page = (tmp_path / "a.html").read_text("utf-8")
+    assert "V_MAIN is 140 km/h, and 100 km/h by row 63 of the plan" in page
+    assert "track plan: compared: X1 67 speeds, X2 77 gradients, X3 30 ends of authority, " in page
+    assert run(*words, "--force")[0] == 0 and "track plan" not in (tmp_path / "a.html").read_text("utf-8")
+
+
+def test_the_example_of_the_page() -> None:
+    """PLAN.md shows the last lines of the example's answer."""
+    page = (TOP / "docs" / "PLAN.md").read_text("utf-8")
+    (block,) = re.findall(r"```console\n\$ \./balisekit (check [^|]*) \| tail -n 3\n(.*?)```", page, re.DOTALL)
+    answer = plan_example.run(*block[0].split())
+    assert answer.endswith(f"\n{block[1]}") and block[1].count("\n") == 3
+
+
 def test_pages(run: Run) -> None:
     """Each rule has all paragraphs and fewer than 150 lines, and --explain shows them."""
     heads = (

@@ -54,7 +54,7 @@ class Content:
     fault: Optional[RawFault] = None
     """The first one."""
     is_complete: bool = False
-    """Whether each bit of the body belongs to a variable. Some number may be spare."""
+    """Whether the body has exactly the bits of the layout. Some number may be spare."""
 
     @property
     def words(self) -> str:
