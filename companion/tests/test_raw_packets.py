@@ -10,6 +10,7 @@ import pytest
 from conftest import Run
 
 from balisekit.engine.program import Program, Text
+from balisekit.engine.records import FROM_TRACK, FROM_TRAIN
 from balisekit.etcs.differences import differences
 from balisekit.etcs.flat import Variable, variables
 from balisekit.etcs.geometry import Kilometres
@@ -321,7 +322,8 @@ def all_values(values: Any) -> List[Any]:
 
 
 def test_each_layout_has_a_body() -> None:
-    """No layout is without a body, and no body without a layout."""
+    """No layout is without a body, no body without a layout, and the program reads none of these packets."""
+    assert not {*((number, True) for number in FROM_TRACK), *((number, False) for number in FROM_TRAIN)} & {*layouts()}
     assert {*(case[:2] for case in BODIES), (3, True)} == {*layouts()}
     certain = [layout for layout in layouts().values() if layout.is_certain]
     assert (len([each for each in certain if each.from_track]), len(certain), len(layouts())) == (26, 29, 54)
