@@ -2,33 +2,21 @@
 from __future__ import annotations
 
 import argparse
-import time
-from typing import Tuple
 
 from balisekit.cli import options as shared
+from balisekit.cli.outcome import add_only, letters, outcome as outcome_of
 from balisekit.io import clock
 from balisekit.io.outputs import encode, write_json
 from balisekit.present import accepted_text
 from balisekit.present.outcome_text import lines
-from balisekit.rules import accepted, checking
-from balisekit.rules.families import FAMILIES, Outcome, apply
-from balisekit.rules.rule import Options
-
-ONLY = "apply only these families of rules: F, the program's findings; L, links"
-
-
-def _families(text: str) -> Tuple[str, ...]:
-    """The letters of families, in the order of an answer."""
-    letters = [letter.strip().upper() for letter in text.split(",")]
-    if not all(letter in FAMILIES for letter in letters):
-        raise argparse.ArgumentTypeError(f"{text[:40]} is no list of {', '.join(FAMILIES)}: write F or F,L")
-    return tuple(letters)
+from balisekit.rules import checking
+from balisekit.rules.families import FAMILIES, Outcome
 
 
 def add_options(parser: argparse.ArgumentParser) -> None:
     """The options of this command."""
     shared.add(parser, *shared.INPUTS, "--tolerance", "--explain", "--all", "--accepted")
-    parser.add_argument("--only", **shared.value("FAMILIES", _families, ONLY))
+    add_only(parser)
     proposal = "write entries for what is open, to be signed, into a new file"
     parser.add_argument("--propose", **shared.output_file(proposal, always_new=True))
     parser.add_argument("--junit", **shared.output_file("write a case for each group and message as JUnit does"))
@@ -41,7 +29,9 @@ def add_options(parser: argparse.ArgumentParser) -> None:
 
 def run(options: argparse.Namespace) -> int:
     """Does it. The answer is the exit status."""
-    outcome = _outcome(options)
+    if not any(FAMILIES[letter].needs_kilometres for letter in letters(options)):
+        shared.refuse_unused(options, "with --only F", "tolerance")
+    outcome = outcome_of(options, clock.now())
     checked = outcome.checked
     if options.propose:
         options.propose.write([accepted_text.proposal(outcome)])
@@ -71,17 +61,3 @@ def _write_for_tools(options: argparse.Namespace, outcome: Outcome) -> None:
         from balisekit.present.check_json import as_json
 
         write_json(options.json, as_json(outcome))
-
-
-def _outcome(options: argparse.Namespace) -> Outcome:
-    """What the rules find, and what was accepted if there is a file of entries."""
-    began, day = time.perf_counter(), clock.now().date()
-    entries = accepted.read(options.accepted) if options.accepted else None
-    program, table, messages = shared.inputs(options)
-    letters = options.only or tuple(FAMILIES)
-    if not any(FAMILIES[letter].needs_kilometres for letter in letters):
-        shared.refuse_unused(options, "with --only F", "tolerance")
-    if all(FAMILIES[letter].needs_kilometres for letter in letters):
-        shared.refuse_without_kilometres(table)
-    checked = checking.check(program, table, messages, options.by_position, options.all)
-    return apply(checked, letters, Options(options.tolerance), (entries, day) if entries else None, began)

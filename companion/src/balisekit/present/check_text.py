@@ -1,11 +1,9 @@
-"""What begins and ends the answer of `check` and of a report in words: what was refused, and the program's verdict."""
+"""What begins and ends an answer in words: what was refused, and the program's verdict."""
 from __future__ import annotations
 
-from typing import Iterator, List, Optional
+from typing import Iterator
 
-from balisekit.present.accepted_text import fault_lines, verdict_lines
 from balisekit.present.refusals import not_looked_at, refused_counts, refused_lines
-from balisekit.rules.accepted import Judged
 from balisekit.rules.aspect_counts import aspects_found
 from balisekit.rules.checking import Checked
 from balisekit.rules.remarks import remarks
@@ -33,12 +31,6 @@ def before_last(table: Table) -> Iterator[str]:
     """What is said of the table before the last line, and changes neither that nor the status."""
     yield from remarks(table)
     yield aspects_found(table)
-
-
-def closing_lines(checked: Checked, judged: Optional[Judged]) -> List[str]:
-    """What ends the answer: entries at fault, how many findings are open, and the last line."""
-    last = last_line(checked)
-    return [*fault_lines(judged), *verdict_lines(judged, last, checked.whole)] if judged else [last]
 
 
 def last_line(checked: Checked) -> str:

@@ -14,9 +14,11 @@ from balisekit.rules.families import Family
 
 WIDTH = 116
 
-HEADS = ("What it says", "How urgent", "Usual cause", "How to correct it")
+EXPLAINED = ("What it says", "How urgent", "Usual cause", "How to correct it")
 """The paragraphs that `--explain` shows."""
-KEYS = ("says", "urgent", "cause", "remedy")
+HEADS = (*EXPLAINED[:3], "What may happen", *EXPLAINED[3:])
+"""All paragraphs."""
+KEYS = ("says", "urgent", "cause", "happens", "remedy")
 """Their keys of a finding."""
 
 
@@ -47,7 +49,7 @@ def page_lines(named: Iterable[Tuple[str, Page]]) -> Iterator[str]:
     """What these pages say, as lines of text."""
     for name, page in named:
         yield f"{name}: {page.title}"
-        for head, text in page.parts.items():
+        for head, text in ((head, page.parts[head]) for head in EXPLAINED):
             yield from textwrap.wrap(f"{head}. {text}", WIDTH, initial_indent="    ", subsequent_indent="    ")
 
 

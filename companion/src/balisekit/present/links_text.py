@@ -75,14 +75,26 @@ def empty_rules(links: Links) -> List[str]:
 
 
 def _empty(rule: Rule, result: Result) -> str:
-    reasons = [f"{why}: {count}" for why, count in result.not_looked_at.items() if count]
-    return f"{rule.name} compared none of {_things(rule, result.skipped)} ({', '.join(reasons)})"
+    return f"{rule.name} compared none of {_things(rule, result.skipped)} ({_why(result)})"
 
 
 def _compared(rule: Rule, result: Result) -> str:
     """What a rule has compared, and of how many things if there are more."""
     of_how_many = f"{result.looked_at} of " if result.skipped else ""
     return f"{rule.name} {of_how_many}{_things(rule, result.looked_at + result.skipped)}"
+
+
+def not_compared(links: Links) -> Iterator[str]:
+    """How many things each rule has not looked at, and why."""
+    for rule, result in links.results.items():
+        if result.skipped:
+            of_all = _things(rule, result.looked_at + result.skipped)
+            yield f"not compared by {rule.name}: {result.skipped} of {of_all} ({_why(result)})"
+
+
+def _why(result: Result) -> str:
+    """Why things were not looked at, and how many for each reason."""
+    return ", ".join(f"{reason}: {count}" for reason, count in result.not_looked_at.items() if count)
 
 
 def _things(rule: Rule, count: int) -> str:

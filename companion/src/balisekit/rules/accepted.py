@@ -356,13 +356,6 @@ def judge(
     return Judged(entries, tuple(items), tuple(by_item), tuple(at_fault), tuple(former), others)
 
 
-def status(checked: Checked, judged: Optional[Judged]) -> int:
-    """2 if anything was refused or left out, 1 if a finding is open or an entry at fault, else 0."""
-    if not checked.whole or judged is None:
-        return checked.status
-    return int(bool(judged.open or judged.faults))
-
-
 def _entries_about(wanted: Iterable[Key], entries: Iterable[Acceptance]) -> Iterator[List[Acceptance]]:
     """The entries about each item, looked up by which of their fields are `*`, and by the others."""
     by_mask: Dict[Tuple[bool, ...], Dict[Key, List[Acceptance]]] = {}

@@ -118,6 +118,17 @@ class Line:
         """All groups, in the order of the table."""
         return self.passages.groups
 
+    @cached_property
+    def directed(self) -> Sequence[Group]:
+        """All groups as `table_groups` has them. Single balises have the direction of the links that name them."""
+        groups = zip(self.table_groups, self.groups)
+        return [_directed(group, taken.rising) if taken.by_links else group for group, taken in groups]
+
+    @property
+    def direction_notes(self) -> Sequence[str]:
+        """Which single balises have got their direction from links."""
+        return [f"{each}: {BY_LINKS}" for each in self.groups if each.by_links]
+
     @property
     def chains(self) -> Sequence[Chain]:
         """Each packet 5 once in each direction in which it holds, without those that are passed after a packet 136."""
@@ -174,18 +185,22 @@ class Records(Mapping[int, Form]):
         return len(self._records)
 
 
+def has_no_direction(group: Group) -> bool:
+    """Whether it is a single balise with a kilometre whose direction along the kilometres the table does not show."""
+    if len(group.aspects[0].rows) > 1:
+        return False
+    where = kilometres(group)
+    return where.group is not None and where.rising is None
+
+
 def with_directions(groups: Sequence[Group], forms: Mapping[int, Form]) -> Tuple[Sequence[Group], Sequence[str]]:
     """The groups, and notes on single balises that have got their direction from the links that name them.
 
     `forms` has the telegrams that the program has read, by their rows. They are looked at only if there are single
-    balises with a kilometre whose direction the table does not show.
+    balises without a direction.
     """
-    places = {group.name: kilometres(group) for group in groups if len(group.aspects[0].rows) == 1}
-    if all(place.group is None or place.rising is not None for place in places.values()):
-        return groups, ()
-    taken = {each.group.name: each for each in Line(groups, forms).groups if each.by_links}
-    directed = [_directed(group, taken[group.name].rising) if group.name in taken else group for group in groups]
-    return directed, [f"{each}: {BY_LINKS}" for each in taken.values()]
+    line = Line(groups, forms)
+    return (line.directed, line.direction_notes) if any(map(has_no_direction, groups)) else (groups, ())
 
 
 def _directed(group: Group, rising: Optional[int]) -> Group:

@@ -1,0 +1,45 @@
+"""What `check` and `report` have in common: which families of rules are asked for, and what they find."""
+from __future__ import annotations
+
+import argparse
+import time
+from datetime import datetime
+from typing import Sequence, Tuple
+
+from balisekit.cli import options as shared
+from balisekit.rules import accepted, checking
+from balisekit.rules.families import FAMILIES, Outcome, apply
+from balisekit.rules.rule import Options
+
+ONLY = "apply only these families of rules: F, the program's findings; L, links"
+
+
+def _families(text: str) -> Tuple[str, ...]:
+    """The letters of families, in the order of an answer."""
+    letters = [letter.strip().upper() for letter in text.split(",")]
+    if not all(letter in FAMILIES for letter in letters):
+        raise argparse.ArgumentTypeError(f"{text[:40]} is no list of {', '.join(FAMILIES)}: write F or F,L")
+    return tuple(letters)
+
+
+def add_only(parser: argparse.ArgumentParser) -> None:
+    """The option --only."""
+    parser.add_argument("--only", **shared.value("FAMILIES", _families, ONLY))
+
+
+def letters(options: argparse.Namespace) -> Sequence[str]:
+    """The families that are asked for: all of them without --only."""
+    return options.only or tuple(FAMILIES)
+
+
+def outcome(options: argparse.Namespace, now: datetime) -> Outcome:
+    """What the rules find, and what was accepted on this day if there is a file of entries."""
+    began = time.perf_counter()
+    entries = accepted.read(options.accepted) if options.accepted else None
+    program, table, messages = shared.inputs(options)
+    asked = letters(options)
+    if all(FAMILIES[letter].needs_kilometres for letter in asked):
+        shared.refuse_without_kilometres(table)
+    checked = checking.check(program, table, messages, options.by_position, options.all)
+    signed = (entries, now.date()) if entries else None
+    return apply(checked, asked, Options(options.tolerance), signed, began)
