@@ -12,9 +12,9 @@ from balisekit.present.outcome_text import closing_lines, explained_rules
 from balisekit.present.pages import pieces, premises
 from balisekit.present.report import blocks, cover, listed
 from balisekit.present.telegram_text import LEGEND
+from balisekit.rules.families import Outcome
 from balisekit.rules.line import Line
 from balisekit.rules.links import L2, Links, compare
-from balisekit.rules.families import Outcome
 from balisekit.rules.rule import Options
 from balisekit.tables.names import clean
 
