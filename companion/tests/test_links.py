@@ -587,3 +587,24 @@ def test_a_direction_by_links_is_used_by_the_commands(run: Run, table: Write) ->
     assert note in out[2] and out[1] == run("table", FOLDER / "line.csv", "--csv", "-")[1]
     said = run("links", path)[1]
     assert f"note: row 6  C  km 12.000: {BY_LINKS}" in said and said[-1].startswith("links: none found")
+
+
+def test_a_direction_by_links_is_used_for_one_group(run: Run, table: Write, tmp_path: Path) -> None:
+    """In pictures, pages and `show --group`, though the links are in telegrams of other groups."""
+    line = (FOLDER.parent / "table" / "line.csv").read_text("utf-8").splitlines()
+    telegrams = [line[number].rsplit(",", 1)[1] for number in (1, 2, 7)]
+    rows = [f"{where},{text}" for where, text in zip(("A,12.300,", "A,12.303,", "B,13.850,{}"), telegrams)]
+    said: Dict[str, str] = {}
+    for word in ("", "rising"):
+        path = table("group,km,nominal,telegram", *(row.format(word) for row in rows))
+        svg, folder, html = (tmp_path / f"{word}{ending}" for ending in (".svg", "", ".html"))
+        notes = [] if word else [f"note: B (km 13.850): {BY_LINKS}"]
+        out = run("show", path, "--group", "B")[1]
+        assert out[: len(notes)] == notes and run("show", path, "--group", "A")[1][0].startswith("row 2")
+        assert run("draw", path, "--group", "B", "--svg", svg)[1] == notes
+        assert run("draw", path, "--all", folder / "all")[0] == 0 and run("report", path, "--html", html)[0] != 3
+        page = html.read_text("utf-8")
+        texts = ["\n".join(out[2 * len(notes) :]), *(one.read_text() for one in (svg, folder / "all" / "group-B.svg"))]
+        said[word] = "".join([*texts, page[page.index('<section class="group" id="g1"') :]])
+        assert all("15.050" in text or "km 15.300" in text for text in (*texts, said[word]))
+    assert said[""] == said["rising"]

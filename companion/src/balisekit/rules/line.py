@@ -125,9 +125,9 @@ class Line:
         return [_directed(group, taken.rising) if taken.by_links else group for group, taken in groups]
 
     @property
-    def direction_notes(self) -> Sequence[str]:
-        """Which single balises have got their direction from links."""
-        return [f"{each}: {BY_LINKS}" for each in self.groups if each.by_links]
+    def direction_notes(self) -> Mapping[str, str]:
+        """A note for each single balise that has got its direction from links, by the name of its group."""
+        return {each.group.name: f"{each}: {BY_LINKS}" for each in self.groups if each.by_links}
 
     @property
     def chains(self) -> Sequence[Chain]:
@@ -200,7 +200,7 @@ def with_directions(groups: Sequence[Group], forms: Mapping[int, Form]) -> Tuple
     balises without a direction.
     """
     line = Line(groups, forms)
-    return (line.directed, line.direction_notes) if any(map(has_no_direction, groups)) else (groups, ())
+    return (line.directed, list(line.direction_notes.values())) if any(map(has_no_direction, groups)) else (groups, ())
 
 
 def _directed(group: Group, rising: Optional[int]) -> Group:
