@@ -597,14 +597,14 @@ def test_a_direction_by_links_is_used_for_one_group(run: Run, table: Write, tmp_
     said: Dict[str, str] = {}
     for word in ("", "rising"):
         path = table("group,km,nominal,telegram", *(row.format(word) for row in rows))
-        svg, folder, html = (tmp_path / f"{word}{ending}" for ending in (".svg", "", ".html"))
+        svg, folder, html = (tmp_path / f"all{word}{ending}" for ending in (".svg", "", ".html"))
         notes = [] if word else [f"note: B (km 13.850): {BY_LINKS}"]
         out = run("show", path, "--group", "B")[1]
         assert out[: len(notes)] == notes and run("show", path, "--group", "A")[1][0].startswith("row 2")
         assert run("draw", path, "--group", "B", "--svg", svg)[1] == notes
-        assert run("draw", path, "--all", folder / "all")[0] == 0 and run("report", path, "--html", html)[0] != 3
+        assert run("draw", path, "--all", folder)[0] == 0 and run("report", path, "--html", html)[0] != 3
         page = html.read_text("utf-8")
-        texts = ["\n".join(out[2 * len(notes) :]), *(one.read_text() for one in (svg, folder / "all" / "group-B.svg"))]
+        texts = ["\n".join(out[2 * len(notes) :]), *(one.read_text() for one in (svg, folder / "group-B.svg"))]
         said[word] = "".join([*texts, page[page.index('<section class="group" id="g1"') :]])
         assert all("15.050" in text or "km 15.300" in text for text in (*texts, said[word]))
     assert said[""] == said["rising"]
