@@ -3,6 +3,7 @@ from __future__ import annotations
 
 import csv
 import hashlib
+import html
 import json
 import os
 import re
@@ -94,7 +95,7 @@ def test_the_page_has_all_that_was_said(
         told = line.strip().replace("program: ", "").replace("left out: ", "")
         told = re.sub("^(findings of the program|links, by balisekit's own).*:.*", lambda found: _title(found[0]), told)
         assert told in text, line
-    assert said[-1:] == closing and f'<p class="verdict">{closing[0]}</p>' in page
+    assert said[-1:] == closing and f'<p class="verdict">{escape(closing[0])}</p>' in page
     assert hashlib.sha256(table.read_bytes()).hexdigest() in text
     assert text.count("balisekit is not proved; the program's own lines are quoted in full") == 1
     ids = [attributes["id"] for _, attributes in seen.tags if "id" in attributes]
@@ -105,6 +106,11 @@ def test_the_page_has_all_that_was_said(
         for number, row in enumerate(csv.DictReader(file), 2):
             assert f"r{number}" in ids and row["telegram"] in text
     assert not re.search(r"https?://(?!www\.w3\.org/2000/svg)|<script|<img|<link", page)
+
+
+def escape(text: str) -> str:
+    """The text as a page has it."""
+    return html.escape(text).replace("&quot;", "&#34;").replace("&#x27;", "&#39;")
 
 
 def _title(heading: str) -> str:
@@ -122,7 +128,7 @@ def test_links_are_accepted_beside_findings(tmp_path: Path, capsys: pytest.Captu
     status, page = _report(table, tmp_path / "r.html", "--accepted", str(signed))
     told = capsys.readouterr().out.splitlines()[1:]
     assert row["rule"] == "L2" and status == 0
-    assert told[-1].startswith("no open findings or links; ") and "\n".join(told) in page
+    assert told[-1].startswith("no open findings or links; ") and escape("\n".join(told)) in page
     accepted = _between(page, ACCEPTED, MEANING)
     assert accepted.count("accepted: surveyed (J. Doe, 2026-01-02)") == 1 and "L2: packet 5" in accepted
     block = page[page.index('<section class="group" id="g0">') :]
@@ -221,11 +227,11 @@ def test_accepted_findings_stand_apart(tmp_path: Path, capsys: pytest.CaptureFix
         assert _report(table, tmp_path / "report.html", *words)[0] == status
         page = (tmp_path / "report.html").read_text("utf-8")
         told = capsys.readouterr().out.splitlines()[1:]
-        assert told == said[-len(told) :] and "program: no: findings 5" in told
+        assert told == said[-len(told) :] and 'program: "no: findings 5"' in told
         closing = "\n".join(
-            ["program: no: findings 5", f"findings 5: {counts}", *(["no open findings; accepted by *: 3"][status:])]
+            ['program: "no: findings 5"', f"findings 5: {counts}", *(["no open findings; accepted by *: 3"][status:])]
         )
-        assert f'<p class="verdict">{closing}</p>' in page
+        assert f'<p class="verdict">{escape(closing)}</p>' in page
         assert ("until 2026-02-01 is past" in page) == ("fault" in counts)
         still_open, accepted = _between(page, PROGRAM, ACCEPTED), _between(page, ACCEPTED, MEANING)
         assert ("F11 group 5 aspect 2" in still_open, "F11 group 5 aspect 2" in accepted) == (status == 1, status == 0)
@@ -259,7 +265,7 @@ def test_findings_of_one_cause_are_one_entry(tmp_path: Path) -> None:
     _, page = _report(table, tmp_path / "r.html")
     listed = _between(page, PROGRAM, "<h2>Groups and messages</h2>")
     assert re.findall('<p class="several"><bdi>(.*)</bdi></p>', page) == ["at worst wrong information:"]
-    assert page.count("look exchanged") == 2 and "F1 1 cause (12)" in listed
+    assert page.count("look exchanged") == 2 and "12 findings of 1 cause: F1 6, F4 6; " in listed
     assert listed.count("position wrong</span>") == 6 and page.count("position wrong</span>") == 12
     some = [
         {"nid_c": "1", "nid_bg": "1", "rule": "F1", "aspect": aspect, "balise": balise, "sha256": digest([text])}
@@ -275,7 +281,7 @@ def test_findings_of_one_cause_are_one_entry(tmp_path: Path) -> None:
 def test_a_yes_and_an_empty_refusal(tmp_path: Path) -> None:
     """A table without findings, and one of which nothing can be read."""
     status, page = _report(_table(tmp_path / "t.csv", {"group": "A", "telegram": HEADER}), tmp_path / "r.html")
-    assert status == 0 and "program: yes: groups 1, messages 0" in page
+    assert status == 0 and "program: &#34;yes: groups 1, messages 0&#34;" in page
     status, page = _report(_table(tmp_path / "t.csv", {"group": "A", "telegram": "a1" * 27}), tmp_path / "r.html")
     assert status == 2 and "INCOMPLETE: 1 of 1 telegrams refused" in page and "yes: groups" not in page
 

@@ -31,7 +31,7 @@ DIRECTED = (8, 10, 11, 12, 13)
 ORDINALS = ("first", "second", "third", "fourth", "fifth", "sixth")
 Form = Any
 EXAMPLES = {
-    "position-wrong": "balise (N_PIG 0): N_PIG is 0 in place of 1: the table has the balise as the second of its group",
+    "position-wrong": "balise (N_PIG 0): N_PIG is 0 instead of 1: the table has the balise as the second of its group",
     "total-wrong": "balise (N_PIG 0): N_TOTAL + 1 says 1 balise, and the table has 2",
     "identity-differs": "balise (N_PIG 1): NID_BG is 2, and 1 in balise (N_PIG 0), row 2",
     "mark-points-outside": "balise (N_PIG 0): M_DUP is 1 (duplicate of the next balise), and the balise is the only "
@@ -51,7 +51,7 @@ EXAMPLES = {
     "no-speed-profile": "nominal: no packet 27 (international static speed profile) beside packet 12 (movement "
     "authority of level 1, V_MAIN 100 km/h) of balise (N_PIG 0)",
     "speed-profile-short": "balise (N_PIG 0)  nominal: packet 27 (international static speed profile), third in the "
-    "telegram, reaches 1000 m, and the supervised location, the danger point of packet 12, is at 1050 m: 50 m missing",
+    "telegram, reaches 1000 m, and the supervised location, the danger point (D_DP 50 m) of packet 12, is at 1050 m: 50 m missing",
     "identity-used-before": "the identity 1/1 (NID_C/NID_BG) is also that of G0, row 2",
     "marks-differ": 'balise (N_PIG 0): M_DUP is 0 (no duplicate), and 1 (duplicate of the next balise) in aspect "0", '
     "row 2",
@@ -482,10 +482,10 @@ MISTAKES: Dict[Mistake, Tuple[str, str]] = {
     overlap_longer: (
         "F11",
         "packet 21 (gradient profile), second in the telegram, reaches 1650 m (km 15.500), and the supervised "
-        "location, the end of the overlap of packet 12, is at 1750 m (km 15.600): 100 m missing",
+        "location, the end of the overlap (D_OL 300 m) of packet 12, is at 1750 m (km 15.600): 100 m missing",
     ),
     identity_twice: ("F14", "the identity 352/101 (NID_C/NID_BG) is also that of Signal A (km 12.300), rows 2 to 5"),
-    exchanged: ("F1", "their telegrams or their rows look exchanged: N_PIG is 1 and 0 in place of 0 and 1"),
+    exchanged: ("F1", "their telegrams or their rows look exchanged: N_PIG is 1 and 0 instead of 0 and 1"),
     wrong_direction: (
         "F12",
         "no packet 27 (international static speed profile) beside packet 12 (movement authority of level 1, V_MAIN 120 "
@@ -493,8 +493,8 @@ MISTAKES: Dict[Mistake, Tuple[str, str]] = {
     ),
     pasted: (
         "F3",
-        "the telegram has the identity 352/108 (NID_C/NID_BG), and the group's other 3 have 352/107: it looks like one "
-        "of Signal H (km 22.900)",
+        "the telegram has the identity 352/108 (NID_C/NID_BG), and the other 3 telegrams of the group have 352/107: it "
+        "looks like one of Signal H (km 22.900); row 30 equals row 34 (Signal H) digit for digit",
     ),
 }
 ROWS: Dict[Mistake, Tuple[int, ...]] = {

@@ -56,7 +56,7 @@ def _write_for_tools(options: argparse.Namespace, outcome: Outcome) -> None:
     if options.xlsx:
         from balisekit.present import entries_sheet
 
-        options.xlsx.write([entries_sheet.document(outcome, clock.now())])
+        options.xlsx.write(entries_sheet.document(outcome))
     if options.json:
         from balisekit.present.check_json import as_json
 

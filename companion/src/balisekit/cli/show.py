@@ -125,7 +125,8 @@ class _Shown:
             rows = {row.number: row for row in group.rows()}
             for number, here in places_of_rows(group, forms).items():
                 if number in answers:
-                    heading = describe_balise(group, rows[number])
+                    n_pig = forms[number]["n_pig"] if number in forms else None
+                    heading = describe_balise(group, rows[number], n_pig)
                     yield self._block(heading, rows[number].telegram, answers[number], telegram_refused, lambda _: here)
         return firsts
 

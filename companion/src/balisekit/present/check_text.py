@@ -36,7 +36,7 @@ def before_last(table: Table) -> Iterator[str]:
 def last_line(checked: Checked) -> str:
     """The program's verdict, or that something was left out."""
     if checked.whole and checked.verdict:
-        return f"program: {checked.verdict.line}"
+        return f'program: "{checked.verdict.line}"'
     groups = f"{len(checked.left_out)} of {len(checked.table.groups)} groups left out"
     parts = [*refused_counts(checked), groups, *not_looked_at(checked)]
     found = f"; findings in the rest: {len(checked.findings)}" if checked.findings else ""

@@ -6,9 +6,10 @@ from typing import Any, Dict, Iterator, List, Sequence
 from balisekit.present import NOT_PROVED
 from balisekit.present.check_text import head_line
 from balisekit.present.explanations import page_lines, pages
+from balisekit.present.headings import words
 from balisekit.present.refusals import not_looked_at, refused_counts, refused_lines
 from balisekit.rules.checking import Checked
-from balisekit.rules.families import FAMILIES
+from balisekit.rules.families import FAMILIES, entry_of_remark
 from balisekit.rules.links import Links
 from balisekit.rules.rule import Remark, Result, Rule
 from balisekit.tables.names import clean, passed_over
@@ -42,13 +43,14 @@ def lines(checked: Checked, links: Links, explained: bool = False) -> Iterator[s
 
 
 def _words(remark: Remark) -> str:
-    return f"{remark.location}: links {remark.rule}: {remark.sentence}"
+    return words(entry_of_remark(remark))
 
 
 def last_line(checked: Checked, links: Links) -> str:
     """How many were found and by which rules, and what each rule has compared. It is never a yes."""
     parts = [*lacking(checked), *empty_rules(links)]
-    where = "the rest" if lacking(checked) else f"{len(checked.table.groups)} groups"
+    count = len(checked.table.groups)
+    where = "the rest" if lacking(checked) else f"{count} group{'s' * (count != 1)}"
     said = f"links: {found(links, f' of {OF_RULES}')} in {where}; {compared(links)}"
     return f"INCOMPLETE: {', '.join(parts)}; {said}" if parts else said
 
@@ -65,8 +67,11 @@ def found(links: Links, rules: str = "") -> str:
 
 
 def compared(links: Links) -> str:
-    """What each rule has compared."""
-    return f"compared: {', '.join(_compared(rule, result) for rule, result in links.results.items())}"
+    """What each rule has compared. Rules that have compared the same number of the same things are named together."""
+    rules: Dict[str, List[str]] = {}
+    for rule, result in links.results.items():
+        rules.setdefault(_compared(rule, result), []).append(rule.name)
+    return "compared: " + ", ".join(f"{things} ({', '.join(names)})" for things, names in rules.items())
 
 
 def empty_rules(links: Links) -> List[str]:
@@ -81,7 +86,7 @@ def _empty(rule: Rule, result: Result) -> str:
 def _compared(rule: Rule, result: Result) -> str:
     """What a rule has compared, and of how many things if there are more."""
     of_how_many = f"{result.looked_at} of " if result.skipped else ""
-    return f"{rule.name} {of_how_many}{_things(rule, result.looked_at + result.skipped)}"
+    return f"{of_how_many}{_things(rule, result.looked_at + result.skipped)}"
 
 
 def not_compared(links: Links) -> Iterator[str]:

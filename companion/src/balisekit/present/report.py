@@ -191,7 +191,8 @@ def _telegrams(group: Group, forms: Mapping[int, Form], items: Mapping[str, Refu
     rows = {row.number: row for row in group.rows()}
     for number, here in places_of_rows(group, forms).items():
         row, id = rows[number], f"r{number}"
-        heading, digits = describe_balise(group, row), clean(row.telegram)
+        n_pig = forms[number]["n_pig"] if number in forms else None
+        heading, digits = describe_balise(group, row, n_pig), clean(row.telegram)
         if id in items:
             yield Telegram(id, items[id].sentence, digits, refused=items[id].program)
         elif number in forms:

@@ -108,7 +108,8 @@ class Acceptance:
         now = checksum(items)
         if self.sha256 == now:
             return []
-        hint = f": that of the {len(items)} findings that it fits is {now}" if self.is_wide else ""
+        fitted = f"the {len(items)} findings" if len(items) > 1 else "the finding"
+        hint = f": that of {fitted} that it fits is {now}" if self.is_wide else ""
         if not self.sha256:
             return [f"no sha256{hint}"]
         what = "telegram has" if len(_texts(items[0])) == 1 else "telegrams have"

@@ -10,7 +10,7 @@ from dataclasses import dataclass, field
 from decimal import Decimal
 from functools import cached_property
 from itertools import islice
-from typing import Dict, Iterator, List, Mapping, Optional, Sequence, Tuple
+from typing import Dict, FrozenSet, Iterator, List, Mapping, Optional, Sequence, Tuple
 
 from balisekit.engine.grammar import Finding
 from balisekit.engine.program import Record
@@ -164,6 +164,30 @@ class Line:
     def linked(self) -> Mapping[str, LinkedGroups]:
         """Of each track: the groups with a kilometre that say that they are linked."""
         return {track: LinkedGroups.of(groups) for track, groups in self.along.items()}
+
+    def has(self, rule: int, group: BaliseGroup) -> bool:
+        """Whether the program has reported a finding of this rule of a group. F14 is of all groups with its identity."""
+        if rule == 14:
+            return group.identity in self._used_twice
+        return any(finding.rule == rule for finding in self.findings.get(group.group.name, ()))
+
+    @cached_property
+    def _used_twice(self) -> FrozenSet[Optional[Identity]]:
+        """The identities of the groups with a finding F14."""
+        found = {name for name, some in self.findings.items() if any(finding.rule == 14 for finding in some)}
+        return frozenset(group.identity for group in self.groups if group.group.name in found)
+
+    def nearest(self, track: str, km: Decimal) -> Optional[BaliseGroup]:
+        """The group of a track that is nearest to a kilometre."""
+        known, groups = self._known.get(track, ()), self.along.get(track, ())
+        at = bisect_left(known, km)
+        near = range(max(at - 1, 0), min(at + 1, len(groups)))
+        return groups[min(near, key=lambda place: abs(known[place] - km))] if near else None
+
+    @cached_property
+    def _known(self) -> Mapping[str, Sequence[Decimal]]:
+        """The kilometres of the groups of each track, in their order."""
+        return {track: [each.km or Decimal() for each in groups] for track, groups in self.along.items()}
 
 
 class Records(Mapping[int, Form]):

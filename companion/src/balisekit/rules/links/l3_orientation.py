@@ -8,7 +8,8 @@ at groups of two or more balises alone: a single balise has no order, and gets i
 How urgent. At worst the train brakes or is tripped at each passage.
 
 Usual cause. The group was turned, or was planned for the other direction. A link was copied from a group that faces the
-other way. The balises are in the table in another order than on the track: then F1 is found as well.
+other way. The balises are in the table in another order than on the track: then F1 is found as well, and the line says
+so. That may be so of the group that sends the link: then the line blames the next group.
 
 What may happen. The train finds the direction of the group by its balises, and sees that it is not the one that was
 announced. It applies the linking reaction or rejects the message.
@@ -23,17 +24,18 @@ from typing import Iterator, Union
 
 from balisekit.etcs.geometry import NOMINAL, REVERSE
 from balisekit.rules.line import Line
-from balisekit.rules.location import NOT_IN_TABLE
+from balisekit.rules.location import NOT_IN_TABLE, BaliseGroup
 from balisekit.rules.passages import Chain
 from balisekit.rules.rule import Options, Remark, Result, Rule
+from balisekit.tables.names import clean
 
 
 def find(line: Line, options: Options) -> Result:
     """Compares each link to a group of two or more balises."""
-    return Result.of_chains(line, _look_at)
+    return Result.of_chains(line, lambda chain: _look_at(line, chain))
 
 
-def _look_at(chain: Chain) -> Iterator[Union[Remark, str, None]]:
+def _look_at(line: Line, chain: Chain) -> Iterator[Union[Remark, str, None]]:
     sender = chain.sender
     along = sender.along(chain.direction) if sender else None
     for link in chain.links:
@@ -54,7 +56,13 @@ def _look_at(chain: Chain) -> Iterator[Union[Remark, str, None]]:
                 f"Q_LINKORIENTATION says that {here} is passed in {announced} direction, "
                 f"and by the order of its balises along the track it is passed in {wanted} direction"
             )
-            yield Remark("L3", chain.at(link), sentence, here)
+            yield Remark("L3", chain.at(link), sentence + _exchanged(line, here, sender), here)
+
+
+def _exchanged(line: Line, *groups: BaliseGroup) -> str:
+    """Which of these groups have balises in a wrong order in the table, from which their direction is taken."""
+    names = [clean(group.group.name) for group in groups if line.has(1, group)]
+    return f"; F1 is found in {' and '.join(names)}: its rows in a wrong order may be the cause" if names else ""
 
 
 RULE = Rule("L3", "links", __doc__ or "", find)
