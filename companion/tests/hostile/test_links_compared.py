@@ -97,7 +97,10 @@ def test_a_link_that_turns_back(program: Program, run: Run, table: Write) -> Non
     texts = [each.line for each in program.encode(forms)]
     lines = [f"G{number},{km},,{text}" for number, km, text in zip((1, 2, 3), (10, 11, 8), texts)]
     status, out, _ = run("links", table(HEADING, *lines))
-    assert status == 1 and "second link: G3 (km 8.000) is 2000 m from G1 (km 10.000) by D_LINK, and 2000 m behind it" in out[-2]
+    assert (
+        status == 1
+        and "second link: G3 (km 8.000) is 2000 m from G1 (km 10.000) by D_LINK, and 2000 m behind it" in out[-2]
+    )
 
 
 def test_many_notes_are_counted(program: Program, run: Run, table: Write) -> None:

@@ -20,6 +20,7 @@ from balisekit.rules.checking import Checked, Telegrams
 from balisekit.rules.location import NOT_KNOWN, BaliseGroup, Identity
 from balisekit.rules.passages import Chain, Content, Passages, contents_of
 from balisekit.tables.model import Aspect, Group, Message, Row
+from balisekit.tables.names import clean
 
 AFTER_INFILL = "after packet 136"
 BY_LINKS = "its direction along the kilometres is taken from the links that name it"
@@ -170,6 +171,11 @@ class Line:
         if rule == 14:
             return group.identity in self._used_twice
         return any(finding.rule == rule for finding in self.findings.get(group.group.name, ()))
+
+    def wrong_order(self, *groups: BaliseGroup) -> str:
+        """The end of a sentence that rests on the directions of groups: which have F1, so that these may be wrong."""
+        names = list(dict.fromkeys(clean(group.group.name) for group in groups if self.has(1, group)))
+        return f"; F1 is found in {' and '.join(names)}: rows in a wrong order may be the cause" if names else ""
 
     @cached_property
     def _used_twice(self) -> FrozenSet[Optional[Identity]]:

@@ -38,10 +38,10 @@ ZERO = Decimal()
 
 def find(line: Line, options: Options) -> Result:
     """Compares each link to a group of the table."""
-    return Result.of_chains(line, lambda chain: _compare(chain, options.tolerance))
+    return Result.of_chains(line, lambda chain: _compare(line, chain, options.tolerance))
 
 
-def _compare(chain: Chain, tolerance: Decimal) -> Iterator[Union[Remark, str, None]]:
+def _compare(line: Line, chain: Chain, tolerance: Decimal) -> Iterator[Union[Remark, str, None]]:
     """After a wrong distance the sum begins anew.
 
     If the direction of the sender along the kilometres is not known, the first link that is compared shows it.
@@ -70,6 +70,7 @@ def _compare(chain: Chain, tolerance: Decimal) -> Iterator[Union[Remark, str, No
             + (f" and the tolerance {_metres(tolerance)}" if tolerance else "")
         )
         values = {"metres_by_d_link": distance, "metres_by_kilometres": by_kilometres}
+        sentence += line.wrong_order(base, here)
         yield Remark("L2", chain.at(link), sentence, here, values)
         base, summed = here, 0
 

@@ -24,10 +24,9 @@ from typing import Iterator, Union
 
 from balisekit.etcs.geometry import NOMINAL, REVERSE
 from balisekit.rules.line import Line
-from balisekit.rules.location import NOT_IN_TABLE, BaliseGroup
+from balisekit.rules.location import NOT_IN_TABLE
 from balisekit.rules.passages import Chain
 from balisekit.rules.rule import Options, Remark, Result, Rule
-from balisekit.tables.names import clean
 
 
 def find(line: Line, options: Options) -> Result:
@@ -56,13 +55,7 @@ def _look_at(line: Line, chain: Chain) -> Iterator[Union[Remark, str, None]]:
                 f"Q_LINKORIENTATION says that {here} is passed in {announced} direction, "
                 f"and by the order of its balises along the track it is passed in {wanted} direction"
             )
-            yield Remark("L3", chain.at(link), sentence + _exchanged(line, here, sender), here)
-
-
-def _exchanged(line: Line, *groups: BaliseGroup) -> str:
-    """Which of these groups have balises in a wrong order in the table, from which their direction is taken."""
-    names = [clean(group.group.name) for group in groups if line.has(1, group)]
-    return f"; F1 is found in {' and '.join(names)}: its rows in a wrong order may be the cause" if names else ""
+            yield Remark("L3", chain.at(link), sentence + line.wrong_order(here, sender), here)
 
 
 RULE = Rule("L3", "links", __doc__ or "", find)
