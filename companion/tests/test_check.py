@@ -48,7 +48,8 @@ def test_findings(run: Run, table: Write) -> None:
 def test_refused(run: Run, table: Write) -> None:
     status, out, _ = run("check", "--only", "F", table(HEADING, f"A,A1,13.850,green,{FAULTY}", f"B,,,,{ALONE}"))
     assert status == 2 and out[1:] == [
-        'row 2  A  km 13.850  aspect "green"  balise "A1" (first of its group): Q_DIR of packet 21 (second packet) is 3, which is spare',
+        'row 2  A  km 13.850  aspect "green"  balise "A1" (first of its group): Q_DIR of packet 21 (second packet) is '
+        "3, which is spare",
         "    program: spare at 127 end 129",
         "left out: row 2  A  km 13.850: refused: row 2",
         ASPECTS.format(2),

@@ -221,6 +221,8 @@ def test_json(run: Run, tmp_path: Path) -> None:
     one = answer["found"][0]
     assert (one["rule"], one["group"], one["row"], one["link"], one["about"]) == ("L2", "A", 2, 0, "B")
     assert (one["metres_by_d_link"], one["metres_by_kilometres"]) == ("1010", "1000.000")
+    assert run("check", FOLDER / "distance-differs.csv", "--only", "L", "--json", tmp_path / "check.json")[0] == 1
+    assert answer["entries"] == json.loads((tmp_path / "check.json").read_text("utf-8"))["entries"] != []
     status, out, err = run("links", FOLDER / "line.csv", "--json", "-")
     assert status == 0 and json.loads("\n".join(out))["found"] == [] and err[-1].startswith("links: none found")
 
@@ -593,6 +595,7 @@ def test_a_direction_by_links_is_used_by_the_commands(run: Run, table: Write) ->
 
 def test_a_direction_by_links_is_used_for_one_group(run: Run, table: Write, tmp_path: Path) -> None:
     """In pictures, pages and `show --group`, though the links are in telegrams of other groups."""
+    pytest.importorskip("jinja2")
     line = (FOLDER.parent / "table" / "line.csv").read_text("utf-8").splitlines()
     telegrams = [line[number].rsplit(",", 1)[1] for number in (1, 2, 7)]
     rows = [f"{where},{text}" for where, text in zip(("A,12.300,", "A,12.303,", "B,13.850,{}"), telegrams)]

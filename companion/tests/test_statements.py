@@ -12,7 +12,7 @@ from typing import Any, Callable, Dict, Iterator, List, NamedTuple, Sequence, Tu
 import line_table
 import pytest
 import random_lines
-from telegrams import ALONE, FIRST, SECOND
+from telegrams import ALONE
 
 from balisekit.engine import grammar
 from balisekit.engine.grammar import NAMES, Finding
@@ -53,7 +53,8 @@ EXAMPLES = {
     "no-speed-profile": "nominal: no packet 27 (international static speed profile) beside packet 12 (movement "
     "authority of level 1, V_MAIN 100 km/h) of balise (N_PIG 0)",
     "speed-profile-short": "balise (N_PIG 0)  nominal: packet 27 (international static speed profile), third in the "
-    "telegram, reaches 1000 m, and the supervised location, the danger point (D_DP 50 m) of packet 12, is at 1050 m: 50 m missing",
+    "telegram, reaches 1000 m, and the supervised location, the danger point (D_DP 50 m) of packet 12, is at 1050 m: "
+    "50 m missing",
     "identity-used-before": "the identity 1/1 (NID_C/NID_BG) is also that of G0, row 2",
     "marks-differ": 'balise (N_PIG 0): M_DUP is 0 (no duplicate), and 1 (duplicate of the next balise) in aspect "0", '
     "row 2",
@@ -511,8 +512,8 @@ LINKS: Dict[Mistake, Dict[str, str]] = {
         "which F14 finds used twice"
     },
     exchanged: {
-        "L2": f"{BEFORE}Signal H (km 22.900) is 1500 m from Signal G (km 21.403) by D_LINK, and 1497 m behind it by the "
-        f"kilometres: they differ by 2997 m, and Q_LOCACC is 5 m{WRONG_ORDER}",
+        "L2": f"{BEFORE}Signal H (km 22.900) is 1500 m from Signal G (km 21.403) by D_LINK, and 1497 m behind it by "
+        f"the kilometres: they differ by 2997 m, and Q_LOCACC is 5 m{WRONG_ORDER}",
         "L3": f"{BEFORE}Q_LINKORIENTATION says that Signal H (km 22.900) {TURNED}{WRONG_ORDER}",
     },
 }
@@ -569,7 +570,7 @@ def test_a_copy_is_named_with_its_rows(program: Program, tmp_path: Path) -> None
 
 def test_kilometres_of_a_message(program: Program, tmp_path: Path) -> None:
     """Its places count from the group of NID_LRBG, if the table has one group with that identity."""
-    form = {**random_lines.message(Random(1)), "nid_c": 352}
+    form: Form = {**random_lines.message(Random(1)), "nid_c": 352}
     authority = {**line_table.authority(800, 100), "nid_packet": 15}
     del authority["v_main"], authority["overlap"]
     form["packets"] = [line_table.gradients(0, 500), authority]
@@ -592,7 +593,7 @@ def test_kilometres_of_a_message(program: Program, tmp_path: Path) -> None:
 
 
 def test_an_authority_without_profiles_is_one_entry(program: Program, tmp_path: Path) -> None:
-    """F10 and F12 of one authority, also in several aspects. They are apart if only one profile is there for reverse."""
+    """F10 and F12 of one authority, also in several aspects. They are apart if one profile is for reverse."""
     stop, reverse = line_table.authority(100, 0), {**line_table.gradients(0, 500), "q_dir": 0}
     forms = [
         line_table.telegram(1, 0, 0, counter, *packets)

@@ -122,6 +122,7 @@ def test_places(run: Run, table: Write, program: Program, rows: List[Tuple[str, 
     _, out, _ = run("show", path)
     shown = re.sub(r"\s+", " ", " ".join(out))
     assert all(is_noted(note, shown) for note in wanted), shown
+    pytest.importorskip("jinja2")
     _, out, _ = run("report", path, "--html", "-")
     page = re.sub(r"\s+", " ", " ".join(out)).replace("&#34;", '"')
     assert all(is_noted(note, page) for note in wanted)

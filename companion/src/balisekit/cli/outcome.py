@@ -11,7 +11,7 @@ from balisekit.rules import accepted, checking
 from balisekit.rules.families import FAMILIES, Outcome, apply
 from balisekit.rules.rule import Options
 
-ONLY = "apply only these families of rules: F, the program's findings; L, links"
+ONLY = f"apply only these families of rules: {'; '.join(f'{each.letter}, {each.things}' for each in FAMILIES.values())}"
 
 
 def _families(text: str) -> Tuple[str, ...]:

@@ -1,5 +1,4 @@
-"""Findings that have one cause: the same text at several places, an authority without any profile, exchanged telegrams,
-a telegram of another group.
+"""Findings that have one cause: the same text, no profile at all, exchanged telegrams, a telegram of another group.
 
 Which findings belong to exchanged telegrams is the program's word: those that it does not report of the other order.
 """
@@ -247,9 +246,11 @@ def _not_of_group(one: Strange, owners: Mapping[Identity, Group]) -> Statement:
     """What is wrong with a telegram of another group, and of which one it is, if the table has it."""
     own, owner = _identity(one.balise), owners.get(_identity(one.balise))
     like = f": it looks like one of {group_words(owner)}" if owner and owner is not one.group else ""
-    sentence = f"the telegram has the identity {own[0]}/{own[1]} (NID_C/NID_BG), and the other {one.others} telegrams of the group have "
+    sentence = (
+        f"the telegram has the identity {own[0]}/{own[1]} (NID_C/NID_BG), and the other {one.others} telegrams of "
+    )
     values = {"NID_C": own[0], "NID_BG": own[1], "other_NID_C": one.identity[0], "other_NID_BG": one.identity[1]}
-    words = f"{sentence}{one.identity[0]}/{one.identity[1]}{like}"
+    words = f"{sentence}the group have {one.identity[0]}/{one.identity[1]}{like}"
     return Statement(words, values={name: str(value) for name, value in values.items()})
 
 

@@ -167,7 +167,7 @@ class Line:
         return {track: LinkedGroups.of(groups) for track, groups in self.along.items()}
 
     def has(self, rule: int, group: BaliseGroup) -> bool:
-        """Whether the program has reported a finding of this rule of a group. F14 is of all groups with its identity."""
+        """Whether the program has found this rule broken in a group; F14 also in another one with its identity."""
         if rule == 14:
             return group.identity in self._used_twice
         return any(finding.rule == rule for finding in self.findings.get(group.group.name, ()))

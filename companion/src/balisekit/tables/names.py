@@ -85,7 +85,7 @@ def balise_name(name: str, n_pig: Optional[int], place: int = 0, number: Optiona
 
 
 def describe_balise(group: Optional[Group], row: Row, n_pig: Optional[int] = None) -> str:
-    """Where a row's balise is: row, group, kilometre, aspect, and what it is called. `n_pig` is as its telegram says."""
+    """Where a row's balise is: row, group, kilometre, aspect, and its name. `n_pig` is that of its telegram."""
     place = group.places.get(row.number) if group else None
     parts = [f"row {row.number}", clean(row.group), *_where(row)]
     parts += ["every aspect"] if row.aspect == "*" else [f"aspect {quoted(row.aspect)}"] if row.aspect else []
