@@ -554,7 +554,7 @@ def test_findings_stand_before_what_a_yes_means(tmp_path: Path) -> None:
     wanted = ["What was left out", *parts, "What the rules say", "What a yes means", "The track"]
     headings = re.findall("<h2[^>]*>(.+?)</h2>", page)
     assert headings[:6] == wanted and page.count('id="yes"') == 1
-    assert page.index('<a href="#yes">') < page.index('<div class="finding"><a href="#g') < page.index('id="yes"')
+    assert page.index('<a href="#yes">') < page.index('<div class="finding expected"><a href="#g') < page.index('id="yes"')
 
 
 def test_a_list_is_a_list(tmp_path: Path) -> None:
