@@ -60,7 +60,7 @@ def test_nothing_open(run: Run, table: Write) -> None:
         "    program: F14 group 1: identity used before",
         "    accepted: by design (J. Doe, 2026-01-02)",
         "aspects found: 1 in 2 groups",
-        "program: no: findings 1",
+        'program: "no: findings 1"',
         "findings 1: accepted 1, open 0",
         "no open findings",
     ]
@@ -70,7 +70,7 @@ def test_nothing_open(run: Run, table: Write) -> None:
 def test_one_is_open(run: Run, table: Write) -> None:
     path = table("group,telegram", f"A,{ALONE}", f"B,{ALONE}", f"C,{OTHER}", f"D,{OTHER}")
     status, out, _ = run("check", path, "--accepted", table(HEADING, entry(), name="accepted.csv"))
-    assert status == 1 and out[-2:] == ["program: no: findings 2", "findings 2: accepted 1, open 1"]
+    assert status == 1 and out[-2:] == ['program: "no: findings 2"', "findings 2: accepted 1, open 1"]
 
 
 @pytest.mark.parametrize(
@@ -106,7 +106,7 @@ def test_an_unused_entry_is_no_success(run: Run, table: Write) -> None:
     status, out, _ = run("check", twice(table), "--accepted", file)
     assert status == 1 and out[-3:] == [
         f"{file}: row 3: unused: no finding is as it says",
-        "program: no: findings 1",
+        'program: "no: findings 1"',
         "findings 1: accepted 1, open 0; entries at fault 1",
     ]
 
@@ -116,7 +116,7 @@ def test_a_yes_and_no_entry(run: Run, table: Write) -> None:
         "check", table("group,telegram", f"A,{ALONE}"), "--accepted", table(HEADING, name="accepted.csv")
     )
     assert status == 0 and out[-3:] == [
-        "program: yes: groups 1, messages 0",
+        'program: "yes: groups 1, messages 0"',
         "findings 0: accepted 0, open 0",
         "no open findings or remarks",
     ]

@@ -27,7 +27,7 @@ TOP = Path(__file__).resolve().parents[2]
 HEADING = "group,name,km,aspect,telegram"
 SOUND = [HEADING, f"Signal A,A1,13.850,,{FIRST}", f"Signal A,A2,13.853,,{SECOND}", f"Signal B,B1,15,,{OTHER}"]
 ASPECTS = "aspects found: 1 in {} groups"
-YES = "program: yes: groups 2, messages 0"
+YES = 'program: "yes: groups 2, messages 0"'
 STARTED = [str(TOP / "balisekit")]
 """The start script, as a process of its own."""
 
@@ -43,16 +43,17 @@ def test_findings(run: Run, table: Write) -> None:
         "at worst a wrong place:",
         "row 5  Signal C  km 16.000: the identity 1/3 (NID_C/NID_BG) is also that of Signal B (km 15.000), row 4",
         "    program: F14 group 2: identity used before",
-        "F14 1; 2 of 3 groups without finding",
+        "1 finding: F14 1; 2 of 3 groups without finding",
         ASPECTS.format(3),
-        "program: no: findings 1",
+        'program: "no: findings 1"',
     ]
 
 
 def test_refused(run: Run, table: Write) -> None:
     status, out, _ = run("check", "--only", "F", table(HEADING, f"A,A1,13.850,green,{FAULTY}", f"B,,,,{ALONE}"))
     assert status == 2 and out[1:] == [
-        'row 2  A  km 13.850  aspect "green"  balise 0 "A1": Q_DIR of packet 21 (second packet) is 3, which is spare',
+        'row 2  A  km 13.850  aspect "green"  balise "A1" (first of its group): Q_DIR of packet 21 (second packet) is '
+        "3, which is spare",
         "    program: spare at 127 end 129",
         "left out: row 2  A  km 13.850: refused: row 2",
         ASPECTS.format(2),
@@ -84,7 +85,8 @@ def test_messages(run: Run, table: Write) -> None:
     assert "message of line 3: NID_MESSAGE is 4; 3 and 136 are read" in out
     odd = "it has 35 digits, an odd number: a digit is missing, or one too many; a message 3 begins with 03"
     assert f"message of line 4: {odd}" in out
-    said = "no packet 21 (gradient profile) beside packet 15 (movement authority of levels 2 and 3)"
+    said = "no packet 21 (gradient profile) and no packet 27 (international static speed profile) beside packet 15 ("
+    said += "movement authority of levels 2 and 3)"
     expected = "expected if the profiles were sent before"
     assert f"message of line 1  to train 7  nominal: {said}; {expected}" in out
     assert out[-1] == (
@@ -102,7 +104,7 @@ def test_by_position(run: Run, table: Write) -> None:
         [
             "note: balises are ordered by N_PIG, as --by-position says, which hides a wrong N_PIG",
             "aspects found: 1 in 1 group",
-            "program: yes: groups 1, messages 0",
+            'program: "yes: groups 1, messages 0"',
         ],
     )
 
@@ -167,7 +169,7 @@ def test_a_remark_on_aspects_changes_no_yes(run: Run, table: Write) -> None:
         'look: B has 2 aspects, 1 other has 3: "z" too',
         "aspects found: 3 in 1 group (A), 2 in 1 (B)",
         "no kilometres: rules over the line are not applied",
-        "program: yes: groups 2, messages 0",
+        'program: "yes: groups 2, messages 0"',
     ]
 
 
@@ -187,7 +189,7 @@ def test_balises_far_apart(run: Run, table: Write, tmp_path: Path, rows: List[st
     path = table(HEADING, *lines)
     status, out, _ = run("check", "--only", "F", path, "--json", tmp_path / "out.json")
     looks = [f"look: A: {one}" for one in said]
-    assert status == 0 and out[1:] == [*looks, "aspects found: 2 in 1 group", "program: yes: groups 1, messages 0"]
+    assert status == 0 and out[1:] == [*looks, "aspects found: 2 in 1 group", 'program: "yes: groups 1, messages 0"']
     assert json.loads((tmp_path / "out.json").read_text())["counts"]["look"] == looks
     if find_spec("jinja2"):
         assert run("report", path, "--html", tmp_path / "out.html")[0] == 0
@@ -235,7 +237,11 @@ def test_balises_far_apart(run: Run, table: Write, tmp_path: Path, rows: List[st
 )
 def test_refusals_in_sentences(run: Run, table: Write, telegram: str, said: str, program: str) -> None:
     status, out, _ = run("check", table("group,telegram", f"A,{telegram}"))
-    assert status == 2 and out[1].startswith(f"row 2  A  balise 0: {said}") and out[2] == f"    program: {program}"
+    assert (
+        status == 2
+        and out[1].startswith(f"row 2  A  balise (first of its group): {said}")
+        and out[2] == f"    program: {program}"
+    )
 
 
 def test_a_cell_of_100000_characters(run: Run, table: Write) -> None:
@@ -244,7 +250,8 @@ def test_a_cell_of_100000_characters(run: Run, table: Write) -> None:
     status, out, _ = run("check", path)
     assert status == 2 and out[1] == f"columns passed over: {'x' * 1000}"
     assert out[2:4] == [
-        "row 2  A  balise 0: it has 100000 digits, 99792 more than 208: a short telegram has 54, " "a long one 208",
+        "row 2  A  balise (first of its group): it has 100000 digits, 99792 more than 208: a short telegram has 54, "
+        "a long one 208",
         "    program: wrong size",
     ]
 
@@ -262,7 +269,8 @@ def test_a_cell_of_100000_characters(run: Run, table: Write) -> None:
 )
 def test_names_are_safe_to_show(run: Run, table: Write, name: str, shown: str) -> None:
     path = table("group,name,aspect,track,km,telegram", f"{name},{name},{name},{name},1,{SPARE}")
-    words = f'row 2  {shown}  km 1.000  track {shown}  aspect "{shown}"  balise 0 "{shown}": M_DUP is 3, which is spare'
+    where = f'row 2  {shown}  km 1.000  track {shown}  aspect "{shown}"  balise "{shown}" (first of its group)'
+    words = f"{where}: M_DUP is 3, which is spare"
     for command in (["check"], ["show"], ["links"], ["draw", "--group", name]):
         _, out, err = run(command[0], path, *command[1:])
         assert any(words in line for line in [*out, *err]), command
@@ -535,7 +543,7 @@ def test_exchanged_telegrams_are_one_entry(run: Run, table: Write, tmp_path: Pat
     run("check", path, "--json", tmp_path / "out.json")
     answer = json.loads((tmp_path / "out.json").read_text("utf-8"))
     out = run("check", path)[1]
-    said = "their telegrams or their rows look exchanged: N_PIG is 1 and 0 in place of 0 and 1"
+    said = "their telegrams or their rows look exchanged: N_PIG is 1 and 0 instead of 0 and 1"
     assert [line for line in out if line.endswith(said)] == [
         f'rows 2 to 3  Signal A  km 14.000  balises "A1" (N_PIG 1), "A2" (N_PIG 0): {said}',
         f'rows 4 to 9  Signal B  km 15.000  every aspect  balises "B2" (N_PIG 1), "B1" (N_PIG 0): {said}',
@@ -558,7 +566,7 @@ def test_what_differs_is_told(run: Run, table: Write, tmp_path: Path) -> None:
         (
             "position-wrong",
             "F1",
-            "balise (N_PIG 0): N_PIG is 0 in place of 1: the table has the balise as the second of its group",
+            "balise (N_PIG 0): N_PIG is 0 instead of 1: the table has the balise as the second of its group",
         ),
         ("total-wrong", "F2", "balise (N_PIG 0): N_TOTAL + 1 says 1 balise, and the table has 2"),
         ("identity-differs", "F3", "balise (N_PIG 1): NID_BG is 2, and 1 in balise (N_PIG 0), row 2"),
@@ -598,7 +606,7 @@ def test_the_rows_of_an_aspect_and_no_others(run: Run, table: Write, program: Pr
         out = run("check", table("group,aspect,telegram", *[rows[place] for place in order]))[1]
         (said,) = _said(out, "F10")
         assert said.startswith(
-            f'{wanted}  A  aspect "green"  nominal: no packet 21 (gradient profile) beside packet 12 ('
+            f'{wanted}  A  aspect "green"  nominal: no packet 21 (gradient profile) and no packet 27 ('
         )
 
 
@@ -606,7 +614,7 @@ def test_a_missing_balise_renumbers_the_others(run: Run, table: Write) -> None:
     """The table's own number stands beside the program's, and which position no telegram has."""
     out = run("check", table("group,name,balise,telegram", f"A,A2,2,{SECOND}"))[1]
     assert _said(out, "F1") == [
-        'row 2  A  balise "A2" (N_PIG 1, number 2 in the table): N_PIG is 1 in place of 0: the table has the balise as '
+        'row 2  A  balise "A2" (N_PIG 1, number 2 in the table): N_PIG is 1 instead of 0: the table has the balise as '
         "the first of its group"
     ]
     assert _said(out, "F2") == [

@@ -7,6 +7,8 @@ import json
 import os
 import subprocess
 import sys
+import time
+import zipfile
 import xml.etree.ElementTree as ElementTree
 from pathlib import Path
 from typing import Any, Callable, Iterator, List, Tuple
@@ -211,6 +213,24 @@ def test_a_sheet_for_each_entry(run: Run, table: Write, tmp_path: Path) -> None:
     assert run("check", LINKS, "--xlsx", tmp_path / "links.xlsx")[0] == 1
     (_, row) = openpyxl.load_workbook(tmp_path / "links.xlsx").active.iter_rows(values_only=True)
     assert row[:5] == ("L2", "wrong place", "352/1", "A", "2") and "metres_by_d_link 1010" in row[5]
+
+
+def test_two_runs_write_the_same_workbook(run: Run, tmp_path: Path, monkeypatch: pytest.MonkeyPatch) -> None:
+    """No time is in its bytes: neither that of the run nor that of its parts."""
+    openpyxl = pytest.importorskip("openpyxl")
+    found = []
+    for second in range(2):
+        now = time.time() + 3600 * second
+        monkeypatch.setattr(time, "time", lambda: now)
+        monkeypatch.setattr(time, "localtime", lambda _=None: time.gmtime(now))
+        made = [tmp_path / f"{second}{name}.xlsx" for name in ("entries", "table")]
+        assert run("check", LINKS, "--xlsx", made[0])[0] == 1 and run("table", LINKS, "--xlsx", made[1])[0] == 0
+        found.append([path.read_bytes() for path in made])
+        assert openpyxl.load_workbook(made[0]).active.title == "entries"
+        with zipfile.ZipFile(made[0]) as parts:
+            assert {part.date_time for part in parts.infolist()} == {(1980, 1, 1, 0, 0, 0)}
+            assert b"<dcterms:" not in parts.read("docProps/core.xml")
+    assert found[0] == found[1]
 
 
 def test_a_sheet_needs_a_package(run: Run, tmp_path: Path, monkeypatch: pytest.MonkeyPatch) -> None:

@@ -97,7 +97,7 @@ def test_the_output_tells_a_lost_aspect(run: Run, table: Write, tmp_path: Path) 
         'look: B has 2 aspects, 1 other has 3: "z" too',
         "aspects found: 3 in 1 group (A), 2 in 1 (B)",
         "no kilometres: rules over the line are not applied",
-        "program: yes: groups 2, messages 0",
+        'program: "yes: groups 2, messages 0"',
     ]
 
 

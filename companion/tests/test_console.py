@@ -87,10 +87,10 @@ def test_without_rich(monkeypatch: pytest.MonkeyPatch, capsys: pytest.CaptureFix
     monkeypatch.setitem(modules, "rich.console", None)
     monkeypatch.setenv("TERM", "xterm")
     monkeypatch.setattr(sys.stdout, "isatty", lambda: True)
-    console.writer(sys.stdout)("program: yes")
-    assert capsys.readouterr().out == "program: yes\n"
+    console.writer(sys.stdout)('program: "yes')
+    assert capsys.readouterr().out == 'program: "yes\n'
 
 
 def test_styles() -> None:
-    lines = ["program: yes: groups 1, messages 0", "INCOMPLETE: x", "look: x", "    program: F1 ..", "row 2  A"]
+    lines = ['program: "yes: groups 1, messages 0"', "INCOMPLETE: x", "look: x", "    program: F1 ..", "row 2  A"]
     assert list(map(console.style, lines)) == ["bold green", "bold red", "yellow", "dim", ""]

@@ -168,7 +168,7 @@ def test_a_position_that_was_wrong(run: Run, table: Write, program: Program) -> 
     old = table("group,telegram", f"A,{a}", f"A,{a}", name="old.csv")
     status, out, _ = run("diff", old, table("group,telegram", f"A,{a}", f"A,{b}", name="new.csv"))
     assert status == 1 and "    N_PIG first of the group [0] -> second of the group [1]" in out
-    said = "N_PIG is 0 in place of 1: the table has the balise as the second of its group"
+    said = "N_PIG is 0 instead of 1: the table has the balise as the second of its group"
     assert f"finding gone: row 3  A  balise (N_PIG 0): {said}" in out
     assert "    program: F1 group 0 balise 1: position wrong" in out
 

@@ -73,20 +73,20 @@ def test_two_parts_one_verdict(run: Run, program: Program, tmp_path: Path) -> No
     """F10 in the first part, L2 in the second one, and both in the last line."""
     path = line(program, tmp_path / "t.csv", fault("distance-differs"), _no_gradient)
     status, out, _ = run("check", path)
-    assert status == 1 and out[-1] == "program: no: findings 1; links: 1 found (L2 1)"
+    assert status == 1 and out[-1] == 'program: "no: findings 1"; links: 1 found (L2 1)'
     first, second = out.index(PROVED), out.index(OWN)
     assert first < out.index("    program: F10 group 0 nominal: no gradient") < second
     assert out[second + 1] == "at worst a wrong place:" and out[second + 2].startswith(
         'row 2  A  km 10.000  balise "A1" (N_PIG 0)  nominal: L2: packet 5 (linking), first in the telegram, '
     )
-    assert out[second + 3].startswith("compared: L1 3 links, ")
+    assert out[second + 3].startswith("compared: 3 links (L1, L2), ")
 
 
 def test_only(run: Run, program: Program, tmp_path: Path) -> None:
     path = line(program, tmp_path / "t.csv", fault("distance-differs"))
     assert run("check", path, "--only", "F")[::2] == (0, [])
     status, out, _ = run("check", path, "--only", "F")
-    assert out[1:] == ["aspects found: 1 in 4 groups", "program: yes: groups 4, messages 0"]
+    assert out[1:] == ["aspects found: 1 in 4 groups", 'program: "yes: groups 4, messages 0"']
     status, out, _ = run("check", path, "--only", "L")
     assert status == 1 and PROVED not in out and OWN in out and out[-1] == "links: 1 found (L2 1)"
     assert run("check", path, "--only", "l,f") == run("check", path, "--only", "F,L")
@@ -103,10 +103,10 @@ def test_only(run: Run, program: Program, tmp_path: Path) -> None:
 
 def test_the_program_says_yes_and_a_rule_does_not(run: Run, program: Program, tmp_path: Path) -> None:
     status, out, _ = run("check", line(program, tmp_path / "t.csv", fault("distance-differs")))
-    assert status == 1 and out[-1] == "program: yes: groups 4, messages 0; links: 1 found (L2 1)"
+    assert status == 1 and out[-1] == 'program: "yes: groups 4, messages 0"; links: 1 found (L2 1)'
     assert f"{PROVED} none" in out
     status, out, _ = run("check", line(program, tmp_path / "t.csv"))
-    assert status == 0 and out[-1] == "program: yes: groups 4, messages 0" and f"{OWN} none" in out
+    assert status == 0 and out[-1] == 'program: "yes: groups 4, messages 0"' and f"{OWN} none" in out
 
 
 def test_no_kilometres(run: Run, table: Write) -> None:
@@ -115,7 +115,7 @@ def test_no_kilometres(run: Run, table: Write) -> None:
     status, out, _ = run("check", path)
     assert status == 0 and out[-2:] == [
         "no kilometres: rules over the line are not applied",
-        "program: yes: groups 2, messages 0",
+        'program: "yes: groups 2, messages 0"',
     ]
     assert not any("not applied" in line for line in run("check", path, "--only", "F")[1])
     status, out, err = run("check", path, "--only", "L")
@@ -128,7 +128,7 @@ def test_a_rule_that_looks_at_nothing_is_no_success(run: Run, table: Write, prog
     lines = [f"{row['group']},{row['km'].split('.')[0]},{row['telegram']}" for row in rows if row["group"] in "AB"]
     status, out, _ = run("check", table("group,km,telegram", *lines))
     assert status == 2 and out[-1].startswith("INCOMPLETE: L3 compared none of ")
-    assert "; program: yes: groups 2, messages 0; links: " in out[-1]
+    assert '; program: "yes: groups 2, messages 0"; links: ' in out[-1]
     status, out, _ = run("check", table("group,km,telegram", *lines, f"X,20,{SPARE}"))
     said = "INCOMPLETE: 1 of 5 telegrams refused, 1 of 3 groups left out; L3 compared none of "
     assert status == 2 and out[-1].startswith(said)
@@ -145,13 +145,13 @@ def test_one_file_accepts_both(run: Run, program: Program, tmp_path: Path) -> No
     file = entries(tmp_path / "a.csv", *({**row, **SIGNED} for row in rows))
     status, out, _ = run("check", path, "--accepted", file)
     assert status == 0 and out[-3:] == [
-        "program: no: findings 1; links: 1 found (L2 1)",
+        'program: "no: findings 1"; links: 1 found (L2 1)',
         "findings 1, links 1: accepted 2, open 0; accepted though no case of correct data has them: L2 1",
         "no open findings, links or remarks; accepted though no case of correct data has them: L2 1",
     ]
     assert out.count("    accepted: looked at (J. Doe, 2026-01-02)") == 2
     status, out, _ = run("check", path, "--accepted", file, "--only", "F")
-    assert status == 0 and "note: 1 entries are for rules that were not applied: L2" in out
+    assert status == 0 and "note: 1 entry is for rules that were not applied: L2" in out
     entries(file, {**rows[0], **SIGNED})
     status, out, _ = run("check", path, "--accepted", file)
     assert status == 1 and out[-1] == "findings 1, links 1: accepted 1, open 1"

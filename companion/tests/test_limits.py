@@ -129,7 +129,7 @@ def releases(tmp_path_factory: pytest.TempPathFactory, program: Program) -> Call
     [
         (2000, 10_000, 15, ["links", "OLD"], "links: "),
         (500, 2000, 15, ["draw", "OLD", "--track", "--svg", "OUT"], ""),
-        (500, 2000, 22, ["report", "OLD", "--html", "OUT"], "program: no: findings "),
+        (500, 2000, 22, ["report", "OLD", "--html", "OUT"], 'program: "no: findings '),
         (500, 2000, 22, ["diff", "OLD", "NEW", "--html", "OUT"], "groups added 0, removed 0; "),
     ],
     ids=["links", "draw", "report", "diff"],
@@ -178,7 +178,7 @@ def reported(great: Path, program: Program) -> Tuple[Path, int, List[str], float
 def test_a_report_of_1000_groups(reported: Tuple[Path, int, List[str], float]) -> None:
     """In less than 20 seconds, with a picture for each group."""
     page, status, out, seconds = reported
-    assert status == 1 and out[-1].startswith("program: no: findings ")
+    assert status == 1 and out[-1].startswith('program: "no: findings ')
     assert page.read_text("utf-8").count('<svg class="picture"') == GROUPS
     assert seconds < 20
 

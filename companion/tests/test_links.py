@@ -27,8 +27,8 @@ Write = Callable[..., Path]
 Form = Any
 FOLDER = TOP / "examples" / "links"
 COMPARED = (
-    "L1 3 links, L2 3 links, L3 1 link, L4 2 groups, L5 1 single balise, L6 6 headers, L7 2 profiles, L8 2 profiles, "
-    "L9 3 pairs"
+    "3 links (L1, L2), 1 link (L3), 2 groups (L4), 1 single balise (L5), 6 headers (L6), 2 profiles (L7, L8), "
+    "3 pairs (L9)"
 )
 PAGE = (TOP / "docs" / "LINKS.md").read_text("utf-8")
 
@@ -75,9 +75,9 @@ def test_the_example_tables_are_those_of_the_script(program: Program) -> None:
 @pytest.mark.parametrize("name", sorted(link_tables.FAULTS))
 def test_each_rule_finds_its_fault_alone(run: Run, name: str) -> None:
     status, out, _ = run("links", FOLDER / f"{name}.csv")
-    rules = re.findall(r": links (L\d): ", "\n".join(out))
+    rules = re.findall(r": (L\d): ", "\n".join(out))
     assert (status, rules) == (1, [f"L{link_tables.FAULTS[name][0]}"])
-    assert out[-1].startswith(f"links: 1 found ({rules[0]} 1) in 4 groups; compared: L1 ")
+    assert out[-1].startswith(f"links: 1 found ({rules[0]} 1) in 4 groups; compared: ")
 
 
 def test_columns_passed_over_are_named(run: Run, table: Write, tmp_path: Path) -> None:
@@ -117,7 +117,7 @@ def test_the_line_without_fault_is_silent(run: Run) -> None:
         "L1 to L9 are rules of balisekit; balisekit is not proved; the program's own lines are quoted in full",
         f"links: none found of L1 to L9 in 4 groups; compared: {COMPARED}",
     ]
-    assert run("check", FOLDER / "line.csv")[1][-1] == "program: yes: groups 4, messages 0"
+    assert run("check", FOLDER / "line.csv")[1][-1] == 'program: "yes: groups 4, messages 0"'
 
 
 def test_each_rule_has_a_table() -> None:
@@ -169,7 +169,7 @@ def test_links_that_lead_out_of_a_part_of_a_line(left: str, notes: List[str], ru
     some = [line for line in lines if not line.startswith(tuple(f"Signal {one}" for one in left))]
     out = run("links", table(*some))[1]
     found = [line for line in out if line.startswith("note: ") and "lead beyond" in line]
-    assert found == notes and (not notes or sum(": links L1: " in line for line in out) == 3)
+    assert found == notes and (not notes or sum(": L1: " in line for line in out) == 3)
 
 
 def test_links_that_lead_out_down_the_kilometres() -> None:
@@ -221,6 +221,8 @@ def test_json(run: Run, tmp_path: Path) -> None:
     one = answer["found"][0]
     assert (one["rule"], one["group"], one["row"], one["link"], one["about"]) == ("L2", "A", 2, 0, "B")
     assert (one["metres_by_d_link"], one["metres_by_kilometres"]) == ("1010", "1000.000")
+    assert run("check", FOLDER / "distance-differs.csv", "--only", "L", "--json", tmp_path / "check.json")[0] == 1
+    assert answer["entries"] == json.loads((tmp_path / "check.json").read_text("utf-8"))["entries"] != []
     status, out, err = run("links", FOLDER / "line.csv", "--json", "-")
     assert status == 0 and json.loads("\n".join(out))["found"] == [] and err[-1].startswith("links: none found")
 
@@ -309,7 +311,7 @@ def test_tracks_are_chains_of_their_own() -> None:
     )
     assert found(one) == []
     notes = compare(one).notes
-    assert len(notes) == 1 and notes[0].endswith("link 0: B (km 7.000) is on another track, and is not compared")
+    assert len(notes) == 1 and notes[0].endswith("first link: B (km 7.000) is on another track, and is not compared")
 
 
 def test_aspects_and_duplicates_are_told_once() -> None:
@@ -382,7 +384,9 @@ def test_messages_count_from_their_group() -> None:
     some = [(group("A", "0", nominal="rising"), [header(1)]), (group("B", "1", nominal="rising"), [header(2)])]
     one = line_with(*some, messages=[(Message(3, ""), form)])
     assert found(one) == [("L2", "B"), ("L7", "")]
-    assert str(compare(one).remarks[0].location) == "message of line 3  packet 1  nominal  link 0"
+    assert str(compare(one).remarks[0].location) == (
+        "message of line 3  nominal  packet 5 (linking), second in the message, first link"
+    )
     lost = line_with(*some, messages=[(Message(3, ""), {**form, "nid_bg": 77})])
     assert found(lost) == [("L7", "")] and "its group is not in the table" in compare(lost).notes[0]
 
@@ -440,7 +444,7 @@ def test_names_move_no_cursor(run: Run, table: Write) -> None:
         .splitlines()
     )
     out = "\n".join(run("links", table(*lines))[1])
-    assert ": links L2: " in out and not set(out) & {"\x1b", "\u202e"}
+    assert ": L2: " in out and not set(out) & {"\x1b", "\u202e"}
 
 
 def test_any_correct_line_is_silent() -> None:
@@ -587,3 +591,25 @@ def test_a_direction_by_links_is_used_by_the_commands(run: Run, table: Write) ->
     assert note in out[2] and out[1] == run("table", FOLDER / "line.csv", "--csv", "-")[1]
     said = run("links", path)[1]
     assert f"note: row 6  C  km 12.000: {BY_LINKS}" in said and said[-1].startswith("links: none found")
+
+
+def test_a_direction_by_links_is_used_for_one_group(run: Run, table: Write, tmp_path: Path) -> None:
+    """In pictures, pages and `show --group`, though the links are in telegrams of other groups."""
+    pytest.importorskip("jinja2")
+    line = (FOLDER.parent / "table" / "line.csv").read_text("utf-8").splitlines()
+    telegrams = [line[number].rsplit(",", 1)[1] for number in (1, 2, 7)]
+    rows = [f"{where},{text}" for where, text in zip(("A,12.300,", "A,12.303,", "B,13.850,{}"), telegrams)]
+    said: Dict[str, str] = {}
+    for word in ("", "rising"):
+        path = table("group,km,nominal,telegram", *(row.format(word) for row in rows))
+        svg, folder, html = (tmp_path / f"all{word}{ending}" for ending in (".svg", "", ".html"))
+        notes = [] if word else [f"note: B (km 13.850): {BY_LINKS}"]
+        out = run("show", path, "--group", "B")[1]
+        assert out[: len(notes)] == notes and run("show", path, "--group", "A")[1][0].startswith("row 2")
+        assert run("draw", path, "--group", "B", "--svg", svg)[1] == notes
+        assert run("draw", path, "--all", folder)[0] == 0 and run("report", path, "--html", html)[0] != 3
+        page = html.read_text("utf-8")
+        texts = ["\n".join(out[2 * len(notes) :]), *(one.read_text() for one in (svg, folder / "group-B.svg"))]
+        said[word] = "".join([*texts, page[page.index('<section class="group" id="g1"') :]])
+        assert all("15.050" in text or "km 15.300" in text for text in (*texts, said[word]))
+    assert said[""] == said["rising"]

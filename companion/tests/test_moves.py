@@ -168,12 +168,18 @@ EXCHANGES: List[Tuple[str, List[List[Tuple[str, str, int]]], List[str]]] = [
     (
         "a balise of another aspect",
         [[("A", "red", 0), ("A", "green", 1)]],
-        ['row 2  A  km 1.000  aspect "red"  balise 0 and row 7  A  km 1.000  aspect "green"  balise 1'],
+        [
+            'row 2  A  km 1.000  aspect "red"  balise (first of its group) and '
+            'row 7  A  km 1.000  aspect "green"  balise (second of its group)'
+        ],
     ),
     (
         "balises of two groups",
         [[("A", "red", 1), ("B", "red", 1)]],
-        ['row 3  A  km 1.000  aspect "red"  balise 1 and row 9  B  km 1.000  aspect "red"  balise 1'],
+        [
+            'row 3  A  km 1.000  aspect "red"  balise (second of its group) and '
+            'row 9  B  km 1.000  aspect "red"  balise (second of its group)'
+        ],
     ),
 ]
 
@@ -207,7 +213,8 @@ def test_a_telegram_of_every_aspect(differ: Differ) -> None:
     """It counts once, although it is sent in three aspects."""
     old: Rows = {("A", "*", 0): form(7, 0), ("A", "red", 1): form(7, 1, 1, 1), ("A", "green", 1): form(7, 1, 1, 2)}
     entries, answer = differ(old, exchange(old, ("A", "*", 0), ("A", "red", 1)))
-    where = 'row 2  A  km 1.000  every aspect  balise 0 and row 3  A  km 1.000  aspect "red"  balise 1'
+    where = "row 2  A  km 1.000  every aspect  balise (first of its group) and "
+    where += 'row 3  A  km 1.000  aspect "red"  balise (second of its group)'
     assert entries == [f"exchanged: {where}"] and "exchanged 2;" in answer["last_line"]
 
 

@@ -3,6 +3,7 @@ from __future__ import annotations
 
 import csv
 import hashlib
+import html
 import json
 import os
 import re
@@ -75,24 +76,75 @@ def _table(path: Path, *rows: Dict[str, str]) -> Path:
     return path
 
 
-def test_the_page_has_all_that_was_said(tmp_path: Path, capsys: pytest.CaptureFixture[str]) -> None:
-    """Verdict, checksums, each line of the program, each balise, and a link from each finding that leads somewhere."""
-    status, page = _report(LINE, tmp_path / "report.html")
-    assert status == cli.main(["check", "--only", "F", str(LINE)])
+LINKS = sorted((TOP / "examples" / "links").glob("*.csv"))
+
+
+@pytest.mark.parametrize("table", [LINE, *LINKS], ids=lambda path: str(path.name))
+@pytest.mark.parametrize("words", [(), ("--only", "F"), ("--only", "L"), ("--only", "f,l", "--tolerance", "20")])
+def test_the_page_has_all_that_was_said(
+    table: Path, words: Tuple[str, ...], tmp_path: Path, capsys: pytest.CaptureFixture[str]
+) -> None:
+    """Each line of `check`, its status, checksums, each balise, and from each entry a link that leads somewhere."""
+    status, page = _report(table, tmp_path / "report.html", *words)
+    closing = capsys.readouterr().out.splitlines()[1:]
+    assert status == cli.main(["check", str(table), *words])
     said = capsys.readouterr().out.splitlines()
     seen = _Page(page)
     text = "".join(seen.texts)
     for line in said[1:]:
-        assert line.strip().replace("program: ", "").replace("left out: ", "") in text, line
-    assert hashlib.sha256(LINE.read_bytes()).hexdigest() in text
+        told = line.strip().replace("program: ", "").replace("left out: ", "")
+        told = re.sub("^(findings of the program|links, by balisekit's own).*:.*", lambda found: _title(found[0]), told)
+        assert told in text, line
+    assert said[-1:] == closing and f'<p class="verdict">{escape(closing[0])}</p>' in page
+    assert hashlib.sha256(table.read_bytes()).hexdigest() in text
     assert text.count("balisekit is not proved; the program's own lines are quoted in full") == 1
     ids = [attributes["id"] for _, attributes in seen.tags if "id" in attributes]
-    links = {(attributes["href"] or "")[1:] for tag, attributes in seen.tags if tag == "a"}
-    assert len(ids) == len(set(ids)) and links <= set(ids) and len(links) > 3
-    with open(LINE, encoding="utf-8") as file:
+    links = [(attributes["href"] or "")[1:] for tag, attributes in seen.tags if tag == "a"]
+    assert len(ids) == len(set(ids)) and set(links) <= set(ids)
+    assert len(links) > sum(line.startswith("row") for line in said)
+    with open(table, encoding="utf-8") as file:
         for number, row in enumerate(csv.DictReader(file), 2):
             assert f"r{number}" in ids and row["telegram"] in text
     assert not re.search(r"https?://(?!www\.w3\.org/2000/svg)|<script|<img|<link", page)
+
+
+def escape(text: str) -> str:
+    """The text as a page has it."""
+    return html.escape(text).replace("&quot;", "&#34;").replace("&#x27;", "&#39;")
+
+
+def _title(heading: str) -> str:
+    return heading[0].upper() + heading[1:].split(":")[0]
+
+
+def test_links_are_accepted_beside_findings(tmp_path: Path, capsys: pytest.CaptureFixture[str]) -> None:
+    """Each family has its own list of what is open, and of what was accepted; the verdict is that of `check`."""
+    table, proposed = TOP / "examples" / "links" / "distance-differs.csv", tmp_path / "proposed.csv"
+    assert cli.main(["check", str(table), "--propose", str(proposed)]) == 1
+    (row,) = csv.DictReader(proposed.read_text("utf-8").splitlines())
+    key = {name: value for name, value in row.items() if value}
+    signed = _accepted(tmp_path / "accepted.csv", {**key, "reason": "surveyed"})
+    capsys.readouterr()
+    status, page = _report(table, tmp_path / "r.html", "--accepted", str(signed))
+    told = capsys.readouterr().out.splitlines()[1:]
+    assert row["rule"] == "L2" and status == 0
+    assert told[-1].startswith("no open findings or links; ") and escape("\n".join(told)) in page
+    accepted = _between(page, ACCEPTED, MEANING)
+    assert accepted.count("accepted: surveyed (J. Doe, 2026-01-02)") == 1 and "L2: packet 5" in accepted
+    block = page[page.index('<section class="group" id="g0">') :]
+    assert "L2: packet 5" in block and "accepted: surveyed" in block
+
+
+def test_what_was_not_looked_at_stands_before_the_verdict(tmp_path: Path) -> None:
+    """Packets that are kept as bits, links that are not compared, and rules that are not applied."""
+    _, page = _report(LINE, tmp_path / "r.html")
+    before = page[: page.index('<p class="verdict">')]
+    assert "not decoded: packet 136 in 2 telegrams (rows 14 to 15)" in before
+    assert "not compared by L6: 1 of 34 headers (refused: 1)" in before
+    _, page = _report(_table(tmp_path / "t.csv", {"group": "A", "telegram": HEADER}), tmp_path / "r.html")
+    assert "no kilometres: rules over the line are not applied" in page[: page.index('<p class="verdict">')]
+    _, page = _report(TOP / "examples" / "links" / "line.csv", tmp_path / "r.html")
+    assert "Not looked at" not in page
 
 
 def test_the_cover_says_how_balises_are_ordered(tmp_path: Path) -> None:
@@ -134,8 +186,12 @@ def _accepted(path: Path, *rows: Dict[str, str]) -> Path:
     return path
 
 
+PROGRAM, MEANING = "<h2>Findings of the program, proved</h2>", "<h2>What the rules say</h2>"
+ACCEPTED = "<h3>Accepted</h3>"
+
+
 def _between(page: str, begin: str, end: str) -> str:
-    return page[page.index(f"<h2>{begin}</h2>") : page.index(f"<h2>{end}</h2>")]
+    return page[page.index(begin) : page.index(end)]
 
 
 def _entries_of_the_line() -> List[Dict[str, str]]:
@@ -165,21 +221,21 @@ def test_accepted_findings_stand_apart(tmp_path: Path, capsys: pytest.CaptureFix
         ([*rows, {**last, "until": "2026-02-01"}], "accepted 4 (2 by *), open 1; entries at fault 1", 1),
     ):
         words = ["--accepted", str(_accepted(tmp_path / "accepted.csv", *some))]
-        assert cli.main(["check", "--only", "F", str(table), *words]) == status
+        words += ["--only", "F"]
+        assert cli.main(["check", str(table), *words]) == status
         said = capsys.readouterr().out.splitlines()
         assert _report(table, tmp_path / "report.html", *words)[0] == status
         page = (tmp_path / "report.html").read_text("utf-8")
         told = capsys.readouterr().out.splitlines()[1:]
-        assert told == said[-len(told) :] and "program: no: findings 5" in told
+        assert told == said[-len(told) :] and 'program: "no: findings 5"' in told
         closing = "\n".join(
-            ["program: no: findings 5", f"findings 5: {counts}", *(["no open findings; accepted by *: 3"][status:])]
+            ['program: "no: findings 5"', f"findings 5: {counts}", *(["no open findings; accepted by *: 3"][status:])]
         )
-        assert f'<p class="verdict">{closing}</p>' in page
+        assert f'<p class="verdict">{escape(closing)}</p>' in page
         assert ("until 2026-02-01 is past" in page) == ("fault" in counts)
-        still_open = _between(page, "Open findings", "Accepted findings")
-        accepted = _between(page, "Accepted findings", "What findings mean")
+        still_open, accepted = _between(page, PROGRAM, ACCEPTED), _between(page, ACCEPTED, MEANING)
         assert ("F11 group 5 aspect 2" in still_open, "F11 group 5 aspect 2" in accepted) == (status == 1, status == 0)
-        assert ("None: all were accepted." in still_open) == (status == 0)
+        assert ("None is open: all were accepted." in still_open) == (status == 0)
         assert accepted.count("accepted: by &lt;b&gt;design&lt;/b&gt; (J. Doe, 2026-01-02)") == (3, 2)[status]
         assert accepted.count("(J. Doe, 2026-01-02, until 2999-01-01)") == 1 and "accepted: " not in still_open
         assert hashlib.sha256((tmp_path / "accepted.csv").read_bytes()).hexdigest() in page
@@ -189,7 +245,7 @@ def test_a_report_with_entries_that_is_not_whole(tmp_path: Path, capsys: pytest.
     """What was left out is the last word, and none of it is a yes. A file of entries that cannot be read is refused."""
     status, page = _report(LINE, tmp_path / "r.html", "--accepted", str(_accepted(tmp_path / "none.csv")))
     assert status == 2 and "findings 5: accepted 0, open 5\nINCOMPLETE: " in page and "no open findings" not in page
-    assert "<p>None.</p>" in _between(page, "Accepted findings", "What findings mean")
+    assert ACCEPTED not in page
     (tmp_path / "bad.csv").write_text("rule\n")
     assert (
         cli.main(["report", str(LINE), "--html", str(tmp_path / "x.html"), "--accepted", str(tmp_path / "bad.csv")])
@@ -207,9 +263,9 @@ def test_findings_of_one_cause_are_one_entry(tmp_path: Path) -> None:
     ]
     table = _table(tmp_path / "t.csv", *rows)
     _, page = _report(table, tmp_path / "r.html")
-    listed = _between(page, "Findings", "Groups and messages")
+    listed = _between(page, PROGRAM, "<h2>Groups and messages</h2>")
     assert re.findall('<p class="several"><bdi>(.*)</bdi></p>', page) == ["at worst wrong information:"]
-    assert page.count("look exchanged") == 2 and "F1 1 cause (12)" in listed
+    assert page.count("look exchanged") == 2 and "12 findings of 1 cause: F1 6, F4 6; " in listed
     assert listed.count("position wrong</span>") == 6 and page.count("position wrong</span>") == 12
     some = [
         {"nid_c": "1", "nid_bg": "1", "rule": "F1", "aspect": aspect, "balise": balise, "sha256": digest([text])}
@@ -217,10 +273,7 @@ def test_findings_of_one_cause_are_one_entry(tmp_path: Path) -> None:
         for balise, text in (("0", SECOND), ("1", FIRST))
     ]
     _, page = _report(table, tmp_path / "r.html", "--accepted", str(_accepted(tmp_path / "a.csv", *some)))
-    still_open, accepted = (
-        _between(page, *heads)
-        for heads in (("Open findings", "Accepted findings"), ("Accepted findings", "What findings mean"))
-    )
+    still_open, accepted = _between(page, PROGRAM, ACCEPTED), _between(page, ACCEPTED, MEANING)
     assert (still_open.count("position wrong</span>"), accepted.count("position wrong</span>")) == (2, 4)
     assert still_open.count("look exchanged") == accepted.count("look exchanged") == 1
 
@@ -228,7 +281,7 @@ def test_findings_of_one_cause_are_one_entry(tmp_path: Path) -> None:
 def test_a_yes_and_an_empty_refusal(tmp_path: Path) -> None:
     """A table without findings, and one of which nothing can be read."""
     status, page = _report(_table(tmp_path / "t.csv", {"group": "A", "telegram": HEADER}), tmp_path / "r.html")
-    assert status == 0 and "program: yes: groups 1, messages 0" in page
+    assert status == 0 and "program: &#34;yes: groups 1, messages 0&#34;" in page
     status, page = _report(_table(tmp_path / "t.csv", {"group": "A", "telegram": "a1" * 27}), tmp_path / "r.html")
     assert status == 2 and "INCOMPLETE: 1 of 1 telegrams refused" in page and "yes: groups" not in page
 
@@ -497,11 +550,18 @@ def test_messages_that_cannot_be_drawn(
 def test_findings_stand_before_what_a_yes_means(tmp_path: Path) -> None:
     """The cover has a link to it."""
     _, page = _report(LINE, tmp_path / "r.html")
-    own = "Remarks on what the data mean, by balisekit's own rules, not proved"
-    wanted = ["What was left out", "Findings", own, "What a yes means", "The track", "Groups and messages"]
+    own = "by balisekit&#39;s own rules"
+    parts = [
+        "Findings of the program, proved",
+        f"Links, {own} L1 to L9, not proved",
+        f"Remarks on what the data mean, {own}, not proved",
+    ]
+    wanted = ["What was left out", *parts, "What the rules say", "What a yes means", "The track"]
     headings = re.findall("<h2[^>]*>(.+?)</h2>", page)
-    assert headings[:6] == wanted and page.count('id="yes"') == 1
-    assert page.index('<a href="#yes">') < page.index('<div class="finding"><a href="#g') < page.index('id="yes"')
+    assert headings[:7] == wanted and page.count('id="yes"') == 1
+    assert (
+        page.index('<a href="#yes">') < page.index('<div class="finding expected"><a href="#g') < page.index('id="yes"')
+    )
 
 
 def test_a_list_is_a_list(tmp_path: Path) -> None:

@@ -21,6 +21,8 @@ from balisekit.present import headings
 from balisekit.rules import checking
 from balisekit.rules.checking import Checked, Place
 from balisekit.rules.entries import entries
+from balisekit.rules.families import apply
+from balisekit.rules.rule import Options
 from balisekit.rules.statements import statement
 from balisekit.rules.statements.scene import Balise, Scene
 from balisekit.tables import messages as messages_file, reader
@@ -31,7 +33,7 @@ DIRECTED = (8, 10, 11, 12, 13)
 ORDINALS = ("first", "second", "third", "fourth", "fifth", "sixth")
 Form = Any
 EXAMPLES = {
-    "position-wrong": "balise (N_PIG 0): N_PIG is 0 in place of 1: the table has the balise as the second of its group",
+    "position-wrong": "balise (N_PIG 0): N_PIG is 0 instead of 1: the table has the balise as the second of its group",
     "total-wrong": "balise (N_PIG 0): N_TOTAL + 1 says 1 balise, and the table has 2",
     "identity-differs": "balise (N_PIG 1): NID_BG is 2, and 1 in balise (N_PIG 0), row 2",
     "mark-points-outside": "balise (N_PIG 0): M_DUP is 1 (duplicate of the next balise), and the balise is the only "
@@ -51,7 +53,8 @@ EXAMPLES = {
     "no-speed-profile": "nominal: no packet 27 (international static speed profile) beside packet 12 (movement "
     "authority of level 1, V_MAIN 100 km/h) of balise (N_PIG 0)",
     "speed-profile-short": "balise (N_PIG 0)  nominal: packet 27 (international static speed profile), third in the "
-    "telegram, reaches 1000 m, and the supervised location, the danger point of packet 12, is at 1050 m: 50 m missing",
+    "telegram, reaches 1000 m, and the supervised location, the danger point (D_DP 50 m) of packet 12, is at 1050 m: "
+    "50 m missing",
     "identity-used-before": "the identity 1/1 (NID_C/NID_BG) is also that of G0, row 2",
     "marks-differ": 'balise (N_PIG 0): M_DUP is 0 (no duplicate), and 1 (duplicate of the next balise) in aspect "0", '
     "row 2",
@@ -482,10 +485,10 @@ MISTAKES: Dict[Mistake, Tuple[str, str]] = {
     overlap_longer: (
         "F11",
         "packet 21 (gradient profile), second in the telegram, reaches 1650 m (km 15.500), and the supervised "
-        "location, the end of the overlap of packet 12, is at 1750 m (km 15.600): 100 m missing",
+        "location, the end of the overlap (D_OL 300 m) of packet 12, is at 1750 m (km 15.600): 100 m missing",
     ),
     identity_twice: ("F14", "the identity 352/101 (NID_C/NID_BG) is also that of Signal A (km 12.300), rows 2 to 5"),
-    exchanged: ("F1", "their telegrams or their rows look exchanged: N_PIG is 1 and 0 in place of 0 and 1"),
+    exchanged: ("F1", "their telegrams or their rows look exchanged: N_PIG is 1 and 0 instead of 0 and 1"),
     wrong_direction: (
         "F12",
         "no packet 27 (international static speed profile) beside packet 12 (movement authority of level 1, V_MAIN 120 "
@@ -493,10 +496,28 @@ MISTAKES: Dict[Mistake, Tuple[str, str]] = {
     ),
     pasted: (
         "F3",
-        "the telegram has the identity 352/108 (NID_C/NID_BG), and the group's other 3 have 352/107: it looks like one "
-        "of Signal H (km 22.900)",
+        "the telegram has the identity 352/108 (NID_C/NID_BG), and the other 3 telegrams of the group have 352/107: it "
+        "looks like one of Signal H (km 22.900); row 30 equals row 34 (Signal H) digit for digit",
     ),
 }
+BEFORE = "packet 5 (linking), first in the telegram, first link: "
+TURNED = (
+    "is passed in nominal direction, and by the order of its balises along the track it is passed in reverse direction"
+)
+WRONG_ORDER = "; F1 is found in Signal G: rows in a wrong order may be the cause"
+LINKS: Dict[Mistake, Dict[str, str]] = {
+    identity_twice: {
+        "L1": f"{BEFORE}group 108 of country or region 352 is linked, and no group of the table has that identity; by "
+        "D_LINK it is at km 22.900, where the table has Signal H (km 22.900) as group 101 of country or region 352, "
+        "which F14 finds used twice"
+    },
+    exchanged: {
+        "L2": f"{BEFORE}Signal H (km 22.900) is 1500 m from Signal G (km 21.403) by D_LINK, and 1497 m behind it by "
+        f"the kilometres: they differ by 2997 m, and Q_LOCACC is 5 m{WRONG_ORDER}",
+        "L3": f"{BEFORE}Q_LINKORIENTATION says that Signal H (km 22.900) {TURNED}{WRONG_ORDER}",
+    },
+}
+"""What rules over the line say of the last link to the group with the mistake."""
 ROWS: Dict[Mistake, Tuple[int, ...]] = {
     counter_copied: (5,),
     counter_of_pair: (37,),
@@ -521,6 +542,82 @@ def test_a_single_mistake(program: Program, tmp_path: Path, mistake: Mistake) ->
     assert (new[0].rule, new[0].sentence) == (rule, sentence)
     assert mistake not in ROWS or new[0].rows == ROWS[mistake]
     assert {entry.group for entry in new} == {new[0].group} and same_lines(checked)
+
+
+@pytest.mark.parametrize("mistake", LINKS)
+def test_links_name_the_finding_that_may_cause_them(program: Program, tmp_path: Path, mistake: Mistake) -> None:
+    """A mistake in one group makes links to it wrong: these say which finding of the program may be their cause."""
+    items = list(line_table.items())
+    assert not apply(table_of(program, tmp_path, items), "L", Options()).parts[0].items
+    mistake(items)
+    (part,) = apply(table_of(program, tmp_path, items), "L", Options()).parts
+    assert {entry.rule: entry.sentence for entry in part.entries} == LINKS[mistake]
+
+
+def test_a_copy_is_named_with_its_rows(program: Program, tmp_path: Path) -> None:
+    """Of a pair with two identities either telegram may be the copy. Digits in either case are the same."""
+    own, first, second = (
+        program_text(program, line_table.telegram(identity, place, 1, 255))
+        for identity, place in ((1, 0), (2, 0), (2, 1))
+    )
+    rows = [f"A,{own}", f"A,{second.upper()}", f"B,{first}", f"B,{second}"]
+    (entry,) = entries(check(program, tmp_path / "t.csv", "group,telegram", *rows))
+    assert entry.sentence == "NID_BG is 2, and 1 in balise (N_PIG 0), row 2; row 3 equals row 5 (B) digit for digit"
+    assert (entry.rule, entry.rows, entry.other_rows) == ("F3", (3,), (2, 5))
+    (entry,) = entries(check(program, tmp_path / "t.csv", "group,telegram", *rows[:2]))
+    assert entry.sentence == "NID_BG is 2, and 1 in balise (N_PIG 0), row 2" and entry.other_rows == (2,)
+
+
+def test_kilometres_of_a_message(program: Program, tmp_path: Path) -> None:
+    """Its places count from the group of NID_LRBG, if the table has one group with that identity."""
+    form: Form = {**random_lines.message(Random(1)), "nid_c": 352}
+    authority = {**line_table.authority(800, 100), "nid_packet": 15}
+    del authority["v_main"], authority["overlap"]
+    form["packets"] = [line_table.gradients(0, 500), authority]
+    (text,) = program.encode([form], radio=True)
+    file, path = tmp_path / "m.txt", tmp_path / "t.csv"
+    file.write_text(f"{text.line}\n")
+    for identity, places, reach, end in (
+        (1, ("10.000", "10.003"), " (km 10.500)", " (km 10.800)"),
+        (1, ("10.003", "10.000"), " (km 9.503)", " (km 9.203)"),
+        (1, ("", ""), "", ""),
+        (2, ("10.000", "10.003"), "", ""),
+    ):
+        forms = [line_table.telegram(identity, place, 1, 255) for place in range(2)]
+        rows = [f"A,{km},{program_text(program, form)}" for km, form in zip(places, forms)]
+        path.write_text("\n".join(["group,km,telegram", *rows]) + "\n")
+        checked = checking.check(program, reader.read(str(path), None, False), messages_file.read(str(file)))
+        (said,) = [entry.sentence for entry in entries(checked) if entry.rule == "F11"]
+        assert f"reaches 500 m{reach}, and the supervised location" in said
+        assert f"is at 800 m{end}: 300 m missing" in said
+
+
+def test_an_authority_without_profiles_is_one_entry(program: Program, tmp_path: Path) -> None:
+    """F10 and F12 of one authority, also in several aspects. They are apart if one profile is for reverse."""
+    stop, reverse = line_table.authority(100, 0), {**line_table.gradients(0, 500), "q_dir": 0}
+    forms = [
+        line_table.telegram(1, 0, 0, counter, *packets)
+        for counter, packets in ((1, [stop]), (2, [stop]), (3, [stop, reverse]))
+    ]
+    rows = [f"A,{aspect},{program_text(program, form)}" for aspect, form in zip(("red", "blue", "green"), forms)]
+    both, gradient, speed = entries(check(program, tmp_path / "t.csv", "group,aspect,telegram", *rows))
+    assert (both.rules, both.aspects, len(both.findings)) == (["F10", "F12"], ("red", "blue"), 4)
+    assert [(entry.rules, entry.aspects) for entry in (gradient, speed)] == [
+        (["F10"], ("green",)),
+        (["F12"], ("green",)),
+    ]
+    profiles = (
+        "no packet 21 (gradient profile) and no packet 27 (international static speed profile) beside packet 12 ("
+    )
+    assert both.sentence.startswith(profiles) and gradient.sentence.endswith(
+        ": packet 21 is there for reverse only, row 4"
+    )
+
+
+def program_text(program: Program, form: Form) -> str:
+    """The digits of a telegram."""
+    (text,) = program.encode([form])
+    return text.line
 
 
 def table_of(program: Program, tmp_path: Path, items: Items) -> Checked:

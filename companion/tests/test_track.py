@@ -185,7 +185,7 @@ def test_what_was_written(run: Run, table: Write, tmp_path: Path) -> None:
         "left out: 1 message, which --message draws",
     ]
     assert [line.split(": ")[1] for line in err] == [
-        'row 26  Signal F  km 19.803  aspect "yellow"  balise 1 "F2"',
+        'row 26  Signal F  km 19.803  aspect "yellow"  balise "F2" (second of its group)',
         "message of line 2  cut",
         "message of line 3  short",
     ]

@@ -80,7 +80,7 @@ def test_a_sheet_against_its_own_table(sheet: Path, run: Run) -> None:
 def test_each_changed_cell_is_the_one_difference(sheet: Path, run: Run) -> None:
     """With the row of the sheet, both values, and where the variable is."""
     number = next(place for place, row in enumerate(rows_of(sheet), 2) if row["variable"] == "D_LINK")
-    at = 'row 2  A  km 10.000  balise 0 "A1"  packet 5  link 0  D_LINK'
+    at = 'row 2  A  km 10.000  balise "A1" (first of its group)  packet 5  link 0  D_LINK'
     for column, cell, found in (
         ("raw", "1001", '"1000"'),
         ("value", "999.5", '"1000" m'),
@@ -167,7 +167,9 @@ def test_refused_telegrams(table: Write, run: Run, tmp_path: Path) -> None:
     assert run("table", path, "--csv", sheet)[0] == 0
     path = table("group,telegram", f"A,{ALONE}", f"B,{FAULTY}")
     status, out, _ = run("table", path, "--expect", sheet)
-    assert status == 2 and out[1].startswith("row 3  B  balise 0: Q_DIR of packet 21 (second packet) is 3")
+    assert status == 2 and out[1].startswith(
+        "row 3  B  balise (first of its group): Q_DIR of packet 21 (second packet) is 3"
+    )
     assert out[-1] == (
         "INCOMPLETE: 1 of 2 telegrams refused, 9 rows of the sheet about them not compared; differences 0; compared: "
         f"9 rows of {sheet}"

@@ -136,7 +136,7 @@ def test_what_a_star_accepts_is_counted(run: Run, table: Write, tmp_path: Path) 
     assert out[-2:] == ["findings 2: accepted 2 (1 by *), open 0", "no open findings; accepted by *: 1"]
     entries(file, {**one, "balise": "*", "sha256": ""}, *others)
     assert (
-        f"{file}: row 2: no sha256: that of the 1 findings that it fits is {one['sha256']}"
+        f"{file}: row 2: no sha256: that of the finding that it fits is {one['sha256']}"
         in run("check", path, "--accepted", file)[1]
     )
 
@@ -146,7 +146,7 @@ def test_a_message_with_the_name_star_has_none(run: Run, table: Write, tmp_path:
     proposed = tmp_path / "p.csv"
     status, out, _ = run("check", path, "--messages", radio, "--propose", proposed)
     notes = [line for line in out if line.startswith("no entry can name message of line 1  *  nominal: no packet ")]
-    assert status == 1 and len(notes) == 2 and out[-1].startswith("program: no")
+    assert status == 1 and len(notes) == 2 and out[-1].startswith('program: "no')
     assert all(note.endswith(" (its message has no name of its own)") for note in notes)
     assert proposed.read_text("utf-8") == ",".join(COLUMNS) + "\n"
     out = run("check", path, "--messages", radio, "--accepted", proposed, "--propose", tmp_path / "q.csv")[1]

@@ -33,12 +33,26 @@ KMS = ["0", "1", "2", "3", "4", "5"]
 @pytest.mark.parametrize(
     "balises, kms, nominal, by, status, last",
     [
-        (2, KMS, "rising", 5000, 1, ["links: 10 found (L2 5, L3 5)", "L2 5 links, L3 5 links"]),
-        (2, KMS, "", 5000, 2, ["INCOMPLETE: L3 compared none of 5 links (no direction", "L2 5 links, L3 0 of 5 links"]),
+        (2, KMS, "rising", 5000, 1, ["links: 10 found (L2 5, L3 5)", "compared: 5 links (L1, L2, L3)"]),
+        (
+            2,
+            KMS,
+            "",
+            5000,
+            2,
+            ["INCOMPLETE: L3 compared none of 5 links (no direction", "compared: 5 links (L1, L2), 0 of 5 links (L3)"],
+        ),
         (2, KMS, "", 1000, 2, ["INCOMPLETE: L3 compared none of 5 links", "none found of L1 to L9"]),
-        (1, KMS, "", 5000, 1, ["links: 5 found (L2 5) in 6 groups", "L2 5 links, L3 0 links"]),
-        (1, KMS, "", 1000, 0, ["links: none found of L1 to L9 in 6 groups", "L2 5 links, L3 0 links"]),
-        (1, KMS[::-1], "", 1000, 0, ["links: none found of L1 to L9 in 6 groups", "L2 5 links"]),
+        (1, KMS, "", 5000, 1, ["links: 5 found (L2 5) in 6 groups", "compared: 5 links (L1, L2), 0 links (L3)"]),
+        (
+            1,
+            KMS,
+            "",
+            1000,
+            0,
+            ["links: none found of L1 to L9 in 6 groups", "compared: 5 links (L1, L2), 0 links (L3)"],
+        ),
+        (1, KMS[::-1], "", 1000, 0, ["links: none found of L1 to L9 in 6 groups", "compared: 5 links (L1, L2)"]),
         (
             1,
             ["0", "", "", "", "", ""],
@@ -47,8 +61,8 @@ KMS = ["0", "1", "2", "3", "4", "5"]
             2,
             ["INCOMPLETE: L2 compared none of 5 links (no kilometre: 5), L9 compared none of 5 pairs"],
         ),
-        (1, ["0", "1", "", "", "", ""], "rising", 1000, 0, ["L2 1 of 5 links", "L9 1 of 5 pairs"]),
-        (1, ["0"], "", 5000, 0, ["links: none found of L1 to L9 in 1 groups", "L1 0 links, L2 0 links"]),
+        (1, ["0", "1", "", "", "", ""], "rising", 1000, 0, ["1 of 5 links (L2)", "1 of 5 pairs (L9)"]),
+        (1, ["0"], "", 5000, 0, ["links: none found of L1 to L9 in 1 group;", "compared: 0 links (L1, L2, L3)"]),
     ],
     ids=["direction", "none", "none-right", "single", "single-right", "down", "one-km", "two-km", "no-links"],
 )
@@ -85,7 +99,7 @@ def test_a_link_that_turns_back(program: Program, run: Run, table: Write) -> Non
     status, out, _ = run("links", table(HEADING, *lines))
     assert (
         status == 1
-        and "links L2: G3 (km 8.000) is 2000 m from G1 (km 10.000) by D_LINK, and 2000 m behind it" in out[-2]
+        and "second link: G3 (km 8.000) is 2000 m from G1 (km 10.000) by D_LINK, and 2000 m behind it" in out[-2]
     )
 
 

@@ -122,6 +122,7 @@ def test_places(run: Run, table: Write, program: Program, rows: List[Tuple[str, 
     _, out, _ = run("show", path)
     shown = re.sub(r"\s+", " ", " ".join(out))
     assert all(is_noted(note, shown) for note in wanted), shown
+    pytest.importorskip("jinja2")
     _, out, _ = run("report", path, "--html", "-")
     page = re.sub(r"\s+", " ", " ".join(out)).replace("&#34;", '"')
     assert all(is_noted(note, page) for note in wanted)
@@ -287,11 +288,14 @@ def test_show_by_position(run: Run, table: Write) -> None:
     """`show` orders balises as `check` does."""
     path = table("group,name,telegram", f"S,X,{SECOND}", f"S,Y,{FIRST}")
     _, out, _ = run("show", path, "--by-position")
-    assert [line for line in out if line.startswith("row ")] == ['row 2  S  balise 1 "X"', 'row 3  S  balise 0 "Y"']
+    assert [line for line in out if line.startswith("row ")] == [
+        'row 2  S  balise "X" (N_PIG 1)',
+        'row 3  S  balise "Y" (N_PIG 0)',
+    ]
     assert "note: balises are ordered by N_PIG, as --by-position says, which hides a wrong N_PIG" in out
     assert [line for line in run("show", path)[1] if line.startswith("row ")] == [
-        'row 2  S  balise 0 "X"',
-        'row 3  S  balise 1 "Y"',
+        'row 2  S  balise "X" (N_PIG 1)',
+        'row 3  S  balise "Y" (N_PIG 0)',
     ]
 
 

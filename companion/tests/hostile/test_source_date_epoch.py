@@ -38,6 +38,7 @@ def test_a_time_that_is_none(
 )
 def test_a_time_that_is_one(value: str, wanted: str, run: Run, tmp_path: Path, monkeypatch: pytest.MonkeyPatch) -> None:
     """The first and the last second that a page can have."""
+    pytest.importorskip("jinja2")
     monkeypatch.setenv("SOURCE_DATE_EPOCH", value)
     run("report", LINE, "--html", tmp_path / "r.html")
     assert f"<td>{wanted}</td>" in (tmp_path / "r.html").read_text("utf-8")

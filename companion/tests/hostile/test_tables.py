@@ -87,7 +87,7 @@ def test_many_aspects(table: Write) -> None:
     group = reader.read(str(path)).groups[0]
     described = [describe_balise(group, row) for row in group.rows()]
     assert time.process_time() - begin < 4
-    assert len(described) == count and described[-1] == 'row 10001  A  aspect "9999"  balise 0'
+    assert len(described) == count and described[-1] == 'row 10001  A  aspect "9999"  balise (first of its group)'
 
 
 UNREADABLE: List[Tuple[bytes, str]] = [
@@ -159,7 +159,7 @@ def test_kilometres_are_not_rounded(run: Run, table: Write, km: str) -> None:
     """They are written as the table has them."""
     spoilt = f"{ALONE[:-2]}1{ALONE[-1]}"
     status, out, _ = run("check", table("group,km,telegram", f"A,{km},{spoilt}", f"B,{km},{OTHER}"))
-    assert status == 2 and out[1].startswith(f"row 2  A  km {km}  balise 0: ")
+    assert status == 2 and out[1].startswith(f"row 2  A  km {km}  balise (first of its group): ")
 
 
 def test_order_of_positions() -> None:

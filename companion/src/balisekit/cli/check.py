@@ -2,33 +2,21 @@
 from __future__ import annotations
 
 import argparse
-import time
-from typing import Tuple
 
 from balisekit.cli import options as shared, settings
-from balisekit.errors import TableError
+from balisekit.cli.outcome import add_only, outcome as outcome_of, stated
 from balisekit.io import clock
 from balisekit.io.outputs import encode, write_json
 from balisekit.present import accepted_text
 from balisekit.present.outcome_text import lines
-from balisekit.rules import accepted, checking
-from balisekit.rules.families import FAMILIES, PLAN, Outcome, apply
-
-ONLY = "apply only these families of rules: F, the program's findings; L, links; E, remarks; X, track plan"
-
-
-def _families(text: str) -> Tuple[str, ...]:
-    """The letters of families, in the order of an answer."""
-    letters = [letter.strip().upper() for letter in text.split(",")]
-    if not all(letter in FAMILIES for letter in letters):
-        raise argparse.ArgumentTypeError(f"{text[:40]} is no list of {', '.join(FAMILIES)}: write F or F,L")
-    return tuple(letters)
+from balisekit.rules import checking
+from balisekit.rules.families import Outcome
 
 
 def add_options(parser: argparse.ArgumentParser) -> None:
     """The options of this command."""
     shared.add(parser, *shared.INPUTS, "--explain", "--all", "--accepted")
-    parser.add_argument("--only", **shared.value("FAMILIES", _families, ONLY))
+    add_only(parser)
     settings.add_options(parser)
     proposal = "write entries for what is open, to be signed, into a new file"
     parser.add_argument("--propose", **shared.output_file(proposal, always_new=True))
@@ -42,7 +30,7 @@ def add_options(parser: argparse.ArgumentParser) -> None:
 
 def run(options: argparse.Namespace) -> int:
     """Does it. The answer is the exit status."""
-    outcome = _outcome(options)
+    outcome = outcome_of(options, stated(options), clock.now())
     checked = outcome.checked
     if options.propose:
         options.propose.write([accepted_text.proposal(outcome)])
@@ -67,24 +55,8 @@ def _write_for_tools(options: argparse.Namespace, outcome: Outcome) -> None:
     if options.xlsx:
         from balisekit.present import entries_sheet
 
-        options.xlsx.write([entries_sheet.document(outcome, clock.now())])
+        options.xlsx.write(entries_sheet.document(outcome))
     if options.json:
         from balisekit.present.check_json import as_json
 
         write_json(options.json, as_json(outcome))
-
-
-def _outcome(options: argparse.Namespace) -> Outcome:
-    """What the rules find, and what was accepted if there is a file of entries."""
-    began, day = time.perf_counter(), clock.now().date()
-    entries = accepted.read(options.accepted) if options.accepted else None
-    program, table, messages = shared.inputs(options)
-    letters = options.only or tuple(FAMILIES)
-    settings.refuse_unused(options, letters)
-    stated = settings.of_line(options)
-    if letters == (PLAN,) and stated.plan is None:
-        raise TableError("--only X needs a track plan: give --plan FILE")
-    if all(FAMILIES[letter].needs_kilometres for letter in letters):
-        shared.refuse_without_kilometres(table)
-    checked = checking.check(program, table, messages, options.by_position, options.all)
-    return apply(checked, letters, stated, (entries, day) if entries else None, began)

@@ -9,8 +9,8 @@ from contextlib import contextmanager
 from typing import Callable, Iterator, Optional, TextIO
 
 STYLES = (
-    (("program: yes", "no open findings"), "bold green"),
-    (("program: no", "INCOMPLETE", "findings "), "bold red"),
+    (('program: "yes', "no open findings"), "bold green"),
+    (('program: "no', "INCOMPLETE", "findings "), "bold red"),
     (("look: ", "note: ", "left out: "), "yellow"),
     (("    program: ",), "dim"),
 )

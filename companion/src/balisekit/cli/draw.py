@@ -4,13 +4,14 @@ from __future__ import annotations
 import argparse
 import sys
 from dataclasses import replace
-from typing import Optional
+from typing import Optional, Sequence, Tuple
 
 from balisekit.cli import draw_all, options as shared
-from balisekit.cli.selection import check_aspect, check_aspect_of, groups_named, meant
+from balisekit.cli.selection import check_aspect, check_aspect_of, groups_named, meant, with_directions_of
 from balisekit.drawing.group import picture_of
 from balisekit.drawing.sheet import Picture
 from balisekit.drawing.track import tracks_of
+from balisekit.engine.program import Program
 from balisekit.errors import TableError
 from balisekit.io.output_folder import OutputFolder
 from balisekit.io.outputs import Output
@@ -52,10 +53,9 @@ def run(options: argparse.Namespace) -> int:
         shared.refuse_unused(options, "with --all", "svg", "force")
     options.svg = options.svg or Output("-")
     program, table, messages = shared.inputs(options)
+    notes: Sequence[str] = ()
     if options.group is not None:
-        group = groups_named(table, [options.group])
-        check_aspect_of(group.groups[0], options.aspect)
-        picture = _group(checking.check(program, group, by_position=options.by_position), options.aspect)
+        picture, notes = _group(options, program, table)
     elif options.message is not None:
         picture = _message(checking.check(program, table, _only_message(messages, options.message)))
     else:
@@ -63,14 +63,20 @@ def run(options: argparse.Namespace) -> int:
         checked = checking.check(program, table, messages, options.by_position)
         return draw_all.run(options, checked) if options.all else _track(options, checked)
     options.svg.write(picture_page(picture))
+    shared.say([f"note: {note}" for note in notes], options.svg)
     return 0
 
 
-def _group(checked: Checked, aspect: Optional[str]) -> Picture:
-    """The picture of the only group of a table."""
+def _group(options: argparse.Namespace, program: Program, table: Table) -> Tuple[Picture, Sequence[str]]:
+    """The picture of one group, and a note if links give its direction. Refused telegrams of others do not matter."""
+    alone = groups_named(table, [options.group])
+    check_aspect_of(alone.groups[0], options.aspect)
+    checked = checking.check(program, alone, by_position=options.by_position)
     for item in refused(checked):
         raise TableError(str(item))
-    return picture_of(checked.kept[0], checked.accepted, [place.finding for place in checked.findings], True, aspect)
+    (group,), notes = with_directions_of(table, checked.kept, program, options.by_position)
+    findings = [place.finding for place in checked.findings]
+    return picture_of(group, checked.accepted, findings, True, options.aspect), notes
 
 
 def _message(checked: Checked) -> Picture:

@@ -42,7 +42,8 @@ def _path(folder: OutputFolder, name: str) -> str:
 
 def _groups(line: Line, checked: Checked, folder: OutputFolder, names: FileNames) -> Iterator[str]:
     """Draws each group in each of its aspects. Aspects with the same picture share a file."""
-    for group in checked.kept:
+    kept = {group.name for group in checked.kept}
+    for group in (group for group in line.directed if group.name in kept):
         for aspects, picture in pictures_of(group, line.forms, line.findings.get(group.name, ())):
             name = names.svg("group", group.name, *aspects[:1])
             folder.write(name, picture_page(picture))

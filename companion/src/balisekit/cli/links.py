@@ -5,11 +5,13 @@ import argparse
 
 from balisekit.cli import options as shared
 from balisekit.io.outputs import write_json
+from balisekit.present.entries_json import entries_json
 from balisekit.present.links_text import as_json, lines, status_of
 from balisekit.rules import checking
-from balisekit.rules.line import Line
-from balisekit.rules.links import compare
+from balisekit.rules.families import apply
 from balisekit.rules.rule import Options
+
+LETTERS = ("L",)
 
 
 def add_options(parser: argparse.ArgumentParser) -> None:
@@ -24,8 +26,9 @@ def run(options: argparse.Namespace) -> int:
     program, table, messages = shared.inputs(options)
     shared.refuse_without_kilometres(table)
     checked = checking.check(program, table, messages, options.by_position)
-    links = compare(Line.of(checked), Options(options.tolerance))
+    outcome = apply(checked, LETTERS, Options(options.tolerance))
+    links = next(part.applied for part in outcome.parts if part.applied)
     if options.json:
-        write_json(options.json, as_json(checked, links))
+        write_json(options.json, {**as_json(checked, links), "entries": entries_json(outcome)})
     shared.say(lines(checked, links, options.explain), options.json)
     return status_of(checked, links)

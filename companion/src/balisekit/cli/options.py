@@ -4,7 +4,6 @@ from __future__ import annotations
 import argparse
 import re
 import sys
-from datetime import datetime
 from decimal import Decimal
 from typing import Any, Callable, Dict, Iterable, Optional, Tuple
 
@@ -13,7 +12,7 @@ from balisekit.engine.program import Program
 from balisekit.errors import TableError
 from balisekit.io.inputs import InputPath
 from balisekit.io.outputs import Output
-from balisekit.rules import accepted, checking
+from balisekit.rules import checking
 from balisekit.tables import messages as messages_file, reader
 from balisekit.tables.model import Messages, Table
 from balisekit.tables.names import passed_over
@@ -119,13 +118,6 @@ def refuse_without_kilometres(table: Table) -> None:
     if all(row.km is None for row in table.rows):
         why = f"{table.path}: no row has a kilometre: links needs the column km"
         raise TableError("; ".join([why, *passed_over(table)]))
-
-
-def judged(options: argparse.Namespace, now: datetime) -> Tuple[checking.Checked, Optional[accepted.Judged]]:
-    """What the program says of the inputs, and which of its findings were accepted if there is a file of them."""
-    entries = accepted.read(options.accepted) if options.accepted else None
-    checked = checking.check(*inputs(options), options.by_position, options.all)
-    return checked, accepted.judge(checked.findings, checked, entries, now.date()) if entries else None
 
 
 def say(lines: Iterable[str], *outputs: Optional[Output]) -> None:

@@ -3,9 +3,12 @@ from __future__ import annotations
 
 from dataclasses import replace
 from difflib import get_close_matches
-from typing import Dict, Iterable, Optional, Sequence
+from typing import Dict, Iterable, Optional, Sequence, Tuple
 
+from balisekit.engine.program import Program
 from balisekit.errors import TableError
+from balisekit.rules import checking
+from balisekit.rules.line import Line, has_no_direction
 from balisekit.tables.model import Group, Table
 from balisekit.tables.names import quoted
 
@@ -30,6 +33,21 @@ def groups_named(table: Table, names: Sequence[str]) -> Table:
             raise TableError(f"there is no group {quoted(name)} in {table.path}{meant(name, known)}")
     groups = tuple(group for group in table.groups if group.name in names)
     return replace(table, groups=groups, rows=tuple(row for row in table.rows if row.group in names))
+
+
+def with_directions_of(
+    table: Table, groups: Sequence[Group], program: Program, by_position: bool
+) -> Tuple[Sequence[Group], Sequence[str]]:
+    """Groups of a table, single balises with the direction of the links that name them, and notes on these.
+
+    The other groups of the table are looked at only if it does not show the direction of one of these.
+    """
+    if not any(map(has_no_direction, groups)):
+        return groups, ()
+    line = Line.of(checking.check(program, table, None, by_position))
+    names = {group.name for group in groups}
+    notes = [note for name, note in line.direction_notes.items() if name in names]
+    return [group for group in line.directed if group.name in names], notes
 
 
 def check_aspect(table: Table, aspect: Optional[str]) -> None:

@@ -7,7 +7,7 @@ from collections import Counter, deque
 from typing import Callable, Deque, Dict, Generator, Iterable, Iterator, List, Mapping, Optional, Sequence, Tuple, Union
 
 from balisekit.cli import options as shared
-from balisekit.cli.selection import groups_named
+from balisekit.cli.selection import groups_named, with_directions_of
 from balisekit.engine.grammar import Refusal
 from balisekit.engine.program import Program, Record
 from balisekit.errors import TableError
@@ -79,8 +79,8 @@ class _Shown:
         options = self.options
         if options.table is not None:
             program, table, messages = shared.inputs(options)
-            table = groups_named(table, options.group) if options.group else table
-            groups = Identities(table.groups, (yield from self._table(program, table)))
+            chosen = groups_named(table, options.group) if options.group else table
+            groups = Identities(chosen.groups, (yield from self._table(program, table, chosen)))
         else:
             messages = messages_file.read(options.messages) if options.messages else None
             program, groups = Program.find(options.program, options.timeout), Identities((), {})
@@ -103,8 +103,8 @@ class _Shown:
             yield self._block(f"line {number}", telegram, answer, telegram_refused, here_alone)
         self.total["telegrams"] += sum(map(len, batches))
 
-    def _table(self, program: Program, table: Table) -> Generator[List[str], None, Dict[int, Form]]:
-        """The telegrams of the table. The answer has the first telegram of each group that could be read."""
+    def _table(self, program: Program, whole: Table, table: Table) -> Generator[List[str], None, Dict[int, Form]]:
+        """The telegrams of the table, or of some of its groups. The answer has the first one read of each group."""
         if self.options.by_position:
             yield [f"note: {BY_POSITION}"]
         self.total["telegrams"] = len(table.rows)
@@ -113,7 +113,10 @@ class _Shown:
         firsts: Dict[int, Form] = {}
         records = Records({number: answer for number, answer in answers.items() if isinstance(answer, Record)})
         ordered: Sequence[Group] = [self._ordered(group, records) for group in table.groups]
-        groups, notes = with_directions(ordered, records)
+        if self.options.group:
+            groups, notes = with_directions_of(whole, ordered, program, self.options.by_position)
+        else:
+            groups, notes = with_directions(ordered, records)
         yield from ([f"note: {note}"] for note in notes)
         for group in groups:
             forms = {row.number: records[row.number] for row in group.rows() if row.number in records}
@@ -122,7 +125,8 @@ class _Shown:
             rows = {row.number: row for row in group.rows()}
             for number, here in places_of_rows(group, forms).items():
                 if number in answers:
-                    heading = describe_balise(group, rows[number])
+                    n_pig = forms[number]["n_pig"] if number in forms else None
+                    heading = describe_balise(group, rows[number], n_pig)
                     yield self._block(heading, rows[number].telegram, answers[number], telegram_refused, lambda _: here)
         return firsts
 

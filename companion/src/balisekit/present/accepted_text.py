@@ -36,7 +36,8 @@ def fault_lines(judged: Judged) -> Iterator[str]:
         )
     if judged.passed_over:
         rules = sorted({entry.rule for entry in judged.passed_over})
-        yield f"note: {len(judged.passed_over)} entries are for rules that were not applied: {', '.join(rules)}"
+        many = f"{len(judged.passed_over)} entries are" if len(judged.passed_over) > 1 else "1 entry is"
+        yield f"note: {many} for rules that were not applied: {', '.join(rules)}"
 
 
 def verdict_lines(judged: Judged, last: str, whole: bool, letters: str = "F") -> Iterator[str]:

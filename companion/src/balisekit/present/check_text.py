@@ -1,11 +1,9 @@
-"""What begins and ends the answer of `check` and of a report in words: what was refused, and the program's verdict."""
+"""What begins and ends an answer in words: what was refused, and the program's verdict."""
 from __future__ import annotations
 
-from typing import Iterator, List, Optional
+from typing import Iterator
 
-from balisekit.present.accepted_text import fault_lines, verdict_lines
 from balisekit.present.refusals import not_looked_at, refused_counts, refused_lines
-from balisekit.rules.accepted import Judged
 from balisekit.rules.aspect_counts import aspects_found
 from balisekit.rules.checking import Checked
 from balisekit.rules.remarks import remarks
@@ -35,16 +33,10 @@ def before_last(table: Table) -> Iterator[str]:
     yield aspects_found(table)
 
 
-def closing_lines(checked: Checked, judged: Optional[Judged]) -> List[str]:
-    """What ends the answer: entries at fault, how many findings are open, and the last line."""
-    last = last_line(checked)
-    return [*fault_lines(judged), *verdict_lines(judged, last, checked.whole)] if judged else [last]
-
-
 def last_line(checked: Checked) -> str:
     """The program's verdict, or that something was left out."""
     if checked.whole and checked.verdict:
-        return f"program: {checked.verdict.line}"
+        return f'program: "{checked.verdict.line}"'
     groups = f"{len(checked.left_out)} of {len(checked.table.groups)} groups left out"
     parts = [*refused_counts(checked), groups, *not_looked_at(checked)]
     found = f"; findings in the rest: {len(checked.findings)}" if checked.findings else ""

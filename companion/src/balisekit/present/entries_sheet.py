@@ -1,11 +1,9 @@
 """The entries of `check` as a sheet of a workbook, in which a team notes who looks after each."""
 from __future__ import annotations
 
-import io
-from datetime import datetime
-from typing import Any, List
+from typing import Iterator, List
 
-from balisekit.io.optional_packages import needed
+from balisekit.io import xlsx_writing
 from balisekit.rules.entries import Entry
 from balisekit.rules.families import Outcome
 from balisekit.tables.names import clean
@@ -15,29 +13,10 @@ WIDTHS = (6, 18, 12, 24, 12, 32, 80, 16, 10, 40)
 """Of the columns, in characters."""
 
 
-def document(outcome: Outcome, now: datetime) -> bytes:
-    """The workbook. NoAnswer is raised if the package that writes it is absent."""
-    with needed("openpyxl", "an .xlsx"):
-        from openpyxl import Workbook
-        from openpyxl.cell import WriteOnlyCell
-    book = Workbook(write_only=True)
-    book.properties.creator = "balisekit"
-    book.properties.created = book.properties.modified = now.replace(tzinfo=None)
-    sheet = book.create_sheet("entries")
-    sheet.freeze_panes = "A2"
-    for number, width in enumerate(WIDTHS):
-        sheet.column_dimensions["ABCDEFGHIJ"[number]].width = width
-    for texts in (list(HEADING), *(_row(outcome, entry) for entry in outcome.entries)):
-        sheet.append([_cell(WriteOnlyCell(sheet, clean(text))) if text else None for text in texts])
-    content = io.BytesIO()
-    book.save(content)
-    return content.getvalue()
-
-
-def _cell(cell: Any) -> Any:
-    """The cell as a text: one that begins with = would be a formula."""
-    cell.data_type = "s"
-    return cell
+def document(outcome: Outcome) -> Iterator[bytes]:
+    """The bytes of the workbook. NoAnswer is raised if the package that writes it is absent."""
+    rows = ([clean(text) or None for text in _row(outcome, entry)] for entry in outcome.entries)
+    return xlsx_writing.pieces("entries", HEADING, rows, WIDTHS, "an .xlsx")
 
 
 def _row(outcome: Outcome, entry: Entry) -> List[str]:

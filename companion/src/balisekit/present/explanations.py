@@ -15,10 +15,12 @@ from balisekit.rules.rule import CORRECT_DATA
 
 WIDTH = 116
 
-HEADS = ("What it says", "How urgent", "Usual cause", "How to correct it", CORRECT_DATA, "How sure")
+EXPLAINED = ("What it says", "How urgent", "Usual cause", "How to correct it", CORRECT_DATA, "How sure")
 """The paragraphs that `--explain` shows."""
-KEYS = ("says", "urgent", "cause", "remedy")
-"""The keys of the first four of a finding."""
+HEADS = (*EXPLAINED[:3], "What may happen", *EXPLAINED[3:])
+"""All paragraphs."""
+KEYS = ("says", "urgent", "cause", "happens", "remedy")
+"""The keys of the first five of a finding."""
 
 
 def explanations() -> Dict[int, Dict[str, str]]:
@@ -48,7 +50,7 @@ def page_lines(named: Iterable[Tuple[str, Page]]) -> Iterator[str]:
     """What these pages say, as lines of text."""
     for name, page in named:
         yield f"{name}: {page.title}"
-        for head, text in page.parts.items():
+        for head, text in ((head, page.parts[head]) for head in EXPLAINED if head in page.parts):
             yield from textwrap.wrap(f"{head}. {text}", WIDTH, initial_indent="    ", subsequent_indent="    ")
 
 

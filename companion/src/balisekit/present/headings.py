@@ -1,6 +1,7 @@
 """Entries in words: what they are about, what is wrong, and the heading above those of one urgency."""
 from __future__ import annotations
 
+from collections import Counter
 from typing import Dict, Iterable, Iterator, List, Sequence
 
 from balisekit.etcs.raw_layouts import layout_of
@@ -15,7 +16,7 @@ URGENCIES: Dict[Urgency, str] = {
     Urgency.BRAKING: "at worst the train brakes:",
     Urgency.RULE_ONLY: "a rule only:",
 }
-CORRECT = "on data that may be correct:"
+CORRECT = "known cases of correct data, to be confirmed:"
 
 
 def heading(entry: Entry) -> str:
@@ -82,24 +83,21 @@ def finding_lines(place: Place, before: str = "") -> List[str]:
 
 
 def summary(checked: Checked, found: Sequence[Entry], are_open: bool) -> Iterator[str]:
-    """How many causes and findings each rule has, and how many groups have none, or no open one."""
+    """How many findings each rule has and how many causes they have, and how many groups have none, or no open one."""
     if not found:
         return
-    counts: Dict[str, List[int]] = {}
-    for entry in found:
-        counts.setdefault(entry.rule, []).append(len(entry.findings))
-    texts = [f"{rule} {_count(causes)}" for rule, causes in counts.items()]
-    groups = {place.group.name for entry in found for place in entry.findings if place.group}
-    total = len(checked.kept)
-    what = f"group{'s' if total != 1 else ''} without {'open ' if are_open else ''}finding"
-    sound = f"; {total - len(groups)} of {total} {what}" if total else ""
-    yield ", ".join(texts) + sound
+    findings = [place for entry in found for place in entry.findings]
+    counts = Counter(f"F{place.finding.rule}" for place in findings)
+    open_ = "open " if are_open else ""
+    causes = f" of {_count(len(found), 'cause')}" if len(found) < len(findings) else ""
+    total, groups = len(checked.kept), {place.group.name for place in findings if place.group}
+    sound = f"; {total - len(groups)} of {_count(total, 'group')} without {open_}finding" if total else ""
+    of_rules = ", ".join(f"{rule} {count}" for rule, count in counts.items())
+    yield f"{_count(len(findings), f'{open_}finding')}{causes}: {of_rules}{sound}"
 
 
-def _count(causes: Sequence[int]) -> str:
-    """How many findings, and of how many causes if these are fewer."""
-    count = len(causes)
-    return str(count) if sum(causes) == count else f"{count} cause{'s' if count > 1 else ''} ({sum(causes)})"
+def _count(count: int, what: str) -> str:
+    return f"{count} {what}{'s' * (count != 1)}"
 
 
 DECODED = {True: "decoded only by balisekit", False: "decoded only by balisekit, layout not certain"}

@@ -7,9 +7,10 @@ from typing import Any, Dict, Iterator, List, Sequence
 from balisekit.present import NOT_PROVED
 from balisekit.present.check_text import head_line
 from balisekit.present.explanations import page_lines, pages
+from balisekit.present.headings import words
 from balisekit.present.refusals import not_looked_at, refused_counts, refused_lines
 from balisekit.rules.checking import Checked
-from balisekit.rules.families import FAMILIES
+from balisekit.rules.families import FAMILIES, entry_of_remark
 from balisekit.rules.links import Links
 from balisekit.rules.rule import Remark, Result, Rule
 from balisekit.tables.names import clean, passed_over
@@ -43,13 +44,14 @@ def lines(checked: Checked, links: Links, explained: bool = False) -> Iterator[s
 
 
 def _words(remark: Remark) -> str:
-    return f"{remark.location}: links {remark.rule}: {remark.sentence}"
+    return words(entry_of_remark(remark))
 
 
 def last_line(checked: Checked, links: Links) -> str:
     """How many were found and by which rules, and what each rule has compared. It is never a yes."""
     parts = [*lacking(checked), *empty_rules(links)]
-    where = "the rest" if lacking(checked) else f"{len(checked.table.groups)} groups"
+    count = len(checked.table.groups)
+    where = "the rest" if lacking(checked) else f"{count} group{'s' * (count != 1)}"
     said = f"links: {found(links, f' of {OF_RULES}')} in {where}; {compared(links)}"
     return f"INCOMPLETE: {', '.join(parts)}; {said}" if parts else said
 
@@ -66,9 +68,14 @@ def found(links: Links, rules: str = "") -> str:
 
 
 def compared(links: Links, with_reasons: bool = False) -> str:
-    """What each rule has compared, and why not the rest if that is asked for."""
-    parts = (_compared(rule, result, with_reasons) for rule, result in links.results.items())
-    return f"compared: {', '.join(parts)}"
+    """What each rule has compared, and why not the rest if that is asked for.
+
+    Rules that have compared the same number of the same things are named together.
+    """
+    rules: Dict[str, List[str]] = {}
+    for rule, result in links.results.items():
+        rules.setdefault(_compared(rule, result, with_reasons), []).append(rule.name)
+    return "compared: " + ", ".join(f"{things} ({', '.join(names)})" for things, names in rules.items())
 
 
 def how_many_compared(links: Links) -> str:
@@ -98,8 +105,16 @@ def _reasons(result: Result) -> str:
 def _compared(rule: Rule, result: Result, with_reasons: bool) -> str:
     """What a rule has compared, and of how many things if there are more."""
     of_how_many = f"{result.looked_at} of " if result.skipped else ""
-    reasons = f" ({_reasons(result)})" if with_reasons and result.skipped else ""
-    return f"{rule.name} {of_how_many}{_things(rule, result.looked_at + result.skipped)}{reasons}"
+    reasons = f" without {_reasons(result)}" if with_reasons and result.skipped else ""
+    return f"{of_how_many}{_things(rule, result.looked_at + result.skipped)}{reasons}"
+
+
+def not_compared(links: Links) -> Iterator[str]:
+    """How many things each rule has not looked at, and why."""
+    for rule, result in links.results.items():
+        if result.skipped:
+            of_all = _things(rule, result.looked_at + result.skipped)
+            yield f"not compared by {rule.name}: {result.skipped} of {of_all} ({_reasons(result)})"
 
 
 def _things(rule: Rule, count: int) -> str:

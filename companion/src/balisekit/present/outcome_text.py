@@ -1,13 +1,13 @@
 """The answer of `check` in words: a part for each family of rules, what was not looked at, and one verdict."""
 from __future__ import annotations
 
-from typing import Iterator, List, Sequence
+from typing import Iterator, List, Sequence, Tuple
 
 from balisekit.present import headings
 from balisekit.present.accepted_text import accepted_words, fault_lines, verdict_lines
 from balisekit.present.check_text import before_last, last_line as last_line_of_program, opening_lines
-from balisekit.present.explanations import page_lines, pages
-from balisekit.present.links_text import compared, empty_rules, found, how_many_compared, lacking
+from balisekit.present.explanations import Page, page_lines, pages
+from balisekit.present.links_text import compared, empty_rules, found, how_many_compared, lacking, not_compared
 from balisekit.rules.accepted import UNNAMED, Item, keys
 from balisekit.rules.applied import Applied
 from balisekit.rules.checking import Place
@@ -29,7 +29,7 @@ def lines(outcome: Outcome, explained: bool = False, proposed: bool = False) -> 
             yield f"{part.family.title}:{'' if part.items else ' none'}"
         yield from _part(outcome, part)
     if explained:
-        yield from _pages(outcome)
+        yield from page_lines(explained_rules(outcome))
     yield from not_decoded(outcome)
     yield from before_last(outcome.checked.table)
     yield from unnamed_lines(outcome) if proposed or outcome.judged else ()
@@ -44,6 +44,11 @@ def _part(outcome: Outcome, part: Part) -> Iterator[str]:
     for entry in part.accepted:
         yield from headings.entry_lines(entry)
         yield from (f"    {accepted_words(each)}" for each in outcome.acceptances(entry))
+    yield from behind(outcome, part)
+
+
+def behind(outcome: Outcome, part: Part) -> Iterator[str]:
+    """What is said behind the entries of a part: how many there are, or notes and what rules have compared."""
     if part.applied is None:
         yield from headings.summary(outcome.checked, part.open, outcome.judged is not None)
         return
@@ -78,11 +83,19 @@ def not_applied(outcome: Outcome) -> List[str]:
     return [NO_KILOMETRES] if outcome.without_kilometres else []
 
 
-def _pages(outcome: Outcome) -> Iterator[str]:
-    """Cause and remedy of each rule that has found something."""
+def not_looked_at(outcome: Outcome) -> Iterator[str]:
+    """What no verdict covers of all that was handed in and read: packets, rules, and links that are not compared."""
+    yield from not_decoded(outcome)
+    yield from not_applied(outcome)
+    for part in outcome.parts:
+        yield from not_compared(part.applied) if part.applied else ()
+
+
+def explained_rules(outcome: Outcome) -> Iterator[Tuple[str, Page]]:
+    """The page of each rule that has found something."""
     rules = {rule for entry in outcome.entries for rule in entry.rules}
     for part in outcome.parts:
-        yield from page_lines((name, page) for name, page in pages(part.family) if name in rules)
+        yield from ((name, page) for name, page in pages(part.family) if name in rules)
 
 
 def unnamed_lines(outcome: Outcome) -> Iterator[str]:

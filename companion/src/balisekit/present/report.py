@@ -1,4 +1,4 @@
-"""What a report is made of: the cover, the findings, and a block for each group and message."""
+"""What a report is made of: the cover, what each family of rules finds, and a block for each group and message."""
 from __future__ import annotations
 
 from datetime import datetime
@@ -13,16 +13,16 @@ from balisekit.etcs.places import Identities, places_of_rows
 from balisekit.etcs.variables import Form
 from balisekit.io import clock
 from balisekit.present import NOT_PROVED, headings
-from balisekit.present.accepted_text import accepted_words, fault_lines, with_entries
-from balisekit.present.check_text import closing_lines
-from balisekit.present.links_text import compared
-from balisekit.present.refusals import RefusedInput, not_looked_at, refused
+from balisekit.present.accepted_text import accepted_words, fault_lines
+from balisekit.present.outcome_text import behind, closing_lines, not_looked_at, unnamed_lines
+from balisekit.present.refusals import RefusedInput, not_looked_at as not_tried, refused
 from balisekit.present.telegram_text import text
 from balisekit.rules.accepted import Judged
 from balisekit.rules.aspect_counts import aspects_found
 from balisekit.rules.checking import AcceptedMessage, Checked
-from balisekit.rules.entries import Entry, entries
-from balisekit.rules.families import PLAN, Outcome
+from balisekit.rules.entries import Entry
+from balisekit.rules.families import Outcome, Part
+from balisekit.rules.line import Line
 from balisekit.rules.remarks import remarks
 from balisekit.tables.model import Group
 from balisekit.tables.names import clean, describe_balise, describe_group, describe_message, describe_rows, passed_over
@@ -54,6 +54,21 @@ class Listed(NamedTuple):
     """What is above it in the list, if it is the first of its urgency."""
 
 
+class ListedPart(NamedTuple):
+    """What the rules of one family have found."""
+
+    title: str
+    open: Sequence[Listed]
+    accepted: Sequence[Listed]
+    behind: Sequence[str]
+    """What is said behind the entries: how many there are, or notes and what was compared."""
+
+    @property
+    def all(self) -> Sequence[Listed]:
+        """All of them, the open ones first."""
+        return [*self.open, *self.accepted]
+
+
 class Block(NamedTuple):
     """A group, or a message."""
 
@@ -66,8 +81,9 @@ class Block(NamedTuple):
     telegrams: Iterable[Telegram]
 
 
-def cover(checked: Checked, judged: Optional[Judged], now: datetime) -> Dict[str, object]:
+def cover(outcome: Outcome, now: datetime) -> Dict[str, object]:
     """The content of the first page."""
+    checked, judged = outcome.checked, outcome.judged
     table, program = checked.table, checked.program
     about = [("file", clean(program.path)), ("SHA-256", program.sha256)]
     about += [(key, value) for key, value in program.about.items() if key != "program"]
@@ -79,13 +95,14 @@ def cover(checked: Checked, judged: Optional[Judged], now: datetime) -> Dict[str
         "program": about,
         "version": __version__,
         "not_proved": NOT_PROVED,
-        "verdict": closing_lines(checked, judged)[len(at_fault) :],
-        "at_fault": at_fault,
+        "not_looked_at": [*not_tried(checked), *not_looked_at(outcome)],
+        "verdict": closing_lines(outcome)[len(at_fault) :],
+        "at_fault": [*at_fault, *(unnamed_lines(outcome) if judged else ())],
         "refused": list(refused(checked)),
         "left_out": [(describe_group(left_out.group), clean(left_out.why)) for left_out in checked.left_out],
         "aspects": aspects_found(table),
-        "remarks": [*remarks(table), *headings.not_decoded(checked)],
-        "notes": [*map(clean, table.notes), *passed_over(table), *not_looked_at(checked)],
+        "remarks": list(remarks(table)),
+        "notes": [*map(clean, table.notes), *passed_over(table)],
     }
 
 
@@ -100,42 +117,22 @@ def _inputs(checked: Checked, judged: Optional[Judged]) -> Iterator[Tuple[str, s
         yield clean(entries.path), entries.sha256, f"{len(entries.entries)} entries of accepted findings"
 
 
-def listed(checked: Checked, judged: Optional[Judged] = None) -> List[Listed]:
-    """The entries of all findings, the open ones first, each with the entries that accept it."""
-    reasons = {place.finding.line: entry for place, entry in with_entries(checked, judged) if entry}
-    still_open, accepted = (
-        entries(checked, [place for place in checked.findings if (place.finding.line in reasons) == kind])
-        for kind in (False, True)
-    )
-    ids = {group.name: f"g{index}" for index, group in enumerate(checked.table.groups)}
-    return [
-        _listed(
-            entry,
-            ids,
-            heading,
-            dict.fromkeys(accepted_words(reasons[line]) for line in entry.quoted if line in reasons),
-        )
-        for some in (still_open, accepted)
-        for entry, heading in zip(some, headings.first_of_each(some))
-    ]
-
-
-def remarked(outcome: Outcome) -> List[Listed]:
-    """The entries of rules of balisekit, the open ones first."""
+def listed(outcome: Outcome) -> List[ListedPart]:
+    """The entries of each family of rules, those that were accepted with their reasons."""
     ids = {group.name: f"g{index}" for index, group in enumerate(outcome.checked.table.groups)}
-    return [
-        _listed(entry, ids, heading, dict.fromkeys(map(accepted_words, outcome.acceptances(entry))))
-        for part in outcome.parts
+    return [_listed_part(outcome, part, ids) for part in outcome.parts]
+
+
+def _listed_part(outcome: Outcome, part: Part, ids: Mapping[str, str]) -> ListedPart:
+    still_open, accepted = (
+        [
+            _listed(entry, ids, heading, map(accepted_words, outcome.acceptances(entry)))
+            for entry, heading in zip(some, headings.first_of_each(some))
+        ]
         for some in (part.open, part.accepted)
-        for entry, heading in zip(some, headings.first_of_each(some))
-    ]
-
-
-def notes_of(outcome: Outcome) -> List[str]:
-    """The notes of rules of balisekit, and what was compared with a track plan."""
-    notes = [clean(note) for part in outcome.parts if part.applied for note in part.applied.notes]
-    plans = [part.applied for part in outcome.parts if part.applied and part.family.letter == PLAN]
-    return [*notes, *(f"track plan: {compared(applied, True)}" for applied in plans)]
+    )
+    title = part.family.title[0].upper() + part.family.title[1:]
+    return ListedPart(title, still_open, accepted, list(behind(outcome, part)))
 
 
 def _listed(entry: Entry, ids: Mapping[str, str], heading: str, accepted: Iterable[str]) -> Listed:
@@ -145,21 +142,20 @@ def _listed(entry: Entry, ids: Mapping[str, str], heading: str, accepted: Iterab
     return Listed(entry, headings.words(entry), block, target, list(accepted), heading)
 
 
-def blocks(checked: Checked, forms: Mapping[int, Form], findings: Sequence[Listed]) -> Iterator[Block]:
-    """A block for each group, in the table's order, and for each message. `forms` has the telegrams by their rows."""
+def blocks(checked: Checked, line: Line, found: Iterable[Listed]) -> Iterator[Block]:
+    """A block for each group, in the table's order, and for each message."""
     by_block: Dict[str, List[Listed]] = {}
-    for finding in findings:
-        by_block.setdefault(finding.block, []).append(finding)
-    left_out = {left_out.group.name: clean(left_out.why) for left_out in checked.left_out}
-    kept = {group.name: group for group in checked.kept}
+    for each in found:
+        by_block.setdefault(each.block, []).append(each)
+    left_out, forms = {left_out.group.name: clean(left_out.why) for left_out in checked.left_out}, line.forms
     items = {item.id: item for item in refused(checked)}
-    for index, original in enumerate(checked.table.groups):
-        id, group = f"g{index}", kept.get(original.name, original)
+    for index, group in enumerate(line.directed):
+        id = f"g{index}"
         of_group, why = by_block.get(id, []), left_out.get(group.name, "")
         whole = all(row.number in forms for row in group.rows())
         picture = picture_of(group, forms, _findings(of_group)) if whole else None
         yield Block(id, clean(group.name), _where(group), why, picture, of_group, _telegrams(group, forms, items))
-    identities = Identities(checked.table.groups, forms)
+    identities = Identities(line.directed, forms)
     for message in checked.accepted_messages:
         yield _message(message, by_block.get(f"m{message.message.number}", []), identities)
     for bad in checked.refused_messages:
@@ -195,7 +191,8 @@ def _telegrams(group: Group, forms: Mapping[int, Form], items: Mapping[str, Refu
     rows = {row.number: row for row in group.rows()}
     for number, here in places_of_rows(group, forms).items():
         row, id = rows[number], f"r{number}"
-        heading, digits = describe_balise(group, row), clean(row.telegram)
+        n_pig = forms[number]["n_pig"] if number in forms else None
+        heading, digits = describe_balise(group, row, n_pig), clean(row.telegram)
         if id in items:
             yield Telegram(id, items[id].sentence, digits, refused=items[id].program)
         elif number in forms:

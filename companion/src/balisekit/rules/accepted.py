@@ -112,7 +112,8 @@ class Acceptance:
         now = checksum(items)
         if self.sha256 == now:
             return []
-        hint = f": that of the {len(items)} findings that it fits is {now}" if self.is_wide else ""
+        fitted = f"the {len(items)} findings" if len(items) > 1 else "the finding"
+        hint = f": that of {fitted} that it fits is {now}" if self.is_wide else ""
         if not self.sha256:
             return [f"no sha256{hint}"]
         what = "telegram has" if len(_texts(items[0])) == 1 else "telegrams have"
@@ -367,13 +368,6 @@ def judge(
     at_fault = [(entry, ", ".join(faults[entry.row])) for entry in applied if faults[entry.row]]
     others = tuple(entry for entry in entries.entries if entry.rule[0] not in families)
     return Judged(entries, tuple(items), tuple(by_item), tuple(at_fault), tuple(former), others)
-
-
-def status(checked: Checked, judged: Optional[Judged]) -> int:
-    """2 if anything was refused or left out, 1 if a finding is open or an entry at fault, else 0."""
-    if not checked.whole or judged is None:
-        return checked.status
-    return int(bool(judged.open or judged.faults))
 
 
 def _entries_about(wanted: Iterable[Key], entries: Iterable[Acceptance]) -> Iterator[List[Acceptance]]:

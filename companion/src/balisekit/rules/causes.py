@@ -1,4 +1,4 @@
-"""Findings that have one cause: the same text at several places, exchanged telegrams, a telegram of another group.
+"""Findings that have one cause: the same text, no profile at all, exchanged telegrams, a telegram of another group.
 
 Which findings belong to exchanged telegrams is the program's word: those that it does not report of the other order.
 """
@@ -10,15 +10,17 @@ from typing import Dict, Iterable, Iterator, List, Mapping, NamedTuple, Optional
 
 from balisekit.engine.program import Report
 from balisekit.rules.checking import Checked, Place, document
+from balisekit.rules.statements.profiles import neither_profile
 from balisekit.rules.statements.scene import Balise, Statement
 from balisekit.tables.grouping import by_position
-from balisekit.tables.model import Group
-from balisekit.tables.names import group_words
+from balisekit.tables.model import Group, Row
+from balisekit.tables.names import NAMED, clean, group_words, listed, rows_words
 
 OF_HEADERS = frozenset((1, 2, 3, 4, 5, 6, 7, 8, 15, 16))
 """The rules that a telegram in a wrong place may break."""
 OF_ORDER = frozenset((4, 5, 15, 16))
 """The rules beside F1 that balises in a wrong order may break."""
+NO_GRADIENT, NO_SPEED_PROFILE = 10, 12
 Identity = Tuple[int, int]
 
 
@@ -42,23 +44,50 @@ def causes(checked: Checked, findings: Sequence[Place]) -> List[Cause]:
         taken = {place.finding.line for cause in some for place in cause.places}
         places = [place for place in places if place.finding.line not in taken]
         found += some
-    return found + _alike(places)
+    return list(_with_copies(checked, found + _alike(places)))
 
 
-def _alike(places: Iterable[Place]) -> List[Cause]:
+def _alike(places: Sequence[Place]) -> List[Cause]:
     """Findings of one rule and one group or message with the same text are united."""
-    same: Dict[Tuple[object, ...], List[Place]] = {}
+    without_profiles = _without_profiles(places)
+    same: Dict[Tuple[object, ...], List[Tuple[Place, int, Statement]]] = {}
     for place in places:
-        about = place.group.name if place.group else None, place.message.number if place.message else None
-        said = place.statement
-        same.setdefault((place.finding.rule, *about, said.before, said.after, place.correct), []).append(place)
-    return [Cause(some[0].finding.rule, tuple(some), _united(some)) for some in same.values()]
+        said = without_profiles.get(_missing_at(place), place.statement)
+        rule = place.finding.rule if said is place.statement else NO_GRADIENT
+        key = rule, *_about(place), said.before, said.after, place.correct
+        same.setdefault(key, []).append((place, rule, said))
+    return [Cause(some[0][1], tuple(place for place, _, _ in some), _united(some)) for some in same.values()]
 
 
-def _united(places: Sequence[Place]) -> Statement:
+def _united(some: Sequence[Tuple[Place, int, Statement]]) -> Statement:
     """The statement of the first of these, with the other rows of them all."""
-    others = sorted({row for place in places for row in place.statement.others})
-    return replace(places[0].statement, others=tuple(others))
+    others = sorted({row for _, _, said in some for row in said.others})
+    return replace(some[0][2], others=tuple(others))
+
+
+def _about(place: Place) -> Tuple[object, ...]:
+    """The group or message of a finding."""
+    return place.group.name if place.group else None, place.message.number if place.message else None
+
+
+def _missing_at(place: Place) -> Tuple[object, ...]:
+    """Of F10 and F12: group or message, aspect and direction. Of other findings nothing."""
+    is_missing = place.finding.rule in (NO_GRADIENT, NO_SPEED_PROFILE)
+    return (*_about(place), place.finding.aspect, place.finding.direction) if is_missing else ()
+
+
+def _without_profiles(places: Iterable[Place]) -> Mapping[Tuple[object, ...], Statement]:
+    """What is said where both profiles are missing beside the same authority, and neither is elsewhere in the group."""
+    missing: Dict[Tuple[object, ...], List[Place]] = {}
+    for place in places:
+        if _missing_at(place):
+            missing.setdefault(_missing_at(place), []).append(place)
+    both = {
+        at: neither_profile(*(place.statement for place in some))
+        for at, some in missing.items()
+        if len(some) == 2 and some[0].correct == some[1].correct
+    }
+    return {at: said for at, said in both.items() if said}
 
 
 def _by_group(places: Iterable[Place]) -> Dict[str, List[Place]]:
@@ -135,7 +164,7 @@ def _exchange(order: Order) -> Statement:
     """What is wrong with the order of balises."""
     wanted, said = ([str(pair[index]) for pair in order.positions] for index in (0, 1))
     words = "their telegrams or their rows look " + ("exchanged" if len(said) == 2 else "to be in a wrong order")
-    sentence = f"{words}: N_PIG is {_listed(said)} in place of {_listed(wanted)}"
+    sentence = f"{words}: N_PIG is {_listed(said)} instead of {_listed(wanted)}"
     return Statement(sentence, values={"N_PIG": ", ".join(said), "wanted_N_PIG": ", ".join(wanted)})
 
 
@@ -218,8 +247,44 @@ def _not_of_group(one: Strange, owners: Mapping[Identity, Group]) -> Statement:
     own, owner = _identity(one.balise), owners.get(_identity(one.balise))
     like = f": it looks like one of {group_words(owner)}" if owner and owner is not one.group else ""
     sentence = (
-        f"the telegram has the identity {own[0]}/{own[1]} (NID_C/NID_BG), and the group's other {one.others} have "
+        f"the telegram has the identity {own[0]}/{own[1]} (NID_C/NID_BG), and the other {one.others} telegrams of "
     )
     values = {"NID_C": own[0], "NID_BG": own[1], "other_NID_C": one.identity[0], "other_NID_BG": one.identity[1]}
-    words = f"{sentence}{one.identity[0]}/{one.identity[1]}{like}"
+    words = f"{sentence}the group have {one.identity[0]}/{one.identity[1]}{like}"
     return Statement(words, values={name: str(value) for name, value in values.items()})
+
+
+# ---- the same telegram in another group
+
+
+def _with_copies(checked: Checked, some: Sequence[Cause]) -> Iterator[Cause]:
+    """The same causes. Those of F3 tell which of their telegrams are in other groups too, digit for digit."""
+    suspects = {index: list(_compared(cause)) for index, cause in enumerate(some) if cause.rule == 3}
+    copies: Dict[str, List[Row]] = {row.telegram.lower(): [] for rows in suspects.values() for row in rows}
+    for row in checked.table.rows if copies else ():
+        if row.telegram.lower() in copies:
+            copies[row.telegram.lower()].append(row)
+    for index, cause in enumerate(some):
+        said = cause.statement
+        for row in suspects.get(index, ()):
+            said = _copied(said, row, [each for each in copies[row.telegram.lower()] if each.group != row.group])
+        yield replace(cause, statement=said)
+
+
+def _compared(cause: Cause) -> Iterator[Row]:
+    """The telegrams that F3 compares: the one that is not of its group, or those that differ."""
+    if cause.balise is not None and cause.balise.row is not None:
+        yield cause.balise.row
+        return
+    numbers = {row for place in cause.places for row in (place.row.number if place.row else 0, *place.statement.others)}
+    rows = {row.number: row for place in cause.places if place.group for row in place.group.rows()}
+    yield from (rows[number] for number in sorted(numbers) if number in rows)
+
+
+def _copied(said: Statement, row: Row, copies: Sequence[Row]) -> Statement:
+    """The statement, and of which rows of other groups a telegram is a copy."""
+    if not copies:
+        return said
+    numbers, groups = [each.number for each in copies], dict.fromkeys(clean(each.group) for each in copies)
+    words = f"; row {row.number} equals {rows_words(numbers)} ({listed(list(groups), NAMED)}) digit for digit"
+    return replace(said, after=said.after + words, further=(*said.further, *numbers))

@@ -12,6 +12,7 @@ from balisekit.engine.program import Program, Record, Report
 from balisekit.engine.records import Form
 from balisekit.errors import NoAnswer
 from balisekit.etcs.geometry import kilometres
+from balisekit.etcs.places import Identities
 from balisekit.rules.findings_on_correct_data import row_of
 from balisekit.rules.statements import statement
 from balisekit.rules.statements.scene import Balise, BaliseName, Scene, Statement
@@ -341,14 +342,17 @@ class _Names:
     def __init__(self, readable: Checked, findings: Sequence[Finding]) -> None:
         self._readable = readable
         of_identity = any(finding.rule == 14 for finding in findings)
+        of_messages = any(finding.message is not None and finding.rule in (11, 13) for finding in findings)
         places = {finding.group: finding for finding in findings if finding.group is not None}
         groups = [self._at(readable.kept, place, finding) for place, finding in places.items()]
-        heads = [_head(group) for group in readable.kept] if of_identity else []
+        heads = [_head(group) for group in readable.kept] if of_identity or of_messages else []
         rows = {row.number for row in (*heads, *(row for group in groups for row in group.rows()))}
         self._records = {row.number: record for row, record in readable.accepted.decoded(sorted(rows))}
         # (the findings of a group are together; a method of this object would be a cycle)
         self._scene = lru_cache(maxsize=1)(partial(_scene, readable.kept, self._records))
         self._first = list(self._first_groups()) if of_identity else []
+        forms = {row.number: self._records[row.number].form for row in heads} if of_messages else {}
+        self._identities = Identities(readable.kept, forms)
 
     def _first_groups(self) -> Iterator[Group]:
         """For each group the first group with the same identity."""
@@ -362,7 +366,8 @@ class _Names:
         if finding.message is not None:
             accepted = self._at(self._readable.accepted_messages, finding.message, finding)
             self._look_at_packet(accepted.form, finding)
-            scene = Scene(finding, [[Balise(None, accepted.form)]])
+            where = self._identities.here(accepted.form).kilometres
+            scene = Scene(finding, [[Balise(None, accepted.form)]], kilometres=where)
             return Place(finding, message=accepted.message, statement=statement(scene), correct=_correct(scene))
         group, aspect, row = self._site(finding)
         earlier = self._first[finding.group or 0] if finding.rule == 14 else None

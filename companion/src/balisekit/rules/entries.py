@@ -143,7 +143,7 @@ def _entry(cause: Cause) -> Entry:
         places,
         expected=_expected(cause),
         balises=tuple(dict.fromkeys(names)),
-        other_rows=said.others,
+        other_rows=tuple(sorted({*said.others, *said.further})),
     )
 
 

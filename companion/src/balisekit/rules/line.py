@@ -11,7 +11,7 @@ from dataclasses import dataclass, field
 from decimal import Decimal
 from functools import cached_property
 from itertools import islice
-from typing import Dict, Iterator, List, Mapping, Optional, Sequence, Tuple
+from typing import Dict, FrozenSet, Iterator, List, Mapping, Optional, Sequence, Tuple
 
 from balisekit.engine.grammar import Finding
 from balisekit.engine.program import Record
@@ -23,6 +23,7 @@ from balisekit.rules.decoded import Decoded, decode
 from balisekit.rules.location import NOT_KNOWN, BaliseGroup, Identity
 from balisekit.rules.passages import Chain, Content, Passages, contents_of
 from balisekit.tables.model import Aspect, Group, Message, Row
+from balisekit.tables.names import clean
 
 AFTER_INFILL = "after packet 136"
 BY_LINKS = "its direction along the kilometres is taken from the links that name it"
@@ -137,6 +138,17 @@ class Line:
         """All groups, in the order of the table."""
         return self.passages.groups
 
+    @cached_property
+    def directed(self) -> Sequence[Group]:
+        """All groups as `table_groups` has them. Single balises have the direction of the links that name them."""
+        groups = zip(self.table_groups, self.groups)
+        return [_directed(group, taken.rising) if taken.by_links else group for group, taken in groups]
+
+    @property
+    def direction_notes(self) -> Mapping[str, str]:
+        """A note for each single balise that has got its direction from links, by the name of its group."""
+        return {each.group.name: f"{each}: {BY_LINKS}" for each in self.groups if each.by_links}
+
     @property
     def chains(self) -> Sequence[Chain]:
         """Each packet 5 once in each direction in which it holds, without those that are passed after a packet 136."""
@@ -179,6 +191,35 @@ class Line:
         """Of each track: the groups with a kilometre that say that they are linked."""
         return {track: LinkedGroups.of(groups) for track, groups in self.along.items()}
 
+    def has(self, rule: int, group: BaliseGroup) -> bool:
+        """Whether the program has found this rule broken in a group; F14 also in another one with its identity."""
+        if rule == 14:
+            return group.identity in self._used_twice
+        return any(finding.rule == rule for finding in self.findings.get(group.group.name, ()))
+
+    def wrong_order(self, *groups: BaliseGroup) -> str:
+        """The end of a sentence that rests on the directions of groups: which have F1, so that these may be wrong."""
+        names = list(dict.fromkeys(clean(group.group.name) for group in groups if self.has(1, group)))
+        return f"; F1 is found in {' and '.join(names)}: rows in a wrong order may be the cause" if names else ""
+
+    @cached_property
+    def _used_twice(self) -> FrozenSet[Optional[Identity]]:
+        """The identities of the groups with a finding F14."""
+        found = {name for name, some in self.findings.items() if any(finding.rule == 14 for finding in some)}
+        return frozenset(group.identity for group in self.groups if group.group.name in found)
+
+    def nearest(self, track: str, km: Decimal) -> Optional[BaliseGroup]:
+        """The group of a track that is nearest to a kilometre."""
+        known, groups = self._known.get(track, ()), self.along.get(track, ())
+        at = bisect_left(known, km)
+        near = range(max(at - 1, 0), min(at + 1, len(groups)))
+        return groups[min(near, key=lambda place: abs(known[place] - km))] if near else None
+
+    @cached_property
+    def _known(self) -> Mapping[str, Sequence[Decimal]]:
+        """The kilometres of the groups of each track, in their order."""
+        return {track: [each.km or Decimal() for each in groups] for track, groups in self.along.items()}
+
 
 class Records(Mapping[int, Form]):
     """The forms of records by their rows. Each is made when it is asked for, since all of them take much memory."""
@@ -199,18 +240,22 @@ class Records(Mapping[int, Form]):
         return len(self._records)
 
 
+def has_no_direction(group: Group) -> bool:
+    """Whether it is a single balise with a kilometre whose direction along the kilometres the table does not show."""
+    if len(group.aspects[0].rows) > 1:
+        return False
+    where = kilometres(group)
+    return where.group is not None and where.rising is None
+
+
 def with_directions(groups: Sequence[Group], forms: Mapping[int, Form]) -> Tuple[Sequence[Group], Sequence[str]]:
     """The groups, and notes on single balises that have got their direction from the links that name them.
 
     `forms` has the telegrams that the program has read, by their rows. They are looked at only if there are single
-    balises with a kilometre whose direction the table does not show.
+    balises without a direction.
     """
-    places = {group.name: kilometres(group) for group in groups if len(group.aspects[0].rows) == 1}
-    if all(place.group is None or place.rising is not None for place in places.values()):
-        return groups, ()
-    taken = {each.group.name: each for each in Line(groups, forms).groups if each.by_links}
-    directed = [_directed(group, taken[group.name].rising) if group.name in taken else group for group in groups]
-    return directed, [f"{each}: {BY_LINKS}" for each in taken.values()]
+    line = Line(groups, forms)
+    return (line.directed, list(line.direction_notes.values())) if any(map(has_no_direction, groups)) else (groups, ())
 
 
 def _directed(group: Group, rising: Optional[int]) -> Group:

@@ -89,11 +89,9 @@ class Location(NamedTuple):
         if self.message is not None:
             parts.append(f"message of {describe_message(self.message)}")
         elif self.group is not None:
-            group = self.group.group
-            parts.append(describe_group(group) if self.row is None else describe_balise(group, self.row))
-        parts += [] if self.packet is None else [f"packet {self.packet}"]
-        parts += [self.direction] if self.direction else []
-        return "  ".join([*parts, *([] if self.link is None else [f"link {self.link}"])])
+            group, row = self.group.group, self.row
+            parts.append(describe_group(group) if row is None else describe_balise(group, row, self.n_pig))
+        return "  ".join(filter(None, [*parts, self.direction, self.packet_words[: -len(": ")]]))
 
 
 def incomparable(one: Optional[BaliseGroup], other: Optional[BaliseGroup]) -> str:

@@ -74,14 +74,24 @@ def kilometre(km: Decimal) -> str:
     return f"{km:.{max(3, -int(km.normalize().as_tuple().exponent))}f}"
 
 
-def describe_balise(group: Optional[Group], row: Row) -> str:
-    """Where a row's balise is: row, group, kilometre, aspect, index and name."""
+def balise_name(name: str, n_pig: Optional[int], place: int = 0, number: Optional[int] = None) -> str:
+    """What a balise is called: its name, and N_PIG, or its place in the group if its telegram has not been read.
+
+    `number` is that of the column `balise`, if it is another one than its place, counted from 0.
+    """
+    which = f"{ordinal(place)} of its group" if n_pig is None else f"N_PIG {n_pig}"
+    other = "" if number is None else f", number {number} in the table"
+    return f"{f'{quoted(name)} ' if name else ''}({which}{other})"
+
+
+def describe_balise(group: Optional[Group], row: Row, n_pig: Optional[int] = None) -> str:
+    """Where a row's balise is: row, group, kilometre, aspect, and its name. `n_pig` is that of its telegram."""
     place = group.places.get(row.number) if group else None
     parts = [f"row {row.number}", clean(row.group), *_where(row)]
     parts += ["every aspect"] if row.aspect == "*" else [f"aspect {quoted(row.aspect)}"] if row.aspect else []
     if place is not None:
-        number = f" (number {row.balise} in the table)" if row.balise not in (None, place) else ""
-        parts.append(f"balise {place}{f' {quoted(row.name)}' if row.name else ''}{number}")
+        number = None if row.balise == place else row.balise
+        parts.append(f"balise {balise_name(row.name, n_pig, place, number)}")
     return "  ".join(parts)
 
 

@@ -46,12 +46,12 @@ JUMP = 20
 def find(line: Line, options: Options) -> Result:
     """Compares each link to a group of the table."""
     places = line.places if line.jumps else None
-    result = Result.of_chains(line, lambda chain: compare(chain, options.tolerance, places))
+    result = Result.of_chains(line, lambda chain: compare(line, chain, options.tolerance, places))
     return replace(result, found=_with_jumps(line, options, result.found)) if len(result.found) > 1 else result
 
 
 def compare(
-    chain: Chain, tolerance: Decimal, places: Optional[Sequence[Optional[int]]] = None
+    line: Line, chain: Chain, tolerance: Decimal, places: Optional[Sequence[Optional[int]]] = None
 ) -> Iterator[Union[Remark, str, None]]:
     """After a wrong distance the sum begins anew. `places` has those of the groups, if the kilometres jump.
 
@@ -84,6 +84,7 @@ def compare(
             + (f" and the tolerance {_metres(tolerance)}" if tolerance else "")
         )
         values = {"metres_by_d_link": distance, "metres_by_kilometres": by_kilometres}
+        sentence += line.wrong_order(base, here)
         yield Remark("L2", chain.at(link), sentence, here, values)
         base, summed = here, 0
 

@@ -8,7 +8,8 @@ at groups of two or more balises alone: a single balise has no order, and gets i
 How urgent. At worst the train brakes or is tripped at each passage.
 
 Usual cause. The group was turned, or was planned for the other direction. A link was copied from a group that faces the
-other way. The balises are in the table in another order than on the track: then F1 is found as well.
+other way. The balises are in the table in another order than on the track: then F1 is found as well, and the line says
+so. That may be so of the group that sends the link: then the line blames the next group.
 
 What may happen. The train finds the direction of the group by its balises, and sees that it is not the one that was
 announced. It applies the linking reaction or rejects the message.
@@ -31,10 +32,10 @@ from balisekit.rules.urgency import Urgency
 
 def find(line: Line, options: Options) -> Result:
     """Compares each link to a group of two or more balises."""
-    return Result.of_chains(line, _look_at)
+    return Result.of_chains(line, lambda chain: _look_at(line, chain))
 
 
-def _look_at(chain: Chain) -> Iterator[Union[Remark, str, None]]:
+def _look_at(line: Line, chain: Chain) -> Iterator[Union[Remark, str, None]]:
     sender = chain.sender
     along = sender.along(chain.direction) if sender else None
     for link in chain.links:
@@ -55,7 +56,7 @@ def _look_at(chain: Chain) -> Iterator[Union[Remark, str, None]]:
                 f"Q_LINKORIENTATION says that {here} is passed in {announced} direction, "
                 f"and by the order of its balises along the track it is passed in {wanted} direction"
             )
-            yield Remark("L3", chain.at(link), sentence, here)
+            yield Remark("L3", chain.at(link), sentence + line.wrong_order(here, sender), here)
 
 
 RULE = Rule("L3", "links", __doc__ or "", find, Urgency.BRAKING, needs_kilometres=True)

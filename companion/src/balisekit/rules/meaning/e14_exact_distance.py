@@ -89,7 +89,7 @@ def _is_by_l2(line: Line, step: Step, options: Options) -> bool:
     """Whether L2 remarks on the link: it counts from the sender on, as long as nothing differs."""
     chain = step.chains[0]
     places = line.places if line.jumps else None
-    for link, found in zip(chain.links, l2_distance.compare(chain, options.tolerance, places)):
+    for link, found in zip(chain.links, l2_distance.compare(line, chain, options.tolerance, places)):
         if link is step.link:
             return isinstance(found, Remark)
     return False

@@ -18,7 +18,7 @@ OF_ALL = 254
 def position_wrong(scene: Scene) -> Statement:
     """F1: N_PIG beside the place in the table."""
     said, place = scene.own.form["n_pig"], scene.place
-    sentence = f"N_PIG is {said} in place of {place}: the table has the balise as the {ordinal(place)} of its group"
+    sentence = f"N_PIG is {said} instead of {place}: the table has the balise as the {ordinal(place)} of its group"
     return Statement(sentence, values={"N_PIG": str(said), "wanted_N_PIG": str(place)})
 
 

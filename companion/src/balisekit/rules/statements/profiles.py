@@ -1,7 +1,8 @@
 """F10 to F13: authorities without a profile, and profiles that end before the supervised location."""
 from __future__ import annotations
 
-from typing import Dict, Tuple
+from dataclasses import replace
+from typing import Dict, Optional, Tuple
 
 from balisekit.etcs.geometry import INFILL, Authority, Origin, Site, authority, holds, origins, passed, profile
 from balisekit.etcs.packets import packet_name
@@ -10,6 +11,7 @@ from balisekit.rules.statements.scene import Scene, Statement, packet_words
 
 KINDS = {10: 21, 11: 21, 12: 27, 13: 27}
 """The NID_PACKET of the profile that the rule is about."""
+BESIDE = " beside "
 
 
 def no_profile(scene: Scene) -> Statement:
@@ -23,9 +25,17 @@ def no_profile(scene: Scene) -> Statement:
     about = ", ".join([packet_name(packet["nid_packet"]), *(f"V_MAIN {value}" for value in speed.values())])
     of = "" if scene.own.row is None else f" of {scene.aspect[site.balise]}"
     more = f" and {len(authorities) - 1} more" if len(authorities) > 1 else ""
-    sentence = f"no packet {number} ({packet_name(number)}) beside packet {packet['nid_packet']} ({about}){of}{more}"
+    sentence = f"no packet {number} ({packet_name(number)}){BESIDE}packet {packet['nid_packet']} ({about}){of}{more}"
     before, rows = _elsewhere(scene, number, direction)
     return Statement(sentence + before, rows, values=speed, packet=number)
+
+
+def neither_profile(one: Statement, other: Statement) -> Optional[Statement]:
+    """What F10 and F12 say together of an authority without any profile; None if what they say of it differs."""
+    (gradient, _, about), (speed, _, same) = (said.before.partition(BESIDE) for said in (one, other))
+    if (about, one.others) != (same, other.others):
+        return None
+    return replace(one, before=f"{gradient} and {speed}{BESIDE}{about}", packet=None)
 
 
 def _elsewhere(scene: Scene, number: int, direction: str) -> Tuple[str, Tuple[int, ...]]:
@@ -71,10 +81,15 @@ def profile_short(scene: Scene) -> Statement:
 
 
 def _what(farthest: Authority) -> str:
-    """What the supervised location of an authority is."""
-    part = "overlap" if farthest.overlap is not None else "danger_point" if farthest.danger_point is not None else ""
-    what = {"overlap": "the end of the overlap", "danger_point": "the danger point", "": "the end of the authority"}
-    return f"{what[part]} of packet {farthest.form['nid_packet']}"
+    """What the supervised location of an authority is, and how far it is beyond the end of the authority."""
+    where, beyond = "the end of the authority", ""
+    for what, variable, place in (
+        ("the danger point", "D_DP", farthest.danger_point),
+        ("the end of the overlap", "D_OL", farthest.overlap),
+    ):
+        if place is not None:
+            where, beyond = what, f" ({variable} {metres(place - farthest.end)})"
+    return f"{where}{beyond} of packet {farthest.form['nid_packet']}"
 
 
 def _place(scene: Scene, name: str, place_dm: int, origin: Origin, values: Dict[str, str]) -> str:

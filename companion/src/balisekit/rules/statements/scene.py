@@ -9,7 +9,7 @@ from balisekit.etcs.geometry import Kilometres
 from balisekit.etcs.packets import packet_name
 from balisekit.etcs.variables import Around, Form, value_words
 from balisekit.tables.model import Group, Row
-from balisekit.tables.names import ordinal, quoted, rows_words
+from balisekit.tables.names import balise_name, ordinal, quoted, rows_words
 
 
 @dataclass(frozen=True)
@@ -24,6 +24,8 @@ class Statement:
     """The values that it names, by their variables or as `supervised_location_m`."""
     packet: Optional[int] = None
     """The NID_PACKET of the packet that it is about."""
+    further: Tuple[int, ...] = ()
+    """The rows that its end names."""
 
     def __str__(self) -> str:
         return f"{self.before}{f', {rows_words(self.others)}' if self.others else ''}{self.after}"
@@ -40,8 +42,7 @@ class BaliseName(NamedTuple):
     """That of the column `balise`, if it is another one than its place."""
 
     def __str__(self) -> str:
-        number = "" if self.number is None else f", number {self.number} in the table"
-        return f"{f'{quoted(self.name)} ' if self.name else ''}(N_PIG {self.n_pig}{number})"
+        return balise_name(self.name, self.n_pig, number=self.number)
 
 
 class Balise(NamedTuple):

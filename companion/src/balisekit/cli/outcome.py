@@ -1,0 +1,56 @@
+"""What `check` and `report` have in common: which families of rules are asked for, and what they find."""
+from __future__ import annotations
+
+import argparse
+import time
+from datetime import datetime
+from typing import Sequence, Tuple
+
+from balisekit.cli import options as shared, settings
+from balisekit.errors import TableError
+from balisekit.rules import accepted, checking
+from balisekit.rules.families import FAMILIES, PLAN, Outcome, apply
+from balisekit.rules.rule import Options
+
+ONLY = f"apply only these families of rules: {'; '.join(f'{each.letter}, {each.things}' for each in FAMILIES.values())}"
+
+
+def _families(text: str) -> Tuple[str, ...]:
+    """The letters of families, in the order of an answer."""
+    letters = [letter.strip().upper() for letter in text.split(",")]
+    if not all(letter in FAMILIES for letter in letters):
+        raise argparse.ArgumentTypeError(f"{text[:40]} is no list of {', '.join(FAMILIES)}: write F or F,L")
+    return tuple(letters)
+
+
+def add_only(parser: argparse.ArgumentParser) -> None:
+    """The option --only."""
+    parser.add_argument("--only", **shared.value("FAMILIES", _families, ONLY))
+
+
+def _letters(options: argparse.Namespace) -> Sequence[str]:
+    """The families that are asked for: all of them without --only."""
+    return options.only or tuple(FAMILIES)
+
+
+def stated(options: argparse.Namespace) -> Options:
+    """What the user states of the line. TableError is raised for an option that no rule uses that is asked for."""
+    asked = _letters(options)
+    settings.refuse_unused(options, asked)
+    line = settings.of_line(options)
+    if asked == (PLAN,) and line.plan is None:
+        raise TableError("--only X needs a track plan: give --plan FILE")
+    return line
+
+
+def outcome(options: argparse.Namespace, line: Options, now: datetime) -> Outcome:
+    """What the rules find in such a line, and what was accepted on this day if there is a file of entries."""
+    began = time.perf_counter()
+    entries = accepted.read(options.accepted) if options.accepted else None
+    program, table, messages = shared.inputs(options)
+    asked = _letters(options)
+    if all(FAMILIES[letter].needs_kilometres for letter in asked):
+        shared.refuse_without_kilometres(table)
+    checked = checking.check(program, table, messages, options.by_position, options.all)
+    signed = (entries, now.date()) if entries else None
+    return apply(checked, asked, line, signed, began)
