@@ -14,6 +14,7 @@ import meaning_line
 from meaning_line import FOLDER, Line, Row, change
 
 from balisekit.cli import main as cli
+from balisekit.engine.program import Program
 
 Change = Callable[[List[Row]], Any]
 MISTAKES_FOLDER = FOLDER / "mistakes"
@@ -156,7 +157,7 @@ def answer(name: str) -> str:
 
 if __name__ == "__main__":
     MISTAKES_FOLDER.mkdir(exist_ok=True)
-    _program = meaning_line.Program.find()
+    _program = Program.find()
     for _name, _mistake in MISTAKES.items():
         (MISTAKES_FOLDER / f"{_name}.csv").write_text(meaning_line.table(_program, _mistake.rows), "utf-8")
         (MISTAKES_FOLDER / f"{_name}.txt").write_text(answer(_name), "utf-8")
