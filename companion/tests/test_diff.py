@@ -249,11 +249,13 @@ def test_parts_that_come_and_go() -> None:
 def test_packets_are_paired_by_number_direction_and_order() -> None:
     one, two, three = ({"nid_packet": 68, "q_dir": 1, "l_packet": 31, "body": body} for body in ("00", "7f", "55"))
     said = changes([one, two, three], [two, three])
-    assert [change.split("  ")[0] for change in said] == ["packet 0 of the old one (track condition)"]
+    assert [change.split("  ")[0] for change in said] == [
+        "packet 0 of the old one (track condition, balisekit's own layout)"
+    ]
     cover = {"nid_packet": 0, "nid_vbcmk": 1}
     assert changes([one, cover], [cover, one]) == ["the packets stand in another order"]
     assert changes([one], [{**one, "q_dir": 2}]) == [
-        "packet 0 (track condition, both directions)  Q_DIR nominal [1] -> both directions [2]"
+        "packet 0 (track condition, both directions, balisekit's own layout)  Q_DIR nominal [1] -> both directions [2]"
     ]
 
 

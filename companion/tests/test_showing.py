@@ -18,13 +18,16 @@ from balisekit.cli import main as cli
 from balisekit.errors import NoAnswer
 from balisekit.etcs.geometry import Kilometres
 from balisekit.etcs.places import Here
+from balisekit.etcs.raw_packets import with_contents
 from balisekit.present.bit_table import bit_lines
 from balisekit.present.telegram_text import WIDTH, form_lines, text
 from balisekit.rules import checking
 
 READ = [case for case in (*CASES, *EXAMPLES[False], *EXAMPLES[True]) if not case.answer.startswith("refused: ")]
-NAME = r"(?:user bits|body|[A-Z]+_[A-Z]+(?: of NID_PRVLRBG)?)"
-SHOWN = re.compile(rf"(?:^|(?<=  ))({NAME}) (?:(?P<plain>[0-9]+)(?=  |$)|[^\[\]]+? \[(?P<raw>[0-9a-f]*)\])")
+NAME = r"(?:user bits|body|other data|[A-Z]+_[A-Z0-9]+(?: of NID_PRVLRBG| \(2\))?)"
+SHOWN = re.compile(
+    rf"(?:^|(?<=  ))({NAME}) (?:(?P<plain>[0-9]+|(?<=other data )[0-9a-f]*)(?=  |$)|[^\[\]]+? \[(?P<raw>[0-9a-f]*)\])"
+)
 
 
 def _values_in(said: str) -> "Counter[str]":
@@ -37,20 +40,20 @@ def _values_in(said: str) -> "Counter[str]":
 
 
 def test_every_number_is_shown() -> None:
-    """The values of the JSON and those of the text are the same, as often as they stand there."""
+    """The values of the JSON, and of bodies that are read, are those of the text, as often as they stand there."""
     assert len(READ) > 1000
     for case in READ:
         form = json.loads(case.answer)
-        wanted = Counter(str(value) for _, value in value_at(form))
+        wanted = Counter(str(value) for _, value in value_at(with_contents(form)))
         assert _values_in(text(form, Here(Kilometres(Decimal("13.85"), 1)))) == wanted, case
 
 
 def test_every_path_is_shown() -> None:
-    """Each path of the JSON comes with its own value."""
+    """Each path of the JSON, and of bodies that are read, comes with its own value."""
     for case in READ:
         form = json.loads(case.answer)
         shown = {value.path: value.raw for line in form_lines(form) for value in line.values}
-        assert shown == dict(value_at(form)), case
+        assert shown == dict(value_at(with_contents(form))), case
 
 
 def test_a_key_that_is_not_known_is_shown() -> None:
@@ -75,16 +78,22 @@ def test_a_key_that_is_not_known_is_shown() -> None:
 
 
 def test_bits_name_each_field() -> None:
-    """Places are without a gap from the first bit to the last, and each value of the JSON has its own."""
+    """Places are without a gap from the first bit to the last, and each value of the JSON has its own.
+
+    The variables of a body are listed after it, and begin where it begins.
+    """
     for case in READ:
         form = json.loads(case.answer)
         lines = list(bit_lines(case.text, form))
-        places = [re.search(r"bits? (\d+)(?: to (\d+))?", line) for line in lines]
-        at = 0
-        for place in places:
-            if place:
+        at = inside = 0
+        for line in lines:
+            place = re.match(r" +bits? (\d+)(?: to (\d+))? ", line)
+            if place and line.startswith(" " * 8):
+                assert int(place[1]) == inside < at, case
+                inside = int(place[2] or place[1]) + 1
+            elif place:
                 assert int(place[1]) == at, case
-                at = int(place[2] or place[1]) + 1
+                inside, at = at, int(place[2] or place[1]) + 1
         assert at == (form["user_bits"] if "user_bits" in form else 4 * len(case.text)), case
 
 

@@ -14,6 +14,7 @@ from telegrams import ALONE, FAULTY, FIRST, OTHER, SECOND
 
 from balisekit.compare.sheet import COLUMNS, same
 from balisekit.etcs.flat import variables
+from balisekit.etcs.raw_packets import with_contents
 
 Write = Callable[..., Path]
 LINE = TOP / "examples" / "links" / "line.csv"
@@ -46,10 +47,10 @@ def changed(sheet: Path, number: int, column: str, cell: str) -> Path:
 
 
 def test_all_numbers_are_there() -> None:
-    """Each number of the JSON has a row, with its raw value, and there is no other one."""
+    """Each number of the JSON, and of bodies that are read, has a row with its raw value, and there is no other one."""
     for form in FORMS:
         found = [each.raw for each in variables(form)]
-        assert sorted(map(str, found)) == sorted(str(value) for _, value in value_at(form))
+        assert sorted(map(str, found)) == sorted(str(value) for _, value in value_at(with_contents(form)))
 
 
 def test_each_variable_is_named_once() -> None:

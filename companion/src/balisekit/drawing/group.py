@@ -21,11 +21,15 @@ from balisekit.drawing.profiles import (
 )
 from balisekit.drawing.sheet import BOLD_LETTER, LEFT, LETTER, WIDTH, Lane, Picture, Shape, Sheet, tenths
 from balisekit.engine.grammar import Finding
+from balisekit.etcs.areas import Area
 from balisekit.etcs.geometry import DIRECTIONS, NOMINAL, REVERSE, Authority, Kilometres, Way, infill, kilometres, way
 from balisekit.etcs.variables import Around, Form, metres, value_words
 from balisekit.tables.model import Aspect, Group
 from balisekit.tables.names import NAMED, clean, listed, quoted
 
+AREAS = ((41, "level"), (65, "restriction"), (80, "mode"), (68, "condition"))
+"""The lanes of what has no lane of its own: packet and name."""
+AREA_HEIGHT = 8
 PROFILES = ((27, "speed, km/h", 58), (21, "gradient, ‰", 20))
 """The lanes of profiles: packet, name and height."""
 MISSING_HEIGHT, AUTHORITY_HEIGHT, LINE = 20, 50, 12
@@ -176,6 +180,19 @@ def _row(sheet: Sheet, content: Content, ways: Sequence[Way], describe: Sequence
             label = f"{drawing.whose}: " * (len(drawn) > 1) + _authority_words(authority)
             left = max(40, min(sheet.x(0) + 40, WIDTH * 10 - len(label) * LETTER))
             sheet.text("small begin halo", label, left, lane.top + 40 + index * LINE)
+    for number, name in AREAS:
+        for drawing in drawings:
+            for area in drawing.way.areas:
+                if area.number == number:
+                    _area(drawing, area, _lane(sheet, name, AREA_HEIGHT + LINE))
+
+
+def _area(drawing: WayDrawing, area: Area, lane: Lane) -> None:
+    """A bar, and below it which area it is."""
+    edges = drawing.area(area, Lane(lane.top, AREA_HEIGHT))
+    if edges:
+        left = max(40, min(edges[0], WIDTH * 10 - len(area.words) * LETTER))
+        drawing.sheet.text("small begin halo", area.words, left, lane.bottom)
 
 
 def _lane(sheet: Sheet, name: str, height: int) -> Lane:

@@ -9,6 +9,7 @@ from typing import Callable, Iterator, NamedTuple, Optional, Sequence, Tuple
 
 from balisekit.drawing.sheet import Lane, Sheet, tenths
 from balisekit.engine.grammar import Finding
+from balisekit.etcs.areas import Area
 from balisekit.etcs.geometry import Authority, Element, Profile, Way
 from balisekit.etcs.variables import Around, metres, value_words
 
@@ -53,6 +54,7 @@ def open_end(way: Way) -> int:
     """Up to where an open profile is drawn: a tenth and 100 m beyond the last place that is known."""
     known = [way.supervised or 0]
     known += [element.begin for profile in (*way.gradients, *way.speeds) for element in profile.elements]
+    known += [place for area in way.areas for place in (area.begin, area.end or 0)]
     return max(known) * 11 // 10 + 1000
 
 
@@ -63,6 +65,8 @@ def reach(way: Way) -> Iterator[int]:
     for profile in (*way.gradients, *way.speeds):
         yield from (element.begin for element in profile.beyond)
         yield open_end(way) if profile.reach is None else profile.reach
+    for area in way.areas:
+        yield open_end(way) if area.end is None else area.end
 
 
 def speed_top(ways: Sequence[Way]) -> int:
@@ -180,6 +184,17 @@ class WayDrawing:
             self.sheet.path("danger", title, f"M{x} {bar.top - 1}l5 {half}l-5 {half}l-5 -{half}z")
         title = f"supervised location: {self.describe(supervised)}"
         self._mark("supervised", title, supervised, Lane(bar.top - above, bar.height + above + out))
+
+    def area(self, area: Area, lane: Lane) -> Edges:
+        """A restriction, condition or mode, or the place at which the level changes."""
+        end = open_end(self.way) if area.end is None else area.end
+        to = " on" if area.end is None else f" to {self.describe(end)}"
+        where = f"at {self.describe(area.begin)}" if area.begin == end else f"from {self.describe(area.begin)}{to}"
+        title = f"{area.kind} {area.words}, {where}" + f"; {area.layout}" * bool(area.layout)
+        if area.begin < end:
+            return self._rect(f"area{area.number}", title, area.begin, end, lane)
+        self._mark(f"area{area.number}", title, end, lane)
+        return (self.sheet.x(self.at(end)),) * 2 if self.sheet.shows(self.at(end)) else None
 
     def gap(self, finding: Finding, lane: Lane) -> Edges:
         """The track on which a profile is missing."""

@@ -22,9 +22,11 @@ ARCS = 84
 """Height of the arcs."""
 BAND, SPEEDS, LOW = 76, 18, 12
 """Heights of a band, and in it of the speeds, and of gradients and authority."""
+AREAS, AREA = (41, 65, 80, 68), 6
+"""The packets of the other areas of a band, each of them in a row below it, and the height of a row."""
 SIZES = Sizes(speed=SPEEDS, above=2, end=3, supervised=3)
 LANES = 12
-"""So many bands below each other fit on a printed page."""
+"""So many bands without other areas fit below each other on a printed page."""
 TICK = 5000
 
 
@@ -45,7 +47,7 @@ def track_pictures(line: Line, links: Links, track: str, aspect: Optional[str]) 
     shown = "the first aspect of each group" if aspect is None else f"aspect {quoted(aspect)}"
     for page in pages(line, links, track, aspect):
         lanes, top_speed = _lanes(page), speed_top([way for band in page.bands for way in band.ways])
-        parts = [lanes[index : index + LANES] for index in range(0, len(lanes), LANES)] or [[]]
+        parts = _parts(lanes)
         for number, part in enumerate(parts, 1):
             title = f"track {clean(track)}, " * bool(track) + f"km {page.begin // 10_000} to {page.end // 10_000}"
             title += f", part {number} of {len(parts)}" * (len(parts) > 1)
@@ -56,11 +58,26 @@ def track_pictures(line: Line, links: Links, track: str, aspect: Optional[str]) 
             for lane in part:
                 for band in lane:
                     _band(sheet, band, top_speed)
-                sheet.y += BAND
+                sheet.y += _lane_height(lane)
             if not part:
                 sheet.text("small", "no authority, gradient or speed profile", 400, sheet.y + 12)
                 sheet.y += 20
             yield sheet.picture(title, 8)
+
+
+def _parts(lanes: List[List[Band]]) -> List[List[List[Band]]]:
+    """The lanes of a page in as many parts as are needed, so that each fits on a printed page."""
+    parts: List[List[List[Band]]] = [[]]
+    for lane in lanes:
+        used = sum(map(_lane_height, parts[-1]))
+        parts += [[]] if parts[-1] and used + _lane_height(lane) > LANES * BAND else []
+        parts[-1].append(lane)
+    return parts
+
+
+def _lane_height(lane: List[Band]) -> int:
+    """How high the bands of a lane are, with their other areas."""
+    return BAND + AREA * max((len(_kinds(band)) for band in lane), default=0)
 
 
 def _lanes(page: Page) -> List[List[Band]]:
@@ -140,9 +157,17 @@ def _band(sheet: Sheet, band: Band, top_speed: int) -> None:
             drawing.profile(profile, lanes[profile.number], top_speed)
         for authority in way.authorities:
             drawing.authority(authority, Lane(lanes[21].bottom + 2, LOW))
+        for area in way.areas:
+            drawing.area(area, Lane(lanes[21].bottom + LOW + 5 + AREA * _kinds(band).index(area.number), AREA - 2))
     for finding in band.short:
         drawings[DIRECTIONS.index(finding.direction or "")].gap(finding, lanes[profile_number(finding)])
     sheet.mark("group", "", at, sheet.y + 14, BAND - 18)
+
+
+def _kinds(band: Band) -> List[int]:
+    """The packets of the other areas of a band, as they are below each other."""
+    known = {area.number for way in band.ways for area in way.areas}
+    return [number for number in AREAS if number in known]
 
 
 def _describe(at: int, sign: int, place: int) -> str:

@@ -12,6 +12,7 @@ from functools import cached_property, lru_cache
 from itertools import accumulate
 from typing import Dict, FrozenSet, Iterator, List, Literal, Mapping, NamedTuple, Optional, Sequence, Tuple
 
+from balisekit.etcs.areas import Area, areas
 from balisekit.etcs.variables import Form, unit_dm
 from balisekit.tables.model import Group
 from balisekit.tables.names import kilometre as kilometre
@@ -99,6 +100,7 @@ class Way:
     authorities: Tuple[Authority, ...]
     gradients: Tuple[Profile, ...]
     speeds: Tuple[Profile, ...]
+    areas: Tuple[Area, ...] = ()
 
     @property
     def supervised(self) -> Optional[int]:
@@ -106,7 +108,7 @@ class Way:
         return max((authority.supervised for authority in self.authorities), default=None)
 
     def __bool__(self) -> bool:
-        return bool(self.authorities or self.gradients or self.speeds)
+        return bool(self.authorities or self.gradients or self.speeds or self.areas)
 
 
 @dataclass(frozen=True)
@@ -274,4 +276,5 @@ def way(forms: Sequence[Form], direction: str, of_infill: bool = False) -> Way:
         tuple(authority(site, packet) for site, packet in packets if packet["nid_packet"] in (12, 15)),
         tuple(profile for profile in profiles if profile.number == 21),
         tuple(profile for profile in profiles if profile.number == 27),
+        tuple(area for _, packet in packets for area in areas(packet)),
     )

@@ -6,6 +6,7 @@ from itertools import accumulate, chain
 from typing import Callable, Dict, Iterator, List, Mapping, NamedTuple, Optional, Sequence, Tuple
 
 from balisekit.etcs import geometry
+from balisekit.etcs.areas import NOW_OR_INFINITE, STRETCHES, stretches
 from balisekit.etcs.geometry import DIRECTIONS, ELEMENT_KEYS, Kilometres, Origin, holds, kilometres
 from balisekit.etcs.raw_packets import fields_of
 from balisekit.etcs.variables import Form, Values, metres, unit_dm
@@ -178,14 +179,14 @@ def _level_notes(packet: Form, place: Place) -> Notes:
 
 def _stretch_notes(packet: Values, place: Place) -> Notes:
     """From where to where a restriction or a factor of adhesion holds, or the reversing area is."""
-    for path, begin, end in _stretches(packet):
+    for path, _, begin, end in stretches(packet):
         yield path, f"from {place(begin)}" + ("" if end is None else f" to {place(end)}")
 
 
 def _mode_notes(packet: Values, place: Place) -> Notes:
     """Where each mode begins and ends, and from where on the driver acknowledges it."""
     unit = unit_dm(packet)
-    for (path, begin, end), element in zip(_stretches(packet), packet["elements"]):
+    for path, element, begin, end in stretches(packet):
         stretch = f"from {place(begin)}" + ("" if end is None else f" to {place(end)}")
         acknowledged = place(begin - element["l_ackmamode"] * unit)
         yield path, f"{stretch}; acknowledged from {acknowledged}" if element["l_ackmamode"] else stretch
@@ -263,46 +264,26 @@ def _level_places(packet: Form) -> Iterator[Tuple[str, int]]:
         yield "/d_leveltr", packet["d_leveltr"] * unit_dm(packet)
 
 
-STRETCHES: Mapping[int, Tuple[str, str]] = {
-    65: ("d_tsr", "l_tsr"),
-    68: ("d_trackcond", "l_trackcond"),
-    71: ("d_adhesion", "l_adhesion"),
-    80: ("d_mamode", "l_mamode"),
-    138: ("d_startreverse", "l_reversearea"),
-}
-"""The keys of distance and length of raw packets. Each element of 68 and 80 counts from where the one before begins."""
 POINTS: Mapping[int, str] = {16: "l_section", 68: "d_trackinit", 131: "d_rbctr"}
 """The keys of a distance without a length."""
-INFINITE, NOW = {"l_mamode": 32_767}, {"d_rbctr": 32_767}
-
-
-def _stretches(packet: Values) -> Iterator[Tuple[str, int, Optional[int]]]:
-    """From where to where each part of a raw packet is, by its path. An infinite one has no end."""
-    distance, length = STRETCHES[packet["nid_packet"]]
-    unit, begin = unit_dm(packet), 0
-    elements = packet.get("elements", [packet] if distance in packet else [])
-    for index, element in enumerate(elements):
-        begin += element[distance] * unit
-        end = None if element[length] == INFINITE.get(length) else begin + element[length] * unit
-        yield f"/elements/{index}" if "elements" in packet else "", begin, end
 
 
 def _points(packet: Values) -> Iterator[Tuple[str, int]]:
     key = POINTS[packet["nid_packet"]]
-    if key in packet and packet[key] != NOW.get(key):
+    if key in packet and (key, packet[key]) != ("d_rbctr", NOW_OR_INFINITE):
         yield f"/{key}", packet[key] * unit_dm(packet)
 
 
 def _stretch_places(packet: Values) -> Iterator[Tuple[str, int]]:
     distance, length = STRETCHES[packet["nid_packet"]]
-    for path, begin, end in _stretches(packet):
+    for path, _, begin, end in stretches(packet):
         yield f"{path}/{distance}", begin
         yield from () if end is None else [(f"{path}/{length}", end)]
 
 
 def _mode_places(packet: Values) -> Iterator[Tuple[str, int]]:
     yield from _stretch_places(packet)
-    for (path, begin, _), element in zip(_stretches(packet), packet["elements"]):
+    for path, element, begin, _ in stretches(packet):
         yield f"{path}/l_ackmamode", begin - element["l_ackmamode"] * unit_dm(packet)
 
 

@@ -54,7 +54,7 @@ class Content:
     fault: Optional[RawFault] = None
     """The first one."""
     is_complete: bool = False
-    """Whether each bit of the body belongs to a variable. Some number may be spare."""
+    """Whether the body has exactly the bits of the layout. Some number may be spare."""
 
     @property
     def words(self) -> str:
@@ -122,7 +122,7 @@ def fields_of(packet: Form, from_track: bool = True) -> Optional[Form]:
     """A raw packet as a packet that the program reads: its head and its variables, lists as lists, without its body.
 
     It is for rules: None unless the layout is certain, and `fault_of` finds nothing. A packet that the program reads
-    has none either: its own JSON is what is proved.
+    has none either: its own JSON is what is proved. Contents are kept, so nobody changes what is in the lists.
     """
     content = content_of(packet, from_track)
     if content is None or not content.layout.is_certain or content.fault:

@@ -102,16 +102,16 @@ def _count(causes: Sequence[int]) -> str:
     return str(count) if sum(causes) == count else f"{count} cause{'s' if count > 1 else ''} ({sum(causes)})"
 
 
-NOT_JUDGED = {True: "not judged by the program", False: "not judged by the program, layout not certain"}
+DECODED = {True: "decoded only by balisekit", False: "decoded only by balisekit, layout not certain"}
 """What is said of packets that the program keeps as bits and balisekit reads, by whether their layout is certain."""
 
 
 def not_decoded(checked: Checked) -> Iterator[str]:
-    """The packets that the program keeps as bits, which it does not judge, and where they are."""
+    """The packets that the program keeps as bits, and where they are."""
     raw, in_messages = checked.accepted.raw_packets(), checked.raw_in_messages
     for key in sorted({*raw, *in_messages}):
         layout, sender = layout_of(*key), "" if key[1] else " from the train"
-        said = NOT_JUDGED[layout.is_certain] if layout else "not decoded"
+        said = DECODED[layout.is_certain] if layout else "not decoded"
         parts = [*_in(raw.get(key, []), "telegram"), *_in(in_messages.get(key, []), "message")]
         yield f"{said}: packet {key[0]}{sender} in {' and '.join(parts)}"
 

@@ -24,8 +24,8 @@ ALL_HELP = f"go on after {GREATEST_REFUSED:,} refused telegrams or messages"
 ENCODE = json.JSONEncoder().encode
 BODY = re.compile('"body":"[^"]*","l_packet":[0-9]+,"nid_packet":([0-9]+)')
 Raw = Dict[Tuple[int, bool], List[int]]
-"""The rows, or the lines of a file of messages, by the NID_PACKET of packets that the program keeps as bits, and whether
-these go from track to train."""
+"""The rows, or the lines of a file of messages, by packets that the program keeps as bits: by NID_PACKET, and whether
+they go from track to train."""
 NO_FINDING = Finding("", 0, "")
 Answer = TypeVar("Answer")
 Thing = TypeVar("Thing")
