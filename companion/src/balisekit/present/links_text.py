@@ -11,7 +11,8 @@ from balisekit.present.headings import words
 from balisekit.present.refusals import not_looked_at, refused_counts, refused_lines
 from balisekit.rules.checking import Checked
 from balisekit.rules.families import FAMILIES, entry_of_remark
-from balisekit.rules.links import Links
+from balisekit.rules.links import L2, Links
+from balisekit.rules.location import ANOTHER_TRACK
 from balisekit.rules.rule import Remark, Result, Rule
 from balisekit.tables.names import clean, passed_over
 
@@ -68,14 +69,17 @@ def found(links: Links, rules: str = "") -> str:
 
 
 def compared(links: Links, with_reasons: bool = False) -> str:
-    """What each rule has compared, and why not the rest if that is asked for.
+    """What each rule has compared, and why not the rest if that is asked for; then the links to another track.
 
     Rules that have compared the same number of the same things are named together.
     """
     rules: Dict[str, List[str]] = {}
     for rule, result in links.results.items():
         rules.setdefault(_compared(rule, result, with_reasons), []).append(rule.name)
-    return "compared: " + ", ".join(f"{things} ({', '.join(names)})" for things, names in rules.items())
+    others = links.results[L2].not_looked_at.get(ANOTHER_TRACK, 0) if L2 in links.results else 0
+    more = f"; not compared: {others} link{'' if others == 1 else 's'} to another track" if others else ""
+    things = ", ".join(f"{things} ({', '.join(names)})" for things, names in rules.items())
+    return f"compared: {things}{more}"
 
 
 def how_many_compared(links: Links) -> str:

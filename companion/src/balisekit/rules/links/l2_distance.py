@@ -19,6 +19,9 @@ distance.
 How to correct it. Correct D_LINK, or the kilometre of the table. Where the kilometres are rounded, say by how much with
 `--tolerance`.
 
+Correct data that gets it. Kilometres that jump between the groups, or that follow another axis than the track: all
+links over that place differ by the same amount.
+
 Example. The link of group A to group B says 1,010 m, and their kilometres are 1,000 m apart. The sum for group C begins
 anew at group B, so that there is one line.
 """
