@@ -192,7 +192,7 @@ def test_balises_far_apart(run: Run, table: Write, tmp_path: Path, rows: List[st
     assert status == 0 and out[1:] == [*looks, "aspects found: 2 in 1 group", 'program: "yes: groups 1, messages 0"']
     assert json.loads((tmp_path / "out.json").read_text())["counts"]["look"] == looks
     if find_spec("jinja2"):
-        assert run("report", path, "--html", tmp_path / "out.html")[0] == 0
+        assert run("report", "--only", "F", path, "--html", tmp_path / "out.html")[0] == 0
         page = html.unescape((tmp_path / "out.html").read_text("utf-8"))
         assert [line for line in page.splitlines() if "look: " in line] == [f"<p><bdi>{one}</bdi></p>" for one in looks]
 

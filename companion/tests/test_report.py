@@ -93,7 +93,7 @@ def test_the_page_has_all_that_was_said(
     text = "".join(seen.texts)
     for line in said[1:]:
         told = line.strip().replace("program: ", "").replace("left out: ", "")
-        told = re.sub("^(findings of the program|links, by balisekit's own).*:.*", lambda found: _title(found[0]), told)
+        told = re.sub("^(findings of|links, by|remarks on|track plan).*, (not )?proved:.*", lambda found: _title(found[0]), told)
         assert told in text, line
     assert said[-1:] == closing and f'<p class="verdict">{escape(closing[0])}</p>' in page
     assert hashlib.sha256(table.read_bytes()).hexdigest() in text
@@ -128,7 +128,7 @@ def test_links_are_accepted_beside_findings(tmp_path: Path, capsys: pytest.Captu
     status, page = _report(table, tmp_path / "r.html", "--accepted", str(signed))
     told = capsys.readouterr().out.splitlines()[1:]
     assert row["rule"] == "L2" and status == 0
-    assert told[-1].startswith("no open findings or links; ") and escape("\n".join(told)) in page
+    assert told[-1].startswith("no open findings, links or remarks; ") and escape("\n".join(told)) in page
     accepted = _between(page, ACCEPTED, MEANING)
     assert accepted.count("accepted: surveyed (J. Doe, 2026-01-02)") == 1 and "L2: packet 5" in accepted
     block = page[page.index('<section class="group" id="g0">') :]
@@ -139,7 +139,7 @@ def test_what_was_not_looked_at_stands_before_the_verdict(tmp_path: Path) -> Non
     """Packets that are kept as bits, links that are not compared, and rules that are not applied."""
     _, page = _report(LINE, tmp_path / "r.html")
     before = page[: page.index('<p class="verdict">')]
-    assert "not decoded: packet 136 in 2 telegrams (rows 14 to 15)" in before
+    assert "decoded only by balisekit: packet 136 in 2 telegrams (rows 14 to 15)" in before
     assert "not compared by L6: 1 of 34 headers (refused: 1)" in before
     _, page = _report(_table(tmp_path / "t.csv", {"group": "A", "telegram": HEADER}), tmp_path / "r.html")
     assert "no kilometres: rules over the line are not applied" in page[: page.index('<p class="verdict">')]

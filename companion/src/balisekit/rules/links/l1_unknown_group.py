@@ -76,7 +76,8 @@ def _look_at(
             sentence += f"; {other} has that NID_BG in country or region {other.identity[0]}"
         if base is not None and base.km is not None and along is not None:
             km = base.km + along * Decimal(summed).scaleb(-4)
-            sentence += _there(line, line.nearest(base.track, km), km, link.accuracy + tolerance)
+            nearest = line.nearest(base.track, km)
+            sentence += "" if nearest is other else _there(line, nearest, km, link.accuracy + tolerance)
         yield Remark("L1", chain.at(link), sentence, named=[other] if other else [])
 
 
