@@ -99,4 +99,12 @@ impl<T: Members> InPieces for T {
         out.token(Token::EndObject)?;
         Ok(())
     }
+
+    // The body that the trait gives, written here too so that it is inlined: the key is then a constant.
+    #[inline(always)]
+    fn send_at<M: Marks>(&self, name: &str, out: &mut M) -> Result<(), Memory> {
+        out.token(Token::Key(name))?;
+        self.send_to(out)?;
+        Ok(())
+    }
 }
