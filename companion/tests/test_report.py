@@ -128,7 +128,7 @@ def test_links_are_accepted_beside_findings(tmp_path: Path, capsys: pytest.Captu
     status, page = _report(table, tmp_path / "r.html", "--accepted", str(signed))
     told = capsys.readouterr().out.splitlines()[1:]
     assert row["rule"] == "L2" and status == 0
-    assert told[-1].startswith("no open findings, links or remarks; ") and escape("\n".join(told)) in page
+    assert told[-1].startswith("no open findings, links or remarks") and escape("\n".join(told)) in page
     accepted = _between(page, ACCEPTED, MEANING)
     assert accepted.count("accepted: surveyed (J. Doe, 2026-01-02)") == 1 and "L2: packet 5" in accepted
     block = page[page.index('<section class="group" id="g0">') :]

@@ -7,7 +7,7 @@ use Rattle.etcs_bits.specs.layout.Choice.{either_rows}
 use Rattle.etcs_bits.specs.layout.Combined.{body_rows, counted_rows, option_rows, pair_rows}
 use Rattle.etcs_bits.specs.layout.Fields.{Fields}
 use Rattle.etcs_bits.specs.layout.Format.{Format}
-use Rattle.etcs_bits.specs.layout.Rows.{AreAllowed, Row, Variable, alone}
+use Rattle.etcs_bits.specs.layout.Rows.{Row, Variable, alone}
 use Rattle.etcs_bits.specs.layout.Struct.{Struct}
 use Rattle.etcs_bits.specs.variables.VariableFormats.{q_dir, q_scale}
 use Rattle.etcs_bits.specs.variables.Variables.{dir_number, dir_variable, only, plain, scale_number, scale_variable}
@@ -73,14 +73,6 @@ struct s a = record { form = struct_form s a.form; keeps = parts_keep s.parts a.
 pub record ObjectBeside {X : Type 0} (rows : X → List Row) : Type 0 where
   pub form : Object X
   pub keeps : Keeps rows form.part.fits
-
--- what keeps an object in range: its rows are allowed
-abbrev pub AreRowsAllowed : {X : Type 0} {rows : X → List Row} → ObjectBeside rows → X → Type 0
-AreRowsAllowed {rows = rows} o x = AreAllowed (rows x)
-
--- an object of which no rows are known is in range
-abbrev pub IsInRange : {X : Type 0} → Object X → X → Type 0
-IsInRange o x = o.part.fits x ≡ true
 
 -- these members, and no others
 abbrev pub closed : {X : Type 0} {rows : X → List Row} (a : PartBeside rows) → are_apart a.form.keys ≡ true → ObjectBeside rows

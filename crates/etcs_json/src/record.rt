@@ -29,11 +29,28 @@ pub trait Record: Drop {
     ghost bounded: { Self → Type 0 } = { λ _. Unit {0} };
 }
 
-/// How the members of a record are sent and read.
-pub(crate) trait Members: Record {
-    /// What keeps the members in range, such as that each row of the record is allowed.
-    ghost limits: { Self → Type 0 };
+/// A record of which can be proved that its members are in range.
+pub(crate) trait InRange: Record {
+    /// Does nothing when it runs; its contract is the proof that the members are in range.
+    fn prove_in_range(&self)
+        ensures { Self.bounded self.now → Self.object.part.fits self.now ≡ true };
+}
 
+/// A record whose bits have a layout. So its members are in range if the layout allows its numbers.
+pub(crate) trait LayoutRecord: Record + Layout {
+    /// Where the rows are allowed, the members are in range.
+    ghost keeps: { (x : Self) → (Self.Layout.fit x → AreAllowed (Self.Layout.format.rows x))
+        → Self.Record.bounded x → Self.Record.object.part.fits x ≡ true };
+}
+
+impl<T: LayoutRecord> InRange for T {
+    fn prove_in_range(&self) {
+        prove_allowed(self);
+    }
+}
+
+/// How the members of a record are sent and read.
+pub(crate) trait Members: InRange {
     /// Its keys in byte order, in which most objects have them.
     fn keys() -> &'static [&'static str]
         ensures { map (λ l. l.now) result.now ≡ sorted_keys Self.object.part.keys };
@@ -45,12 +62,6 @@ pub(crate) trait Members: Record {
     /// Reads the members of an object that has no other keys.
     fn of_members<N: Node>(alloc: Global, node: &N) -> Result<Self, FormError>
         ensures { Gives (λ x. x) result (Self.object.part.of (N.shows node.now)) };
-
-    /// Does nothing when it runs; its contract is the proof of what keeps the members in range.
-    fn prove_in_range(&self)
-        ensures { Self.bounded self.now → limits self.now };
-
-    ghost keeps: { (x : Self) → limits x → Self.Record.object.part.fits x ≡ true };
 }
 
 /// Does nothing when it runs; its contract is the proof that each number of a record is allowed, as far as the
@@ -97,6 +108,14 @@ impl<T: Members> InPieces for T {
         out.token(Token::BeginObject)?;
         self.send_members(out)?;
         out.token(Token::EndObject)?;
+        Ok(())
+    }
+
+    // The body that the trait gives, written here too so that it is inlined: the key is then a constant.
+    #[inline(always)]
+    fn send_at<M: Marks>(&self, name: &str, out: &mut M) -> Result<(), Memory> {
+        out.token(Token::Key(name))?;
+        self.send_to(out)?;
         Ok(())
     }
 }

@@ -10,7 +10,7 @@ use crate::error::FormError;
 use crate::form::{Form, InPieces};
 use crate::node::Node;
 use crate::node::reading::{check_object, member, under};
-use crate::record::Members;
+use crate::record::InRange;
 use crate::writing::marks::Marks;
 use etcs_bits::Memory;
 use etcs_radio::Message;

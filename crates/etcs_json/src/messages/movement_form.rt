@@ -6,7 +6,7 @@ use crate::node::Node;
 use crate::node::packets_form::read_all_at;
 use crate::node::reading::{read_fixed, read_key};
 use crate::packets::report_form::read_identity;
-use crate::record::{Members, Record, prove_allowed};
+use crate::record::{InRange, Members, Record, prove_allowed};
 use crate::writing::Sink;
 use etcs_bits::{Memory, are_allowed};
 use etcs_radio::MovementMessage;
@@ -20,17 +20,16 @@ impl Record for MovementMessage {
     ghost object = { with_number (movement track_packet) };
 }
 
+impl InRange for MovementMessage {
+    fn prove_in_range(&self) {
+        prove_allowed(&self.time());
+        prove_allowed(&self.lrbg());
+        let _allowed = are_allowed(self.packets());
+    }
+}
+
 #[tactic(auto, unfolding(crate::specs::Messages::movement))]
 impl Members for MovementMessage {
-    ghost use Rattle.etcs_json.specs.Beside.{IsInRange};
-    ghost use Rattle.etcs_json.specs.Chosen.{with_number};
-    ghost use Rattle.etcs_json.specs.Messages.{movement};
-    ghost use Rattle.etcs_json.specs.TrackPackets.{track_packet};
-
-    ghost limits = { IsInRange (with_number (movement track_packet)) };
-
-    ghost keeps = { λ _ fits. fits };
-
     fn keys() -> &'static [&'static str] {
         &[
             "m_ack",
@@ -64,11 +63,5 @@ impl Members for MovementMessage {
             Ok(message) => Ok(message),
             Err(_) => Err(FormError::range_at(alloc, "packets")),
         }
-    }
-
-    fn prove_in_range(&self) {
-        prove_allowed(&self.time());
-        prove_allowed(&self.lrbg());
-        let _allowed = are_allowed(self.packets());
     }
 }

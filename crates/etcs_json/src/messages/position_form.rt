@@ -5,7 +5,7 @@ use crate::members::{ListMember, Member, NumberMember, send_members};
 use crate::node::Node;
 use crate::node::packets_form::read_all_at;
 use crate::node::reading::{read_fixed, read_key};
-use crate::record::{Members, Record, prove_allowed};
+use crate::record::{InRange, Members, Record, prove_allowed};
 use crate::writing::Sink;
 use etcs_bits::{Memory, are_allowed};
 use etcs_radio::PositionMessage;
@@ -19,17 +19,16 @@ impl Record for PositionMessage {
     ghost object = { with_number (position train_packet) };
 }
 
+impl InRange for PositionMessage {
+    fn prove_in_range(&self) {
+        prove_allowed(&self.time());
+        prove_allowed(&self.engine());
+        let _allowed = are_allowed(self.packets());
+    }
+}
+
 #[tactic(auto, unfolding(crate::specs::Messages::position))]
 impl Members for PositionMessage {
-    ghost use Rattle.etcs_json.specs.Beside.{IsInRange};
-    ghost use Rattle.etcs_json.specs.Chosen.{with_number};
-    ghost use Rattle.etcs_json.specs.Messages.{position};
-    ghost use Rattle.etcs_json.specs.TrainPackets.{train_packet};
-
-    ghost limits = { IsInRange (with_number (position train_packet)) };
-
-    ghost keeps = { λ _ fits. fits };
-
     fn keys() -> &'static [&'static str] {
         &["nid_engine", "nid_message", "packets", "t_train"]
     }
@@ -52,11 +51,5 @@ impl Members for PositionMessage {
             Ok(message) => Ok(message),
             Err(_) => Err(FormError::range_at(alloc, "packets")),
         }
-    }
-
-    fn prove_in_range(&self) {
-        prove_allowed(&self.time());
-        prove_allowed(&self.engine());
-        let _allowed = are_allowed(self.packets());
     }
 }

@@ -12,7 +12,7 @@ use crate::node::Node;
 use crate::node::packets_form::read_all_at;
 use crate::node::reading::read_key;
 use crate::packets::report_form::read_identity;
-use crate::record::{Members, Record, prove_allowed};
+use crate::record::{InRange, Members, Record, prove_allowed};
 use crate::writing::Sink;
 use crate::writing::marks::Marks;
 use etcs_bits::{Memory, are_allowed};
@@ -88,15 +88,15 @@ impl Record for Telegram {
     ghost object = { telegram };
 }
 
+impl InRange for Telegram {
+    fn prove_in_range(&self) {
+        prove_allowed(&self.header);
+        let _allowed = are_allowed(self.packets.as_slice());
+    }
+}
+
 #[tactic(auto, unfolding(crate::specs::Telegrams::telegram))]
 impl Members for Telegram {
-    ghost use Rattle.etcs_json.specs.Beside.{IsInRange};
-    ghost use Rattle.etcs_json.specs.Telegrams.{telegram};
-
-    ghost limits = { IsInRange telegram };
-
-    ghost keeps = { λ _ fits. fits };
-
     #[tactic(auto, unfolding(crate::specs::Telegrams::telegram, crate::specs::Telegrams::header))]
     fn keys() -> &'static [&'static str] {
         &[
@@ -138,10 +138,5 @@ impl Members for Telegram {
             header,
             packets,
         })
-    }
-
-    fn prove_in_range(&self) {
-        prove_allowed(&self.header);
-        let _allowed = are_allowed(self.packets.as_slice());
     }
 }

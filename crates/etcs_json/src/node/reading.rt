@@ -34,6 +34,8 @@ pub(crate) fn under<X>(name: &'static str, read: Result<X, FormError>) -> Result
 }
 
 /// Reads the member at a key that has to be there.
+// Inlined, since a key that is constant is found in less time.
+#[inline(always)]
 #[tactic(auto, using(crate::proofs::Objects::member_read))]
 pub(crate) fn read_key<T: Form, N: Node>(
     alloc: Global,
@@ -73,6 +75,7 @@ pub(crate) fn read_first<T: Form, N: Node>(
 }
 
 /// Reads the member at a key that may be left out.
+#[inline(always)]
 #[tactic(auto, using(crate::proofs::Objects::fails_under), unfolding(crate::specs::Reading::at_key_if))]
 pub(crate) fn read_key_if<T: Form, N: Node>(
     alloc: Global,

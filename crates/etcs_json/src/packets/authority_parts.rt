@@ -1,12 +1,11 @@
 //! The forms of the parts of movement authorities: sections and timers, danger point and overlap.
 
-ghost use Rattle.etcs_json.specs.Beside.{AreRowsAllowed};
 ghost use Rattle.etcs_json.specs.Authority.{danger_point, end_timer, overlap, section, section_timer};
 
 use crate::error::FormError;
 use crate::members::{Member, Optional, OptionalMember, Required, read_record, send_members};
 use crate::node::Node;
-use crate::record::{Members, Record, prove_allowed};
+use crate::record::{LayoutRecord, Members, Record};
 use crate::writing::Sink;
 use etcs_bits::Memory;
 use etcs_profile::{DangerPoint, EndTimer, Overlap, Section, SectionTimer};
@@ -16,12 +15,12 @@ impl Record for SectionTimer {
     ghost object = { section_timer.form };
 }
 
+impl LayoutRecord for SectionTimer {
+    ghost keeps = { λ x allowed _. section_timer.keeps.range x (allowed tt) };
+}
+
 #[tactic(auto, unfolding(crate::specs::Authority::section_timer))]
 impl Members for SectionTimer {
-    ghost limits = { AreRowsAllowed section_timer };
-
-    ghost keeps = { section_timer.keeps.range };
-
     fn keys() -> &'static [&'static str] {
         &["d_sectiontimerstoploc", "t_sectiontimer"]
     }
@@ -39,22 +38,18 @@ impl Members for SectionTimer {
             Required stop "d_sectiontimerstoploc",
         )
     }
-
-    fn prove_in_range(&self) {
-        prove_allowed(self);
-    }
 }
 
 impl Record for Section {
     ghost object = { section.form };
 }
 
+impl LayoutRecord for Section {
+    ghost keeps = { λ x allowed _. section.keeps.range x (allowed tt) };
+}
+
 #[tactic(auto, unfolding(crate::specs::Authority::section))]
 impl Members for Section {
-    ghost limits = { AreRowsAllowed section };
-
-    ghost keeps = { section.keeps.range };
-
     fn keys() -> &'static [&'static str] {
         &["l_section", "section_timer"]
     }
@@ -72,22 +67,18 @@ impl Members for Section {
             Optional timer "section_timer",
         )
     }
-
-    fn prove_in_range(&self) {
-        prove_allowed(self);
-    }
 }
 
 impl Record for EndTimer {
     ghost object = { end_timer.form };
 }
 
+impl LayoutRecord for EndTimer {
+    ghost keeps = { λ x allowed _. end_timer.keeps.range x (allowed tt) };
+}
+
 #[tactic(auto, unfolding(crate::specs::Authority::end_timer))]
 impl Members for EndTimer {
-    ghost limits = { AreRowsAllowed end_timer };
-
-    ghost keeps = { end_timer.keeps.range };
-
     fn keys() -> &'static [&'static str] {
         &["d_endtimerstartloc", "t_endtimer"]
     }
@@ -105,22 +96,18 @@ impl Members for EndTimer {
             Required start "d_endtimerstartloc",
         )
     }
-
-    fn prove_in_range(&self) {
-        prove_allowed(self);
-    }
 }
 
 impl Record for DangerPoint {
     ghost object = { danger_point.form };
 }
 
+impl LayoutRecord for DangerPoint {
+    ghost keeps = { λ x allowed _. danger_point.keeps.range x (allowed tt) };
+}
+
 #[tactic(auto, unfolding(crate::specs::Authority::danger_point))]
 impl Members for DangerPoint {
-    ghost limits = { AreRowsAllowed danger_point };
-
-    ghost keeps = { danger_point.keeps.range };
-
     fn keys() -> &'static [&'static str] {
         &["d_dp", "v_releasedp"]
     }
@@ -138,22 +125,18 @@ impl Members for DangerPoint {
             Required release_speed "v_releasedp",
         )
     }
-
-    fn prove_in_range(&self) {
-        prove_allowed(self);
-    }
 }
 
 impl Record for Overlap {
     ghost object = { overlap.form };
 }
 
+impl LayoutRecord for Overlap {
+    ghost keeps = { λ x allowed _. overlap.keeps.range x (allowed tt) };
+}
+
 #[tactic(auto, unfolding(crate::specs::Authority::overlap))]
 impl Members for Overlap {
-    ghost limits = { AreRowsAllowed overlap };
-
-    ghost keeps = { overlap.keeps.range };
-
     fn keys() -> &'static [&'static str] {
         &["d_ol", "d_startol", "t_ol", "v_releaseol"]
     }
@@ -174,9 +157,5 @@ impl Members for Overlap {
             Required length "d_ol",
             Required release_speed "v_releaseol",
         )
-    }
-
-    fn prove_in_range(&self) {
-        prove_allowed(self);
     }
 }

@@ -1,6 +1,7 @@
 //! The form of gradient profiles, packet 21.
 
-ghost use Rattle.etcs_json.specs.Beside.{AreRowsAllowed, packet};
+ghost use Rattle.std.proofs.Common.{lit<};
+ghost use Rattle.etcs_json.specs.Beside.{packet};
 ghost use Rattle.etcs_json.specs.Profiles.{gradient, gradient_element};
 
 use crate::error::FormError;
@@ -8,7 +9,7 @@ use crate::members::{Member, Required, read_record, send_members};
 use crate::node::Node;
 use crate::node::reading::read_fixed;
 use crate::packets::profile_form::{read_profile, send_profile};
-use crate::record::{Members, Record, prove_allowed};
+use crate::record::{LayoutRecord, Members, Record};
 use crate::writing::Sink;
 use etcs_bits::Memory;
 use etcs_profile::{Gradient, GradientElement};
@@ -18,12 +19,12 @@ impl Record for GradientElement {
     ghost object = { gradient_element.form };
 }
 
+impl LayoutRecord for GradientElement {
+    ghost keeps = { λ x allowed _. gradient_element.keeps.range x (allowed tt) };
+}
+
 #[tactic(auto, unfolding(crate::specs::Profiles::gradient_element))]
 impl Members for GradientElement {
-    ghost limits = { AreRowsAllowed gradient_element };
-
-    ghost keeps = { gradient_element.keeps.range };
-
     fn keys() -> &'static [&'static str] {
         &["d_gradient", "g_a", "q_gdir"]
     }
@@ -43,22 +44,18 @@ impl Members for GradientElement {
             Required gradient "g_a",
         )
     }
-
-    fn prove_in_range(&self) {
-        prove_allowed(self);
-    }
 }
 
 impl Record for Gradient {
     ghost object = { (packet gradient).form };
 }
 
+impl LayoutRecord for Gradient {
+    ghost keeps = { λ x allowed _. (packet gradient).keeps.range x (allowed (lit< tt)) };
+}
+
 #[tactic(auto, unfolding(crate::specs::Profiles::gradient))]
 impl Members for Gradient {
-    ghost limits = { AreRowsAllowed (packet gradient) };
-
-    ghost keeps = { (packet gradient).keeps.range };
-
     fn keys() -> &'static [&'static str] {
         &["elements", "nid_packet", "q_dir", "q_scale"]
     }
@@ -70,9 +67,5 @@ impl Members for Gradient {
     fn of_members<N: Node>(alloc: Global, node: &N) -> Result<Self, FormError> {
         read_fixed(alloc, node, "nid_packet", 21)?;
         read_profile(alloc, node, "elements")
-    }
-
-    fn prove_in_range(&self) {
-        prove_allowed(self);
     }
 }

@@ -1,6 +1,7 @@
 //! The form of linking, packet 5.
 
-ghost use Rattle.etcs_json.specs.Beside.{AreRowsAllowed, packet};
+ghost use Rattle.std.proofs.Common.{lit<};
+ghost use Rattle.etcs_json.specs.Beside.{packet};
 ghost use Rattle.etcs_json.specs.Profiles.{link, linking};
 
 use crate::error::FormError;
@@ -8,7 +9,7 @@ use crate::members::{Member, Optional, OptionalMember, Required, read_record, se
 use crate::node::Node;
 use crate::node::reading::read_fixed;
 use crate::packets::profile_form::{read_profile, send_profile};
-use crate::record::{Members, Record, prove_allowed};
+use crate::record::{LayoutRecord, Members, Record};
 use crate::writing::Sink;
 use etcs_bits::Memory;
 use etcs_profile::{Link, Linking};
@@ -18,12 +19,12 @@ impl Record for Link {
     ghost object = { link.form };
 }
 
+impl LayoutRecord for Link {
+    ghost keeps = { λ x allowed _. link.keeps.range x (allowed tt) };
+}
+
 #[tactic(auto, unfolding(crate::specs::Profiles::link))]
 impl Members for Link {
-    ghost limits = { AreRowsAllowed link };
-
-    ghost keeps = { link.keeps.range };
-
     fn keys() -> &'static [&'static str] {
         &[
             "d_link",
@@ -56,22 +57,18 @@ impl Members for Link {
             Required accuracy "q_locacc",
         )
     }
-
-    fn prove_in_range(&self) {
-        prove_allowed(self);
-    }
 }
 
 impl Record for Linking {
     ghost object = { (packet linking).form };
 }
 
+impl LayoutRecord for Linking {
+    ghost keeps = { λ x allowed _. (packet linking).keeps.range x (allowed (lit< tt)) };
+}
+
 #[tactic(auto, unfolding(crate::specs::Profiles::linking))]
 impl Members for Linking {
-    ghost limits = { AreRowsAllowed (packet linking) };
-
-    ghost keeps = { (packet linking).keeps.range };
-
     fn keys() -> &'static [&'static str] {
         &["links", "nid_packet", "q_dir", "q_scale"]
     }
@@ -83,9 +80,5 @@ impl Members for Linking {
     fn of_members<N: Node>(alloc: Global, node: &N) -> Result<Self, FormError> {
         read_fixed(alloc, node, "nid_packet", 5)?;
         read_profile(alloc, node, "links")
-    }
-
-    fn prove_in_range(&self) {
-        prove_allowed(self);
     }
 }

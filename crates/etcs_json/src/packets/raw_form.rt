@@ -2,7 +2,6 @@
 
 ghost use Rattle.std.specs.Prelude.{◌≡◌, codes, true, IfOk};
 ghost use Rattle.etcs_packet.specs.PacketNumbers.{is_kept_number, nid_raw};
-ghost use Rattle.etcs_json.specs.Beside.{IsInRange};
 ghost use Rattle.etcs_json.specs.Fault.{Gives};
 ghost use Rattle.etcs_json.specs.Raw.{raw_packet};
 ghost use Rattle.etcs_json.specs.Reading.{at_key, allowed_number};
@@ -14,7 +13,7 @@ use crate::node::Node;
 use crate::node::reading::{member, read_key, under};
 use crate::packets::body_form::{packet_length, read_measured};
 use crate::packets::body_text::BodyMember;
-use crate::record::{Members, Record};
+use crate::record::{InRange, Members, Record};
 use crate::writing::Sink;
 use etcs_bits::Memory;
 use etcs_packet::RawPacket;
@@ -51,12 +50,14 @@ impl Record for RawPacket {
     ghost object = { raw_packet };
 }
 
+impl InRange for RawPacket {
+    fn prove_in_range(&self) {
+        let _number = self.number();
+    }
+}
+
 #[tactic(auto, unfolding(crate::specs::Raw::raw_packet))]
 impl Members for RawPacket {
-    ghost limits = { IsInRange raw_packet };
-
-    ghost keeps = { λ _ fits. fits };
-
     fn keys() -> &'static [&'static str] {
         &["body", "l_packet", "nid_packet", "q_dir"]
     }
@@ -79,9 +80,5 @@ impl Members for RawPacket {
             Ok(packet) => Ok(packet),
             Err(_) => unreachable!("the number and the length were read"),
         }
-    }
-
-    fn prove_in_range(&self) {
-        let _number = self.number();
     }
 }

@@ -2,7 +2,6 @@
 
 ghost use Rattle.std.specs.Prelude.{◌≡◌, codes, true, IfOk};
 ghost use Rattle.etcs_radio.specs.TrainNumbers.{is_kept_number, nid_raw};
-ghost use Rattle.etcs_json.specs.Beside.{IsInRange};
 ghost use Rattle.etcs_json.specs.Fault.{Gives};
 ghost use Rattle.etcs_json.specs.RawTrain.{raw_train_packet};
 ghost use Rattle.etcs_json.specs.Reading.{at_key, allowed_number};
@@ -14,7 +13,7 @@ use crate::node::Node;
 use crate::node::reading::{member, under};
 use crate::packets::body_form::{packet_length, read_measured};
 use crate::packets::body_text::BodyMember;
-use crate::record::{Members, Record};
+use crate::record::{InRange, Members, Record};
 use crate::writing::Sink;
 use etcs_bits::Memory;
 use etcs_radio::RawTrainPacket;
@@ -51,12 +50,14 @@ impl Record for RawTrainPacket {
     ghost object = { raw_train_packet };
 }
 
+impl InRange for RawTrainPacket {
+    fn prove_in_range(&self) {
+        let _number = self.number();
+    }
+}
+
 #[tactic(auto, unfolding(crate::specs::RawTrain::raw_train_packet))]
 impl Members for RawTrainPacket {
-    ghost limits = { IsInRange raw_train_packet };
-
-    ghost keeps = { λ _ fits. fits };
-
     fn keys() -> &'static [&'static str] {
         &["body", "l_packet", "nid_packet"]
     }
@@ -77,9 +78,5 @@ impl Members for RawTrainPacket {
             Ok(packet) => Ok(packet),
             Err(_) => unreachable!("the number and the length were read"),
         }
-    }
-
-    fn prove_in_range(&self) {
-        let _number = self.number();
     }
 }

@@ -1,6 +1,7 @@
 //! The form of static speed profiles, packet 27.
 
-ghost use Rattle.etcs_json.specs.Beside.{AreRowsAllowed, packet};
+ghost use Rattle.std.proofs.Common.{lit<};
+ghost use Rattle.etcs_json.specs.Beside.{packet};
 ghost use Rattle.etcs_json.specs.Profiles.{difference, speed_element, speed_profile};
 
 use crate::error::FormError;
@@ -8,7 +9,7 @@ use crate::members::{ListMember, Member, Repeated, Required, read_record, send_m
 use crate::node::Node;
 use crate::node::reading::read_fixed;
 use crate::packets::profile_form::{read_profile, send_profile};
-use crate::record::{Members, Record, prove_allowed};
+use crate::record::{InRange, LayoutRecord, Members, Record, prove_allowed};
 use crate::writing::Sink;
 use etcs_bits::Memory;
 use etcs_profile::{Difference, SpeedElement, SpeedProfile};
@@ -18,12 +19,12 @@ impl Record for Difference {
     ghost object = { difference.form };
 }
 
+impl LayoutRecord for Difference {
+    ghost keeps = { λ x allowed _. difference.keeps.range x (allowed tt) };
+}
+
 #[tactic(auto, unfolding(crate::specs::Profiles::difference))]
 impl Members for Difference {
-    ghost limits = { AreRowsAllowed difference };
-
-    ghost keeps = { difference.keeps.range };
-
     fn keys() -> &'static [&'static str] {
         &["nc", "q_diff", "v_diff"]
     }
@@ -43,10 +44,6 @@ impl Members for Difference {
             Required speed "v_diff",
         )
     }
-
-    fn prove_in_range(&self) {
-        prove_allowed(self);
-    }
 }
 
 impl Record for SpeedElement {
@@ -58,12 +55,14 @@ impl Record for SpeedElement {
     ghost bounded = { λ e. length e.differences ≤ 31 };
 }
 
+impl InRange for SpeedElement {
+    fn prove_in_range(&self) {
+        prove_allowed(self);
+    }
+}
+
 #[tactic(auto, unfolding(crate::specs::Profiles::speed_element))]
 impl Members for SpeedElement {
-    ghost limits = { AreRowsAllowed speed_element };
-
-    ghost keeps = { speed_element.keeps.range };
-
     fn keys() -> &'static [&'static str] {
         &["d_static", "differences", "q_front", "v_static"]
     }
@@ -85,22 +84,18 @@ impl Members for SpeedElement {
             Repeated differences "differences",
         )
     }
-
-    fn prove_in_range(&self) {
-        prove_allowed(self);
-    }
 }
 
 impl Record for SpeedProfile {
     ghost object = { (packet speed_profile).form };
 }
 
+impl LayoutRecord for SpeedProfile {
+    ghost keeps = { λ x allowed _. (packet speed_profile).keeps.range x (allowed (lit< tt)) };
+}
+
 #[tactic(auto, using(crate::proofs::ReadLemmas::few_differences), unfolding(crate::specs::Profiles::speed_profile))]
 impl Members for SpeedProfile {
-    ghost limits = { AreRowsAllowed (packet speed_profile) };
-
-    ghost keeps = { (packet speed_profile).keeps.range };
-
     fn keys() -> &'static [&'static str] {
         &["elements", "nid_packet", "q_dir", "q_scale"]
     }
@@ -112,9 +107,5 @@ impl Members for SpeedProfile {
     fn of_members<N: Node>(alloc: Global, node: &N) -> Result<Self, FormError> {
         read_fixed(alloc, node, "nid_packet", 27)?;
         read_profile(alloc, node, "elements")
-    }
-
-    fn prove_in_range(&self) {
-        prove_allowed(self);
     }
 }

@@ -1,6 +1,7 @@
 //! The form of level transition orders, packet 41.
 
-ghost use Rattle.etcs_json.specs.Beside.{AreRowsAllowed, packet};
+ghost use Rattle.std.proofs.Common.{lit<};
+ghost use Rattle.etcs_json.specs.Beside.{packet};
 ghost use Rattle.etcs_json.specs.Transition.{level_order, transition};
 
 use crate::error::FormError;
@@ -11,7 +12,7 @@ use crate::members::{
 use crate::node::Node;
 use crate::node::reading::read_fixed;
 use crate::packets::level_form::{LevelMembers, national_system_of};
-use crate::record::{Members, Record, prove_allowed};
+use crate::record::{LayoutRecord, Members, Record};
 use crate::writing::Sink;
 use etcs_bits::Memory;
 use etcs_profile::{LevelOrder, Transition};
@@ -21,16 +22,17 @@ impl Record for LevelOrder {
     ghost object = { level_order.form };
 }
 
+impl LayoutRecord for LevelOrder {
+    ghost keeps = { λ x allowed _. level_order.keeps.range x (allowed tt) };
+}
+
 #[tactic(auto, unfolding(crate::specs::Transition::level_order))]
 impl Members for LevelOrder {
-    ghost limits = { AreRowsAllowed level_order };
-
-    ghost keeps = { level_order.keeps.range };
-
     fn keys() -> &'static [&'static str] {
         &["l_ackleveltr", "m_leveltr", "nid_ntc"]
     }
 
+    #[tactic(auto, unfolding(crate::specs::Transition::level_order, etcs_bits::specs::layout::Rows::alone))]
     fn send_members<S: Sink>(&self, out: &mut S) -> Result<(), Memory> {
         let ntc = national_system_of(self.level);
         let number = u64::from(self.level.number());
@@ -47,22 +49,18 @@ impl Members for LevelOrder {
             Required acknowledge "l_ackleveltr",
         )
     }
-
-    fn prove_in_range(&self) {
-        prove_allowed(self);
-    }
 }
 
 impl Record for Transition {
     ghost object = { (packet transition).form };
 }
 
+impl LayoutRecord for Transition {
+    ghost keeps = { λ x allowed _. (packet transition).keeps.range x (allowed (lit< tt)) };
+}
+
 #[tactic(auto, unfolding(crate::specs::Transition::transition))]
 impl Members for Transition {
-    ghost limits = { AreRowsAllowed (packet transition) };
-
-    ghost keeps = { (packet transition).keeps.range };
-
     fn keys() -> &'static [&'static str] {
         &["d_leveltr", "nid_packet", "q_dir", "q_scale", "transitions"]
     }
@@ -87,9 +85,5 @@ impl Members for Transition {
             Ok(packet) => Ok(packet),
             Err(_) => Err(FormError::range(alloc)),
         }
-    }
-
-    fn prove_in_range(&self) {
-        prove_allowed(self);
     }
 }

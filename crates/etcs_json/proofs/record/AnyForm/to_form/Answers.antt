@@ -8,4 +8,4 @@ pub returns-clause-form : goal.returns-clause-form
 returns-clause-form g c = made_object g.T.Record.object c.args.self.now _ _ _ c.new-out.ensures c.in_ok-send_members.ensures c.into_value.ensures
 
 pub returns-clause-again : goal.returns-clause-again
-returns-clause-again g c = λ bounded. read_again (shape_of g.T.Record.object) c.args.self.now _ (returns-clause-form g c) (g.met.T.Members.keeps c.args.self.now (c.prove_in_range.ensures bounded))
+returns-clause-again g c = λ bounded. read_again (shape_of g.T.Record.object) c.args.self.now _ (returns-clause-form g c) (c.prove_in_range.ensures bounded)

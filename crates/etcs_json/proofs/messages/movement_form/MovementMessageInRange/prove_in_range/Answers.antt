@@ -1,6 +1,6 @@
 use Rattle.etcs_bits.proofs.FitLemmas.{all_fit}
 use Rattle.etcs_json.proofs.RadioRanges.{movement_keeps}
-use Rattle.etcs_json.proofs.messages.movement_form.MovementMessageMembers.prove_in_range.Goals as goal
+use Rattle.etcs_json.proofs.messages.movement_form.MovementMessageInRange.prove_in_range.Goals as goal
 
 -- each packet of the type is allowed, and packet 15 is there
 pub returns : goal.returns

@@ -1,6 +1,6 @@
 use Rattle.etcs_bits.proofs.FitLemmas.{all_fit}
 use Rattle.etcs_json.proofs.RadioRanges.{position_keeps}
-use Rattle.etcs_json.proofs.messages.position_form.PositionMessageMembers.prove_in_range.Goals as goal
+use Rattle.etcs_json.proofs.messages.position_form.PositionMessageInRange.prove_in_range.Goals as goal
 
 -- each packet of the type is allowed, and a position report is there
 pub returns : goal.returns

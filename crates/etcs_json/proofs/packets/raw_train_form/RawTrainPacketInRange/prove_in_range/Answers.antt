@@ -1,6 +1,6 @@
 use Rattle.std.proofs.Common.{arith}
 use Rattle.etcs_json.proofs.RawLemmas.{raw_train_fits}
-use Rattle.etcs_json.proofs.packets.raw_train_form.RawTrainPacketMembers.prove_in_range.Goals as goal
+use Rattle.etcs_json.proofs.packets.raw_train_form.RawTrainPacketInRange.prove_in_range.Goals as goal
 
 -- the number is a byte
 pub returns : goal.returns

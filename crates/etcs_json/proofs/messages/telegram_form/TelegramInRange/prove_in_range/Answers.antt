@@ -1,6 +1,6 @@
 use Rattle.etcs_bits.proofs.FitLemmas.{all_fit}
 use Rattle.etcs_json.proofs.PacketRanges.{telegram_range}
-use Rattle.etcs_json.proofs.messages.telegram_form.TelegramMembers.prove_in_range.Goals as goal
+use Rattle.etcs_json.proofs.messages.telegram_form.TelegramInRange.prove_in_range.Goals as goal
 
 -- each packet of the type is allowed
 pub returns : goal.returns

@@ -1,6 +1,6 @@
 use Rattle.std.proofs.Common.{arith}
 use Rattle.etcs_json.specs.Raw.{raw_fits}
-use Rattle.etcs_json.proofs.packets.raw_form.RawPacketMembers.prove_in_range.Goals as goal
+use Rattle.etcs_json.proofs.packets.raw_form.RawPacketInRange.prove_in_range.Goals as goal
 
 -- the number is a byte
 pub returns : goal.returns
