@@ -84,11 +84,7 @@ def extents_of(decoded: Decoded) -> Mapping[Lane, Extent]:
     """From which place to which one the groups are that give an authority."""
     places: Dict[Lane, List[int]] = {}
     for data in decoded.groups:
-        own = {
-            passage.way
-            for passage in data.passages
-            if any(packet.number in AUTHORITIES for packet in passage.said)
-        }
+        own = {passage.way for passage in data.passages if any(packet.number in AUTHORITIES for packet in passage.said)}
         for way in own - {None} if data.place is not None else ():
             places.setdefault((data.group.track, way or 0), []).append(data.place or 0)
     return {lane: (min(some), max(some)) for lane, some in places.items()}

@@ -1,13 +1,13 @@
 """E12: end of authority.
 
 What it says. Authorities of one track and way whose packets 5 lead to one group end at different places, or an
-authority ends between groups. An end is the kilometre of the group and the sum of L_SECTION and L_ENDSECTION of a packet
-12 with V_MAIN above 0, or of a packet 15. Ends are compared if the packets 5 that are said with them name one group as
-the nearest within 200 m, or else as the last one before the end, if they also name a group beyond it. Without packets 5
-ends within 20 m of each other are compared. The tolerance is `--tolerance` (1 m without it), the unit of each packet by
-Q_SCALE, half a unit for each further length of a sum, and one unit of the last decimal of the kilometres. Besides, an
-end of a packet 12 between the first and the last signal of the table is at most 50 m and the tolerance from the first
-balise of some group, unless no group is within 200 m (SUBSET-026, 3.8 and 7.4.2).
+authority ends between groups. An end is the kilometre of the group and the sum of L_SECTION and L_ENDSECTION of a
+packet 12 with V_MAIN above 0, or of a packet 15. Ends are compared if the packets 5 that are said with them name one
+group as the nearest within 200 m, or else as the last one before the end, if they also name a group beyond it. Without
+packets 5 ends within 20 m of each other are compared. The tolerance is `--tolerance` (1 m without it), the unit of each
+packet by Q_SCALE, half a unit for each further length of a sum, and one unit of the last decimal of the kilometres.
+Besides, an end of a packet 12 between the first and the last signal of the table is at most 50 m and the tolerance from
+the first balise of some group, unless no group is within 200 m (SUBSET-026, 3.8 and 7.4.2).
 
 How urgent. At worst wrong information: a train may pass the signal at which it has to stop.
 

@@ -61,7 +61,9 @@ def find(line: Line, options: Options) -> Result:
                 described.setdefault(("q_locacc", each.identity, 0), []).append(Said(accuracy, passage, each))
                 way = passage.way or 0
                 if way:
-                    described.setdefault(("q_linkreaction", each.identity, way), []).append(Said(reaction, passage, each))
+                    described.setdefault(("q_linkreaction", each.identity, way), []).append(
+                        Said(reaction, passage, each)
+                    )
     for (key, _, _), said in described.items():
         found += list(_differing(key, said))
     return Result(merged(found), looked_at)
@@ -93,8 +95,8 @@ def _differing(key: str, said: List[Said]) -> Iterator[Remark]:
             name = str(each.reached.target.group) if each.reached.target else describe_identity(each.reached.identity)
             own, other = (value_words(key, one.value, Around()) or str(one.value) for one in (each, usual))
             sentence = (
-                f"{key.upper()} of {name} is {own}, and {other} in {counts[usual.value]} of {len(said)} links to it, such as "
-                f"that of {source(usual.passage, usual.reached.packet)}"
+                f"{key.upper()} of {name} is {own}, and {other} in {counts[usual.value]} of {len(said)} links to it, "
+                f"such as that of {source(usual.passage, usual.reached.packet)}"
             )
             values = {key: Decimal(each.value), f"other_{key}": Decimal(usual.value)}
             others = (usual.reached.packet.row.number,) if usual.reached.packet.row else ()

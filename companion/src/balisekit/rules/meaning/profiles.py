@@ -14,6 +14,8 @@ from balisekit.rules.decoded import LINKING, SPEEDS, Decoded, GroupData, Packet,
 
 APART = 5
 """By how many per mille gradients of two groups may differ."""
+FACTORS = (10, 100)
+"""Between two numbers of Q_SCALE."""
 Step = Tuple[int, int, int]
 """From a place to another one, a value."""
 Lanes = Mapping[Tuple[str, int], Sequence["Profiles"]]
@@ -38,7 +40,7 @@ class Aspect:
         distance, key, mark = ELEMENT_KEYS[packet.number]
         unit, is_speed = packet.unit, packet.number == SPEEDS
         found: List[Step] = []
-        at, begin, before = 0, 0, mark
+        at, begin, before, value = 0, 0, mark, 0
         for each in packet.form["elements"]:
             at += each[distance] * unit
             place = origin + at if up == down else origin + at * up // down
@@ -77,6 +79,15 @@ class Aspect:
     def scaled(self, up: int, down: int = 1) -> Aspect:
         """The same with other distances."""
         return Aspect(self.passage, self.packet, self.origin, up, down)
+
+    def scale_of(self, other: Aspect) -> str:
+        """By which factor its distances have to be changed to say what another profile says, in words."""
+        for factor in FACTORS:
+            if self.scaled(factor).agrees_with(other):
+                return f"{factor} times too small"
+            if self.scaled(1, factor).agrees_with(other):
+                return f"{factor} times too large"
+        return ""
 
     def agrees_with(self, other: Aspect) -> bool:
         """Whether both say the same over the stretch that both cover, of which one stretch ends within it."""
@@ -171,6 +182,18 @@ def _lanes(decoded: Decoded, number: int) -> Lanes:
     return {lane: sorted(some, key=lambda each: each.begin) for lane, some in lanes.items()}
 
 
+def pairs(lane: Sequence[Profiles]) -> Iterator[Tuple[Profiles, Profiles, int]]:
+    """Each group with the next ones ahead, and from where on: where no group between them has a profile."""
+    for index, rear in enumerate(lane):
+        covered = rear.begin
+        for ahead in lane[index + 1 : index + 9]:
+            if ahead.begin >= rear.reach or covered >= rear.reach:
+                break
+            if ahead.begin > rear.begin and ahead.reach > covered:
+                yield rear, ahead, covered
+                covered = ahead.reach
+
+
 def agree(one: Aspect, other: Aspect, low: int, high: int, is_compared: bool) -> bool:
     """Whether two profiles agree from one place to another one, as far as both cover it."""
     if not is_compared:
@@ -195,7 +218,7 @@ def pieces_of(rear: Sequence[Aspect], ahead: Sequence[Aspect], low: int, high: i
     for begin, end in zip(places, places[1:]):
         some = [(each, each.step_at(begin)) for each in rear]
         others = [(each, each.step_at(begin)) for each in ahead]
-        piece = _piece(begin, end, [(a, v) for a, v in some if v is not None], [(a, v) for a, v in others if v is not None])
+        piece = _piece(begin, end, *([(one, v) for one, v in own if v is not None] for own in (some, others)))
         if open_piece and piece and _continues(open_piece, piece):
             open_piece = open_piece._replace(high=end)
             continue
