@@ -280,7 +280,7 @@ def test_e15(found: Found) -> None:
     (one,) = found(
         "E15", INFILL, set_in(SITE, GREEN, 12, overlap={"d_startol": 100, "t_ol": 60, "d_ol": 190, "v_releaseol": 126})
     )
-    assert one.sentence.startswith("D_OL is 190 m in the infill, and 200 m in the packet 12")
+    assert one.sentence.startswith("D_OL is 190 m in the infill, and 200 m in packet 12 of Signal 4")
 
 
 def test_e15_compares_metres(found: Found) -> None:

@@ -26,10 +26,9 @@ How sure. 88 %.
 from __future__ import annotations
 
 from decimal import Decimal
-from typing import Iterator, List, Optional, Tuple
+from typing import Dict, Iterator, List, Optional, Sequence, Tuple
 
 from balisekit.etcs.geometry import DIRECTIONS
-from balisekit.etcs.packets import packet_name
 from balisekit.etcs.variables import metres
 from balisekit.rules.decoded import GroupData, Packet, Passage
 from balisekit.rules.line import Line
@@ -97,19 +96,26 @@ def _signal(passage: Passage, target: GroupData) -> Optional[Passage]:
 
 
 def _differences(passage: Passage, target: GroupData) -> Iterator[Remark]:
-    signal = _signal(passage, target)
+    """One remark on all packets of an aspect that differ from those of the signal."""
+    signal, words, others = _signal(passage, target), [], []
+    values: Dict[str, Decimal] = {}
+    first: Optional[Packet] = None
     for number in COMPARED if signal else ():
-        own = [packet for packet in passage.infill if packet.number == number]
-        others = signal.of(number) if signal else []
-        for packet, other in zip(own, others):
-            first = next(fields_apart(packet, other), None)
-            if signal and first:
-                sentence = (
-                    f"{first.name} is {first.own} in the infill, and {first.other} in the packet {number} "
-                    f"({packet_name(number)}) of {source(signal, other)}"
-                )
-                rows = (other.row.number,) if other.row else ()
-                yield Remark("E15", passage.at(packet), sentence, target.group, first.values, others=rows)
+        for packet, other in zip((each for each in passage.infill if each.number == number), _of(signal, number)):
+            apart = next(fields_apart(packet, other), None)
+            if signal and apart:
+                first = first or packet
+                of = f"packet {number} of {source(signal, other)}" if not words else f"packet {number} there"
+                words.append(f"{apart.name} is {apart.own} in the infill, and {apart.other} in {of}")
+                values = {**apart.values, **values}
+                others += [other.row.number] if other.row else []
+    if first is not None:
+        rows = tuple(dict.fromkeys(others))
+        yield Remark("E15", passage.at(first), "; ".join(words), target.group, values, others=rows)
+
+
+def _of(signal: Optional[Passage], number: int) -> Sequence[Packet]:
+    return signal.of(number) if signal else []
 
 
 RULE = Rule("E15", "infill", __doc__ or "", find, Urgency.WRONG_INFORMATION)

@@ -5,7 +5,8 @@ place by more than the tolerance, or in the order of their M_LEVELTR and NID_NTC
 and D_LEVELTR from it unless that is 32,767 (now). The packet with D_LEVELTR 0 or 32,767 counts as right, or else the
 most frequent place. The tolerance is `--tolerance` (1 m without it), the unit of each packet by Q_SCALE, and one unit
 of the last decimal of the kilometres. If a place is between the first and the last group of the track, some group there
-has to have a packet 41 with D_LEVELTR 0 or 32,767 (SUBSET-026, 5.10 and 7.4.2).
+has to have a packet 41 with D_LEVELTR 0 or 32,767. A packet for both directions with a distance is E5 (SUBSET-026, 5.10
+and 7.4.2).
 
 How urgent. At worst wrong information: the train changes its level at another place.
 
@@ -38,6 +39,7 @@ from balisekit.rules.meaning.words import merged, source
 from balisekit.rules.rule import Options, Remark, Result, Rule
 from balisekit.rules.urgency import Urgency
 
+BOTH_DIRECTIONS = 2
 NOW, NEAR = 32_767, 5000
 """D_LEVELTR for at once, and in decimetres how near two announcements of one transition are."""
 
@@ -86,6 +88,8 @@ def _orders(decoded: Decoded) -> Dict[Lane, List[Order]]:
         for packet in passage.said:
             if packet.number == LEVELS and passage.way is not None:
                 sent = packet.form["d_leveltr"]
+                if packet.form["q_dir"] == BOTH_DIRECTIONS and sent not in (0, NOW):
+                    continue
                 place = passage.place(0 if sent == NOW else sent * packet.unit)
                 if place is not None:
                     own = found.setdefault(lane_of(passage), {})
