@@ -90,7 +90,7 @@ def items() -> List[Item]:
         "nid_packet": 41,
         "q_dir": 2,
         "q_scale": 1,
-        "d_leveltr": 500,
+        "d_leveltr": 32_767,
         "transitions": [{"m_leveltr": 2, "l_ackleveltr": 0}],
     }
     return [

@@ -1,42 +1,16 @@
-"""Lines with one mistake each, as teams make them: `examples/meaning/mistakes` has one for each rule E12 to E23.
+"""Lines with one mistake each for the rules E12 to E23, as teams make them: `examples/meaning/mistakes`.
 
-`python3 companion/tests/meaning_mistakes.py` writes the tables. Beside each table stands what is expected of
-`check TABLE --only E --rules all`.
+`python3 companion/tests/meaning_mistakes.py` writes each table, and beside it what `check TABLE --only E --rules all`
+writes after its first line.
 """
 from __future__ import annotations
 
-import copy
-from typing import Any, Callable, Dict, List, NamedTuple
+from typing import Any, Dict, List
 
-from meaning_line import FOLDER, Line, Row, Site, change, packet, table, telegram
+from meaning_line import Line, Row, Site, change, packet, table, telegram
+from meaning_mistakes_of_groups import FIXED, GREEN, MISTAKES_FOLDER, RED, SHORT, YELLOW, Change, Mistake, answer, raw
 
 from balisekit.engine.program import Program
-
-Change = Callable[[List[Row]], Any]
-MISTAKES_FOLDER = FOLDER / "mistakes"
-RED, YELLOW, GREEN, FIXED = "red", "yellow", "green", "*"
-SHORT = Line(signals=6)
-
-
-class Mistake(NamedTuple):
-    """A sound line, and how it is changed."""
-
-    line: Line
-    change: Change
-
-    @property
-    def rows(self) -> List[Row]:
-        """The rows with the mistake."""
-        rows = copy.deepcopy(self.line.rows)
-        self.change(rows)
-        return rows
-
-
-def raw(number: int, bits: str, direction: int = 1) -> Any:
-    """A packet that is kept as bits, with these bits after L_PACKET."""
-    whole = bits + "0" * (-len(bits) % 8)
-    body = "".join(f"{int(whole[at:at + 8], 2):02x}" for at in range(0, len(whole), 8))
-    return {"nid_packet": number, "q_dir": direction, "l_packet": 23 + len(bits), "body": body}
 
 
 def restriction(number: int, distance: int, length: int, speed: int) -> Any:
@@ -177,3 +151,4 @@ if __name__ == "__main__":
     _program = Program.find()
     for _name, _mistake in MISTAKES.items():
         (MISTAKES_FOLDER / f"{_name}.csv").write_text(table(_program, _mistake.rows), "utf-8")
+        (MISTAKES_FOLDER / f"{_name}.txt").write_text(answer(_name), "utf-8")

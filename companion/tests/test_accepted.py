@@ -286,7 +286,7 @@ def test_a_controlled_pair_has_no_reason(run: Run, table: Write, tmp_path: Path,
             "nid_packet": 41,
             "q_dir": 2,
             "q_scale": 1,
-            "d_leveltr": 500,
+            "d_leveltr": 32_767,
             "transitions": [{"m_leveltr": level, "l_ackleveltr": 0}],
         }
         return {

@@ -136,26 +136,26 @@ def test_a_rule_that_looks_at_nothing_is_no_success(run: Run, table: Write, prog
 
 def test_one_file_accepts_both(run: Run, program: Program, tmp_path: Path) -> None:
     """Proposed, signed and accepted; for one family the entries of the other one are named, and are not at fault."""
-    path = line(program, tmp_path / "t.csv", fault("distance-differs"), _no_gradient)
+    path = line(program, tmp_path / "t.csv", fault("orientation-differs"), _no_gradient)
     rows = proposed(run, path, tmp_path / "p.csv")
     assert [(row["rule"], row["balise"], row["packet"], row["direction"]) for row in rows] == [
         ("F10", "", "", "nominal"),
-        ("L2", "0", "0", "nominal"),
+        ("L3", "0", "0", "nominal"),
     ]
     file = entries(tmp_path / "a.csv", *({**row, **SIGNED} for row in rows))
     status, out, _ = run("check", path, "--accepted", file)
     assert status == 0 and out[-3:] == [
-        "program: no: findings 1; links: 1 found (L2 1)",
-        "findings 1, links 1: accepted 2, open 0; accepted though no case of correct data has them: L2 1",
-        "no open findings, links or remarks; accepted though no case of correct data has them: L2 1",
+        "program: no: findings 1; links: 1 found (L3 1)",
+        "findings 1, links 1: accepted 2, open 0; accepted though no case of correct data has them: L3 1",
+        "no open findings, links or remarks; accepted though no case of correct data has them: L3 1",
     ]
     assert out.count("    accepted: looked at (J. Doe, 2026-01-02)") == 2
     status, out, _ = run("check", path, "--accepted", file, "--only", "F")
-    assert status == 0 and "note: 1 entries are for rules that were not applied: L2" in out
+    assert status == 0 and "note: 1 entries are for rules that were not applied: L3" in out
     entries(file, {**rows[0], **SIGNED})
     status, out, _ = run("check", path, "--accepted", file)
     assert status == 1 and out[-1] == "findings 1, links 1: accepted 1, open 1"
-    entries(file, *({**row, **SIGNED} for row in rows), {**rows[1], **SIGNED, "rule": "L3"})
+    entries(file, *({**row, **SIGNED} for row in rows), {**rows[1], **SIGNED, "rule": "L2"})
     status, out, _ = run("check", path, "--accepted", file)
     assert status == 1 and f"{file}: row 4: unused: no finding is as it says" in out
 
@@ -197,7 +197,7 @@ def test_another_group_that_is_passed_over_opens_a_remark(run: Run, program: Pro
     (row,) = proposed(run, path, tmp_path / "p.csv")
     file = entries(tmp_path / "a.csv", {**row, **SIGNED})
     assert row["rule"] == "L9" and run("check", path, "--accepted", file)[0] == 0
-    (new,) = program.encode([telegram(9, 0, 0, 1)])
+    (new,) = program.encode([telegram(9, 0, 0, 1, {"nid_packet": 44, "q_dir": 2, "l_packet": 23, "body": ""})])
     with open(path, "a", encoding="utf-8") as table:
         table.write(f"N,N1,11.500,rising,{new.line}\n")
     assert run("check", path, "--accepted", file)[0] == 1
@@ -212,7 +212,7 @@ ENTRY = {"nid_c": "1", "nid_bg": "1", **SIGNED, "sha256": "0" * 64}
         ({"rule": "F14", "aspect": "*"}, "aspect", "F14 is not accepted by *"),
         ({"rule": "F14", "until": "2026-12-31", "direction": "*"}, "direction", "F14 is not accepted by *"),
         ({"rule": "F8", "aspect": "*", "balise": "0"}, "aspect", "F8 is not accepted by * as aspect"),
-        ({"rule": "L2", "aspect": "*", "until": "2026-12-31"}, "aspect", "L2 is not accepted by * as aspect"),
+        ({"rule": "L3", "aspect": "*", "until": "2026-12-31"}, "aspect", "L3 is not accepted by * as aspect"),
         ({"rule": "F10", "nid_c": "", "nid_bg": "", "message": "m", "direction": "*"}, "until", "an entry with * that"),
         ({"rule": "L10"}, "rule", "L10 is none of F1 to F16, L1 to L9 and E1 to E23"),
         ({"rule": "L0"}, "rule", "L0 is none of F1 to F16, L1 to L9 and E1 to E23"),
@@ -286,7 +286,7 @@ def test_what_no_entry_can_name(run: Run, table: Write, program: Program, tmp_pa
         "nid_bg": 1,
         "packets": [
             {**authority()[0], "nid_packet": 15, "v_main": None},
-            link_tables.linking(1, link_tables.link(10, 77, 1)),
+            link_tables.linking(1, link_tables.link(5, 77, 1)),
         ],
     }
     del message["packets"][0]["v_main"]

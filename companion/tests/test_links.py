@@ -18,9 +18,10 @@ from telegrams import SPARE
 
 from balisekit.engine.program import Program
 from balisekit.etcs.geometry import kilometres
+from balisekit.present.links_text import compared
 from balisekit.rules.line import BY_LINKS, Line, with_directions
 from balisekit.rules.links import RULES, compare
-from balisekit.rules.rule import Options
+from balisekit.rules.rule import CORRECT_DATA, Options
 from balisekit.tables.model import Aspect, Group, Message, Row
 
 Write = Callable[..., Path]
@@ -141,39 +142,46 @@ def test_the_example_of_readme_has_none(run: Run) -> None:
     assert any(one.startswith("note: rows 14 to 15  Infill of D  km 16.500: its direction") for one in out)
 
 
+OUT = "L1 does not name them, since the table may be a section of a longer line"
+
+
 @pytest.mark.parametrize(
-    "left, notes",
+    "left, notes, named",
     [
         (
             "EFGH",
             [
                 "note: 3 links lead beyond Signal D (km 16.900), the group with the greatest kilometre, to NID_BG 105, "
-                "106: if the table is a part of a line, that is why L1 names them"
+                f"106: {OUT}"
             ],
+            0,
         ),
         (
             "FGH",
             [
                 "note: 3 links lead beyond Signal E (km 18.250), the group with the greatest kilometre, to NID_BG 106, "
-                "107: if the table is a part of a line, that is why L1 names them"
+                f"107: {OUT}"
             ],
+            0,
         ),
-        ("CF", []),
-        ("", []),
+        ("CF", [], 4),
+        ("", [], 0),
     ],
     ids=["D", "E", "inside", "whole"],
 )
-def test_links_that_lead_out_of_a_part_of_a_line(left: str, notes: List[str], run: Run, table: Write) -> None:
-    """Several over one end have one note, and each is found still. A group that lacks between others has none."""
+def test_links_that_lead_out_of_a_section_of_a_line(
+    left: str, notes: List[str], named: int, run: Run, table: Write
+) -> None:
+    """Those over one end have one note, and are not found one by one. A group that lacks between others is found."""
     lines = (TOP / "examples" / "table" / "line.csv").read_text("utf-8").splitlines()
     some = [line for line in lines if not line.startswith(tuple(f"Signal {one}" for one in left))]
     out = run("links", table(*some))[1]
-    found = [line for line in out if line.startswith("note: ") and "lead beyond" in line]
-    assert found == notes and (not notes or sum(": links L1: " in line for line in out) == 3)
+    found = [line for line in out if line.startswith("note: ") and " beyond " in line]
+    assert found == notes and sum(": links L1: " in line for line in out) == named
 
 
 def test_links_that_lead_out_down_the_kilometres() -> None:
-    """Each end of each track by itself; a link alone has no note, and one to a group that is not known is none."""
+    """Each end of each track by itself; a link to a group that is not known, or within Q_LOCACC of the end, is none."""
 
     def line_of_links(*distances: int, nid_bg: int = 7) -> List[str]:
         links = [link_tables.link(distance, nid_bg, 1) for distance in distances]
@@ -181,13 +189,28 @@ def test_links_that_lead_out_down_the_kilometres() -> None:
             (group("A", "5", nominal="falling", track="2"), [header(1, link_tables.linking(1, *links))]),
             (group("B", "6", nominal="falling", track="2"), [header(2)]),
         )
-        return [note for note in compare(made).notes if "lead beyond" in note]
+        assert len([rule for rule, _ in found(made) if rule == "L1"]) == (distances == (5,))
+        return [note for note in compare(made).notes if " beyond " in note]
 
-    assert line_of_links(500) == line_of_links(500, 500, nid_bg=16_383) == []
-    assert line_of_links(500, 500) == [
-        '2 links lead beyond A (km 5.000), the group with the least kilometre of track "2", to NID_BG 7: if the table '
-        "is a part of a line, that is why L1 names them"
-    ]
+    where = 'beyond A (km 5.000), the group with the least kilometre of track "2", to NID_BG 7'
+    assert line_of_links(5) == line_of_links(500, 500, nid_bg=16_383) == []
+    assert line_of_links(6) == [f"1 link leads {where}: {OUT}"]
+    assert line_of_links(500, 500) == [f"2 links lead {where}: {OUT}"]
+
+
+def test_a_group_of_another_country(run: Run) -> None:
+    """L1 names a group with that NID_BG and another NID_C, and so it does beyond the end of the table."""
+    for distance in (1000, 5000):
+        abroad = {**link_tables.link(distance, 2, 1), "nid_c": 7}
+        one = line_with(
+            (group("A", "0", nominal="rising"), [header(1, link_tables.linking(1, abroad))]),
+            (group("B", "1", nominal="rising"), [header(2)]),
+        )
+        (remark,) = compare(one).remarks
+        assert (remark.rule, [each.group.name for each in remark.named]) == ("L1", ["B"]) and remark.sentence == (
+            "group 2 of country or region 7 is linked, and no group of the table has that identity; B (km 1.000) has "
+            "that NID_BG in country or region 1"
+        )
 
 
 def test_the_page_has_what_is_written(run: Run, monkeypatch: pytest.MonkeyPatch) -> None:
@@ -205,8 +228,22 @@ def test_the_page_has_what_is_written(run: Run, monkeypatch: pytest.MonkeyPatch)
 
 def test_the_page_is_made_of_the_rules() -> None:
     assert rules_page.page(PAGE) == PAGE
-    heads = ["What it says", "How urgent", "Usual cause", "What may happen", "How to correct it", "Example"]
+    heads = [
+        "What it says",
+        "How urgent",
+        "Usual cause",
+        "What may happen",
+        "How to correct it",
+        CORRECT_DATA,
+        "Example",
+    ]
     assert [list(rule.parts) for rule in RULES] == [heads] * 9
+
+
+def test_the_table_of_correct_data_has_the_rules_that_may_get_it() -> None:
+    table = PAGE.split("## Links on correct data")[1].split("\n## ")[0]
+    named = re.findall(r"^\|[^|]+\| (L\d)", table, re.MULTILINE)
+    assert sorted(named) == [rule.name for rule in RULES if rule.has_correct_data] == ["L1", "L2", "L8", "L9"]
 
 
 def test_explain_is_what_the_page_says(run: Run) -> None:
@@ -308,12 +345,13 @@ def test_tracks_are_chains_of_their_own() -> None:
         (group("X", "0.7", nominal="rising", track="2"), [header(9)]),
     )
     assert found(one) == []
-    notes = compare(one).notes
-    assert len(notes) == 1 and notes[0].endswith("link 0: B (km 7.000) is on another track, and is not compared")
+    links = compare(one)
+    assert links.notes == () and compared(links).endswith("; not compared: 1 link to another track")
+    assert "L2 1 of 2 links, L3 0 of 1 link" in compared(links)
 
 
 def test_aspects_and_duplicates_are_told_once() -> None:
-    chain = link_tables.linking(1, link_tables.link(1000, 5, 1))
+    chain = link_tables.linking(1, link_tables.link(5, 5, 1))
     fixed, switched = Row(2, "A", "", aspect="*", km=Decimal(0)), Row(3, "A", "", aspect="x", km=Decimal(1))
     other = Row(4, "A", "", aspect="y", km=Decimal(1))
     one = Group("A", (Aspect("x", (fixed, switched)), Aspect("y", (fixed, other))))
@@ -495,9 +533,52 @@ def _numbered(some: List[Tuple[Group, List[Form]]]) -> Line:
     return Line(groups, forms)
 
 
+SAYING: Form = {"nid_packet": 44, "q_dir": 2, "l_packet": 23, "body": ""}
+"""A packet for both directions."""
+
+
+@pytest.mark.parametrize(
+    "number, direction, orientation, is_named",
+    [(44, 1, "rising", True), (44, 0, "rising", False), (44, 0, "falling", True), (44, 0, "", True)]
+    + [(number, 2, "rising", False) for number in (145, 254)],
+)
+def test_groups_that_say_nothing_in_that_direction_are_a_note(
+    number: int, direction: int, orientation: str, is_named: bool
+) -> None:
+    """Each is counted once, however many packets 5 pass it over. One whose direction is not known counts either way."""
+    links = [link_tables.linking(1, link_tables.link(1000, 2, 1)), link_tables.linking(1, link_tables.link(1000, 2, 1))]
+    between = {**SAYING, "nid_packet": number, "q_dir": direction}
+    one = line_with(
+        (group("A", "0", nominal="rising"), [header(1, *links)]),
+        (group("B", "1", nominal="rising"), [header(2)]),
+        (group("X", "0.5", nominal=orientation), [header(3, between)]),
+        (group("Y", "0.6", nominal="rising"), [header(4)]),
+    )
+    words = ["1 group with Q_LINK 1 is not linked by packets 5 that pass it, and says nothing in that direction"]
+    if not is_named:
+        words = ["2 groups with Q_LINK 1 are not linked by packets 5 that pass them, and say nothing in that direction"]
+    assert [rule for rule, _ in found(one)] == ["L9", "L9"] * is_named
+    assert [note for note in compare(one).notes if note.startswith("L9")] == [f"L9: {each}" for each in words]
+
+
+def test_late_profiles_of_messages() -> None:
+    """The first message 3 is found. One that follows another one may go on from its profiles: a note counts it."""
+    packets = [{**link_tables.authority()[0], "nid_packet": 15}, *link_tables.authority()[1:]]
+    del packets[0]["v_main"]
+    packets[2]["elements"][0]["d_static"] = 50
+    form = {"nid_message": 3, "nid_c": 1, "nid_bg": 1, "packets": packets}
+    some = [(Message(number, ""), form) for number in (3, 5, 8)]
+    links = compare(line_with((group("A", "0", nominal="rising"), [header(1)]), messages=some))
+    assert [(each.rule, str(each.location)[:17]) for each in links.remarks] == [("L8", "message of line 3")]
+    note = "L8: 2 profiles begin late in messages 3 that have another message 3 before them (lines 5, 8)"
+    assert list(links.notes) == [note]
+
+
 def test_several_that_are_passed_over_are_one_line() -> None:
     chain = link_tables.linking(1, link_tables.link(1000, 2, 1))
-    some = [(group(f"X{number}", f"0.{number}", nominal="rising"), [header(10 + number)]) for number in range(1, 6)]
+    some = [
+        (group(f"X{number}", f"0.{number}", nominal="rising"), [header(10 + number, SAYING)]) for number in range(1, 6)
+    ]
     one = line_with(
         (group("A", "0", nominal="rising"), [header(1, chain)]), (group("B", "1", nominal="rising"), [header(2)]), *some
     )
@@ -523,7 +604,7 @@ def test_groups_between_two_are_counted_as_they_are_named() -> None:
         ("L", "6", 14, 1),
     ]
     chain = link_tables.linking(1, link_tables.link(9000, 2, 1), link_tables.link(0, 3, 1))
-    forms = [[header(identity, *([chain] if name == "A" else []), linked=linked)] for name, _, identity, linked in some]
+    forms = [[header(identity, chain if name == "A" else SAYING, linked=linked)] for name, _, identity, linked in some]
     one = line_with(*[(group(name, km, nominal="rising"), form) for (name, km, _, _), form in zip(some, forms)])
     over = [each.sentence for each in compare(one, Options(Decimal(9000))).remarks if each.rule == "L9"]
     assert over == [

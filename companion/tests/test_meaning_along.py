@@ -7,26 +7,17 @@ from typing import Any, Callable, Dict, List, Sequence, Tuple
 
 import meaning_mistakes
 import pytest
-from conftest import Run
 from meaning_line import Line, Row, change, table
 from meaning_mistakes import (
     BORDER,
     BOTH,
-    FIXED,
-    GREEN,
     INFILL,
     LEVEL_2,
     MISTAKES,
-    MISTAKES_FOLDER,
-    RED,
     RESTRICTED,
-    SHORT,
-    YELLOW,
-    Change,
     added,
     all_of,
     form_of,
-    raw,
     restriction,
     session,
     set_in,
@@ -34,6 +25,7 @@ from meaning_mistakes import (
     single_balise,
     with_packet,
 )
+from meaning_mistakes_of_groups import FIXED, GREEN, MISTAKES_FOLDER, RED, SHORT, YELLOW, Change, answer, raw
 from test_meaning import written
 
 from balisekit.engine.program import Program
@@ -96,13 +88,12 @@ def rows_named(remark: Remark) -> Tuple[int, ...]:
 
 
 @pytest.mark.parametrize("name", MISTAKES)
-def test_examples(run: Run, program: Program, name: str) -> None:
+def test_examples(program: Program, name: str) -> None:
     """Each table is made of its mistake, and gets what is written beside it, at least from its own rule."""
     path = MISTAKES_FOLDER / f"{name}.csv"
     assert path.read_text("utf-8") == table(program, MISTAKES[name].rows)
-    status, out, _ = run("check", path, "--only", "E", "--rules", "all")
-    assert status == 1 and any(f": {name}: " in line for line in out)
-    assert out[1:] == path.with_suffix(".txt").read_text("utf-8").splitlines()
+    said = answer(name)
+    assert said == path.with_suffix(".txt").read_text("utf-8") and f": {name}: " in said
 
 
 @pytest.mark.parametrize(

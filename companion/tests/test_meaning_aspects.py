@@ -2,17 +2,31 @@
 from __future__ import annotations
 
 from pathlib import Path
-from typing import Any, Callable, List, Sequence, Tuple
+from typing import Any, List, Sequence, Tuple
 
 from meaning_line import Line, Row, change
+from meaning_mistakes_of_groups import (
+    FIXED,
+    GREEN,
+    RED,
+    SHORT,
+    YELLOW,
+    Change,
+    element_with,
+    exchanged,
+    packet_with,
+    packets_added,
+    raw,
+    row_of,
+    telegram,
+    turned,
+)
 from test_meaning import remarks, written
-from test_meaning_packets import FIXED, GREEN, RED, SHORT, YELLOW, element_with, packet_with, packets_added, raw, row_of
 
 from balisekit.engine.program import Program
 from balisekit.rules.rule import Options, Remark
 from balisekit.rules.urgency import Urgency
 
-Change = Callable[[List[Row]], Any]
 PROFILES = "21 (gradient profile), 27 (international static speed profile)"
 FOUR = Line(signals=6, aspects=(RED, YELLOW, GREEN, "blue"))
 
@@ -29,11 +43,6 @@ def said(made: Sequence[Remark]) -> List[Tuple[Any, ...]]:
     return [(each.rows, each.sentence) for each in made]
 
 
-def telegram(rows: List[Row], signal: int, aspect: str) -> Any:
-    """The telegram of an aspect."""
-    return next(row.form for row in rows if (row.group, row.aspect) == (f"Signal {signal}", aspect))
-
-
 def without(signal: int, aspect: str, *numbers: int) -> Change:
     """Removes packets."""
 
@@ -42,26 +51,6 @@ def without(signal: int, aspect: str, *numbers: int) -> Change:
         form["packets"] = [each for each in form["packets"] if each["nid_packet"] not in numbers]
 
     return remove
-
-
-def turned(signal: int, aspect: str) -> Change:
-    """All packets of an aspect are for the other direction."""
-
-    def turn(rows: List[Row]) -> None:
-        for packet in telegram(rows, signal, aspect)["packets"]:
-            packet["q_dir"] = 1 - packet["q_dir"]
-
-    return turn
-
-
-def exchanged(signal: int) -> Change:
-    """Yellow and green have each other's packets."""
-
-    def exchange(rows: List[Row]) -> None:
-        one, other = (telegram(rows, signal, aspect) for aspect in (YELLOW, GREEN))
-        one["packets"], other["packets"] = other["packets"], one["packets"]
-
-    return exchange
 
 
 def test_e8_of_the_other_direction(program: Program, tmp_path: Path) -> None:
@@ -175,7 +164,7 @@ def test_e10(program: Program, tmp_path: Path) -> None:
         (YELLOW, [row_of(signal, aspect) for aspect in (RED, YELLOW, GREEN)]) for signal in (1, 2)
     ]
     assert made[0].sentence == (
-        'from 0 m to 200 m from the group "yellow" has V_STATIC 120 km/h [24], and "red" has V_STATIC 100 km/h [20]; '
+        'from 0 m to 200 m from the group, "yellow" has V_STATIC 120 km/h [24], and "red" has V_STATIC 100 km/h [20]; '
         '"yellow" differs from "green" too'
     )
 

@@ -2,9 +2,28 @@
 from __future__ import annotations
 
 from pathlib import Path
-from typing import Any, Callable, List, Tuple
+from typing import Any, List, Tuple
 
-from meaning_line import Line, Row, change
+import meaning_line
+import pytest
+from meaning_line import Row, change
+from meaning_mistakes_of_groups import (
+    FIXED,
+    GREEN,
+    MISTAKES,
+    MISTAKES_FOLDER,
+    RED,
+    SHORT,
+    YELLOW,
+    Change,
+    answer,
+    element_with,
+    packet_with,
+    packets_added,
+    raw,
+    restriction,
+    row_of,
+)
 from test_meaning import remarks, written
 
 from balisekit.engine.program import Program
@@ -13,57 +32,7 @@ from balisekit.rules.line import Line as LineOfTable
 from balisekit.rules.rule import ALL, Options
 from balisekit.tables import messages as messages_file, reader
 
-Change = Callable[[List[Row]], Any]
-SHORT = Line(signals=6)
 ASKED = Options(asked=frozenset({ALL}))
-RED, YELLOW, GREEN, FIXED = "red", "yellow", "green", "*"
-
-
-def row_of(signal: int, aspect: str) -> int:
-    """The row of an aspect of a signal in the table of the short line."""
-    return next(
-        number for number, row in enumerate(SHORT.rows, 2) if (row.group, row.aspect) == (f"Signal {signal}", aspect)
-    )
-
-
-def packet_with(signal: int, aspect: str, number: int, **values: Any) -> Change:
-    """Sets these values in a packet. One that is None is removed."""
-
-    def set_values(rows: List[Row]) -> None:
-        form = change(rows, f"Signal {signal}", aspect, number)
-        form.update(values)
-        for key, value in values.items():
-            if value is None:
-                del form[key]
-
-    return set_values
-
-
-def element_with(signal: int, aspect: str, number: int, place: int, **values: Any) -> Change:
-    """Sets these values in an element of a profile."""
-    return lambda rows: change(rows, f"Signal {signal}", aspect, number)["elements"][place].update(values)
-
-
-def packets_added(signal: int, aspect: str, *packets: Any, place: int = 99) -> Change:
-    """Puts packets into a telegram."""
-
-    def add(rows: List[Row]) -> None:
-        form = next(row.form for row in rows if (row.group, row.aspect) == (f"Signal {signal}", aspect))
-        form["packets"][place:place] = packets
-
-    return add
-
-
-def raw(number: int, bits: str, direction: int = 1) -> Any:
-    """A packet that is kept as bits, with these bits behind L_PACKET."""
-    whole = bits + "0" * (-len(bits) % 8)
-    body = "".join(f"{int(whole[at:at + 8], 2):02x}" for at in range(0, len(whole), 8))
-    return {"nid_packet": number, "q_dir": direction, "l_packet": 23 + len(bits), "body": body}
-
-
-def restriction(speed: int, more: str = "") -> Any:
-    """A packet 65: 100 m, from 200 m on."""
-    return raw(65, f"01{7:08b}{200:015b}{100:015b}0{speed:07b}{more}")
 
 
 def found(
@@ -73,6 +42,15 @@ def found(
     made = remarks(program, written(program, path, SHORT, *changes), options, [rule])
     assert all(each.values or "end mark" in each.sentence for each in made)
     return [(each.location.row.number if each.location.row else 0, each.sentence) for each in made]
+
+
+@pytest.mark.parametrize("name", MISTAKES)
+def test_examples_of_mistakes(program: Program, name: str) -> None:
+    """Each table is made of its mistake, and gets what is written beside it: at least a remark of its rule."""
+    path = MISTAKES_FOLDER / f"{name}.csv"
+    assert path.read_text("utf-8") == meaning_line.table(program, MISTAKES[name].rows)
+    said = answer(name)
+    assert path.with_suffix(".txt").read_text("utf-8") == said and f": {name}: " in said
 
 
 def test_e1(program: Program, tmp_path: Path) -> None:

@@ -9,7 +9,8 @@ from balisekit.present.explanations import page_lines, pages
 from balisekit.present.refusals import not_looked_at, refused_counts, refused_lines
 from balisekit.rules.checking import Checked
 from balisekit.rules.families import FAMILIES
-from balisekit.rules.links import Links
+from balisekit.rules.links import L2, Links
+from balisekit.rules.location import ANOTHER_TRACK
 from balisekit.rules.rule import Remark, Result, Rule
 from balisekit.tables.names import clean, passed_over
 
@@ -65,8 +66,10 @@ def found(links: Links, rules: str = "") -> str:
 
 
 def compared(links: Links) -> str:
-    """What each rule has compared."""
-    return f"compared: {', '.join(_compared(rule, result) for rule, result in links.results.items())}"
+    """What each rule has compared, and which links lead to another track."""
+    others = links.results[L2].not_looked_at.get(ANOTHER_TRACK, 0) if L2 in links.results else 0
+    more = f"; not compared: {others} link{'' if others == 1 else 's'} to another track" if others else ""
+    return f"compared: {', '.join(_compared(rule, result) for rule, result in links.results.items())}{more}"
 
 
 def empty_rules(links: Links) -> List[str]:

@@ -10,7 +10,6 @@ from bisect import bisect_left, bisect_right
 from dataclasses import dataclass, field
 from decimal import Decimal
 from functools import cached_property
-from itertools import islice
 from typing import Dict, Iterator, List, Mapping, Optional, Sequence, Tuple
 
 from balisekit.engine.grammar import Finding
@@ -31,7 +30,7 @@ END = (None, None)
 
 @dataclass(frozen=True)
 class LinkedGroups:
-    """The groups of a track that say that they are linked, and by which identity, in the order of the kilometres."""
+    """Groups of a track that say that they are linked, and by which identity, in the order of the kilometres."""
 
     groups: Sequence[BaliseGroup]
     places: Mapping[Identity, Sequence[int]]
@@ -40,9 +39,10 @@ class LinkedGroups:
     """Of each group of the track, by its number: the first of these groups that is not below it, and above it."""
 
     @classmethod
-    def of(cls, along: Sequence[BaliseGroup]) -> LinkedGroups:
-        """Those of a track's groups."""
-        groups = [each for each in along if each.linked and each.identity is not None and each.identity[1] != NOT_KNOWN]
+    def of(cls, along: Sequence[BaliseGroup], way: Optional[int], speaking: bool) -> LinkedGroups:
+        """Those of a track's groups that say anything to a train that goes this way, or those that say nothing."""
+        linked = (each for each in along if each.linked and each.identity and each.identity[1] != NOT_KNOWN)
+        groups = [each for each in linked if each.speaks_to(way) == speaking]
         places: Dict[Identity, List[int]] = {}
         for place, group in enumerate(groups):
             places.setdefault(group.identity or (0, 0), []).append(place)
@@ -50,20 +50,19 @@ class LinkedGroups:
         own = [(each.number, each.km or Decimal()) for each in along]
         return cls(groups, places, {number: (bisect_left(known, km), bisect_right(known, km)) for number, km in own})
 
-    def between(self, one: BaliseGroup, other: BaliseGroup, chain: Chain) -> Tuple[List[BaliseGroup], int]:
-        """The first three between two groups of the track that a chain does not name, and how many there are.
+    def between(self, one: BaliseGroup, other: BaliseGroup, chain: Chain) -> Sequence[range]:
+        """The places of the groups between two groups that a chain does not name.
 
-        They are counted without a look at each, since thousands may stand between two groups.
+        They are found without a look at each, since thousands may stand between two groups.
         """
         (low, above), (low_too, above_too) = self.bounds[one.number], self.bounds[other.number]
         begin, end = min(above, above_too), max(low, low_too)
         if begin >= end:
-            return [], 0
-        known = chain.identities
-        named = [self.places[identity] for identity in known if identity in self.places]
-        count = end - begin - sum(bisect_left(places, end) - bisect_left(places, begin) for places in named)
-        others = (self.groups[place] for place in range(begin, end) if self.groups[place].identity not in known)
-        return list(islice(others, min(count, 3))), count
+            return []
+        named = (self.places[identity] for identity in chain.identities if identity in self.places)
+        cuts = sorted(place for own in named for place in own[bisect_left(own, begin) : bisect_left(own, end)])
+        ranges = map(range, [begin, *(cut + 1 for cut in cuts)], [*cuts, end])
+        return [each for each in ranges if each]
 
 
 @dataclass(eq=False)
@@ -168,6 +167,13 @@ class Line:
             groups.sort(key=lambda each: each.km or Decimal())
         return along
 
+    def linked(self, track: str, way: Optional[int], speaking: bool) -> LinkedGroups:
+        """The groups with a kilometre that say that they are linked, by whether they say anything to such trains."""
+        key = track, way, speaking
+        if key not in self._linked:
+            self._linked[key] = LinkedGroups.of(self.along[track], way, speaking)
+        return self._linked[key]
+
     @cached_property
     def places(self) -> Sequence[Optional[int]]:
         """The place of each group along its track in decimetres, in the order of the table, by the jumps."""
@@ -175,9 +181,8 @@ class Line:
         return [chainages[group.track].place(group.km) for group in self.groups]
 
     @cached_property
-    def linked(self) -> Mapping[str, LinkedGroups]:
-        """Of each track: the groups with a kilometre that say that they are linked."""
-        return {track: LinkedGroups.of(groups) for track, groups in self.along.items()}
+    def _linked(self) -> Dict[Tuple[str, Optional[int], bool], LinkedGroups]:
+        return {}
 
 
 class Records(Mapping[int, Form]):
@@ -227,4 +232,5 @@ def _balise_group(number: int, group: Group, contents: Mapping[int, Content]) ->
     balises, where = len(group.aspects[0].rows), kilometres(group)
     track = next((row.track for row in rows.values() if row.track), "")
     unread = tuple(sorted(rows.keys() - contents.keys())) if len(contents) < len(rows) else ()
-    return BaliseGroup(number, group, balises, identity, linked, where.group, where.rising, track, unread)
+    says = tuple(bool(unread) or any(each.says[index] for each in contents.values()) for index in range(2))
+    return BaliseGroup(number, group, balises, identity, linked, where.group, where.rising, track, unread, says=says)

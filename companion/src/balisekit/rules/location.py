@@ -12,7 +12,7 @@ from balisekit.tables.names import clean, describe_balise, describe_group, descr
 
 NOT_KNOWN = 16_383
 """The NID_BG that says that an identity is not known."""
-NOT_IN_TABLE = "not in the table"
+NOT_IN_TABLE, ANOTHER_TRACK = "not in the table", "another track"
 Identity = Tuple[int, int]
 """NID_C and NID_BG."""
 
@@ -39,6 +39,17 @@ class BaliseGroup:
     """Whether `rising` is taken from the links that name it, a single balise."""
     links_differ: bool = False
     """Whether these links disagree about it."""
+    says: Tuple[bool, ...] = (True, True)
+    """Whether it says anything of the track in nominal and in reverse direction."""
+
+    def speaks_to(self, way: Optional[int]) -> bool:
+        """Whether it says anything to a train that passes it this way along the kilometres: 1 if they rise for it.
+
+        If the way is not known, either direction counts.
+        """
+        if way is None or self.rising is None:
+            return any(self.says)
+        return self.says[0 if self.rising == way else 1]
 
     def along(self, direction: str) -> Optional[int]:
         """1 if the kilometres rise for a train that passes in this direction, -1 if they fall."""
@@ -102,4 +113,4 @@ def incomparable(one: Optional[BaliseGroup], other: Optional[BaliseGroup]) -> st
         return NOT_IN_TABLE
     if one.km is None or other.km is None:
         return "no kilometre"
-    return "another track" if one.track != other.track else ""
+    return ANOTHER_TRACK if one.track != other.track else ""

@@ -29,6 +29,8 @@ RECORD = re.compile(
     r'"q_link":(\d)'
 )
 """The record of a telegram: the keys of its header, and NID_C with the packets as one text."""
+SAYS_NOTHING = (145, 254, 255)
+"""Packets by which a group says nothing of the track."""
 KEPT = 1 << 12
 """So many of these texts are kept with what they say."""
 
@@ -84,6 +86,8 @@ class Content(NamedTuple):
     packets: Tuple[Sequence[Packet], ...]
     """Those that hold in each of the DIRECTIONS. Packet 0 has none, and is none of them."""
     one_way: Optional[OneWay]
+    says: Tuple[bool, ...]
+    """Whether it says anything of the track in each of the DIRECTIONS."""
 
     @classmethod
     def of(cls, form: Form) -> Content:
@@ -250,21 +254,24 @@ def contents_of(telegrams: Iterable[Tuple[Row, Record]]) -> Iterator[Tuple[Row, 
         yield row, Content((int(nid_c), int(nid_bg)), linked == "1", int(n_pig), int(duplicate), *packets(text))
 
 
-def _packets(form: Form) -> Tuple[Tuple[Sequence[Packet], ...], Optional[OneWay]]:
-    """The packets that rules compare, by direction, and the first one of all that holds in one direction only."""
+def _packets(form: Form) -> Tuple[Tuple[Sequence[Packet], ...], Optional[OneWay], Tuple[bool, ...]]:
+    """The packets that rules compare, by direction, the first of all that holds in one direction only, and `says`."""
     own: Tuple[List[Packet], ...] = ([], [])
     one_way: Optional[OneWay] = None
+    spoken: Set[int] = set()
     for place, packet in enumerate(form["packets"]):
         number, direction = packet["nid_packet"], packet.get("q_dir", 2)
         if direction != 2 and one_way is None:
             one_way = number, NOMINAL if direction == 1 else REVERSE
+        if number not in SAYS_NOTHING:
+            spoken.update(HOLDING[direction])
         if number in COMPARED:
             links = tuple(_links(packet, form["nid_c"])) if number == LINKING else ()
             begin, is_open = _begin(packet) if number in PROFILES else (0, False)
             content = Packet(place, number, links, begin, is_open)
             for index in HOLDING[direction]:
                 own[index].append(content)
-    return own, one_way
+    return own, one_way, tuple(index in spoken for index in range(len(DIRECTIONS)))
 
 
 def _begin(packet: Form) -> Tuple[int, bool]:

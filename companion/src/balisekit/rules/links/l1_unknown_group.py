@@ -1,45 +1,100 @@
 """L1: linked group not in the table.
 
 What it says. A packet 5 names a group, by NID_C and NID_BG, that no row of the table has. A link without NID_C is of
-the country or region of the group before it. A link to NID_BG 16,383 names no group, since its identity is not known
-yet, and is never found by this rule (SUBSET-026, 3.4.4 and 7.4.2).
+the country or region of the group before it. If the table has a group with that NID_BG and another NID_C, the line
+names it. A link to NID_BG 16,383 names no group, since its identity is not known yet, and is never found by this rule.
+Links that by D_LINK lead beyond an end of a track by more than Q_LOCACC and `--tolerance` are not named one by one: a
+note for each end counts them, since the table may be a section of a longer line (SUBSET-026, 3.4.4 and 7.4.2).
 
-How urgent. At worst the train brakes or is tripped at each passage. A link that leads beyond the end of the table is no
-fault.
+How urgent. At worst the train brakes or is tripped at each passage.
 
-Usual cause. The number of the group was mistyped, or the group was given a new number. Or the group lies beyond the
-part of the line that the table has: where by D_LINK several links lead beyond one end of a track, a note counts them.
+Usual cause. The number of the group was mistyped, or the group was given a new number. Or Q_NEWCOUNTRY and NID_C were
+forgotten at a border.
 
 What may happen. The train waits for a group that does not come, and applies the linking reaction (Q_LINKREACTION) at
 each passage. A group that stands there with another identity and Q_LINK 1 is passed over, and what it says is lost.
 
 How to correct it. Correct NID_C and NID_BG of the link, or add the group to the table.
 
+Correct data that gets it. A section of a longer line, whose next group stands no farther from the end of the table than
+Q_LOCACC and `--tolerance` allow.
+
 Example. The reverse link of group B names group 5, and the table has no group 5.
 """
 from __future__ import annotations
 
-from typing import Iterator, Union
+from decimal import Decimal
+from typing import Dict, Iterator, List, Mapping, Set, Tuple, Union
 
 from balisekit.rules.line import Line
-from balisekit.rules.passages import Chain
+from balisekit.rules.location import BaliseGroup, Identity
+from balisekit.rules.passages import Chain, Link
 from balisekit.rules.rule import Options, Remark, Result, Rule
 from balisekit.rules.urgency import Urgency
-from balisekit.tables.names import describe_identity
+from balisekit.tables.names import describe_identity, listed, quoted
+
+NAMED = 3
+End = Tuple[str, bool]
+"""A track, and whether it is the end where its kilometres are greatest."""
+Alike = Mapping[int, BaliseGroup]
+"""By NID_BG: the first group of the table that has it."""
 
 
 def find(line: Line, options: Options) -> Result:
     """Looks for each identity that a link names."""
-    return Result.of_chains(line, _look_at)
+    alike: Dict[int, BaliseGroup] = {}
+    for group in line.groups:
+        if group.identity:
+            alike.setdefault(group.identity[1], group)
+    ends: Dict[End, List[Identity]] = {}
+    leading: Set[Tuple[int, int]] = set()
+    for chains in line.alike:
+        for end, link in _beyond(line, chains[0], alike, options.tolerance):
+            ends.setdefault(end, []).extend([link.identity] * len(chains))
+            leading.add((id(chains[0]), link.number))
+    result = Result.of_chains(line, lambda chain: _look_at(chain, alike, leading))
+    return Result(result.found, result.looked_at, result.not_looked_at, list(_notes(line, ends)))
 
 
-def _look_at(chain: Chain) -> Iterator[Union[Remark, str, None]]:
+def _look_at(chain: Chain, alike: Alike, leading: Set[Tuple[int, int]]) -> Iterator[Union[Remark, str, None]]:
     for link in chain.links:
-        if link.target is not None or not link.known:
+        if link.target is not None or not link.known or (id(chain), link.number) in leading:
             yield None if link.known else ""
-        else:
-            sentence = f"{describe_identity(link.identity)} is linked, and no group of the table has that identity"
-            yield Remark("L1", chain.at(link), sentence)
+            continue
+        other = alike.get(link.identity[1])
+        sentence = f"{describe_identity(link.identity)} is linked, and no group of the table has that identity"
+        if other and other.identity:
+            sentence += f"; {other} has that NID_BG in country or region {other.identity[0]}"
+        yield Remark("L1", chain.at(link), sentence, named=[other] if other else [])
+
+
+def _beyond(line: Line, chain: Chain, alike: Alike, tolerance: Decimal) -> Iterator[Tuple[End, Link]]:
+    """The links of a chain to groups that are not in the table, and by D_LINK are beyond the end of the track."""
+    sender = chain.sender
+    along = sender.along(chain.direction) if sender else None
+    if sender is None or sender.km is None or along is None:
+        return
+    groups, summed = line.along[sender.track], 0
+    least, greatest = groups[0].km or Decimal(), groups[-1].km or Decimal()
+    for link in chain.links:
+        summed += link.distance
+        if link.known and link.target is None and link.identity[1] not in alike:
+            at, allowed = sender.km + Decimal(along * summed).scaleb(-4), (link.accuracy + tolerance).scaleb(-3)
+            if not least - allowed <= at <= greatest + allowed:
+                yield (sender.track, at > greatest), link
+
+
+def _notes(line: Line, ends: Mapping[End, List[Identity]]) -> Iterator[str]:
+    """A note for each end of a track over which links lead."""
+    for (track, is_high), links in ends.items():
+        last = line.along[track][-1 if is_high else 0]
+        where = f" of track {quoted(track)}" if track else ""
+        numbers = [str(number) for _, number in dict.fromkeys(links)]
+        words = "1 link leads" if len(links) == 1 else f"{len(links)} links lead"
+        yield (
+            f"{words} beyond {last}, the group with the {'greatest' if is_high else 'least'} kilometre{where}, to "
+            f"NID_BG {listed(numbers, NAMED)}: L1 does not name them, since the table may be a section of a longer line"
+        )
 
 
 RULE = Rule("L1", "links", __doc__ or "", find, Urgency.BRAKING, needs_kilometres=True)

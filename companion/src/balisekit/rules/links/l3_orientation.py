@@ -15,6 +15,8 @@ announced. It applies the linking reaction or rejects the message.
 
 How to correct it. Correct Q_LINKORIENTATION. If the order of the balises in the table is wrong, correct the table.
 
+Correct data that gets it. None.
+
 Example. Group B faces the other way, and the link of group A says that it is passed in nominal direction.
 """
 from __future__ import annotations
@@ -23,7 +25,7 @@ from typing import Iterator, Union
 
 from balisekit.etcs.geometry import NOMINAL, REVERSE
 from balisekit.rules.line import Line
-from balisekit.rules.location import NOT_IN_TABLE
+from balisekit.rules.location import ANOTHER_TRACK, NOT_IN_TABLE
 from balisekit.rules.passages import Chain
 from balisekit.rules.rule import Options, Remark, Result, Rule
 from balisekit.rules.urgency import Urgency
@@ -46,7 +48,7 @@ def _look_at(chain: Chain) -> Iterator[Union[Remark, str, None]]:
         elif here.rising is None or along is None:
             yield "no direction along the kilometres"
         elif here.track != sender.track:
-            yield "another track"
+            yield ANOTHER_TRACK
         elif (here.rising == along) == link.nominal:
             yield None
         else:

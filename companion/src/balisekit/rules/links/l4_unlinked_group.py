@@ -13,6 +13,8 @@ does not protect it against a group that is met at a wrong place, and the train 
 
 How to correct it. Set Q_LINK to 1 in all telegrams of the group, or take it out of the packets 5.
 
+Correct data that gets it. None.
+
 Example. Both balises of group B have Q_LINK 0, and group A links it.
 """
 from __future__ import annotations

@@ -12,8 +12,10 @@ packet was meant for both directions.
 What may happen. The train does not know in which direction it passes the balise, and cannot tell whether the packet
 holds. It uses none of it.
 
-How to correct it. Link the balise and set Q_LINK to 1, or add a second balise, or set Q_DIR to 2 if the packet holds in
-both directions.
+How to correct it. Link the balise and set Q_LINK to 1, or add a second balise. Only a packet without any distance can
+hold in both directions: then set Q_DIR to 2.
+
+Correct data that gets it. None.
 
 Example. Group D is one balise with Q_LINK 0, and its level transition order holds in nominal direction.
 """

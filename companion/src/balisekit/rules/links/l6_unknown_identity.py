@@ -12,6 +12,8 @@ identity, which the program finds as F14.
 
 How to correct it. Give the group a number of its own, from 0 to 16,382, in all its telegrams.
 
+Correct data that gets it. None.
+
 Example. The balise of group D has NID_BG 16,383.
 """
 from __future__ import annotations

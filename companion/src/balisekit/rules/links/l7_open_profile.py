@@ -14,6 +14,8 @@ wrong one. A train may also refuse an authority whose profiles do not end.
 
 How to correct it. End the profile with an end mark at the supervised location or beyond, or note why it is open.
 
+Correct data that gets it. None is known.
+
 Example. The gradient profile of balise A2 has no end mark.
 """
 from __future__ import annotations

@@ -2,7 +2,8 @@
 
 What it says. In a direction a group, or a message 3, gives a movement authority, and the first D_GRADIENT or D_STATIC
 of a profile is above 0. So the track before it has no profile of this message, unless another one of the same kind
-begins at 0. The program does not look at where a profile begins (SUBSET-026, 3.7, 3.8 and 3.11).
+begins at 0. Of a message 3 that has another message 3 before it a note counts such profiles. The program does not look
+at where a profile begins (SUBSET-026, 3.7, 3.8 and 3.11).
 
 How urgent. At worst an old profile is used on that track. Mostly the authority is refused.
 
@@ -15,26 +16,46 @@ refuse the authority.
 How to correct it. Set the first distance to 0, with the value that holds at the group. If an earlier message gives the
 profile there, note which one.
 
+Correct data that gets it. A message 3 that goes on from the profiles of an earlier message which the file does not
+have. A group whose track has its profile from an earlier group.
+
 Example. The speed profile of balise A2 begins at 50 m.
 """
 from __future__ import annotations
 
+from typing import Iterator, Sequence
+
 from balisekit.etcs.variables import metres
 from balisekit.rules.line import Line
-from balisekit.rules.passages import PROFILES
+from balisekit.rules.passages import PROFILES, Profile
 from balisekit.rules.rule import Options, Remark, Result, Rule
 from balisekit.rules.urgency import Urgency
+from balisekit.tables.names import listed
+
+NAMED = 5
 
 
 def find(line: Line, options: Options) -> Result:
     """Looks at each profile that is given with an authority, those after a packet 136 too."""
     sentence = "the {} under an authority begins at {}: the track before it has none"
+    first = next((message for message, form in line.messages if form["nid_message"] == 3), None)
+    late = [each for each in line.passages.profiles if each.is_late]
+    later = [each for each in late if each.location.message not in (None, first)]
     found = [
         Remark("L8", each.location, sentence.format(PROFILES[each.packet.number], metres(each.packet.begin)))
-        for each in line.passages.profiles
-        if each.is_late
+        for each in late
+        if each.location.message in (None, first)
     ]
-    return Result(found, line.passages.profile_count)
+    return Result(found, line.passages.profile_count, notes=list(_note(later)))
+
+
+def _note(later: Sequence[Profile]) -> Iterator[str]:
+    """How many profiles begin late whose track may have a profile of the message before."""
+    if later:
+        numbers = list(dict.fromkeys(each.location.message.number for each in later if each.location.message))
+        profiles = "1 profile begins" if len(later) == 1 else f"{len(later)} profiles begin"
+        lines = f"line{'' if len(numbers) == 1 else 's'} {listed(list(map(str, numbers)), NAMED)}"
+        yield f"L8: {profiles} late in messages 3 that have another message 3 before them ({lines})"
 
 
 RULE = Rule("L8", "profiles", __doc__ or "", find, Urgency.WRONG_INFORMATION, needs_kilometres=True)

@@ -1,15 +1,15 @@
 """L9: linked group passed over.
 
 What it says. By the kilometres a group with Q_LINK 1 stands between two neighbours of a packet 5, or between the group
-that sends it and the first one that it names, and the packet does not name it. Of several groups between the same two
-the line names up to three. Where one of the two is not in the table, the rule is not looked for between them, and
-neither is it on another track (SUBSET-026, 3.4.4).
+that sends it and the first one that it names, and the packet does not name it. It says something in the direction in
+which it is passed: packets 145, 254 and 255 do not count. One note counts the groups that are passed over and say
+nothing in that direction. Of several groups between the same two the line names up to three. If one of the two is not
+in the table, or is on another track, the rule looks for nothing between them (SUBSET-026, 3.4.4).
 
-How urgent. To be looked at: the group says nothing to a train that uses these links. Harmless where the group has
-nothing to say in this direction.
+How urgent. To be looked at: the group says nothing to a train that uses these links.
 
-Usual cause. The group was added later, and the links of its neighbours were not made anew. Or it is a group for the
-other direction.
+Usual cause. The group was added later, and the links of its neighbours were not made anew. Or the route of this packet
+5 does not pass the group.
 
 What may happen. A train that uses linking takes a group with Q_LINK 1 only if it is linked. So it passes over the
 group, and what that one says is lost without a reaction.
@@ -17,12 +17,15 @@ group, and what that one says is lost without a reaction.
 How to correct it. Add the group to the packet 5, with its distance, and correct the distance of the one behind it. If
 trains are to take it without linking, set Q_LINK to 0.
 
+Correct data that gets it. A packet 5 for one of several routes, which does not pass the group.
+
 Example. Group A links group C alone, and group B stands between them.
 """
 from __future__ import annotations
 
 from decimal import Decimal
-from typing import Iterator, Sequence, Union
+from itertools import accumulate, chain as joined, islice
+from typing import Dict, Iterator, List, Optional, Sequence, Set, Tuple, Union
 
 from balisekit.rules.line import Line
 from balisekit.rules.location import BaliseGroup, incomparable
@@ -31,23 +34,62 @@ from balisekit.rules.rule import Options, Remark, Result, Rule
 from balisekit.rules.urgency import Urgency
 from balisekit.tables.names import listed
 
+NAMED = 3
+Way = Tuple[str, Optional[int]]
+"""A track, and whether the kilometres rise or fall for a train."""
+
 
 def find(line: Line, options: Options) -> Result:
     """Looks between each two neighbours of a packet 5, the group that sends it first."""
-    return Result.of_chains(line, lambda chain: _look_at(line, chain))
+    result = Result.of_chains(line, lambda chain: _look_at(line, chain))
+    return Result(result.found, result.looked_at, result.not_looked_at, list(_note(line)))
+
+
+def _pairs(chain: Chain) -> Iterator[Tuple[Optional[BaliseGroup], Optional[BaliseGroup]]]:
+    """Each two neighbours."""
+    before = chain.sender
+    for link in chain.links:
+        yield before, link.target
+        before = link.target
+
+
+def _way(chain: Chain) -> Optional[int]:
+    return chain.sender.along(chain.direction) if chain.sender else None
 
 
 def _look_at(line: Line, chain: Chain) -> Iterator[Union[Remark, str, None]]:
-    before = chain.sender
-    for link in chain.links:
-        after = link.target
+    for before, after in _pairs(chain):
         why = incomparable(before, after)
         if before is None or after is None or why:
             yield why
         else:
-            groups, count = line.linked[before.track].between(before, after, chain)
-            yield _remark(chain, before, after, groups, count) if groups else None
-        before = after
+            linked = line.linked(before.track, _way(chain), True)
+            ranges = linked.between(before, after, chain)
+            groups = [linked.groups[place] for place in islice(joined(*ranges), NAMED)]
+            yield _remark(chain, before, after, groups, sum(map(len, ranges))) if groups else None
+
+
+def _note(line: Line) -> Iterator[str]:
+    """How many groups are passed over that say nothing in that direction."""
+    passed: Dict[Way, List[int]] = {}
+    for chain in (chains[0] for chains in line.alike):
+        for before, after in _pairs(chain):
+            if before is None or after is None or incomparable(before, after):
+                continue
+            silent = line.linked(before.track, _way(chain), False)
+            steps = passed.setdefault((before.track, _way(chain)), [0] * (len(silent.groups) + 1))
+            for places in silent.between(before, after, chain):
+                steps[places.start] += 1
+                steps[places.stop] -= 1
+    silent_ones: Set[int] = set()
+    for (track, way), steps in passed.items():
+        counted = zip(line.linked(track, way, False).groups, accumulate(steps))
+        silent_ones.update(group.number for group, count in counted if count)
+    if silent_ones:
+        words = "1 group with Q_LINK 1 is not linked by packets 5 that pass it, and says"
+        if len(silent_ones) > 1:
+            words = f"{len(silent_ones)} groups with Q_LINK 1 are not linked by packets 5 that pass them, and say"
+        yield f"L9: {words} nothing in that direction"
 
 
 def _remark(chain: Chain, before: BaliseGroup, after: BaliseGroup, groups: Sequence[BaliseGroup], count: int) -> Remark:

@@ -128,7 +128,7 @@ def _remark(some: Sequence[Passage], pairs: Pairs, culprit: str, others: Sequenc
     number = first.packets[0].number
     said = [f"{quoted(name)} has {_words(number, value)}" for name, value in zip((culprit, others[0]), first.values)]
     more = f"; {quoted(culprit)} differs from {listed([quoted(name) for name in others[1:]], NAMED)} too"
-    sentence = f"from {metres(first.begin)} to {metres(first.end)} from the group {said[0]}, and {said[1]}"
+    sentence = f"from {metres(first.begin)} to {metres(first.end)} from the group, {said[0]}, and {said[1]}"
     factor = 50 if number == SPEEDS else 10
     values = {
         "begin_m": distance(first.begin),

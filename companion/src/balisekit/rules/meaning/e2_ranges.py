@@ -51,7 +51,7 @@ def find(line: Line, options: Options) -> Result:
     result = of_packets("E2", line, NUMBERS, lambda packet: _faults(packet, options))
     if not options.asks_for("E2"):
         return result
-    return Result([*result.found, *_above_profiles(line)], result.looked_at)
+    return Result([*result.found, *_above_profiles(line, options.greatest_speed // 5)], result.looked_at)
 
 
 def _faults(packet: Packet, options: Options) -> List[Fault]:
@@ -121,15 +121,15 @@ def _fault(values: Sequence[Value], options: Options) -> Fault:
     return Fault(f"{words}{more}", {f"{key}_kmh": kmh(raw), "limit_kmh": Decimal(limit)})
 
 
-def _above_profiles(line: Line) -> Iterator[Remark]:
-    """V_MAIN above all speeds that are said with it."""
+def _above_profiles(line: Line, most: int) -> Iterator[Remark]:
+    """V_MAIN above all speeds that are said with it. One that is out of range is remarked in any case."""
     seen: Set[int] = set()
     for passage in line.decoded.passages:
         moving = [packet for packet in passage.of(12) if packet.form["v_main"]]
         greatest = _greatest(passage) if moving else None
         for packet in moving:
             main = packet.form["v_main"]
-            if greatest is None or main <= greatest or id(packet) in seen:
+            if greatest is None or not greatest < main <= most or id(packet) in seen:
                 continue
             seen.add(id(packet))
             words = f"V_MAIN is {speed(main)}, above the greatest speed of the profile with it, {speed(greatest)}"

@@ -30,7 +30,7 @@ from balisekit.etcs.variables import metres
 from balisekit.rules.decoded import LEVELS, Packet
 from balisekit.rules.line import Line
 from balisekit.rules.location import Location
-from balisekit.rules.meaning.sent import Owner, located, sent
+from balisekit.rules.meaning.sent import Owner, distance, located, sent
 from balisekit.rules.rule import Options, Remark, Result, Rule
 from balisekit.rules.urgency import Urgency
 
@@ -57,7 +57,10 @@ def _remark(owner: Owner, packets: List[Packet]) -> Remark:
     where = located(owner, first)
     values = {"packets": Decimal(len(packets))}
     if len(packets) == 1:
-        at = f", D_LEVELTR {metres(first.form['d_leveltr'] * first.unit)}" if first.number == LEVELS else ""
+        at = ""
+        if first.number == LEVELS:
+            place = first.form["d_leveltr"] * first.unit
+            values["d_leveltr_m"], at = distance(place), f", D_LEVELTR {metres(place)}"
         words = f"it has a distance{at}, and Q_DIR 2, both directions: the place would be on both sides of the group"
         return Remark("E5", where, words, values=values)
     names = [f"{each.number} ({packet_name(each.number)})" for each in sorted(packets, key=lambda each: each.place)]
