@@ -17,6 +17,7 @@ from meaning_mistakes import (
     RESTRICTED,
     added,
     all_of,
+    authority,
     form_of,
     restriction,
     session,
@@ -34,7 +35,7 @@ from balisekit.rules.chainage import Jump
 from balisekit.rules.line import Line as LineOfTable
 from balisekit.rules.rule import ALL, Options, Remark, Result
 from balisekit.rules.urgency import Urgency
-from balisekit.tables import plan as plan_file, reader
+from balisekit.tables import messages as messages_file, plan as plan_file, reader
 
 ASKED = Options(asked=frozenset({ALL}))
 RULES = {rule.name: rule for rule in (*links.RULES, *meaning.RULES)}
@@ -132,6 +133,23 @@ def test_e12_is_silent_beyond_a_point(found: Found) -> None:
     options = found.plan("point,15.000,,,rising,,W1")
     longer = added("Signal 3", GREEN, "l_endsection", 12, 100)
     assert found("E12", SHORT, longer) and not found("E12", SHORT, longer, options)
+
+
+def test_e12_of_messages(found: Found, program: Program) -> None:
+    """A packet 15 of a message counts from its group. Its end may be away from all groups."""
+    path = written(program, found.path, SHORT)
+    for metres, count in ((1500, 0), (1550, 1)):
+        packet_15 = {"nid_packet": 15, "q_dir": 1, "q_scale": 1, **authority(metres)}
+        del packet_15["v_main"]
+        links = change(SHORT.rows, "Signal 3", FIXED, 5)
+        message: Any = {"nid_message": 3, "t_train": 1, "m_ack": 0, "nid_c": 352, "nid_bg": 3}
+        (text,) = program.encode([{**message, "packets": [packet_15, links]}], radio=True)
+        radio = path.with_name("m.txt")
+        radio.write_text(f"{text.line};M\n", "utf-8")
+        checked = checking.check(program, reader.read(str(path)), messages_file.read(str(radio)))
+        made = RULES["E12"].find(LineOfTable.of(checked), Options()).found
+        assert len(made) == count
+    assert made[0].location.message and "ends at km 14.550, 1550 m from the group" in made[0].sentence
 
 
 def elements(aspects: Sequence[str], number: int, place: int, **values: Any) -> Change:
@@ -382,7 +400,7 @@ def test_e19(found: Found) -> None:
 
 def test_e20(found: Found) -> None:
     """Only the part about one packet is on by default."""
-    for group, words in ((5, "and so does the first link"), (4, "which sends it")):
+    for group, words in ((5, "as its first link does"), (4, "which sends it")):
         (one,) = found("E20", SHORT, set_in_item("Signal 4", FIXED, 5, "links", 1, nid_bg=group), Options())
         assert words in one.sentence and one.values["nid_bg"] == group
     for key, value in (("q_locacc", 12), ("q_linkreaction", 2)):

@@ -39,6 +39,7 @@ from balisekit.rules.meaning.words import merged, source
 from balisekit.rules.rule import Options, Remark, Result, Rule
 from balisekit.rules.urgency import Urgency
 
+NOWHERE = (1, 0)
 NEAR, STANDS, ALONE = 2000, 500, 200
 """In decimetres: how near a group is to its end, how near one has to be, and how near ends without links are."""
 
@@ -59,16 +60,17 @@ def find(line: Line, options: Options) -> Result:
             linked.setdefault((lane, target), []).append(end)
         elif not end.passage.of(5):
             unlinked.setdefault(lane, []).append(end)
-    found: Dict[int, Remark] = {}
+    found: Dict[Tuple[int, str], Remark] = {}
     for (_, target), some in linked.items():
-        found.update((id(end.packet), remark) for end, remark in _compare(decoded, options, some, target))
+        found.update((end.key, remark) for end, remark in _compare(decoded, options, some, target))
     for some in unlinked.values():
         for part in _parts(some):
-            found.update((id(end.packet), remark) for end, remark in _compare(decoded, options, part))
+            found.update((end.key, remark) for end, remark in _compare(decoded, options, part))
     extents = extents_of(decoded)
     for lane, end in ends:
-        if id(end.packet) not in found and extents[lane][0] <= end.place <= extents[lane][1]:
-            found.update((id(end.packet), remark) for remark in _between(decoded, options, end))
+        low, high = extents.get(lane, NOWHERE)
+        if end.key not in found and low <= end.place <= high:
+            found.update((end.key, remark) for remark in _between(decoded, options, end))
     return Result(merged(found.values()), looked_at)
 
 
