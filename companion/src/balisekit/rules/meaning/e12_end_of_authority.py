@@ -49,13 +49,14 @@ def find(line: Line, options: Options) -> Result:
     decoded, looked_at = line.decoded, 0
     linked: Dict[Tuple[Lane, GroupData], List[End]] = {}
     unlinked: Dict[Lane, List[End]] = {}
-    ends: List[Tuple[Lane, End]] = []
+    ends: List[Tuple[Lane, End]] = []  # (those that are not at the group to which they lead)
     for end in ends_of(decoded):
         lane, looked_at = lane_of(end.passage), looked_at + 1
         if leaves(options, decoded, end.passage, end.place):
             continue
-        ends.append((lane, end))
         target = _target(decoded, end)
+        if target is None or target.place is None or abs(target.place - end.place) > STANDS:
+            ends.append((lane, end))
         if target is not None:
             linked.setdefault((lane, target), []).append(end)
         elif not end.passage.of(5):
@@ -66,7 +67,7 @@ def find(line: Line, options: Options) -> Result:
     for some in unlinked.values():
         for part in _parts(some):
             found.update((end.key, remark) for end, remark in _compare(decoded, options, part))
-    extents = extents_of(decoded)
+    extents = extents_of(decoded) if ends else {}
     for lane, end in ends:
         low, high = extents.get(lane, NOWHERE)
         if end.key not in found and low <= end.place <= high:

@@ -63,7 +63,7 @@ def find(line: Line, options: Options) -> Result:
 def _difference(decoded: Decoded, options: Options, rear: Profiles, ahead: Profiles, low: int) -> Iterator[Difference]:
     """The stretches on which two groups differ."""
     high = min(rear.reach, ahead.reach)
-    if agree(rear.longest, ahead.longest, low, high, rear.names(ahead, decoded)):
+    if agree(rear.longest, ahead.longest, low, high) and rear.names(ahead, decoded):
         return
     pieces = []
     for piece in pieces_of(rear.naming(ahead, decoded), ahead.aspects, low, high):
