@@ -13,7 +13,7 @@ from balisekit.present.outcome_text import lines
 from balisekit.rules import accepted, checking
 from balisekit.rules.families import FAMILIES, Outcome, apply
 
-ONLY = "apply only these families of rules: F, the program's findings; L, links; E, remarks"
+ONLY = "apply only these families of rules: F, the program's findings; L, links; E, remarks; X, track plan"
 
 
 def _families(text: str) -> Tuple[str, ...]:

@@ -1,4 +1,4 @@
-"""The command line: `balisekit check`, `show`, `draw`, `report`, `links`, `diff` and `table`."""
+"""The command line: `balisekit check`, `show`, `draw`, `report`, `links`, `diff`, `plan` and `table`."""
 from __future__ import annotations
 
 import argparse
@@ -25,6 +25,7 @@ COMMANDS = {
     "report": "write a report as one page of HTML",
     "links": "compare linking, link flags and profiles with the kilometres of a table",
     "diff": "compare two releases of a line, field by field",
+    "plan": "write a track plan as the telegrams of a table imply it, to be corrected",
     "table": "write all variables of a table as one flat sheet, or compare such a sheet",
 }
 """The commands, each a module of this folder, and what their help says."""

@@ -4,18 +4,20 @@ from __future__ import annotations
 import argparse
 import os
 import re
-from typing import Any, Callable, Dict, FrozenSet, Mapping, Sequence
+from typing import Any, Callable, Dict, FrozenSet, Mapping, Sequence, Tuple
 
 from balisekit.cli import options as shared
 from balisekit.errors import TableError, faults_of
 from balisekit.rules import jumps as jumps_file, meaning
+from balisekit.rules.chainage import Jump
 from balisekit.rules.rule import ALL, LINE_SPEED, RELEASE_SPEED, Options
-from balisekit.tables import own_headings
+from balisekit.tables import own_headings, plan as plan_file
 
 GREATEST = 600
 """The greatest speed in km/h that a variable of ETCS has."""
 NAMES = [rule.name for rule in meaning.RULES]
 JUMPS = "a CSV file with km, km_after and track: where the kilometres jump"
+PLAN = "a CSV file of what the track is: the rules X compare the telegrams with it"
 RULES = "apply these rules E too, and their parts that are off by default: E2,E20 or all"
 
 
@@ -43,9 +45,12 @@ KINDS: Mapping[str, Callable[[str], Any]] = {
     "release_speed": _speed,
     "tolerance": shared.tolerance,
     "jumps": str,
+    "plan": str,
     "rules": _rules,
 }
 """What reads the value of each key of [check]."""
+FILES = ("jumps", "plan")
+"""The keys whose values are paths."""
 
 
 def add_options(parser: argparse.ArgumentParser) -> None:
@@ -56,6 +61,7 @@ def add_options(parser: argparse.ArgumentParser) -> None:
     parser.add_argument("--line-speed", **shared.value("KM/H", _speed, speed))
     parser.add_argument("--release-speed", **shared.value("KM/H", _speed, release))
     parser.add_argument("--jumps", **shared.input_file(JUMPS))
+    parser.add_argument("--plan", **shared.input_file(PLAN))
     parser.add_argument("--rules", **shared.value("RULES", _rules, RULES))
 
 
@@ -64,6 +70,8 @@ def refuse_unused(options: argparse.Namespace, letters: Sequence[str]) -> None:
     purpose = f"with --only {','.join(letters)}"
     if "E" not in letters:
         shared.refuse_unused(options, purpose, "line_speed", "release_speed", "jumps", "rules")
+    if not {"E", "X"} & set(letters):
+        shared.refuse_unused(options, purpose, "plan")
     if set(letters) == {"F"}:
         shared.refuse_unused(options, purpose, "tolerance")
 
@@ -74,13 +82,22 @@ def of_line(options: argparse.Namespace) -> Options:
     more: Dict[str, Any] = {}
     if "tolerance" in stated:
         more["tolerance"] = more["tolerance_of_places"] = stated["tolerance"]
+    plan = plan_file.read(stated["plan"]) if "plan" in stated else None
+    own_jumps = jumps_file.read(stated["jumps"]) if "jumps" in stated else ()
     return Options(
         **more,
         line_speed=stated.get("line_speed"),
         release_speed=stated.get("release_speed", RELEASE_SPEED),
-        jumps=jumps_file.read(stated["jumps"]) if "jumps" in stated else (),
+        jumps=(*own_jumps, *(Jump(*each) for each in (plan.jumps if plan else ()))),
+        plan=plan,
         asked=stated.get("rules", frozenset()),
     )
+
+
+def jumps(options: argparse.Namespace) -> Tuple[Jump, ...]:
+    """Where the kilometres jump, by the option or by balisekit.toml."""
+    path = options.jumps or _of_file(options).get("jumps")
+    return jumps_file.read(path) if path else ()
 
 
 def _given(options: argparse.Namespace) -> Dict[str, Any]:
@@ -94,9 +111,8 @@ def _of_file(options: argparse.Namespace) -> Dict[str, Any]:
     path, values = own_headings.of_check(options.table, options.columns)
     with faults_of(path):
         found = {name: _value(name, value) for name, value in values.items()}
-    if "jumps" in found:
-        found["jumps"] = os.path.join(os.path.dirname(path), found["jumps"])
-    return found
+    folder = os.path.dirname(path)
+    return {name: os.path.join(folder, value) if name in FILES else value for name, value in found.items()}
 
 
 def _value(name: str, value: object) -> Any:

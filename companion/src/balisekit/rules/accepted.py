@@ -33,7 +33,10 @@ COLUMNS = (*NEEDED, "until", "sha256")
 ANY = "*"
 NUMBER = ("|[0-9]{1,6}", "no whole number")
 VALUES = {
-    "rule": ("F([1-9]|1[0-6])|L[1-9]|E([1-9]|1[0-9]|2[0-3])", "none of F1 to F16, L1 to L9 and E1 to E23"),
+    "rule": (
+        "F([1-9]|1[0-6])|L[1-9]|E([1-9]|1[0-9]|2[0-3])|X[1-5]",
+        "none of F1 to F16, L1 to L9, E1 to E23 and X1 to X5",
+    ),
     **dict.fromkeys(("nid_c", "nid_bg", "balise", "packet"), NUMBER),
     "direction": ("|nominal|reverse", "neither nominal nor reverse"),
     "sha256": ("|[0-9a-f]{64}", "no SHA-256: --propose writes it"),
@@ -334,7 +337,7 @@ def _texts_of_remark(remark: Remark) -> List[str]:
         return list(
             {row.number: row.telegram for group in groups for row in group.rows() if row.number in remark.rows}.values()
         )
-    return [row.telegram] if row and remark.rule[0] == "E" else _telegrams(remark.rule, row, groups)
+    return [row.telegram] if row and remark.rule[0] in "EX" else _telegrams(remark.rule, row, groups)
 
 
 def _telegrams(rule: str, row: Optional[Row], groups: Sequence[Group]) -> List[str]:

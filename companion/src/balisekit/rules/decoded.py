@@ -8,11 +8,12 @@ from __future__ import annotations
 import json
 import re
 from bisect import bisect_left
-from dataclasses import dataclass
+from dataclasses import dataclass, field
 from decimal import ROUND_CEILING, Decimal
 from functools import cached_property
 from itertools import accumulate
 from typing import (
+    Any,
     Callable,
     Dict,
     Iterable,
@@ -173,7 +174,7 @@ class Passage:
     """The packets that follow it: their distances count from the group that it names."""
     message: Optional[Message] = None
 
-    @property
+    @cached_property
     def way(self) -> Optional[int]:
         """1 if the passage goes towards greater kilometres, -1 if towards lower ones."""
         return self.group.group.along(self.direction) if self.group else None
@@ -262,6 +263,8 @@ class Decoded:
     """Of each track."""
     resolution: int
     """One unit of the last decimal of the table's kilometres, in decimetres, rounded up."""
+    worked_out: Dict[object, Any] = field(default_factory=dict)
+    """What several rules need, by who works it out."""
 
     @cached_property
     def passages(self) -> Sequence[Passage]:

@@ -10,7 +10,7 @@ from datetime import date
 from functools import cached_property
 from typing import Iterator, Mapping, NamedTuple, Optional, Sequence, Tuple
 
-from balisekit.rules import links, meaning
+from balisekit.rules import links, meaning, track_plan
 from balisekit.rules.accepted import Acceptance, Entries, Item, Judged, identities, judge
 from balisekit.rules.applied import Applied, Notes, look_for, no_notes
 from balisekit.rules.checking import Checked, Place
@@ -21,7 +21,8 @@ from balisekit.rules.own import RULES
 from balisekit.rules.rule import Options, Remark, Rule
 from balisekit.rules.statements.scene import BaliseName
 
-PROVED = "F"
+PROVED, PLAN = "F", "X"
+"""The family of the program, and the one that needs a track plan."""
 
 
 class Family(NamedTuple):
@@ -47,6 +48,7 @@ FAMILIES: Mapping[str, Family] = {
     "F": Family("F", "findings of the program, proved", "findings"),
     "L": Family("L", "links, by balisekit's own rules L1 to L9, not proved", "links", links.RULES, links.notes_on),
     "E": Family("E", "remarks on what the data mean, by balisekit's own rules, not proved", "remarks", meaning.RULES),
+    "X": Family("X", "track plan, by balisekit's own rules X1 to X5, not proved", "track plan", track_plan.RULES),
 }
 """In the order of an answer."""
 
@@ -149,7 +151,8 @@ def apply(
     time.perf_counter(): that time belongs to the first part.
     """
     has_kilometres = any(row.km is not None for row in checked.table.rows)
-    asked = [_asked_for(family, options) for letter, family in FAMILIES.items() if letter in letters]
+    known = [family for letter, family in FAMILIES.items() if letter in letters and (letter != PLAN or options.plan)]
+    asked = [_asked_for(family, options) for family in known]
     able = [family if has_kilometres else _without_kilometres(family) for family in asked]
     applied = [family for family in able if family.rules or family.letter == PROVED]
     parts = list(_looked_at(checked, applied, options, began))

@@ -16,7 +16,7 @@ from balisekit.engine.grammar import Finding
 from balisekit.engine.program import Record
 from balisekit.etcs.geometry import kilometres
 from balisekit.etcs.variables import Form
-from balisekit.rules.chainage import Jump
+from balisekit.rules.chainage import Chainage, Jump
 from balisekit.rules.checking import Checked, Telegrams
 from balisekit.rules.decoded import Decoded, decode
 from balisekit.rules.location import NOT_KNOWN, BaliseGroup, Identity
@@ -173,6 +173,12 @@ class Line:
         if key not in self._linked:
             self._linked[key] = LinkedGroups.of(self.along[track], way, speaking)
         return self._linked[key]
+
+    @cached_property
+    def places(self) -> Sequence[Optional[int]]:
+        """The place of each group along its track in decimetres, in the order of the table, by the jumps."""
+        chainages = {track: Chainage.of(self.jumps, track) for track in {group.track for group in self.groups}}
+        return [chainages[group.track].place(group.km) for group in self.groups]
 
     @cached_property
     def _linked(self) -> Dict[Tuple[str, Optional[int], bool], LinkedGroups]:

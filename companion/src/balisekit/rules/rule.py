@@ -15,6 +15,7 @@ from balisekit.rules.line import Line
 from balisekit.rules.location import BaliseGroup, Location
 from balisekit.rules.passages import Chain
 from balisekit.rules.urgency import Urgency
+from balisekit.tables.plan import Plan
 
 REFUSED = "refused"
 CORRECT_DATA, NONE = "Correct data that gets it", "None"
@@ -41,6 +42,8 @@ class Options:
     """Where the kilometres jump."""
     asked: FrozenSet[str] = frozenset()
     """The rules that were asked for by name, or `all`."""
+    plan: Optional[Plan] = None
+    """The track plan, for the rules X."""
 
     @property
     def greatest_speed(self) -> int:
@@ -85,6 +88,8 @@ class Result:
     """A rule that has looked at nothing, and not at something, makes the answer incomplete."""
     notes: Sequence[str] = ()
     """What the user should know beside the remarks, a line each."""
+    is_optional: bool = False
+    """Whether it is no fault that it has looked at nothing."""
 
     @classmethod
     def of_chains(cls, line: Line, look_at: Callable[[Chain], Iterator[Union[Remark, str, None]]]) -> Result:
@@ -115,7 +120,7 @@ class Result:
     @property
     def is_empty(self) -> bool:
         """Whether there was something to look at, and nothing was looked at."""
-        return self.skipped > 0 and self.looked_at == 0
+        return self.skipped > 0 and self.looked_at == 0 and not self.is_optional
 
 
 @dataclass(frozen=True, eq=False)

@@ -15,7 +15,7 @@ from balisekit.tables.headings import ALIKE, Headings
 BESIDE = "balisekit.toml"
 """The file that is read if it is in the folder of the table."""
 COLUMNS_TABLE, EXPECT_TABLE, CHECK_TABLE = "columns", "expect", "check"
-STATED = ("line_speed", "release_speed", "tolerance", "jumps", "rules")
+STATED = ("line_speed", "release_speed", "tolerance", "jumps", "plan", "rules")
 """The keys of [check]."""
 SHEET = ("group", "identity", "aspect", "balise", "packet", "element", "variable", "raw", "value", "unit", "km")
 """The columns of a flat table of variables."""

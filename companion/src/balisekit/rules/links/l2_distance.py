@@ -3,7 +3,8 @@
 What it says. The distance of a linked group by D_LINK differs from that of the kilometres by more than its Q_LOCACC and
 `--tolerance` together. Both distances are in metres, from the group that is named in the line. "Behind it" says that by
 the kilometres the train has passed the linked group already. If the direction of the sending group along the kilometres
-is not known, the first link that is compared shows it (SUBSET-026, 3.4.4 and 7.5.1).
+is not known, the first link that is compared shows it. If all links over a stretch differ by one amount, one remark
+asks whether the kilometres jump there (SUBSET-026, 3.4.4, 3.16.2.3 and 7.5.1).
 
 How urgent. At worst the train brakes or is tripped, or it takes a wrong place for its own.
 
@@ -18,19 +19,22 @@ distance.
 How to correct it. Correct D_LINK, or the kilometre of the table. Where the kilometres are rounded, say by how much with
 `--tolerance`.
 
-Correct data that gets it. Kilometres that jump between the groups, or that follow another axis than the track: all
-links over that place differ by the same amount.
+Correct data that gets it. Kilometres that jump between the groups, if neither `--jumps` nor a track plan says so, or
+that follow another axis than the track: all links over that place differ by the same amount.
 
 Example. The link of group A to group B says 1,010 m, and their kilometres are 1,000 m apart. The sum for group C begins
 anew at group B, so that there is one line.
 """
 from __future__ import annotations
 
+from dataclasses import replace
 from decimal import Decimal
-from typing import Iterator, Union
+from typing import Iterator, Optional, Sequence, Set, Union
 
+from balisekit.rules.chainage import Chainage
 from balisekit.rules.line import Line
-from balisekit.rules.location import incomparable
+from balisekit.rules.link_steps import jumps_of, steps_of
+from balisekit.rules.location import BaliseGroup, incomparable
 from balisekit.rules.passages import Chain
 from balisekit.rules.rule import Options, Remark, Result, Rule
 from balisekit.rules.urgency import Urgency
@@ -38,15 +42,21 @@ from balisekit.rules.urgency import Urgency
 DECIMETRES = 10_000
 """In a kilometre."""
 ZERO = Decimal()
+JUMP = 20
+"""By how many decimetres, beside the tolerance, differences may vary that are taken for one jump of the kilometres."""
 
 
 def find(line: Line, options: Options) -> Result:
     """Compares each link to a group of the table."""
-    return Result.of_chains(line, lambda chain: _compare(chain, options.tolerance))
+    places = line.places if line.jumps else None
+    result = Result.of_chains(line, lambda chain: compare(chain, options.tolerance, places))
+    return replace(result, found=_with_jumps(line, options, result.found)) if len(result.found) > 1 else result
 
 
-def _compare(chain: Chain, tolerance: Decimal) -> Iterator[Union[Remark, str, None]]:
-    """After a wrong distance the sum begins anew.
+def compare(
+    chain: Chain, tolerance: Decimal, places: Optional[Sequence[Optional[int]]] = None
+) -> Iterator[Union[Remark, str, None]]:
+    """After a wrong distance the sum begins anew. `places` has those of the groups, if the kilometres jump.
 
     If the direction of the sender along the kilometres is not known, the first link that is compared shows it.
     """
@@ -59,7 +69,10 @@ def _compare(chain: Chain, tolerance: Decimal) -> Iterator[Union[Remark, str, No
         if base is None or here is None or why:
             yield why
             continue
-        wanted = ((here.km or ZERO) - (base.km or ZERO)) * DECIMETRES
+        wanted = _apart(base, here, places)
+        if wanted is None:
+            yield "no kilometre"
+            continue
         if along is None:
             along = (wanted > 0) - (wanted < 0) or None
         wanted *= along or 1
@@ -76,6 +89,34 @@ def _compare(chain: Chain, tolerance: Decimal) -> Iterator[Union[Remark, str, No
         values = {"metres_by_d_link": distance, "metres_by_kilometres": by_kilometres}
         yield Remark("L2", chain.at(link), sentence, here, values)
         base, summed = here, 0
+
+
+def _apart(base: BaliseGroup, here: BaliseGroup, places: Optional[Sequence[Optional[int]]]) -> Optional[Decimal]:
+    """From a group to another one by the kilometres, in decimetres."""
+    if places is None:
+        return ((here.km or ZERO) - (base.km or ZERO)) * DECIMETRES
+    begin, end = places[base.number], places[here.number]
+    return None if begin is None or end is None else Decimal(end - begin)
+
+
+def _with_jumps(line: Line, options: Options, found: Sequence[Remark]) -> Sequence[Remark]:
+    """The same, with one remark for all links over a stretch at which the kilometres seem to jump."""
+    tolerance = int(options.tolerance * 10) + JUMP
+    jumps = list(jumps_of(list(steps_of(line)), tolerance))
+    over = {chain.at(step.link): jump for jump in jumps for step in jump.steps for chain in step.chains}
+    said: Set[int] = set()
+    others = []
+    for remark in found:
+        jump = over.get(remark.location)
+        if jump is None:
+            others.append(remark)
+        elif id(jump) not in said:
+            said.add(id(jump))
+            words = jump.words(Chainage.of(line.jumps, jump.track))
+            rows = sorted({step.row for step in jump.steps} - {0, jump.steps[0].row})
+            sentence = f"{remark.sentence}. {words}: give the jump by --jumps, or correct the kilometres"
+            others.append(replace(remark, sentence=sentence, others=tuple(rows)))
+    return others
 
 
 def _metres(distance: Decimal) -> str:

@@ -30,6 +30,18 @@ from balisekit.rules.meaning.e8_aspect_lacks import RULE as E8
 from balisekit.rules.meaning.e9_aspect_order import RULE as E9
 from balisekit.rules.meaning.e10_aspects_contradict import RULE as E10
 from balisekit.rules.meaning.e11_spacing import RULE as E11
+from balisekit.rules.meaning.e12_end_of_authority import RULE as E12
+from balisekit.rules.meaning.e13_profiles_disagree import RULE as E13
+from balisekit.rules.meaning.e14_exact_distance import RULE as E14
+from balisekit.rules.meaning.e15_infill_is_its_signal import RULE as E15
+from balisekit.rules.meaning.e16_single_balise import RULE as E16
+from balisekit.rules.meaning.e17_links_to_the_end import RULE as E17
+from balisekit.rules.meaning.e18_level_transition import RULE as E18
+from balisekit.rules.meaning.e19_gradients_of_both_directions import RULE as E19
+from balisekit.rules.meaning.e20_one_description import RULE as E20
+from balisekit.rules.meaning.e21_session_for_level_2 import RULE as E21
+from balisekit.rules.meaning.e22_temporary_restriction import RULE as E22
+from balisekit.rules.meaning.e23_one_header import RULE as E23
 
-RULES = (E1, E2, E3, E4, E5, E6, E7, E8, E9, E10, E11)
+RULES = (E1, E2, E3, E4, E5, E6, E7, E8, E9, E10, E11, E12, E13, E14, E15, E16, E17, E18, E19, E20, E21, E22, E23)
 __all__ = ["RULES"]

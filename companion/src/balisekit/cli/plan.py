@@ -1,0 +1,53 @@
+"""`balisekit plan`: a track plan as the telegrams of a table imply it, so that a team starts by correcting one."""
+from __future__ import annotations
+
+import argparse
+from collections import Counter
+from typing import List
+
+from balisekit.cli import options as shared, settings
+from balisekit.io import csv_writing
+from balisekit.io.outputs import Output
+from balisekit.present.check_text import head_line
+from balisekit.present.refusals import not_looked_at, refused_counts, refused_lines
+from balisekit.rules import checking
+from balisekit.rules.checking import Checked
+from balisekit.rules.line import Line
+from balisekit.rules.rule import Options
+from balisekit.rules.track_plan.implied import Made, implied
+from balisekit.tables.names import clean, passed_over
+from balisekit.tables.plan import COLUMNS, cells
+
+
+def add_options(parser: argparse.ArgumentParser) -> None:
+    """The options of this command."""
+    shared.add(parser, *shared.INPUTS)
+    parser.add_argument("--jumps", **shared.input_file(settings.JUMPS))
+    plan = shared.output_file("write the plan into this file; without it to standard output")
+    parser.add_argument("--csv", **plan, default=Output("-"))
+    shared.add(parser, "--all", "--force")
+
+
+def run(options: argparse.Namespace) -> int:
+    """Does it. The answer is the exit status."""
+    jumps = settings.jumps(options)
+    checked = checking.check(*shared.inputs(options), options.by_position, options.all)
+    made = implied(Line.of(checked, jumps), Options(jumps=jumps))
+    options.csv.write(csv_writing.pieces(COLUMNS, map(cells, made.rows)))
+    shared.say(_lines(options, checked, made), options.csv)
+    return 0 if checked.whole else 2
+
+
+def _lines(options: argparse.Namespace, checked: Checked, made: Made) -> List[str]:
+    """What was read and written. The last line counts the rows, or says that telegrams were refused."""
+    counts = Counter(row.kind for row in made.rows)
+    written = ", ".join(f"{kind} {count}" for kind, count in counts.items()) or "no row"
+    lacking = [*refused_counts(checked), *not_looked_at(checked)]
+    last = f"written: {clean(str(options.csv))}: {written}"
+    return [
+        head_line(checked.table),
+        *passed_over(checked.table),
+        *(f"note: {clean(note)}" for note in (*checked.table.notes, *made.notes)),
+        *refused_lines(checked),
+        last if checked.whole else f"INCOMPLETE: {', '.join(lacking)}; {last}",
+    ]

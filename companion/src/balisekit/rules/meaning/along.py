@@ -1,0 +1,108 @@
+"""What several rules E compare along a track: ends of authority, profiles as places, and where trains may leave it."""
+from __future__ import annotations
+
+from decimal import Decimal
+from typing import Dict, Iterator, List, Mapping, NamedTuple, Optional, Sequence, Set, Tuple
+
+from balisekit.rules.decoded import AUTHORITIES, LINKING, Decoded, GroupData, Packet, Passage, allowance
+from balisekit.rules.rule import Options
+
+Lane = Tuple[str, int]
+"""A track, and 1 if the trains go towards greater kilometres, else -1."""
+Name = Tuple[int, Optional[GroupData]]
+"""The distance of a linked group, and the group of the table."""
+Extent = Tuple[int, int]
+"""The least and the greatest place."""
+
+
+class End(NamedTuple):
+    """Where an authority ends."""
+
+    place: int
+    passage: Passage
+    packet: Packet
+
+    @property
+    def distance(self) -> int:
+        """From the group to it."""
+        return abs(self.place - (self.passage.place(0) or 0))
+
+    @property
+    def key(self) -> Tuple[int, str]:
+        """The packet and its direction."""
+        return id(self.packet), self.passage.direction
+
+    def differs(self, other: End, decoded: Decoded, options: Options) -> bool:
+        """Whether this is another place."""
+        parts = (allowance(each.packet, each.packet.lengths) for each in (self, other))
+        return abs(self.place - other.place) > decoded.tolerance(options.tolerance_of_places, *parts)
+
+
+def ends_of(decoded: Decoded) -> Sequence[End]:
+    """The ends of packets 12 with a V_MAIN above 0, and of packets 15, if their places are known."""
+    if ends_of not in decoded.worked_out:
+        decoded.worked_out[ends_of] = list(_ends(decoded))
+    found: Sequence[End] = decoded.worked_out[ends_of]
+    return found
+
+
+def _ends(decoded: Decoded) -> Iterator[End]:
+    """Each packet once in each direction: aspects share those of fixed balises."""
+    known: Set[Tuple[int, str]] = set()
+    for passage in decoded.passages:
+        for packet in passage.said:
+            if (packet.number == 12 and packet.form["v_main"] or packet.number == 15) and passage.way is not None:
+                key = id(packet), passage.direction
+                form = packet.form
+                lengths = sum(section["l_section"] for section in form["sections"]) + form["l_endsection"]
+                place = passage.place(lengths * packet.unit)
+                if place is not None and key not in known:
+                    known.add(key)
+                    yield End(place, passage, packet)
+
+
+def names_of(decoded: Decoded, passage: Passage) -> Sequence[Name]:
+    """All that the packets 5 of a passage name, in their order."""
+    packets = [packet for packet in passage.said if packet.number == LINKING]
+    if len(packets) == 1:
+        return _names(decoded, passage, packets[0])
+    return [name for packet in packets for name in _names(decoded, passage, packet)]
+
+
+def _names(decoded: Decoded, passage: Passage, packet: Packet) -> Sequence[Name]:
+    """Those of one packet, worked out once: aspects share the packets of fixed balises."""
+    known: Dict[int, Sequence[Name]] = decoded.worked_out.setdefault(names_of, {})
+    found = known.get(id(packet))
+    if found is None:
+        country = passage.group.group.identity[0] if passage.group and passage.group.group.identity else 0
+        unit, distance, by_identity, made = packet.unit, 0, decoded.by_identity, []
+        for link in packet.form["links"]:
+            distance += link["d_link"] * unit
+            country = link.get("nid_c", country)
+            made.append((distance, by_identity.get((country, link["nid_bg"]))))
+        found = known[id(packet)] = made
+    return found
+
+
+def lane_of(passage: Passage) -> Lane:
+    """The track and the way of a passage whose way is known."""
+    return passage.track, passage.way or 0
+
+
+def extents_of(decoded: Decoded) -> Mapping[Lane, Extent]:
+    """From which place to which one the groups are that give an authority."""
+    places: Dict[Lane, List[int]] = {}
+    for data in decoded.groups:
+        own = {passage.way for passage in data.passages if any(packet.number in AUTHORITIES for packet in passage.said)}
+        for way in own - {None} if data.place is not None else ():
+            places.setdefault((data.group.track, way or 0), []).append(data.place or 0)
+    return {lane: (min(some), max(some)) for lane, some in places.items()}
+
+
+def leaves(options: Options, decoded: Decoded, passage: Passage, place: int) -> bool:
+    """Whether trains may leave the track before a place, by a `point` of the track plan."""
+    group = passage.group.group if passage.group else None
+    if options.plan is None or group is None or group.km is None or not options.plan.of_kind("point"):
+        return False
+    km = Decimal(decoded.chainages[group.track].words(place))
+    return bool(options.plan.points_between(group.track, group.km, km, passage.way or 0))

@@ -1,0 +1,148 @@
+"""E12: end of authority.
+
+What it says. Authorities of one track and way whose packets 5 lead to one group end at different places, or an
+authority ends between groups. An end is the kilometre of the group and the sum of L_SECTION and L_ENDSECTION of a
+packet 12 with V_MAIN above 0, or of a packet 15. Ends are compared if the packets 5 that are said with them name one
+group as the nearest within 200 m, or else as the last one before the end, if they also name a group beyond it. Without
+packets 5 ends within 20 m of each other are compared. The tolerance is `--tolerance` (1 m without it), the unit of each
+packet by Q_SCALE, half a unit for each further length of a sum, and one unit of the last decimal of the kilometres.
+Besides, an end of a packet 12 between the first and the last signal of the table is at most 50 m and the tolerance from
+the first balise of some group, unless no group is within 200 m (SUBSET-026, 3.8 and 7.4.2).
+
+How urgent. At worst wrong information: a train may pass the signal at which it has to stop.
+
+Usual cause. A length was mistyped, or has the Q_SCALE of another packet. A signal was moved, and not all groups in rear
+of it were made anew.
+
+What may happen. The train stops beyond the signal, or some metres before it.
+
+How to correct it. Compare the sum of the lengths with the distance to the signal.
+
+Correct data that gets it. Buffer stops, and marker boards without balises. A route to another track, if no `point` of
+the track plan says where trains may leave the track.
+
+Example. At green the authority of signal 3 ends at km 16.050, and three others that lead to signal 5 end at km 16.000.
+
+How sure. 88 %.
+"""
+from __future__ import annotations
+
+from collections import Counter
+from decimal import Decimal
+from typing import Dict, Iterator, List, Optional, Sequence, Tuple
+
+from balisekit.etcs.variables import metres
+from balisekit.rules.decoded import Decoded, GroupData, allowance
+from balisekit.rules.line import Line
+from balisekit.rules.meaning.along import End, Lane, ends_of, extents_of, lane_of, leaves, names_of
+from balisekit.rules.meaning.words import merged, source
+from balisekit.rules.rule import Options, Remark, Result, Rule
+from balisekit.rules.urgency import Urgency
+
+NOWHERE = (1, 0)
+NEAR, STANDS, ALONE = 2000, 500, 200
+"""In decimetres: how near a group is to its end, how near one has to be, and how near ends without links are."""
+
+
+def find(line: Line, options: Options) -> Result:
+    """Compares the ends that lead to one group, and each end with the groups."""
+    decoded, looked_at = line.decoded, 0
+    linked: Dict[Tuple[Lane, GroupData], List[End]] = {}
+    unlinked: Dict[Lane, List[End]] = {}
+    ends: List[Tuple[Lane, End]] = []  # (those that are not at the group to which they lead)
+    for end in ends_of(decoded):
+        lane, looked_at = lane_of(end.passage), looked_at + 1
+        if leaves(options, decoded, end.passage, end.place):
+            continue
+        target = _target(decoded, end)
+        if target is None or target.place is None or abs(target.place - end.place) > STANDS:
+            ends.append((lane, end))
+        if target is not None:
+            linked.setdefault((lane, target), []).append(end)
+        elif not end.passage.of(5):
+            unlinked.setdefault(lane, []).append(end)
+    found: Dict[Tuple[int, str], Remark] = {}
+    for (_, target), some in linked.items():
+        found.update((end.key, remark) for end, remark in _compare(decoded, options, some, target))
+    for some in unlinked.values():
+        for part in _parts(some):
+            found.update((end.key, remark) for end, remark in _compare(decoded, options, part))
+    extents = extents_of(decoded) if ends else {}
+    for lane, end in ends:
+        low, high = extents.get(lane, NOWHERE)
+        if end.key not in found and low <= end.place <= high:
+            found.update((end.key, remark) for remark in _between(decoded, options, end))
+    return Result(merged(found.values()), looked_at)
+
+
+def _target(decoded: Decoded, end: End) -> Optional[GroupData]:
+    """The group to which the authority leads, by its packets 5. One that is elsewhere by the kilometres is none."""
+    named = names_of(decoded, end.passage)
+    if not named:
+        return None
+    distance = end.distance
+    at, target = min(named, key=lambda each: abs(each[0] - distance))
+    if abs(at - distance) > NEAR:
+        before = [each for each in named if each[0] <= distance]
+        if not before or len(before) == len(named):
+            return None
+        at, target = before[-1]
+    by_links = end.passage.place(at)
+    if target is None or target.place is None or by_links is None or abs(by_links - target.place) > NEAR:
+        return None
+    return target
+
+
+def _parts(ends: List[End]) -> Iterator[List[End]]:
+    """Ends without packets 5 that are near each other, together."""
+    part: List[End] = []
+    for end in sorted(ends, key=lambda each: each.place):
+        if part and end.place - part[-1].place > ALONE:
+            yield part
+            part = []
+        part.append(end)
+    yield part
+
+
+def _compare(
+    decoded: Decoded, options: Options, ends: Sequence[End], target: Optional[GroupData] = None
+) -> Iterator[Tuple[End, Remark]]:
+    """The ends that differ from the most frequent one, of equally frequent ones from that nearest to the group."""
+    counts = Counter(end.place for end in ends)
+    if len(counts) < 2:
+        return
+    at = target.place if target and target.place is not None else ends[0].place
+    usual = max(ends, key=lambda each: (counts[each.place], -abs(each.place - at)))
+    same = sum(not end.differs(usual, decoded, options) for end in ends)
+    where = f" that lead{'s' if same == 1 else ''} to {target.group}" if target else " nearby"
+    for end in ends:
+        if end.differs(usual, decoded, options):
+            track = end.passage.track
+            sentence = (
+                f"the authority ends at {decoded.km(track, end.place)}, {metres(end.distance)} from the "
+                f"group by L_SECTION and L_ENDSECTION; {same} other{'s' if same > 1 else ''}{where}, such as that of "
+                f"{source(usual.passage, usual.packet)}, end{'s' if same == 1 else ''} at "
+                f"{decoded.km(track, usual.place)}: they differ by {metres(abs(end.place - usual.place))}"
+            )
+            values = {"end_m": Decimal(end.place) / 10, "other_end_m": Decimal(usual.place) / 10}
+            others = (usual.packet.row.number,) if usual.packet.row else ()
+            yield end, Remark("E12", end.passage.at(end.packet), sentence, None, values, others=others)
+
+
+def _between(decoded: Decoded, options: Options, end: End) -> Iterator[Remark]:
+    """An end of a packet 12 that is near a group, and not at it."""
+    track, group = end.passage.track, decoded.nearest(end.passage.track, end.place)
+    if end.packet.number != 12 or group is None or group.place is None:
+        return
+    apart = abs(group.place - end.place)
+    tolerance = decoded.tolerance(options.tolerance_of_places, allowance(end.packet, end.packet.lengths))
+    if STANDS + tolerance < apart <= NEAR:
+        sentence = (
+            f"the authority ends at {decoded.km(track, end.place)}, {metres(end.distance)} from the group "
+            f"by L_SECTION and L_ENDSECTION: the nearest group, {group.group}, is {metres(apart)} from there"
+        )
+        values = {"end_m": Decimal(end.place) / 10, "nearest_group_m": Decimal(group.place) / 10}
+        yield Remark("E12", end.passage.at(end.packet), sentence, group.group, values)
+
+
+RULE = Rule("E12", "ends of authority", __doc__ or "", find, Urgency.WRONG_INFORMATION, needs_kilometres=True)

@@ -1,0 +1,144 @@
+"""E13: profiles that disagree.
+
+What it says. On a stretch of one track and way the profiles of two groups differ: no V_STATIC of the group in rear is
+that of the group ahead, or their gradients are more than 5 per mille apart. Each group is compared with the next one
+ahead that has a profile there. All aspects of both groups count, of the group in rear only those whose packet 5 names
+the group ahead, if any does. Stretches are passed over that are no longer than the tolerance: `--tolerance` (1 m
+without it), the units of both packets by Q_SCALE, half a unit for each further distance, and one unit of the last
+decimal of the kilometres. If a group differs from those on both sides, the remark is on that group (SUBSET-026, 3.11.3
+and 3.11.12).
+
+How urgent. At worst wrong information: a train may go too fast, or brake too late on a slope.
+
+Usual cause. V_STATIC is in km/h instead of steps of 5 km/h. Q_SCALE is not that of the distances. Q_GDIR is wrong. A
+speed or a gradient was changed in one group only.
+
+What may happen. The train goes by the profile that it got last, which may be the wrong one.
+
+How to correct it. Compare both groups with the track plan.
+
+Correct data that gets it. Gradients that were merged in one group and not in the other. A temporary restriction that is
+written into one profile. A route to another track, if no `point` of the track plan says where trains may leave it.
+
+Example. From km 14.500 to km 15.200 signal 3 says 500 km/h, and signal 4 says 100 km/h.
+
+How sure. 87 %.
+"""
+from __future__ import annotations
+
+from dataclasses import dataclass
+from decimal import Decimal
+from typing import Dict, Iterator, List, Sequence, Tuple
+
+from balisekit.rules.decoded import GRADIENTS, SPEEDS, Decoded, Packet, allowance
+from balisekit.rules.line import Line
+from balisekit.rules.meaning.along import leaves
+from balisekit.rules.meaning.profiles import Piece, Profiles, agree, lanes_of, pairs, pieces_of
+from balisekit.rules.meaning.words import source
+from balisekit.rules.rule import Options, Remark, Result, Rule
+from balisekit.rules.urgency import Urgency
+
+
+@dataclass(frozen=True)
+class Difference:
+    """Two groups that differ on some stretches."""
+
+    rear: Profiles
+    ahead: Profiles
+    pieces: Sequence[Piece]
+    """The longest one first. Their places count in the direction of passage."""
+
+
+def find(line: Line, options: Options) -> Result:
+    """Compares the profiles of each group with those of the groups ahead."""
+    decoded, found, looked_at = line.decoded, [], 0
+    for number in (SPEEDS, GRADIENTS):
+        for lane in lanes_of(decoded, number).values():
+            differences = [each for one in pairs(lane) for each in _difference(decoded, options, *one)]
+            looked_at += len(lane)
+            found += list(_remarks(decoded, differences))
+    return Result(found, looked_at)
+
+
+def _difference(decoded: Decoded, options: Options, rear: Profiles, ahead: Profiles, low: int) -> Iterator[Difference]:
+    """The stretches on which two groups differ."""
+    high = min(rear.reach, ahead.reach)
+    if agree(rear.longest, ahead.longest, low, high) and rear.names(ahead, decoded):
+        return
+    pieces = []
+    for piece in pieces_of(rear.naming(ahead, decoded), ahead.aspects, low, high):
+        parts = (allowance(each.packet, len(each.stretches)) for each in (piece.rear, piece.ahead))
+        tolerance = decoded.tolerance(options.tolerance_of_places, *parts)
+        place = piece.low * rear.way
+        if piece.high - piece.low > tolerance and not leaves(options, decoded, piece.rear.passage, place):
+            pieces.append(piece)
+    if pieces:
+        yield Difference(rear, ahead, sorted(pieces, key=lambda each: each.low - each.high))
+
+
+def _remarks(decoded: Decoded, differences: Sequence[Difference]) -> Iterator[Remark]:
+    """One remark for each group that differs: of two groups, for that which differs from more groups."""
+    counts: Dict[int, int] = {}
+    for each in differences:
+        for profiles in (each.rear, each.ahead):
+            counts[id(profiles)] = counts.get(id(profiles), 0) + 1
+    by_group: Dict[int, List[Tuple[Difference, bool]]] = {}
+    for each in differences:
+        is_rear = counts[id(each.rear)] >= counts[id(each.ahead)]
+        if counts[id(each.rear)] == counts[id(each.ahead)]:
+            piece = each.pieces[0]
+            is_rear = bool(
+                _cause(each.rear, each.ahead, piece, True) or not _cause(each.ahead, each.rear, piece, False)
+            )
+        by_group.setdefault(id(each.rear if is_rear else each.ahead), []).append((each, is_rear))
+    for some in by_group.values():
+        yield _remark(decoded, some)
+
+
+def _remark(decoded: Decoded, some: Sequence[Tuple[Difference, bool]]) -> Remark:
+    """The remark on a group, by the longest stretch."""
+    difference, is_rear = max(some, key=lambda each: each[0].pieces[0].high - each[0].pieces[0].low)
+    piece, way, track = difference.pieces[0], difference.rear.way, difference.rear.track
+    own, other = (piece.rear, piece.ahead) if is_rear else (piece.ahead, piece.rear)
+    own_value, other_value = own.value_at(piece.low), other.value_at(piece.low)
+    groups = (difference.rear, difference.ahead) if is_rear else (difference.ahead, difference.rear)
+    name, unit = ("V_STATIC", "km/h") if own.packet.number == SPEEDS else ("G_A", "per mille")
+    factor = 5 if own.packet.number == SPEEDS else 1
+    more = sum(len(each.pieces) for each, _ in some) - 1
+    shown = [f"{value * factor:{'+' if factor == 1 else ''}} {unit}" for value in (own_value, other_value)]
+    sentence = (
+        f"{name} is {shown[0]} from {decoded.km(track, piece.low * way)} to {decoded.km(track, piece.high * way)}, and "
+        f"{shown[1]} by "
+        f"{source(other.passage, other.packet)}{_cause(*groups, piece, is_rear)}"
+        + (f"; they differ on {more} other stretch{'es' if more > 1 else ''} too" if more else "")
+    )
+    values = {f"{name.lower()}": Decimal(own_value * factor), f"other_{name.lower()}": Decimal(other_value * factor)}
+    alike = [each.packet.row for each in piece.alike(own) if each.packet.row]
+    rows = tuple(sorted({row.number for row in alike}))
+    aspects = tuple(dict.fromkeys(row.aspect for row in alike if row.aspect not in ("", "*")))
+    others = tuple(dict.fromkeys(_row(each, is_own) for each, is_own in some))
+    where = own.passage.at(own.packet)
+    named = tuple(sorted(set(others) - {0, *rows}))
+    return Remark("E13", where, sentence, None, values, rows=rows, others=named, aspects=aspects)
+
+
+def _row(difference: Difference, is_rear: bool) -> int:
+    """The row of the other group of a difference."""
+    piece = difference.pieces[0]
+    packet: Packet = (piece.ahead if is_rear else piece.rear).packet
+    return packet.row.number if packet.row else 0
+
+
+def _cause(own: Profiles, other: Profiles, piece: Piece, is_rear: bool) -> str:
+    """What looks like the cause, if the first group is the wrong one."""
+    aspects = (piece.rear, piece.ahead) if is_rear else (piece.ahead, piece.rear)
+    value, other_value = (each.value_at(piece.low) for each in aspects)
+    if aspects[0].packet.number == SPEEDS and value == 5 * other_value:
+        return ": is V_STATIC in km/h instead of steps of 5 km/h?"
+    if aspects[0].packet.number == GRADIENTS and value == -other_value:
+        return ": is Q_GDIR wrong?"
+    factor = own.longest.scale_of(other.longest)
+    return f": are its distances {factor}, by Q_SCALE?" if factor else ""
+
+
+RULE = Rule("E13", "profiles of groups", __doc__ or "", find, Urgency.WRONG_INFORMATION, needs_kilometres=True)

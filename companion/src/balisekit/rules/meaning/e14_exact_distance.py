@@ -1,0 +1,137 @@
+"""E14: distance not as it is written.
+
+What it says. The sum of D_LINK from a group, or from the linked group before, to a linked group differs from the
+distance by the kilometres by more than the tolerance, and by no more than Q_LOCACC. A greater difference is L2. The
+tolerance is `--tolerance` (1 m without it), one unit of D_LINK by Q_SCALE, half a unit for each further D_LINK of the
+sum, and one unit of the last decimal of the kilometres. Q_LOCACC describes how exactly a group is installed, and not
+how exactly D_LINK is written. If all links over a stretch differ by one amount, one remark asks whether the kilometres
+jump there. If more than a fifth of the links of a track differ, and five at least, one note counts them: the kilometres
+then follow another axis than the track (SUBSET-026, 3.4.4 and 7.5.1).
+
+How urgent. At worst a wrong place: the train corrects its position by a wrong distance.
+
+Usual cause. A distance was counted from or to another balise than the first one of a group. A group was moved by a few
+metres. The kilometre of the table is wrong.
+
+What may happen. The train believes that it is some metres from where it is, and all places that count from there move.
+
+How to correct it. Correct D_LINK or the kilometre. Give jumps of the kilometres by `--jumps` or in the track plan.
+
+Correct data that gets it. Kilometres that jump, if neither `--jumps` nor a track plan says so. Curves and second
+tracks, whose kilometres are those of another axis.
+
+Example. Signal 5 is 1,504 m from signal 4 by D_LINK and 1,500 m by the kilometres, and Q_LOCACC is 5 m.
+
+How sure. 90 %.
+"""
+from __future__ import annotations
+
+from collections import Counter
+from dataclasses import replace
+from decimal import Decimal
+from typing import Iterator, Optional
+
+from balisekit.etcs.variables import metres
+from balisekit.rules.line import Line
+from balisekit.rules.link_steps import Jump, Step, jumps_of, steps_of
+from balisekit.rules.links import l2_distance
+from balisekit.rules.meaning.words import balises_of
+from balisekit.rules.rule import Options, Remark, Result, Rule
+from balisekit.rules.urgency import Urgency
+
+LEAST, SHARE = 5, 5
+"""So many links of a track, and more than one of so many, are counted in one note."""
+
+
+def find(line: Line, options: Options) -> Result:
+    """Looks at each link between two groups of one track."""
+    steps = list(steps_of(line))
+    least = line.decoded.tolerance(options.tolerance_of_places)
+    differing = [each for each in steps if abs(each.difference) > least + _allowance(line, each)]
+    jumps = list(jumps_of(steps, least + 1)) if len(differing) > 1 else []
+    found, notes = [_jump(line, each) for each in jumps if not _is_far(line, each, options)], []
+    apart = [each for each in differing if not any(_explains(jump, each, least) for jump in jumps)]
+    within = [each for each in apart if not _is_by_l2(line, each, options)]
+    totals, counts = Counter(each.here.track for each in steps), Counter(each.here.track for each in within)
+    many = {track for track, count in counts.items() if count >= LEAST and count * SHARE > totals[track]}
+    for track in sorted(many):
+        where = f" of track {track}" if track else ""
+        notes.append(
+            f"E14: {counts[track]} of {totals[track]} links{where} differ from the kilometres by more than the "
+            "tolerance, within Q_LOCACC: the kilometres may follow another axis than D_LINK"
+        )
+    for step in within:
+        if step.here.track not in many:
+            found += _remarks(line, step, least)
+    return Result(found, len(steps), notes=notes)
+
+
+def _allowance(line: Line, step: Step) -> int:
+    """What rounding may add to the sum: one unit of its packet, and half a unit for each further D_LINK."""
+    where = step.chains[0].location
+    if where.row is None or where.group is None or where.packet is None:
+        unit = 100
+    else:
+        unit = line.decoded.groups[where.group.number].telegrams[where.row.number].packets[where.packet].unit
+    return unit + (unit * (step.lengths - 1) + 1) // 2
+
+
+def _explains(jump: Jump, step: Step, tolerance: int) -> bool:
+    return jump.explains(step.here.track, step.low, step.high, step.difference, tolerance)
+
+
+def _is_far(line: Line, jump: Jump, options: Options) -> bool:
+    """Whether L2 remarks on links over it."""
+    return any(_is_by_l2(line, step, options) for step in jump.steps)
+
+
+def _is_by_l2(line: Line, step: Step, options: Options) -> bool:
+    """Whether L2 remarks on the link: it counts from the sender on, as long as nothing differs."""
+    chain = step.chains[0]
+    places = line.places if line.jumps else None
+    for link, found in zip(chain.links, l2_distance.compare(chain, options.tolerance, places)):
+        if link is step.link:
+            return isinstance(found, Remark)
+    return False
+
+
+def _remarks(line: Line, step: Step, least: int) -> Iterator[Remark]:
+    tolerance = least + _allowance(line, step)
+    sentence = (
+        f"{step.here} is {metres(step.distance)} from {step.base} by D_LINK, and {metres(step.by_kilometres)} by the "
+        f"kilometres: they differ by {metres(abs(step.difference))}, which is within Q_LOCACC ({step.link.accuracy} m) "
+        f"and above the tolerance of {metres(tolerance)}{_other_balise(line, step) or ''}"
+    )
+    values = {"metres_by_d_link": Decimal(step.distance) / 10, "metres_by_kilometres": Decimal(step.by_kilometres) / 10}
+    for chain in step.chains:
+        location = chain.at(step.link)
+        yield Remark("E14", location, sentence, step.here, values, named=(step.base,))
+
+
+def _other_balise(line: Line, step: Step) -> Optional[str]:
+    """Which balise of the two groups the distance fits better than the first ones."""
+    chainage = line.decoded.chainages[step.here.track]
+    found = []
+    for group, sign, which in ((step.here, 1, "to"), (step.base, -1, "from")):
+        for position, row in list(enumerate(balises_of(group)))[1:]:
+            own, place = line.places[group.number], chainage.place(row.km) if row else None
+            if row is not None and own is not None and place is not None:
+                distance = step.by_kilometres + sign * step.way * (place - own)
+                balise = f"balise {position} of {group}, row {row.number}"
+                words = f"; by the kilometres it is {metres(distance)} {which} {balise}"
+                found.append((abs(step.distance - distance), words))
+    best = min(found, default=None)
+    return best[1] if best and best[0] < abs(step.difference) and best[0] <= line.decoded.resolution else None
+
+
+def _jump(line: Line, jump: Jump) -> Remark:
+    """One remark for all links over a jump of the kilometres."""
+    first = jump.steps[0]
+    rows = sorted({step.row for step in jump.steps} - {0, first.row})
+    sentence = f"{jump.words(line.decoded.chainages[jump.track])}: give the jump by --jumps, or correct the kilometres"
+    values = {"difference_m": Decimal(jump.difference) / 10}
+    remark = Remark("E14", first.chains[0].at(first.link), sentence, first.here, values, urgency=Urgency.RULE_ONLY)
+    return replace(remark, others=tuple(rows))
+
+
+RULE = Rule("E14", "links", __doc__ or "", find, Urgency.WRONG_PLACE, needs_kilometres=True)

@@ -1,0 +1,121 @@
+"""E15: infill that is not its signal.
+
+What it says. A packet 136 names a group that the table has not, or that is not ahead of the infill group. Or a packet
+12, 21, 27 or 80 after it differs from that of the named group, in the aspect with the same name and in the direction in
+which the train passes that group: in a distance, a speed, a time or any other field but Q_DIR and Q_SCALE. Distances
+are compared in metres; if Q_SCALE differs, the greater unit is allowed. Packets that only one of the groups has are
+passed over. If the infill group is the last one of the track that gives an authority in its direction, a group that the
+table has not is a note: it may be beyond the table. The layouts of packets 80 and 136 are balisekit's own (SUBSET-026,
+3.6.2 and 7.4.2).
+
+How urgent. At worst wrong information: the train gets another aspect than the signal shows.
+
+Usual cause. The infill was not made anew when the telegrams of the signal were changed, or was copied from the wrong
+aspect.
+
+What may happen. A train releases its brake for an aspect that the signal does not show.
+
+How to correct it. Copy the packets of the signal to behind packet 136, aspect by aspect.
+
+Correct data that gets it. Infill that says less than its signal on purpose, such as a lower V_MAIN.
+
+Example. At yellow the infill of signal 4 has L_ENDSECTION 1,350 m, and signal 4 has 1,500 m.
+
+How sure. 88 %.
+"""
+from __future__ import annotations
+
+from decimal import Decimal
+from typing import Dict, Iterator, List, Optional, Sequence, Tuple
+
+from balisekit.etcs.geometry import DIRECTIONS
+from balisekit.etcs.variables import metres
+from balisekit.rules.decoded import GroupData, Packet, Passage
+from balisekit.rules.line import Line
+from balisekit.rules.location import NOT_KNOWN, Identity
+from balisekit.rules.meaning.along import Extent, extents_of, lane_of
+from balisekit.rules.meaning.fields import fields_apart
+from balisekit.rules.meaning.words import merged, source
+from balisekit.rules.rule import Options, Remark, Result, Rule
+from balisekit.rules.urgency import Urgency
+from balisekit.tables.names import clean, describe_identity
+
+COMPARED = (12, 21, 27, 80)
+
+
+def find(line: Line, options: Options) -> Result:
+    """Looks at what follows each packet 136."""
+    decoded, found, looked_at = line.decoded, [], 0
+    unknown: List[Tuple[Passage, Packet, Identity]] = []
+    for passage in decoded.passages:
+        reference = passage.reference
+        if reference is not None and passage.group is not None and "nid_bg" in reference.form:
+            looked_at += 1
+            country = passage.group.group.identity[0] if passage.group.group.identity else 0
+            identity = reference.form.get("nid_c", country), reference.form["nid_bg"]
+            target = decoded.by_identity.get(identity)
+            if target is not None:
+                found += list(_ahead(passage, passage.group, reference, target)) or list(_differences(passage, target))
+            elif identity[1] != NOT_KNOWN:
+                unknown.append((passage, reference, identity))
+    extents, notes = extents_of(decoded) if unknown else {}, set()
+    for passage, reference, identity in unknown:
+        words = f"packet 136 names {describe_identity(identity)}, which the table has not"
+        if passage.group and _is_last(passage, extents.get(lane_of(passage))):
+            notes.add(f"E15: {clean(passage.group.group.group.name)}: {words}: it may be beyond the table")
+        else:
+            values = {"nid_c": Decimal(identity[0]), "nid_bg": Decimal(identity[1])}
+            found.append(Remark("E15", passage.at(reference), words, None, values))
+    return Result(merged(found), looked_at, notes=sorted(notes))
+
+
+def _is_last(passage: Passage, extent: Optional[Extent]) -> bool:
+    """Whether no group ahead gives an authority. Without a place or a way that is not known."""
+    place, way = passage.group.place if passage.group else None, passage.way
+    if place is None or way is None or extent is None:
+        return True
+    return place * way >= max(each * way for each in extent)
+
+
+def _ahead(passage: Passage, group: GroupData, reference: Packet, target: GroupData) -> Iterator[Remark]:
+    """Whether the named group is ahead."""
+    if group.place is None or target.place is None or passage.way is None or group.group.track != target.group.track:
+        return
+    ahead = (target.place - group.place) * passage.way
+    if ahead <= 0:
+        sentence = f"packet 136 names {target.group}, which is {metres(-ahead)} in rear of {group.group}"
+        yield Remark("E15", passage.at(reference), sentence, target.group, {"ahead_m": Decimal(ahead) / 10})
+
+
+def _signal(passage: Passage, target: GroupData) -> Optional[Passage]:
+    """What the train gets from the named group, in the aspect with the same name."""
+    way = passage.way
+    direction = next((each for each in DIRECTIONS if way and target.group.along(each) == way), passage.direction)
+    same = (each for each in target.passages if each.aspect == passage.aspect and each.direction == direction)
+    return next(same, None)
+
+
+def _differences(passage: Passage, target: GroupData) -> Iterator[Remark]:
+    """One remark on all packets of an aspect that differ from those of the signal."""
+    signal, words, others = _signal(passage, target), [], []
+    values: Dict[str, Decimal] = {}
+    first: Optional[Packet] = None
+    for number in COMPARED if signal else ():
+        for packet, other in zip((each for each in passage.infill if each.number == number), _of(signal, number)):
+            apart = next(fields_apart(packet, other), None)
+            if signal and apart:
+                first = first or packet
+                of = f"packet {number} of {source(signal, other)}" if not words else f"packet {number} there"
+                words.append(f"{apart.name} is {apart.own} in the infill, and {apart.other} in {of}")
+                values = {**apart.values, **values}
+                others += [other.row.number] if other.row else []
+    if first is not None:
+        rows = tuple(dict.fromkeys(others))
+        yield Remark("E15", passage.at(first), "; ".join(words), target.group, values, others=rows)
+
+
+def _of(signal: Optional[Passage], number: int) -> Sequence[Packet]:
+    return signal.of(number) if signal else []
+
+
+RULE = Rule("E15", "infill", __doc__ or "", find, Urgency.WRONG_INFORMATION)

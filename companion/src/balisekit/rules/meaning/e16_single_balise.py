@@ -1,0 +1,144 @@
+"""E16: direction of a single balise.
+
+What it says. A group of one balise with Q_LINK 1 has a packet for one direction (44, 145 and 254 apart), and no packet
+5 of the table names it. Or the packets 5 that name a single balise give it different nominal directions along the
+kilometres, or another one than the column `nominal`. The first part is silent if no packet 5 that holds in the way of
+the packet leads past the kilometre of the balise. Single balises with Q_LINK 0 are L5 (SUBSET-026, 3.4.2 and 3.4.4).
+
+How urgent. At worst wrong information: the packet may be taken for the other direction, or not at all.
+
+Usual cause. The link to an infill balise was forgotten. Q_LINKORIENTATION was copied from another link. The column
+`nominal` was filled in for the other direction.
+
+What may happen. A train can tell the direction of a single balise by linking only. Without it, the train ignores all
+that is for one direction; with the wrong one, it takes what is meant for trains of the other way.
+
+How to correct it. Name the balise in the packets 5 of the groups before it, and give all these links one orientation.
+
+Correct data that gets it. Level 2, if linking comes by radio, and the messages are not among the data.
+
+Example. Infill balise 5 has a packet 12 for the nominal direction. Signals 3 and 4 lead past it and do not name it.
+
+How sure. 95 %.
+"""
+from __future__ import annotations
+
+from bisect import bisect_left
+from decimal import Decimal
+from typing import Dict, Iterator, List, Tuple
+
+from balisekit.etcs.geometry import DIRECTIONS
+from balisekit.rules.decoded import Decoded, GroupData, Packet
+from balisekit.rules.line import Line
+from balisekit.rules.location import BaliseGroup, Location
+from balisekit.rules.passages import Chain, Link
+from balisekit.rules.rule import Options, Remark, Result, Rule
+from balisekit.rules.urgency import Urgency
+from balisekit.tables.names import rows_words
+
+NOT_COMPARED = {44, 145, 254}
+WORDS = {1: "rising", -1: "falling"}
+Named = Dict[int, Dict[int, Tuple[Chain, Link]]]
+"""Of each single balise, by its number: by its nominal direction along the kilometres the first link that gives it."""
+
+
+class Passed:
+    """Over which kilometres packets 5 lead, by track and way. Places count along the way."""
+
+    def __init__(self, line: Line) -> None:
+        self._spans: Dict[Tuple[str, int], List[Tuple[int, int]]] = {}
+        for chain in line.chains:
+            sender = chain.sender
+            way, place = (sender.along(chain.direction), line.places[sender.number]) if sender else (None, None)
+            if sender and way is not None and place is not None:
+                end = place * way + sum(link.distance for link in chain.links)
+                self._spans.setdefault((sender.track, way), []).append((place * way, end))
+        for spans in self._spans.values():
+            spans.sort()
+            farthest = -(10**12)
+            for index, (begin, end) in enumerate(spans):
+                farthest = max(farthest, end)
+                spans[index] = begin, farthest
+
+    def is_passed(self, track: str, place: int, way: int) -> bool:
+        """Whether a packet 5 that holds in this way leads past a place."""
+        spans = self._spans.get((track, way), [])
+        index = bisect_left(spans, (place * way,))
+        return index > 0 and spans[index - 1][1] > place * way
+
+
+def find(line: Line, options: Options) -> Result:
+    """Looks at each single balise."""
+    decoded, passed, found = line.decoded, Passed(line), []
+    single = [data for data in decoded.groups if data.group.balises == 1]
+    named = _named(line) if single else {}
+    all_named = {link.identity for chain in line.chains for link in chain.links} if single else set()
+    for data in single:
+        links = named.get(data.group.number, {})
+        found += list(_directions(data.group, links))
+        if data.group.linked and data.group.identity not in all_named:
+            found += list(_unnamed(decoded, passed, data))
+    return Result(found, len(single))
+
+
+def _named(line: Line) -> Named:
+    """Which nominal directions the links give single balises."""
+    named: Named = {}
+    for chain in line.chains:
+        way = chain.sender.along(chain.direction) if chain.sender else None
+        for link in chain.links if way is not None else ():
+            here = link.target
+            if way is not None and here and here.balises == 1 and chain.sender and here.track == chain.sender.track:
+                named.setdefault(here.number, {}).setdefault(way if link.nominal else -way, (chain, link))
+    return named
+
+
+def _directions(group: BaliseGroup, links: Dict[int, Tuple[Chain, Link]]) -> Iterator[Remark]:
+    """What links say of one balise against each other, and against the column `nominal`."""
+    if len(links) > 1:
+        (chain, link), (other, _) = links[1], links[-1]
+        sentence = (
+            f"Q_LINKORIENTATION says that the kilometres rise in the nominal direction of the single balise {group}, "
+            f"and the packet 5 of {_source(other)} says that they fall"
+        )
+        row = other.location.row
+        yield Remark("E16", chain.at(link), sentence, group, others=(row.number,) if row else ())
+    elif group.rising is not None and not group.by_links and links and group.rising not in links:
+        ((way, (chain, link)),) = links.items()
+        sentence = (
+            f"Q_LINKORIENTATION gives the single balise {group} the nominal direction {WORDS[way]}, and the column "
+            f"nominal says {WORDS[group.rising]}"
+        )
+        rows = tuple(sorted({row.number for row in group.group.rows()}))
+        yield Remark("E16", chain.at(link), sentence, group, others=rows)
+
+
+def _source(chain: Chain) -> str:
+    row = chain.location.row
+    return f"{chain.sender}{f', {rows_words([row.number])}' if row else ''}"
+
+
+def _unnamed(decoded: Decoded, passed: Passed, data: GroupData) -> Iterator[Remark]:
+    """A packet for one direction of a balise that no packet 5 names."""
+    packet = next((each for each in _packets(data) if each.form.get("q_dir", 2) != 2), None)
+    if packet is None or packet.row is None:
+        return
+    direction = DIRECTIONS[1 - packet.form["q_dir"]]
+    way = data.group.along(direction)
+    ways = (1, -1) if way is None else (way,)
+    if data.place is None or not any(passed.is_passed(data.group.track, data.place, each) for each in ways):
+        return
+    sentence = (
+        f"it is for the {direction} direction, the balise is single and has Q_LINK 1, and no packet 5 names it: those "
+        f"of other groups lead past {decoded.km(data.group.track, data.place)}"
+    )
+    where = Location(data.group, packet.row, None, packet.place, direction, None, packet.number, packet.n_pig)
+    yield Remark("E16", where, sentence, values={"km": Decimal(data.place) / 10_000})
+
+
+def _packets(data: GroupData) -> Iterator[Packet]:
+    for telegram in data.telegrams.values():
+        yield from (packet for packet in telegram.packets if packet.number not in NOT_COMPARED)
+
+
+RULE = Rule("E16", "single balises", __doc__ or "", find, Urgency.WRONG_INFORMATION, needs_kilometres=True)

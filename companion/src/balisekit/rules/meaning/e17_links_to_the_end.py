@@ -1,0 +1,124 @@
+"""E17: links that end before the authority.
+
+What it says. A packet 12 with V_MAIN above 0 allows a train to go on for more than 50 m behind the last group that a
+packet 5 names, neither one of the same passage nor one of a group before it on that track and way. Groups count that
+say anything in the direction of passage. The rule is silent if no such group is between that place and 50 m beyond the
+end of the authority, and if the end is beyond the last such group of the track. A table without any packet 5 gets one
+remark for all (SUBSET-026, 3.4.4).
+
+How urgent. At worst a wrong place: a train misses a group and goes on.
+
+Usual cause. A link was forgotten, or an aspect leads farther than the packet 5, which was made for another aspect.
+
+What may happen. Groups that no link names aren't expected: nothing shows that the train missed one, and it corrects its
+position by none of them.
+
+How to correct it. Name all groups to the end of the authority in the packet 5.
+
+Correct data that gets it. A line that never uses linking, or that uses it on a part only.
+
+Example. The authority of signal 3 ends at km 16.000, and its packet 5 names groups to km 14.500 only.
+
+How sure. 86 %.
+"""
+from __future__ import annotations
+
+from bisect import bisect_left
+from decimal import Decimal
+from typing import Dict, Iterator, List, Tuple
+
+from balisekit.etcs.variables import metres
+from balisekit.rules.decoded import Decoded, GroupData
+from balisekit.rules.line import Line
+from balisekit.rules.meaning.along import End, Lane, ends_of, lane_of, leaves, names_of
+from balisekit.rules.meaning.words import merged
+from balisekit.rules.rule import Options, Remark, Result, Rule
+from balisekit.rules.urgency import Urgency
+
+LESS = 500
+"""In decimetres."""
+
+
+class Reach:
+    """How far the links go, from each place of a track and way on, and where the groups are.
+
+    Places count along the way.
+    """
+
+    def __init__(self) -> None:
+        self.links: List[Tuple[int, int]] = []
+        self.groups: List[int] = []
+        self._begins: List[int] = []
+        self._farthest: List[int] = []
+
+    def sort(self) -> None:
+        """Makes it ready to be asked."""
+        self.groups.sort()
+        farthest = -(10**12)
+        for begin, end in sorted(self.links):
+            farthest = max(farthest, end)
+            self._begins.append(begin)
+            self._farthest.append(farthest)
+
+    def at(self, place: int) -> int:
+        """How far the links of all groups up to a place go, or that place."""
+        index = bisect_left(self._begins, place + 1)
+        return max(self._farthest[index - 1], place) if index else place
+
+    def group_between(self, low: int, high: int) -> bool:
+        """Whether a group is beyond the first place, and not beyond the second one."""
+        index = bisect_left(self.groups, low + 1)
+        return index < len(self.groups) and self.groups[index] <= high
+
+
+def find(line: Line, options: Options) -> Result:
+    """Compares each end of authority with the links."""
+    decoded = line.decoded
+    ends = [end for end in ends_of(decoded) if end.packet.number == 12]
+    if ends and not any(packet.number == 5 for passage in decoded.passages for packet in passage.said):
+        sentence = f"no group or message has a packet 5 (linking), and {len(ends)} authorities have a V_MAIN above 0"
+        first = ends[0].passage
+        return Result([Remark("E17", first.at(), sentence, values={"authorities": Decimal(len(ends))})], len(ends))
+    lanes = _lanes(decoded)
+    found = [remark for end in ends for remark in _look_at(decoded, options, lanes[lane_of(end.passage)], end)]
+    return Result(merged(found), len(ends))
+
+
+def _lanes(decoded: Decoded) -> Dict[Lane, Reach]:
+    """The links and groups of each track and way."""
+    lanes: Dict[Lane, Reach] = {}
+    known = set()
+    for passage in decoded.passages:
+        way, data = passage.way, passage.group
+        if way is None or data is None or data.place is None:
+            continue
+        lane = lanes.setdefault(lane_of(passage), Reach())
+        if (data, way) not in known and not passage.message and any(each.number < 254 for each in passage.said):
+            known.add((data, way))
+            lane.groups.append(data.place * way)
+        named = names_of(decoded, passage)
+        if named:
+            lane.links.append((data.place * way, data.place * way + max(distance for distance, _ in named)))
+    for lane in lanes.values():
+        lane.sort()
+    return lanes
+
+
+def _look_at(decoded: Decoded, options: Options, lane: Reach, end: End) -> Iterator[Remark]:
+    passage, way = end.passage, end.passage.way or 0
+    data: GroupData = passage.group or decoded.groups[0]
+    begin, place = (data.place or 0) * way, end.place * way
+    reach = lane.at(begin)
+    if reach >= place - LESS or not lane.groups or place > lane.groups[-1]:
+        return
+    if lane.group_between(reach, place + LESS) and not leaves(options, decoded, passage, end.place):
+        linked = f"lead to {decoded.km(passage.track, reach * way)} only" if reach > begin else "name no group"
+        sentence = (
+            f"the authority ends at {decoded.km(passage.track, end.place)}, and the packets 5 of this group and of "
+            f"those before it {linked}: the last {metres(place - reach)} are without links"
+        )
+        values = {"end_m": Decimal(end.place) / 10, "links_to_m": Decimal(reach * way) / 10}
+        yield Remark("E17", passage.at(end.packet), sentence, None, values)
+
+
+RULE = Rule("E17", "authorities", __doc__ or "", find, Urgency.WRONG_PLACE, needs_kilometres=True)

@@ -1,0 +1,141 @@
+"""E18: level transition.
+
+What it says. Packets 41 of one track and way announce a level transition within 500 m of each other, and differ in the
+place by more than the tolerance, or in the order of their M_LEVELTR and NID_NTC. A place is the kilometre of the group,
+and D_LEVELTR from it unless that is 32,767 (now). The packet with D_LEVELTR 0 or 32,767 counts as right, or else the
+most frequent place. The tolerance is `--tolerance` (1 m without it), the unit of each packet by Q_SCALE, and one unit
+of the last decimal of the kilometres. If a place is between the first and the last group of the track, some group there
+has to have a packet 41 with D_LEVELTR 0 or 32,767. A packet for both directions with a distance is E5 (SUBSET-026, 5.10
+and 7.4.2).
+
+How urgent. At worst wrong information: the train changes its level at another place.
+
+Usual cause. D_LEVELTR was mistyped, or the border was moved and not all announcements were made anew. The packet at the
+border was forgotten.
+
+What may happen. A driver acknowledges at one place and the train changes at another. The train goes on in a level whose
+trackside equipment has ended, or is braked.
+
+How to correct it. Compare D_LEVELTR of each announcement with the kilometre of the border, and put a packet 41 into the
+group at the border.
+
+Correct data that gets it. A line on which the last announcement alone makes the train change its level.
+
+Example. Signal 4 announces level 0 at km 16.750, and the group at the border, at km 16.700, has it at once.
+
+How sure. 88 %.
+"""
+from __future__ import annotations
+
+from collections import Counter
+from decimal import Decimal
+from typing import Dict, Iterator, List, NamedTuple, Sequence, Tuple
+
+from balisekit.etcs.variables import Around, metres, value_words
+from balisekit.rules.decoded import LEVELS, Decoded, Packet, Passage
+from balisekit.rules.line import Line
+from balisekit.rules.meaning.along import Lane, lane_of
+from balisekit.rules.meaning.words import merged, source
+from balisekit.rules.rule import Options, Remark, Result, Rule
+from balisekit.rules.urgency import Urgency
+
+BOTH_DIRECTIONS = 2
+NOW, NEAR = 32_767, 5000
+"""D_LEVELTR for at once, and in decimetres how near two announcements of one transition are."""
+
+
+class Order(NamedTuple):
+    """A level transition order at its place."""
+
+    place: int
+    passage: Passage
+    packet: Packet
+
+    @property
+    def is_now(self) -> bool:
+        """Whether it is for the place of its group."""
+        return self.packet.form["d_leveltr"] in (0, NOW)
+
+    @property
+    def levels(self) -> Sequence[Tuple[int, int]]:
+        """M_LEVELTR and NID_NTC in their order."""
+        return [(each["m_leveltr"], each.get("nid_ntc", -1)) for each in self.packet.form["transitions"]]
+
+    @property
+    def words(self) -> str:
+        """The levels in words."""
+        around = Around(self.packet.form)
+        return ", ".join(
+            value_words("m_leveltr", level, around) + (f" (NID_NTC {ntc})" if ntc >= 0 else "")
+            for level, ntc in self.levels
+        )
+
+
+def find(line: Line, options: Options) -> Result:
+    """Compares the orders for one place."""
+    decoded, found, looked_at = line.decoded, [], 0
+    for orders in _orders(decoded).values():
+        looked_at += len(orders)
+        for part in _parts(orders):
+            found += list(_compare(decoded, options, part))
+    return Result(merged(found), looked_at)
+
+
+def _orders(decoded: Decoded) -> Dict[Lane, List[Order]]:
+    """All orders of each track and way: what several aspects have in common once."""
+    found: Dict[Lane, Dict[Tuple[int, str], Order]] = {}
+    for passage in decoded.passages:
+        for packet in passage.said:
+            if packet.number == LEVELS and passage.way is not None:
+                sent = packet.form["d_leveltr"]
+                if packet.form["q_dir"] == BOTH_DIRECTIONS and sent not in (0, NOW):
+                    continue
+                place = passage.place(0 if sent == NOW else sent * packet.unit)
+                if place is not None:
+                    own = found.setdefault(lane_of(passage), {})
+                    own[id(packet), passage.direction] = Order(place, passage, packet)
+    return {lane: sorted(own.values(), key=lambda each: each.place) for lane, own in found.items()}
+
+
+def _parts(orders: Sequence[Order]) -> Iterator[List[Order]]:
+    """The orders of one transition, together."""
+    part: List[Order] = []
+    for order in orders:
+        if part and order.place - part[-1].place > NEAR:
+            yield part
+            part = []
+        part.append(order)
+    yield part
+
+
+def _compare(decoded: Decoded, options: Options, orders: Sequence[Order]) -> Iterator[Remark]:
+    """The orders that differ from that at the border, or from the most frequent one."""
+    counts = Counter(each.place for each in orders)
+    usual = max(orders, key=lambda each: (each.is_now, counts[each.place]))
+    track = usual.passage.track
+    for order in orders:
+        tolerance = decoded.tolerance(options.tolerance_of_places, order.packet.unit, usual.packet.unit)
+        apart, where = abs(order.place - usual.place), order.passage.at(order.packet)
+        others = (usual.packet.row.number,) if usual.packet.row else ()
+        values = {"place_m": Decimal(order.place) / 10, "other_place_m": Decimal(usual.place) / 10}
+        by = f"{source(usual.passage, usual.packet)}, {'has' if usual.is_now else 'announces'}"
+        if apart > tolerance:
+            sentence = (
+                f"the level transition is at {decoded.km(track, order.place)} by D_LEVELTR, and at "
+                f"{decoded.km(track, usual.place)} by {source(usual.passage, usual.packet)}: they differ by "
+                f"{metres(apart)}"
+            )
+            yield Remark("E18", where, sentence, None, values, others=others)
+        elif order.levels != usual.levels:
+            sentence = f"the levels are {order.words}, and {by} {usual.words} at {decoded.km(track, usual.place)}"
+            yield Remark("E18", where, sentence, None, values, others=others)
+    if not usual.is_now and decoded.is_inside(track, usual.place):
+        sentence = (
+            f"it announces {usual.words} at {decoded.km(track, usual.place)}, and no group within {NEAR // 10} m of "
+            "that place has a packet 41 with D_LEVELTR 0 or 32,767"
+        )
+        values = {"place_m": Decimal(usual.place) / 10}
+        yield Remark("E18", usual.passage.at(usual.packet), sentence, None, values)
+
+
+RULE = Rule("E18", "level transitions", __doc__ or "", find, Urgency.WRONG_INFORMATION, needs_kilometres=True)

@@ -1,0 +1,84 @@
+"""E19: gradients of both directions.
+
+What it says. On a stretch of one track the gradients of trains of both ways add up to more than 1 per mille, counted as
+each train meets them, uphill positive: both go up. Of all profiles of one way that cover the stretch the one that goes
+up least counts, so that groups of one way that disagree are E13 only. Stretches are passed over that are no longer than
+the tolerance: `--tolerance` (1 m without it), the units of both packets by Q_SCALE, half a unit for each further
+distance, and one unit of the last decimal of the kilometres. A remark of the lowest urgency names stretches of 1 km and
+more on which both ways go down by 3 per mille or more (SUBSET-026, 3.11.12).
+
+How urgent. At worst wrong information: a train brakes too late, because it believes that it goes uphill.
+
+Usual cause. Q_GDIR of one direction is wrong, or was copied from the other direction.
+
+What may happen. The brake curve is wrong by twice the gradient.
+
+How to correct it. Compare both directions with the track plan, which has one gradient for each stretch.
+
+Correct data that gets it. Safe gradients near a summit or a valley, if each direction has the steepest value of a
+longer stretch; both may then go down.
+
+Example. From km 14.500 to km 15.200 signal 3 says +8 per mille, and signal R4 of the other direction says +8 per mille.
+
+How sure. 87 %.
+"""
+from __future__ import annotations
+
+from decimal import Decimal
+from typing import Iterator, Optional
+
+from balisekit.etcs.variables import metres
+from balisekit.rules.decoded import GRADIENTS, Decoded, allowance
+from balisekit.rules.line import Line
+from balisekit.rules.meaning.both_ways import DOWN, UP, Both, joined, least, may_differ, steps
+from balisekit.rules.meaning.profiles import lanes_of
+from balisekit.rules.meaning.words import source
+from balisekit.rules.rule import Options, Remark, Result, Rule
+from balisekit.rules.urgency import Urgency
+
+LONG = 10_000
+"""In decimetres: from which length on stretches count on which both ways go down."""
+
+
+def find(line: Line, options: Options) -> Result:
+    """Compares the gradients of both ways."""
+    decoded, found, looked_at = line.decoded, [], 0
+    lanes = lanes_of(decoded, GRADIENTS)
+    for track in {track for track, _ in lanes}:
+        both = [lanes.get((track, way), ()) for way in (1, -1)]
+        looked_at += min(map(len, both))
+        if all(both) and may_differ(*both):
+            own = [[step for each in some for step in steps(each.longest, way)] for some, way in zip(both, (1, -1))]
+            found += list(_uphill(decoded, options, least(own[0], own[1], True)))
+            found += list(_downhill(decoded, least(own[0], own[1], False)))
+    return Result(found, looked_at)
+
+
+def _uphill(decoded: Decoded, options: Options, stretches: Iterator[Both]) -> Iterator[Remark]:
+    for both in joined([each for each in stretches if sum(each.values) > UP]):
+        packets = [step.aspect.packet for step in (both.rising, both.falling)]
+        parts = (allowance(packet, len(packet.stretches)) for packet in packets)
+        if both.high - both.low > decoded.tolerance(options.tolerance_of_places, *parts):
+            yield _remark(decoded, both, f"they add up to {sum(both.values)} per mille")
+
+
+def _downhill(decoded: Decoded, stretches: Iterator[Both]) -> Iterator[Remark]:
+    for both in joined([each for each in stretches if max(each.values) <= DOWN]):
+        if both.high - both.low >= LONG:
+            yield _remark(decoded, both, "both go down", Urgency.RULE_ONLY)
+
+
+def _remark(decoded: Decoded, both: Both, why: str, urgency: Optional[Urgency] = None) -> Remark:
+    own, other = both.rising.aspect, both.falling.aspect
+    track = own.passage.track
+    sentence = (
+        f"G_A is {both.values[0]:+} per mille from {decoded.km(track, both.low)} to {decoded.km(track, both.high)} "
+        f"({metres(both.high - both.low)}), and {both.values[1]:+} per mille for the other direction by "
+        f"{source(other.passage, other.packet)}: {why}"
+    )
+    values = {"g_a": Decimal(both.values[0]), "other_g_a": Decimal(both.values[1])}
+    others = (other.packet.row.number,) if other.packet.row else ()
+    return Remark("E19", own.passage.at(own.packet), sentence, None, values, urgency=urgency, others=others)
+
+
+RULE = Rule("E19", "gradients of both ways", __doc__ or "", find, Urgency.WRONG_INFORMATION, needs_kilometres=True)

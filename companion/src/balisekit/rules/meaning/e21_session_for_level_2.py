@@ -1,0 +1,80 @@
+"""E21: level 2 needs a session.
+
+What it says. A packet 41 or 46 names level 2 or 3, and neither its group nor one before it on that track and way has a
+packet 42 with Q_RBC 1. The rule is off unless it is asked for. The layouts of packets 42 and 46 are balisekit's own
+(SUBSET-026, 3.5.3, 5.10 and 7.4.2).
+
+How urgent. At worst the train brakes without need: it has no session when it changes its level.
+
+Usual cause. The session management was forgotten, has Q_RBC 0, or is for the other direction.
+
+What may happen. The train reaches the border without a movement authority by radio, and stops there.
+
+How to correct it. Put a packet 42 with Q_RBC 1 into a group far enough before the border.
+
+Correct data that gets it. Trains that come with a session, from a line that is not among the data.
+
+Example. Signal 4 announces level 2 in 2,200 m, and no group before it has a packet 42.
+
+How sure. 80 %.
+"""
+from __future__ import annotations
+
+from decimal import Decimal
+from typing import Dict, List, Sequence, Tuple
+
+from balisekit.etcs.variables import Around, value_words
+from balisekit.rules.decoded import LEVELS, Decoded, Packet, Passage
+from balisekit.rules.line import Line
+from balisekit.rules.meaning.along import Lane, lane_of
+from balisekit.rules.rule import Options, Remark, Result, Rule
+from balisekit.rules.urgency import Urgency
+
+SESSION, CONDITIONAL, BY_RADIO = 42, 46, (3, 4)
+
+
+def find(line: Line, options: Options) -> Result:
+    """Looks at each order that names level 2 or 3. Those of one track and way are one remark."""
+    decoded = line.decoded
+    sessions = _sessions(decoded)
+    lacking: Dict[Lane, List[Tuple[int, Passage, Packet]]] = {}
+    looked_at = 0
+    for passage in decoded.passages:
+        place, way = passage.group.place if passage.group else None, passage.way
+        if place is None or way is None:
+            continue
+        for packet in passage.of(LEVELS, CONDITIONAL):
+            if any(each["m_leveltr"] in BY_RADIO for each in packet.form.get("transitions", ())):
+                looked_at += 1
+                if sessions.get(lane_of(passage), place * way + 1) > place * way:
+                    lacking.setdefault(lane_of(passage), []).append((place * way, passage, packet))
+    return Result([_remark(line, lane[1], some) for lane, some in lacking.items()], looked_at)
+
+
+def _sessions(decoded: Decoded) -> Dict[Lane, int]:
+    """Of each track and way: where the first group has a packet 42 with Q_RBC 1. Places count along the way."""
+    found: Dict[Lane, int] = {}
+    for passage in decoded.passages:
+        place, way = passage.group.place if passage.group else None, passage.way
+        if place is None or way is None:
+            continue
+        if any(packet.number == SESSION and packet.form.get("q_rbc") == 1 for packet in passage.said):
+            found[lane_of(passage)] = min(found.get(lane_of(passage), place * way), place * way)
+    return found
+
+
+def _remark(line: Line, way: int, some: Sequence[Tuple[int, Passage, Packet]]) -> Remark:
+    """The remark on the first order of a track and way, with the rows of the others."""
+    place, passage, packet = min(some, key=lambda each: each[0])
+    level = next(each["m_leveltr"] for each in packet.form["transitions"] if each["m_leveltr"] in BY_RADIO)
+    words = value_words("m_leveltr", level, Around(packet.form))
+    sentence = (
+        f"it names {words}, and no group of this track and direction up to "
+        f"{line.decoded.km(passage.track, place * way)} has a packet 42 with Q_RBC 1"
+    )
+    rows = {each.row.number for _, _, each in some if each.row} - {packet.row.number if packet.row else 0}
+    values = {"m_leveltr": Decimal(level)}
+    return Remark("E21", passage.at(packet), sentence, None, values, others=tuple(sorted(rows)))
+
+
+RULE = Rule("E21", "level orders", __doc__ or "", find, Urgency.BRAKING, needs_kilometres=True, is_default=False)

@@ -1,0 +1,120 @@
+"""E22: temporary speed restriction.
+
+What it says. Packets 65 of one track and way have one NID_TSR below 255 and places within 2 km of each other, and
+differ in the place by more than the tolerance, in L_TSR by more than the tolerance, or in V_TSR. The tolerance is
+`--tolerance` (1 m without it), the unit of each packet by Q_SCALE, and one unit of the last decimal of the kilometres.
+The most frequent one counts as right. The layout of packet 65 is balisekit's own (SUBSET-026, 3.11.5 and 7.4.2).
+
+How urgent. At worst wrong information: the train takes the restriction that it gets last in place of the first one.
+
+Usual cause. D_TSR was not made anew for the second group. A restriction was changed in one group only.
+
+What may happen. The restriction begins too late, ends too early, or has another speed.
+
+How to correct it. Compare D_TSR, L_TSR and V_TSR with the list of restrictions.
+
+Correct data that gets it. Two restrictions on one line that have the same number.
+
+Example. Signal 3 has restriction 7 at km 14.000 with 40 km/h, and signal 4 has it at km 14.100.
+
+How sure. 86 %.
+"""
+from __future__ import annotations
+
+from collections import Counter
+from decimal import Decimal
+from typing import Dict, Iterator, List, NamedTuple, Sequence, Tuple
+
+from balisekit.etcs.variables import Values, metres
+from balisekit.rules.decoded import Decoded, Packet, Passage
+from balisekit.rules.line import Line
+from balisekit.rules.meaning.along import lane_of
+from balisekit.rules.meaning.words import merged, source
+from balisekit.rules.rule import Options, Remark, Result, Rule
+from balisekit.rules.urgency import Urgency
+
+RESTRICTION, NOT_REVOCABLE, NEAR = 65, 255, 20_000
+"""NID_PACKET, NID_TSR without an identity, and how near in decimetres two places of one restriction are."""
+
+
+class Restriction(NamedTuple):
+    """A restriction at its place."""
+
+    place: int
+    length: int
+    speed: int
+    """In km/h."""
+    passage: Passage
+    packet: Packet
+
+    @property
+    def number(self) -> int:
+        """NID_TSR."""
+        fields: Values = self.packet.form
+        return int(fields["nid_tsr"])
+
+    @property
+    def says(self) -> Tuple[int, int, int]:
+        """What is compared."""
+        return self[:3]
+
+    def words(self, decoded: Decoded) -> str:
+        """It in words."""
+        return f"{decoded.km(self.passage.track, self.place)}, {metres(self.length)} with {self.speed} km/h"
+
+
+def find(line: Line, options: Options) -> Result:
+    """Compares the restrictions with one number."""
+    decoded, found, looked_at = line.decoded, [], 0
+    for some in _restrictions(decoded).values():
+        looked_at += len(some)
+        for part in _parts(some):
+            found += list(_compare(decoded, options, part))
+    return Result(merged(found), looked_at)
+
+
+def _restrictions(decoded: Decoded) -> Dict[Tuple[str, int, int], List[Restriction]]:
+    """The restrictions of each track and way with each number."""
+    found: Dict[Tuple[str, int, int], Dict[Tuple[int, str], Restriction]] = {}
+    for passage in decoded.passages:
+        for packet in passage.said:
+            form: Values = packet.form
+            if packet.number == RESTRICTION and form.get("nid_tsr", NOT_REVOCABLE) != NOT_REVOCABLE:
+                place = passage.place(form["d_tsr"] * packet.unit) if passage.way is not None else None
+                if place is not None:
+                    own = found.setdefault((*lane_of(passage), form["nid_tsr"]), {})
+                    restriction = Restriction(place, form["l_tsr"] * packet.unit, form["v_tsr"] * 5, passage, packet)
+                    own[id(packet), passage.direction] = restriction
+    return {lane: sorted(own.values(), key=lambda each: each.place) for lane, own in found.items()}
+
+
+def _parts(some: Sequence[Restriction]) -> Iterator[List[Restriction]]:
+    """Those near each other, together."""
+    part: List[Restriction] = []
+    for each in some:
+        if part and each.place - part[-1].place > NEAR:
+            yield part
+            part = []
+        part.append(each)
+    yield part
+
+
+def _compare(decoded: Decoded, options: Options, some: Sequence[Restriction]) -> Iterator[Remark]:
+    """Those that differ from the most frequent one."""
+    counts = Counter(each.says for each in some)
+    usual = max(some, key=lambda each: counts[each.says])
+    for each in some:
+        tolerance = decoded.tolerance(options.tolerance_of_places, each.packet.unit, usual.packet.unit)
+        apart = max(abs(each.place - usual.place), abs(each.length - usual.length))
+        if apart > tolerance or each.speed != usual.speed:
+            sentence = (
+                f"the restriction with NID_TSR {each.number} is at {each.words(decoded)}, and by "
+                f"{source(usual.passage, usual.packet)} at {usual.words(decoded)}"
+            )
+            values = {"d_tsr_m": Decimal(each.place) / 10, "l_tsr_m": Decimal(each.length) / 10}
+            others = (usual.packet.row.number,) if usual.packet.row else ()
+            values["v_tsr_kmh"] = Decimal(each.speed)
+            yield Remark("E22", each.passage.at(each.packet), sentence, None, values, others=others)
+
+
+RULE = Rule("E22", "temporary restrictions", __doc__ or "", find, Urgency.WRONG_INFORMATION, needs_kilometres=True)

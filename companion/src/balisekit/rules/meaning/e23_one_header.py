@@ -1,0 +1,73 @@
+"""E23: one line, one header.
+
+What it says. A telegram has another M_VERSION than most telegrams of the table. Or a group has another NID_C than most
+groups of its track, and groups with that NID_C are on both sides of it, in the order of the kilometres, or else of the
+table. The rule is off unless it is asked for (SUBSET-026, 7.5.1 and 8.4.2).
+
+How urgent. No effect on a train is known: a rule of the project is broken. A wrong NID_C makes the group another one,
+which L1 shows if links name it.
+
+Usual cause. A telegram was made with another version of a tool, or was copied from another line.
+
+What may happen. A train of an older version ignores the telegram, or the group.
+
+How to correct it. Correct the header.
+
+Correct data that gets it. A border between two countries or versions.
+
+Example. Row 14 has M_VERSION 32, and the 44 other telegrams have 33.
+
+How sure. 80 %.
+"""
+from __future__ import annotations
+
+from collections import Counter
+from decimal import Decimal
+from typing import Dict, Iterator, List
+
+from balisekit.etcs.variables import Around, value_words
+from balisekit.rules.decoded import GroupData
+from balisekit.rules.line import Line
+from balisekit.rules.rule import Options, Remark, Result, Rule
+from balisekit.rules.urgency import Urgency
+
+
+def find(line: Line, options: Options) -> Result:
+    """Looks at the header of each telegram, and at the groups of each track."""
+    groups = [data for data in line.decoded.groups if data.telegrams]
+    tracks: Dict[str, List[GroupData]] = {}
+    for data in groups:
+        tracks.setdefault(data.group.track, []).append(data)
+    found = [*_versions(groups), *(remark for own in tracks.values() for remark in _countries(own))]
+    return Result(found, sum(len(data.telegrams) for data in groups))
+
+
+def _versions(groups: List[GroupData]) -> Iterator[Remark]:
+    """The telegrams whose M_VERSION is not the most frequent one."""
+    counts = Counter(telegram.m_version for data in groups for telegram in data.telegrams.values())
+    usual = max(counts, key=lambda version: counts[version], default=0)
+    for data in groups if len(counts) > 1 else ():
+        for telegram in data.telegrams.values():
+            if telegram.m_version != usual:
+                words = [value_words("m_version", each, Around()) or str(each) for each in (telegram.m_version, usual)]
+                sentence = f"M_VERSION is {words[0]}, and {words[1]} in {counts[usual]} other telegrams of the table"
+                values = {"m_version": Decimal(telegram.m_version), "other_m_version": Decimal(usual)}
+                yield Remark("E23", data.location(telegram.row), sentence, None, values)
+
+
+def _countries(groups: List[GroupData]) -> Iterator[Remark]:
+    """The groups whose NID_C is not the most frequent one of the track, apart from those at its ends."""
+    known = [(data.group.identity[0], data) for data in groups if data.group.identity]
+    if all(data.place is not None for _, data in known):
+        known.sort(key=lambda each: each[1].place or 0)
+    counts = Counter(country for country, _ in known)
+    usual = max(counts, key=lambda country: counts[country], default=0)
+    places = [place for place, (country, _) in enumerate(known) if country == usual]
+    for country, data in known[places[0] : places[-1]] if places else ():
+        if country != usual:
+            sentence = f"NID_C is {country}, and {usual} in {counts[usual]} groups of the track, on both sides of it"
+            values = {"nid_c": Decimal(country), "other_nid_c": Decimal(usual)}
+            yield Remark("E23", data.location(), sentence, None, values)
+
+
+RULE = Rule("E23", "headers", __doc__ or "", find, Urgency.RULE_ONLY, is_default=False)

@@ -1,0 +1,49 @@
+"""Words and merging that several rules E share."""
+from __future__ import annotations
+
+from dataclasses import replace
+from typing import Dict, Iterable, List, Optional, Sequence, Tuple
+
+from balisekit.rules.decoded import Packet, Passage
+from balisekit.rules.location import BaliseGroup
+from balisekit.rules.rule import Remark
+from balisekit.tables.model import Row
+from balisekit.tables.names import describe_message, quoted, rows_words
+
+
+def balises_of(group: BaliseGroup) -> Sequence[Optional[Row]]:
+    """The first row of each balise that has a kilometre, in nominal order, or None for a balise without one."""
+    found: List[Optional[Row]] = [None] * group.balises
+    for aspect in group.group.aspects:
+        for position, row in enumerate(aspect.rows):
+            if row.km is not None and found[position] is None:
+                found[position] = row
+    return found
+
+
+def source(passage: Passage, packet: Packet) -> str:
+    """Who says a packet: `Signal 3 (km 13.000), aspect "green", row 10`, or the message."""
+    if passage.message is not None or packet.row is None or passage.group is None:
+        return f"the message in {describe_message(passage.message)}" if passage.message else "a message"
+    aspect = f", aspect {quoted(packet.row.aspect)}" if packet.row.aspect not in ("", "*") else ""
+    return f"{passage.group.group}{aspect}, {rows_words([packet.row.number])}"
+
+
+def merged(remarks: Iterable[Remark]) -> Sequence[Remark]:
+    """The remarks, and as one those of a group and direction that say the same of several rows."""
+    found: Dict[Tuple[object, ...], List[Remark]] = {}
+    for remark in remarks:
+        where = remark.location
+        key = where.group or where.message, where.direction, where.number, where.link, remark.sentence
+        found.setdefault(key, []).append(remark)
+    return [_one_of(same) for same in found.values()]
+
+
+def _one_of(remarks: Sequence[Remark]) -> Remark:
+    first = remarks[0]
+    rows = {each.location.row.number: each.location.row for each in remarks if each.location.row}
+    if len(rows) < 2:
+        return first
+    aspects = tuple(dict.fromkeys(row.aspect for row in rows.values() if row.aspect not in ("", "*")))
+    others = tuple(row for row in first.others if row not in rows)
+    return replace(first, rows=tuple(sorted(rows)), aspects=aspects, others=others)

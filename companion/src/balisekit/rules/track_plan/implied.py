@@ -1,0 +1,224 @@
+"""A track plan as the telegrams of a table imply it, so that a team starts by correcting one.
+
+Where telegrams say several things of one place, the plan has what most groups say, and of equally many the nearest one
+in rear. The rules X then name the others.
+"""
+from __future__ import annotations
+
+from bisect import bisect_left, insort
+from collections import Counter
+from decimal import Decimal
+from typing import Dict, Iterator, List, NamedTuple, Optional, Sequence, Set, Tuple
+
+from balisekit.rules.decoded import AUTHORITIES, allowance
+from balisekit.rules.line import Line
+from balisekit.rules.rule import Options
+from balisekit.rules.track_plan.borders import NOT_DECODED, NUMBERS, Border, border_of
+from balisekit.rules.track_plan.placed import NO_PLACE, Placed, Saying
+from balisekit.rules.track_plan.stretches import KINDS, span
+from balisekit.rules.track_plan.x3_ends import gives_way
+from balisekit.rules.track_plan.x4_aspects import AUTHORITY, terms_of
+from balisekit.tables.plan import BORDERS, PlanRow, aspect_name
+from balisekit.tables.plan_values import Value
+
+NEAR = 500
+"""In decimetres: a signal has the name of a group that is as near."""
+RADIO = ("2", "3")
+"""The levels with an RBC."""
+Lane = Tuple[str, int]
+"""A track, and a way."""
+
+
+class Said(NamedTuple):
+    """A value from one place to another one, by one group."""
+
+    low: int
+    high: int
+    value: int
+    group: int
+    """The group's place in the table."""
+    rear: int
+    """How far the group is along its way: the greatest is the nearest one in rear."""
+
+
+class At(NamedTuple):
+    """A place at which something is, and what it is."""
+
+    place: int
+    tolerance: int
+    value: Value
+
+
+class Made(NamedTuple):
+    """Rows of a plan, numbered as in a file with one row of headings, and notes."""
+
+    rows: Sequence[PlanRow]
+    notes: Sequence[str]
+
+
+def implied(line: Line, options: Options) -> Made:
+    """The plan of a table."""
+    placed, skipped = Placed(line, options), Counter[str]()
+    jumps = [PlanRow(0, "jump", jump.before, jump.after, jump.track) for jump in options.jumps]
+    stretches = [row for number in KINDS for row in _stretches(placed, number, skipped)]
+    borders = list(_borders(placed, options, skipped))
+    rows = [*jumps, *stretches, *_signals(placed, options, skipped), *_aspects(placed), *borders]
+    numbered = [row._replace(number=number) for number, row in enumerate(rows, 2)]
+    return Made(numbered, [f"{count} packets are not in the plan: {why}" for why, count in skipped.items()])
+
+
+def _row(placed: Placed, kind: str, lane: Lane, place: int, value: Value = None, name: str = "") -> PlanRow:
+    """A row at a place of a track."""
+    track, way = lane
+    return PlanRow(0, kind, placed.kilometre(track, place), None, track, way, value, name)
+
+
+def _stretches(placed: Placed, number: int, skipped: Dict[str, int]) -> Iterator[PlanRow]:
+    """The speeds or gradients of each way of each track."""
+    lanes: Dict[Lane, List[Said]] = {}
+    for saying in placed.sayings(number):
+        passage, group = saying.passage, saying.passage.group
+        found = [(span(saying, element), element.value) for element in saying.packet.stretches]
+        for why in {why for (_, why), _ in found if why}:
+            skipped[why] += 1
+        for (ends, _), value in found:
+            if ends and group and passage.way:
+                said = Said(min(ends), max(ends), value, group.group.number, passage.way * (group.place or 0))
+                lanes.setdefault((passage.track, passage.way), []).append(said)
+    for lane, some in lanes.items():
+        merged = list(_merged(some))
+        for (low, high, value), after in zip(merged, [*merged[1:], None]):
+            row = _row(placed, KINDS[number], lane, low, value)
+            goes_on = after is not None and after[0] == high
+            yield row if goes_on else row._replace(km_to=placed.kilometre(lane[0], high))
+
+
+def _merged(some: Sequence[Said]) -> Iterator[Tuple[int, int, int]]:
+    """What is said of each stretch of a track: from one place to another one, and the value."""
+    waiting = sorted(some, key=lambda said: said.low, reverse=True)
+    active: List[Said] = []
+    last: Optional[Tuple[int, int, int]] = None
+    places = sorted({place for said in some for place in (said.low, said.high)})
+    for low, high in zip(places, places[1:]):
+        while waiting and waiting[-1].low <= low:
+            active.append(waiting.pop())
+        active = [said for said in active if said.high > low]
+        if not active:
+            continue
+        value = _most_said(active)
+        if last and last[1:] == (low, value):
+            last = last[0], high, value
+        else:
+            yield from [last] if last else []
+            last = low, high, value
+    yield from [last] if last else []
+
+
+def _most_said(active: Sequence[Said]) -> int:
+    groups: Dict[int, Set[int]] = {}
+    rear: Dict[int, int] = {}
+    for said in active:
+        groups.setdefault(said.value, set()).add(said.group)
+        rear[said.value] = max(rear.get(said.value, said.rear), said.rear)
+    return max(groups, key=lambda value: (len(groups[value]), rear[value]))
+
+
+def _signals(placed: Placed, options: Options, skipped: Dict[str, int]) -> Iterator[PlanRow]:
+    """The places at which authorities end, with the name of a group that is near."""
+    ends: List[Tuple[Saying, int, int, Value]] = []
+    for saying in placed.sayings(*AUTHORITIES):
+        if gives_way(saying.packet):
+            ends.append((saying, saying.packet.authority.end, allowance(saying.packet, saying.packet.lengths), None))
+    for lane, places in _by_lane(placed, options, ends, skipped).items():
+        for place, _ in _clusters(places):
+            near = placed.decoded.between(lane[0], place - NEAR, place + NEAR)
+            group = min(near, key=lambda each: abs((each.place or 0) - place), default=None)
+            yield _row(placed, "signal", lane, place, None, group.group.group.name if group else "")
+
+
+def _by_lane(
+    placed: Placed, options: Options, some: Sequence[Tuple[Saying, int, int, Value]], skipped: Dict[str, int]
+) -> Dict[Lane, List[At]]:
+    """What is at these distances from groups, each with the allowance of its packet, by track and way."""
+    lanes: Dict[Lane, List[At]] = {}
+    for saying, distance, allowed, value in some:
+        passage, place = saying.passage, saying.passage.place(distance)
+        if place is None or passage.way is None:
+            skipped[NO_PLACE] += 1
+        else:
+            tolerance = placed.decoded.tolerance(options.tolerance, allowed)
+            lanes.setdefault((passage.track, passage.way), []).append(At(place, tolerance, value))
+    return lanes
+
+
+def _clusters(some: Sequence[At]) -> List[Tuple[int, Value]]:
+    """The places that are said most often, and the value there. A place within its tolerance of one of them is none."""
+    counts = Counter(each.place for each in some)
+    least = {each.place: each.tolerance for each in sorted(some, key=lambda each: -each.tolerance)}
+    chosen: List[int] = []
+    for place in sorted(counts, key=lambda place: (-counts[place], least[place], place)):
+        index = bisect_left(chosen, place)
+        if all(abs(place - other) > least[place] for other in chosen[max(index - 1, 0) : index + 1]):
+            insort(chosen, place)
+    values: Dict[int, Counter[Value]] = {place: Counter() for place in chosen}
+    for each in some:
+        index = bisect_left(chosen, each.place)
+        near = min(chosen[max(index - 1, 0) : index + 1], key=lambda place: abs(place - each.place))
+        values[near][each.value] += 1
+    return [(place, found.most_common(1)[0][0]) for place, found in values.items()]
+
+
+def _aspects(placed: Placed) -> Iterator[PlanRow]:
+    """What the packet 12 of each aspect gives. The first one counts if there are several."""
+    known = set()
+    for passage in placed.decoded.passages:
+        own = passage.of(AUTHORITY)
+        if own and passage.group and not passage.message:
+            group = passage.group.group
+            name, way = aspect_name(group.group.name, passage.aspect), passage.way or 0
+            if (name, way) not in known:
+                known.add((name, way))
+                yield PlanRow(0, "aspect", group.km or Decimal(), None, group.track, way, terms_of(own[0]), name)
+
+
+def _borders(placed: Placed, options: Options, skipped: Dict[str, int]) -> Iterator[PlanRow]:
+    """The level borders, then the RBC borders."""
+    found = [border for border in map(border_of, placed.sayings(*NUMBERS)) if border]
+    skipped.update({NOT_DECODED: count for count in [sum(not each.text for each in found)] if count})
+    lanes: Dict[Tuple[str, Lane], Dict[int, Value]] = {}
+    for kind in BORDERS:
+        own = [each for each in found if each.kind == kind and each.has_place and each.text]
+        ends = [(each.saying, each.distance, allowance(each.saying.packet), each.text) for each in own]
+        for lane, places in _by_lane(placed, options, ends, skipped).items():
+            lanes[kind, lane] = dict(_clusters(places))
+    for border in sorted((each for each in found if not each.has_place and each.text), key=_along):
+        _add(border, lanes, skipped)
+    for (kind, lane), at in lanes.items():
+        yield from (_row(placed, kind, lane, place, value) for place, value in sorted(at.items()))
+
+
+def _along(border: Border) -> int:
+    """In which order groups are passed."""
+    passage = border.saying.passage
+    return (passage.way or 0) * (passage.place(0) or 0)
+
+
+def _add(border: Border, lanes: Dict[Tuple[str, Lane], Dict[int, Value]], skipped: Dict[str, int]) -> None:
+    """Adds the border that a packet 46 or 42 needs, if there is none yet: at its group, or at a level border ahead."""
+    passage = border.saying.passage
+    way, place = passage.way or 0, passage.place(0)
+    if not way or place is None:
+        skipped[NO_PLACE] += 1
+        return
+    lane = passage.track, way
+    at = lanes.setdefault((border.kind, lane), {})
+    passed = [way * other for other in at if way * other <= way * place]
+    ahead = [way * other for other in at if way * other > way * place]
+    if border.kind == "level":
+        at.update({} if passed else {place: border.text})
+        return
+    around = [*([max(passed)] if passed else []), *([min(ahead)] if ahead else [])]
+    if border.text not in [at[way * other] for other in around]:
+        levels = {way * other: str(text) for other, text in lanes.get(("level", lane), {}).items()}
+        radio = [other for other, text in levels.items() if other >= way * place and text[:1] in RADIO]
+        at.setdefault(way * min(radio, default=way * place), border.text)

@@ -1,0 +1,204 @@
+"""The rows of a track plan as places along the track, and what telegrams and messages say there.
+
+A row whose kilometre is in a gap of the kilometres, or is there twice, has no place: a note names it, and no rule
+compares it.
+"""
+from __future__ import annotations
+
+from bisect import bisect_left, bisect_right
+from decimal import Decimal
+from typing import Dict, Iterable, Iterator, Mapping, NamedTuple, Optional, Sequence, Set, Tuple
+
+from balisekit.rules.chainage import Chainage
+from balisekit.rules.decoded import Packet, Passage
+from balisekit.rules.line import Line
+from balisekit.rules.rule import Options, Remark, Result
+from balisekit.rules.urgency import Urgency
+from balisekit.tables.names import kilometre, rows_words
+from balisekit.tables.plan import Lane, Plan, PlanRow
+
+COMPARED = ("speed", "gradient", "signal", "aspect", "level", "rbc")
+"""The kinds of rows that rules compare."""
+SAYS_NOTHING = "the plan says nothing"
+NO_PLACE = "no kilometre or direction"
+BEHIND_POINT = "behind a point of the plan"
+Values = Mapping[str, Decimal]
+Counts = Dict[str, int]
+"""How many things were compared, by no reason, and how many were not, by the reason."""
+
+
+class Part(NamedTuple):
+    """A speed or gradient of the plan for trains of one way, from one place to another one."""
+
+    row: PlanRow
+    begin: int
+    end: Optional[int]
+    """Without it there is no end."""
+    value: int
+
+
+class Spot(NamedTuple):
+    """A row of the plan with its one place."""
+
+    row: PlanRow
+    place: int
+
+
+class Saying(NamedTuple):
+    """A packet in one direction."""
+
+    passage: Passage
+    packet: Packet
+
+
+class Placed:
+    """A plan beside the decoded data of a table."""
+
+    def __init__(self, line: Line, options: Options) -> None:
+        self.decoded, self.plan = line.decoded, options.plan or Plan()
+        self._parts: Dict[Lane, Sequence[Part]] = {}
+        self._begins: Dict[Lane, Sequence[int]] = {}
+        self._limits: Dict[Passage, Optional[int]] = {}
+        self._spots: Dict[Lane, Sequence[Spot]] = {}
+
+    def parts(self, kind: str, track: str, way: int) -> Sequence[Part]:
+        """The speeds or gradients for trains of one way of a track, in the order of the kilometres."""
+        lane = kind, track, way
+        if lane not in self._parts:
+            stretches = self.plan.stretches(kind, track, way)
+            ends = ((each, self.place(track, each.begin), self.place(track, each.end)) for each in stretches)
+            found = [
+                Part(each.row, begin, end, each.value)
+                for each, begin, end in ends
+                if begin is not None and (each.end is None or end is not None)
+            ]
+            self._parts[lane] = sorted(found, key=lambda part: part.begin)
+            self._begins[lane] = [part.begin for part in self._parts[lane]]
+        return self._parts[lane]
+
+    def parts_within(self, kind: str, passage: Passage, low: int, high: int) -> Iterator[Tuple[Part, int, int]]:
+        """The speeds or gradients for trains of the passage between two places, each with its part of the stretch."""
+        lane = kind, passage.track, passage.way or 0
+        parts = self.parts(*lane)
+        first = max(bisect_right(self._begins[lane], low) - 1, 0)
+        for part in (parts[index] for index in range(first, bisect_left(self._begins[lane], high))):
+            last = high if part.end is None else min(high, part.end)
+            if max(low, part.begin) < last:
+                yield part, max(low, part.begin), last
+
+    def spots(self, kind: str, track: str, way: int) -> Sequence[Spot]:
+        """The rows of a kind that have one place, for trains of one way of a track, in the order of the kilometres."""
+        lane = kind, track, way
+        if lane not in self._spots:
+            places = ((row, self.place(track, row.km)) for row in self.plan.places(kind, track, way))
+            found = [Spot(row, place) for row, place in places if place is not None]
+            self._spots[lane] = sorted(found, key=lambda spot: spot.place)
+        return self._spots[lane]
+
+    def place(self, track: str, km: Optional[Decimal]) -> Optional[int]:
+        """The place of a kilometre, if it has one."""
+        return self.decoded.chainages.get(track, Chainage()).place(km)
+
+    def known_to(self, passage: Passage) -> Optional[int]:
+        """The first point at which the train may leave its track, or None if there is none.
+
+        It is on the track up to the last group of it that a packet 5 of the passage names.
+        """
+        if passage not in self._limits:
+            self._limits[passage] = self._known_to(passage)
+        return self._limits[passage]
+
+    def _known_to(self, passage: Passage) -> Optional[int]:
+        way, start = passage.way or 0, passage.place(0)
+        points = self.spots("point", passage.track, way)
+        if not points or start is None:
+            return None
+        targets = (each.target for each in self.decoded.reached(passage))
+        places = (each.place for each in targets if each and each.group.track == passage.track)
+        sure = max([way * start, *(way * place for place in places if place is not None)])
+        ahead = [way * spot.place for spot in points if way * spot.place > sure]
+        return way * min(ahead) if ahead else None
+
+    def is_behind_point(self, passage: Passage, place: int) -> bool:
+        """Whether the train may be on another track at this place."""
+        limit = self.known_to(passage)
+        return limit is not None and (place - limit) * (passage.way or 0) > 0
+
+    def sayings(self, *numbers: int) -> Iterator[Saying]:
+        """What is said by packets with these NID_PACKET: each packet once in each direction."""
+        known: Set[Tuple[Packet, str]] = set()
+        for passage in self.decoded.passages:
+            for packet in passage.of(*numbers):
+                if (packet, passage.direction) not in known:
+                    known.add((packet, passage.direction))
+                    yield Saying(passage, packet)
+
+    def result(
+        self, kinds: Sequence[str], found: Sequence[Remark], counts: Counts, notes: Iterable[str] = ()
+    ) -> Result:
+        """The result of a rule for these kinds of rows. A plan may have none of them if it has others."""
+        has_own = any(self.plan.of_kind(kind) for kind in kinds)
+        has_others = any(self.plan.of_kind(kind) for kind in COMPARED)
+        looked_at = counts.pop("", 0)
+        return Result(found, looked_at, counts, [*self._notes(kinds), *notes], has_others and not has_own)
+
+    def _notes(self, kinds: Sequence[str]) -> Iterator[str]:
+        """The rows of these kinds that no rule can compare."""
+        tracks = {data.group.track for data in self.decoded.groups}
+        rows = [row for kind in kinds for row in self.plan.of_kind(kind) if kind != "aspect"]
+        strange = [row.number for row in rows if row.track not in tracks]
+        if strange:
+            yield f"{self.plan.path}: {rows_words(strange)}: the table has no such track"
+        ends = [(row, km) for row in rows if row.track in tracks for km in (row.km, row.km_to) if km is not None]
+        lost = [row.number for row, km in ends if self.place(row.track, km) is None]
+        if lost:
+            yield f"{self.plan.path}: {rows_words(lost)}: not compared, as a jump leaves out or repeats the kilometre"
+
+    def km(self, passage: Passage, place: int) -> str:
+        """The kilometre of a place in words."""
+        return self.decoded.km(passage.track, place)
+
+    def km_value(self, passage: Passage, place: int) -> Decimal:
+        """The kilometre of a place."""
+        return self.kilometre(passage.track, place)
+
+    def kilometre(self, track: str, place: int) -> Decimal:
+        """The kilometre of a place of a track."""
+        return Decimal(self.decoded.km(track, place).split(" ")[-1])
+
+
+def nearest(spots: Sequence[Spot], place: int) -> Spot:
+    """The one of some rows, in the order of their places, that is nearest to a place."""
+    low, high = 0, len(spots) - 1
+    while low < high:
+        middle = (low + high) // 2
+        low, high = (middle + 1, high) if spots[middle].place < place else (low, middle)
+    return min(spots[max(low - 1, 0) : low + 1], key=lambda spot: abs(spot.place - place))
+
+
+def remark(
+    rule: str, sayings: Sequence[Saying], sentence: str, values: Values, urgency: Optional[Urgency] = None
+) -> Remark:
+    """One remark on what several packets say, at the first of them."""
+    first, packet = sayings[0]
+    own = {each.packet.row.number for each in sayings if each.packet.row and each.passage.group is first.group}
+    others = {each.packet.row.number for each in sayings if each.packet.row} - own
+    groups = {each.passage.group.group.number: each.passage.group.group for each in sayings if each.passage.group}
+    named = [group for group in groups.values() if not first.group or group is not first.group.group]
+    also = f"; {rows_words(others)} too" if others and not first.message else ""
+    return Remark(
+        rule,
+        first.at(packet),
+        sentence + also,
+        values=values,
+        named=named,
+        urgency=urgency,
+        rows=() if first.message else tuple(sorted(own)),
+        others=tuple(sorted(others)),
+        aspects=tuple(dict.fromkeys(each.passage.aspect for each in sayings if each.passage.group is first.group)),
+    )
+
+
+def plan_words(row: PlanRow, with_km: bool = True) -> str:
+    """A row of the plan in a sentence."""
+    return f"row {row.number} of the plan{f', km {kilometre(row.km)}' if with_km else ''}"

@@ -1,0 +1,79 @@
+"""What profiles say beside the speeds or gradients of the plan, for the rules X1 and X2."""
+from __future__ import annotations
+
+from collections import Counter
+from dataclasses import dataclass, field
+from typing import Dict, List, NamedTuple, Optional, Tuple
+
+from balisekit.rules.decoded import GRADIENTS, SPEEDS, Stretch, allowance
+from balisekit.rules.track_plan.placed import BEHIND_POINT, NO_PLACE, SAYS_NOTHING, Counts, Part, Placed, Saying
+from balisekit.rules.rule import Options
+
+KINDS = {SPEEDS: "speed", GRADIENTS: "gradient"}
+"""The kinds of rows of the plan, by NID_PACKET of the profiles that are compared with them."""
+NO_END = "an open profile without authority"
+Span = Tuple[int, int]
+"""The first and the last place of a stretch, in the direction of passage."""
+
+
+class Difference(NamedTuple):
+    """A stretch of the track of which a profile and the plan say two things."""
+
+    saying: Saying
+    begin: int
+    """Its first place in the direction of passage."""
+    end: int
+    said: int
+    part: Part
+
+
+@dataclass
+class Compared:
+    """All differences of one table and one plan, and what was compared."""
+
+    differences: List[List[Difference]] = field(default_factory=list)
+    """Those of one row of the plan and one other value together."""
+    counts: Counts = field(default_factory=Counter)
+    """How many elements are compared from their beginning to their end, and how many are not."""
+
+
+def compare(placed: Placed, number: int, options: Options) -> Compared:
+    """Compares each element of these profiles with the plan."""
+    compared = Compared()
+    known: Dict[Tuple[int, int, int], List[Difference]] = {}
+    for saying in placed.sayings(number):
+        for place, element in enumerate(saying.packet.stretches):
+            tolerance = placed.decoded.tolerance(options.tolerance_of_places, allowance(saying.packet, place + 2))
+            ends, why = _known(placed, saying, span(saying, element))
+            if ends is not None:
+                parts = list(placed.parts_within(KINDS[number], saying.passage, min(ends), max(ends)))
+                for part, low, high in parts:
+                    if part.value != element.value and high - low > tolerance:
+                        key = part.row.number, element.value, saying.passage.way or 0
+                        places = (low, high) if ends[0] < ends[1] else (high, low)
+                        known.setdefault(key, []).append(Difference(saying, *places, element.value, part))
+                covered = sum(high - low for _, low, high in parts)
+                if not parts or abs(ends[1] - ends[0]) - covered > tolerance:
+                    why = SAYS_NOTHING
+            compared.counts[why] += 1
+    compared.differences = list(known.values())
+    return compared
+
+
+def span(saying: Saying, element: Stretch) -> Tuple[Optional[Span], str]:
+    """The places of an element, or why they are not known. An open profile ends as the authority beside it does."""
+    passage, reach = saying.passage, element.end
+    if reach is None:
+        reach = max((each.authority.supervised for each in passage.authorities), default=0)
+        if reach <= element.begin:
+            return None, NO_END
+    begin, end = passage.place(element.begin), passage.place(reach)
+    return ((begin, end), "") if begin is not None and end is not None and passage.way else (None, NO_PLACE)
+
+
+def _known(placed: Placed, saying: Saying, found: Tuple[Optional[Span], str]) -> Tuple[Optional[Span], str]:
+    """The same up to the point at which the train may leave the track."""
+    ends, limit, way = found[0], placed.known_to(saying.passage), saying.passage.way or 0
+    if ends is None or limit is None or way * (limit - ends[1]) >= 0:
+        return found
+    return (None if way * (limit - ends[0]) <= 0 else (ends[0], limit)), BEHIND_POINT

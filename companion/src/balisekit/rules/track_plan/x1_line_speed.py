@@ -1,0 +1,63 @@
+"""X1: speed other than in the plan.
+
+What it says. A static speed profile (packet 27) has a V_STATIC that is not the line speed of the plan, on a stretch
+that is longer than the tolerance. Both speeds are in km/h. Speeds for train categories are not compared, nor what
+follows a packet 136. If the plan has a point ahead at which the train may leave the track, the stretch behind it is
+compared only up to the last group of the track that a packet 5 of the same message names (SUBSET-026, 7.4.2 and
+7.5.1).
+
+How urgent. At worst wrong information: the train may run faster than the track allows. A lower speed than that of the
+plan only slows trains.
+
+Usual cause. The speed was typed in km/h and not in steps of 5 km/h. The place of a change of speed was counted from
+another group. Q_SCALE is not that of the distances. The line speed has changed since the telegrams were made.
+
+What may happen. The train supervises another speed than that of the track.
+
+How to correct it. Correct V_STATIC or D_STATIC of the packet, or the row of the plan.
+
+Correct data that gets it. A profile with a lower speed for a route of its own, or one that leaves out a short stretch
+of higher speed.
+
+Example. The profile of signal B has 120 km/h from km 15.900 to km 15.950, where the plan has 100 km/h.
+"""
+from __future__ import annotations
+
+from decimal import Decimal
+from typing import Sequence
+
+from balisekit.rules.decoded import SPEEDS
+from balisekit.rules.line import Line
+from balisekit.rules.track_plan.placed import Placed, plan_words, remark
+from balisekit.rules.track_plan.stretches import Difference, compare
+from balisekit.rules.rule import Options, Remark, Result, Rule
+from balisekit.rules.urgency import Urgency
+from balisekit.tables.plan_values import STEP
+
+
+def find(line: Line, options: Options) -> Result:
+    """Compares each element of each speed profile."""
+    placed = Placed(line, options)
+    compared = compare(placed, SPEEDS, options)
+    found = [_remark(placed, each) for each in compared.differences]
+    return placed.result(["speed"], found, compared.counts)
+
+
+def _remark(placed: Placed, differences: Sequence[Difference]) -> Remark:
+    saying, begin, end, said, part = differences[0]
+    passage = saying.passage
+    sentence = (
+        f"V_STATIC is {said * STEP} km/h from {placed.km(passage, begin)} to {placed.km(passage, end)}, and the line "
+        f"speed is {part.value * STEP} km/h by {plan_words(part.row, with_km=False)}"
+    )
+    values = {
+        "v_static_kmh": Decimal(said * STEP),
+        "plan_kmh": Decimal(part.value * STEP),
+        "km": placed.km_value(passage, begin),
+        "km_to": placed.km_value(passage, end),
+    }
+    urgency = Urgency.WRONG_INFORMATION if said > part.value else Urgency.BRAKING
+    return remark("X1", [each.saying for each in differences], sentence, values, urgency)
+
+
+RULE = Rule("X1", "speeds", __doc__ or "", find, Urgency.WRONG_INFORMATION, needs_kilometres=True)

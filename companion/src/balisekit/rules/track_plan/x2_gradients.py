@@ -1,0 +1,67 @@
+"""X2: gradient other than in the plan.
+
+What it says. A gradient profile (packet 21) has a gradient that is not that of the plan, on a stretch that is longer
+than the tolerance. Both are in per mille with their sign: uphill is positive as the train meets it, by Q_GDIR in the
+packet. The plan's sign is that of the row's way. What follows a packet 136 is not compared, nor the track behind a
+point, as in X1 (SUBSET-026, 7.4.2 and 7.5.1).
+
+How urgent. At worst wrong information: with a gradient that is less downhill than the track the train brakes too late.
+A gradient that is more downhill is on the safe side, and makes it brake early.
+
+Usual cause. The sign of the other way along the track was taken. The gradient of the neighbouring stretch was copied.
+Q_SCALE is not that of the distances.
+
+What may happen. The train computes its braking curves with another gradient than that of the track.
+
+How to correct it. Correct Q_GDIR, G_A or D_GRADIENT of the packet, or the row of the plan.
+
+Correct data that gets it. A safe gradient: one value, the most downhill one, for several gradients of the track. Write
+the safe gradients into the plan, a row for each way.
+
+Example. The profile of signal C has +5 ‰ from km 14.200 to km 16.000, where the plan has -5 ‰: the sign is wrong.
+"""
+from __future__ import annotations
+
+from decimal import Decimal
+from typing import Sequence
+
+from balisekit.rules.decoded import GRADIENTS
+from balisekit.rules.line import Line
+from balisekit.rules.track_plan.placed import Placed, plan_words, remark
+from balisekit.rules.track_plan.stretches import Difference, compare
+from balisekit.rules.rule import Options, Remark, Result, Rule
+from balisekit.rules.urgency import Urgency
+
+
+def find(line: Line, options: Options) -> Result:
+    """Compares each element of each gradient profile."""
+    placed = Placed(line, options)
+    compared = compare(placed, GRADIENTS, options)
+    found = [_remark(placed, each) for each in compared.differences]
+    return placed.result(["gradient"], found, compared.counts)
+
+
+def _remark(placed: Placed, differences: Sequence[Difference]) -> Remark:
+    saying, begin, end, said, part = differences[0]
+    passage = saying.passage
+    sign = ": the sign is the other one" if said == -part.value else ""
+    sentence = (
+        f"the gradient by G_A and Q_GDIR is {_words(said)} from {placed.km(passage, begin)} to "
+        f"{placed.km(passage, end)}, and {_words(part.value)} by {plan_words(part.row, with_km=False)}{sign}"
+    )
+    values = {
+        "g_a": Decimal(said),
+        "plan_per_mille": Decimal(part.value),
+        "km": placed.km_value(passage, begin),
+        "km_to": placed.km_value(passage, end),
+    }
+    urgency = Urgency.WRONG_INFORMATION if said > part.value else Urgency.BRAKING
+    return remark("X2", [each.saying for each in differences], sentence, values, urgency)
+
+
+def _words(gradient: int) -> str:
+    """A gradient with its sign."""
+    return f"{gradient:+} ‰" if gradient else "0 ‰"
+
+
+RULE = Rule("X2", "gradients", __doc__ or "", find, Urgency.WRONG_INFORMATION, needs_kilometres=True)

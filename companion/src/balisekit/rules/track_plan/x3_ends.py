@@ -1,0 +1,102 @@
+"""X3: end of authority at no signal of the plan.
+
+What it says. A movement authority ends at a place at which the plan has no signal for trains of that way. The line
+names the nearest signal of the plan and how far it is away. Authorities are packets 12 with V_MAIN above 0, and packets
+15; one ends where its sections and its end section end. Only rounding is allowed: one unit of Q_SCALE, half a unit for
+each further section, and one unit of the last decimal of the kilometres. `--tolerance` allows more. If the plan has a
+signal on a track for one way, it needs all signals of it at which authorities end. An end behind a point of the plan is
+not compared, as in X1 (SUBSET-026, 7.4.2 and 7.5.1).
+
+How urgent. At worst wrong information: the train may pass the signal before its authority ends.
+
+Usual cause. A section is missing or was counted twice. The length was taken to another signal, or from another group.
+
+What may happen. The train stops behind the signal, or too far in front of it.
+
+How to correct it. Correct L_SECTION and L_ENDSECTION, or the row of the plan.
+
+Correct data that gets it. An authority that ends on purpose before a signal, such as at a marker board. Write its place
+into the plan.
+
+Example. The authority of signal A at green ends at km 15.350, and the nearest signal of the plan is at km 15.300.
+"""
+from __future__ import annotations
+
+from collections import Counter
+from decimal import Decimal
+from typing import Dict, List, NamedTuple, Optional, Sequence, Tuple
+
+from balisekit.rules.decoded import AUTHORITIES, Packet, allowance
+from balisekit.rules.line import Line
+from balisekit.rules.track_plan.placed import (
+    BEHIND_POINT,
+    NO_PLACE,
+    SAYS_NOTHING,
+    Placed,
+    Saying,
+    Spot,
+    nearest,
+    plan_words,
+    remark,
+)
+from balisekit.rules.rule import Options, Remark, Result, Rule
+from balisekit.rules.urgency import Urgency
+from balisekit.tables.names import clean
+from balisekit.tables.plan_values import metres
+
+
+class End(NamedTuple):
+    """An end of authority, and the nearest signal of the plan."""
+
+    saying: Saying
+    place: int
+    signal: Spot
+
+
+def find(line: Line, options: Options) -> Result:
+    """Compares each end of authority."""
+    placed, counts = Placed(line, options), Counter[str]()
+    found: Dict[Tuple[int, int], List[End]] = {}
+    for saying in placed.sayings(*AUTHORITIES):
+        if gives_way(saying.packet):
+            end, why = _end(placed, saying)
+            counts[why] += 1
+            tolerance = line.decoded.tolerance(options.tolerance, allowance(saying.packet, saying.packet.lengths))
+            if end and abs(end.place - end.signal.place) > tolerance:
+                found.setdefault((end.signal.row.number, end.place), []).append(end)
+    return placed.result(["signal"], [_remark(placed, each) for each in found.values()], counts)
+
+
+def gives_way(packet: Packet) -> bool:
+    """Whether an authority lets a train run."""
+    return bool(packet.form.get("v_main", 1))
+
+
+def _end(placed: Placed, saying: Saying) -> Tuple[Optional[End], str]:
+    """Where an authority ends, and the nearest signal; or why they are not compared."""
+    passage = saying.passage
+    place = passage.place(saying.packet.authority.end)
+    if place is None or passage.way is None:
+        return None, NO_PLACE
+    spots = placed.spots("signal", passage.track, passage.way)
+    if not spots:
+        return None, SAYS_NOTHING
+    if placed.is_behind_point(passage, place):
+        return None, BEHIND_POINT
+    return End(saying, place, nearest(spots, place)), ""
+
+
+def _remark(placed: Placed, ends: Sequence[End]) -> Remark:
+    saying, place, signal = ends[0]
+    passage, apart = saying.passage, abs(place - signal.place)
+    name = f", {clean(signal.row.name)}" if signal.row.name else ""
+    side = "beyond" if (place - signal.place) * (passage.way or 0) > 0 else "short of"
+    sentence = (
+        f"the authority ends at {placed.km(passage, place)}, {metres(apart)} m {side} the nearest signal of the "
+        f"plan{name} ({plan_words(signal.row)})"
+    )
+    values = {"km": placed.km_value(passage, place), "plan_km": signal.row.km, "metres_apart": Decimal(apart) / 10}
+    return remark("X3", [each.saying for each in ends], sentence, values)
+
+
+RULE = Rule("X3", "ends of authority", __doc__ or "", find, Urgency.WRONG_INFORMATION, needs_kilometres=True)

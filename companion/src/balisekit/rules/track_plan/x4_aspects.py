@@ -1,0 +1,130 @@
+"""X4: aspect other than in the route table of the plan.
+
+What it says. The packet 12 of an aspect differs from the row of the plan for this signal and aspect: in V_MAIN, in the
+distance from the group to the end of authority, in the length of the overlap, or in the release speed. The release
+speed is that of the overlap, or that of the danger point if there is no overlap. Lengths are in metres and speeds in
+km/h. Lengths may differ by the rounding of Q_SCALE and by `--tolerance`. A row of the plan for an aspect without a
+packet 12 for that way is named too. What follows a packet 136 is not compared (SUBSET-026, 7.4.2 and 7.5.1).
+
+How urgent. At worst wrong information: the aspect allows another speed or another distance than its route.
+
+Usual cause. The telegrams of two aspects were exchanged. A value was copied from another signal. The route table has
+changed since the telegrams were made.
+
+What may happen. The train runs farther or faster than the route that is set for it allows.
+
+How to correct it. Correct the packet 12, or the row of the plan.
+
+Correct data that gets it. None: the plan is the route table.
+
+Example. Signal B has V_MAIN 160 km/h at yellow, and the plan has 120 km/h.
+"""
+from __future__ import annotations
+
+from collections import Counter
+from decimal import Decimal
+from typing import Dict, Iterator, List, NamedTuple, Optional, Set
+
+from balisekit.rules.decoded import Decoded, GroupData, Packet, Passage, allowance
+from balisekit.rules.line import Line
+from balisekit.rules.track_plan.placed import NO_PLACE, SAYS_NOTHING, Placed, Saying, plan_words, remark
+from balisekit.rules.rule import Options, Remark, Result, Rule
+from balisekit.rules.urgency import Urgency
+from balisekit.tables.names import rows_words
+from balisekit.tables.plan import WAY_WORDS, PlanRow, aspect_name
+from balisekit.tables.plan_values import LENGTHS, STEP, Terms, term_words
+
+AUTHORITY = 12
+FIELDS = {"v": "V_MAIN", "end": "the end of authority", "overlap": "the overlap", "release": "the release speed"}
+UNITS = {"v": "kmh", "end": "m", "overlap": "m", "release": "kmh"}
+
+
+class Site(NamedTuple):
+    """An aspect of the table."""
+
+    data: GroupData
+    aspect: str
+    is_read: bool
+    """Whether the program has read all its telegrams."""
+
+
+def find(line: Line, options: Options) -> Result:
+    """Compares each packet 12 of each aspect."""
+    placed, counts = Placed(line, options), Counter[str]()
+    found: List[Remark] = []
+    matched: Set[int] = set()
+    for passage in line.decoded.passages:
+        own = [] if passage.message else passage.of(AUTHORITY)
+        rows = placed.plan.aspects.get(_name(passage), ()) if own else ()
+        fitting = [row for row in rows if row.way in (0, passage.way)]
+        matched.update(row.number for row in fitting)
+        for packet in own:
+            counts["" if fitting else NO_PLACE if rows and passage.way is None else SAYS_NOTHING] += 1
+            found += [each for row in fitting for each in _compare(Saying(passage, packet), row, options)]
+    sites = _sites(line.decoded)
+    left = [row for rows in placed.plan.aspects.values() for row in rows if row.number not in matched]
+    found += [_lacking(sites[row.name], row) for row in left if row.name in sites and sites[row.name].is_read]
+    strange = [row.number for row in left if row.name not in sites]
+    notes = [f"{placed.plan.path}: {rows_words(strange)}: the table has no such aspect"] if strange else []
+    return placed.result(["aspect"], found, counts, notes)
+
+
+def terms_of(packet: Packet) -> Terms:
+    """What a packet 12 gives, by the keys of a plan's aspect."""
+    authority, overlap, danger = packet.authority, packet.form.get("overlap"), packet.form.get("danger_point")
+    found: Dict[str, Optional[int]] = {"v": packet.form["v_main"], "end": authority.end}
+    found["overlap"] = overlap["d_ol"] * packet.unit if overlap else None
+    if overlap or danger:
+        found["release"] = overlap["v_releaseol"] if overlap else danger["v_releasedp"] if danger else None
+    return found
+
+
+def _name(passage: Passage) -> str:
+    return aspect_name(passage.group.group.group.name, passage.aspect) if passage.group else ""
+
+
+def _sites(decoded: Decoded) -> Dict[str, Site]:
+    """The aspects of the table by the names that a plan gives them."""
+    return {
+        aspect_name(data.group.group.name, aspect.name): Site(
+            data, aspect.name, all(row.number in data.telegrams for row in aspect.rows)
+        )
+        for data in decoded.groups
+        for aspect in data.group.group.aspects
+    }
+
+
+def _compare(saying: Saying, row: PlanRow, options: Options) -> Iterator[Remark]:
+    """One remark on all values that differ."""
+    packet, said = saying.packet, terms_of(saying.packet)
+    more = int(options.tolerance * 10)
+    allowed = {"end": more + allowance(packet, packet.lengths), "overlap": more + allowance(packet)}
+    differ = [key for key, value in row.terms.items() if not _is_alike(said.get(key), value, allowed.get(key, 0))]
+    if differ:
+        texts = [
+            f"{FIELDS[key]} is {term_words(key, said.get(key))}, and {term_words(key, row.terms[key])}"
+            for key in differ
+        ]
+        values = {}
+        for key in differ:
+            for name, value in ((f"{key}_{UNITS[key]}", said.get(key)), (f"plan_{key}_{UNITS[key]}", row.terms[key])):
+                if value is not None:
+                    values[name] = Decimal(value) / 10 if key in LENGTHS else Decimal(value * STEP)
+        sentence = f"{' by the plan; '.join(texts)} by {plan_words(row, with_km=False)}"
+        yield remark("X4", [saying], sentence, values)
+
+
+def _is_alike(said: Optional[int], wanted: Optional[int], allowed: int) -> bool:
+    return said == wanted or (said is not None and wanted is not None and abs(said - wanted) <= allowed)
+
+
+def _lacking(site: Site, row: PlanRow) -> Remark:
+    """An aspect of the plan that gives no authority for its way."""
+    rows = next(each.rows for each in site.data.group.group.aspects if each.name == site.aspect)
+    way = f" for {WAY_WORDS[row.way]} trains" if row.way else ""
+    sentence = f"the aspect has no packet 12{way}, and {plan_words(row, with_km=False)} has one"
+    where = site.data.location()
+    return Remark("X4", where, sentence, rows=tuple(each.number for each in rows), aspects=(site.aspect,))
+
+
+RULE = Rule("X4", "authorities of aspects", __doc__ or "", find, Urgency.WRONG_INFORMATION)

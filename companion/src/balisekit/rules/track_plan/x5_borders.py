@@ -1,0 +1,124 @@
+"""X5: level or RBC border other than in the plan.
+
+What it says. A packet 41 (level transition) or 131 (RBC transition) has its border at another place than the plan, or
+other levels or another radio block centre (RBC) behind it. It is compared with the nearest border of its kind for
+trains of that way. A packet 46 (conditional level transition) is compared with the levels behind the last border in
+rear, a packet 42 that establishes a session with the RBC behind the next border ahead and behind the last one in rear.
+Only rounding is allowed for places: one unit of Q_SCALE and one unit of the last decimal of the kilometres;
+`--tolerance` allows more. If the plan has a border on a track for one way, it needs all borders of that kind. A border
+of the plan between the first and the last group of the table that no packet names is named at the nearest group. What
+follows a packet 136 is not compared (SUBSET-026, 7.4.2 and 7.5.1).
+
+How urgent. At worst wrong information: the train changes its level or its RBC at a wrong place.
+
+Usual cause. The distance was counted from another group. The border was moved, and not all announcements were made
+anew.
+
+What may happen. The train is in a level that the track does not support there, or asks the wrong RBC for its authority.
+
+How to correct it. Correct the packet, or the row of the plan.
+
+Correct data that gets it. A level transition at a place of its own, such as for trains without radio. Write its place
+into the plan.
+
+Example. Group F announces level 2 at km 20.050, and the plan has the border at km 20.000.
+"""
+from __future__ import annotations
+
+from collections import Counter
+from decimal import Decimal
+from typing import Dict, Iterator, List, Sequence, Set, Tuple
+
+from balisekit.rules.decoded import allowance
+from balisekit.rules.line import Line
+from balisekit.rules.track_plan.borders import NOT_DECODED, NUMBERS, Border, border_of
+from balisekit.rules.track_plan.placed import (
+    BEHIND_POINT,
+    NO_PLACE,
+    SAYS_NOTHING,
+    Placed,
+    Spot,
+    nearest,
+    plan_words,
+    remark,
+)
+from balisekit.rules.rule import Options, Remark, Result, Rule
+from balisekit.rules.urgency import Urgency
+from balisekit.tables.plan import BORDERS, PlanRow
+from balisekit.tables.plan_values import metres
+
+WORDS = {"level": "level", "rbc": "RBC"}
+
+
+def find(line: Line, options: Options) -> Result:
+    """Compares each packet about a border, and looks for borders of the plan without one."""
+    placed, counts = Placed(line, options), Counter[str]()
+    found: Dict[Tuple[int, int, str], List[Tuple[Border, int, Spot]]] = {}
+    named: Set[int] = set()
+    for saying in placed.sayings(*NUMBERS):
+        border = border_of(saying)
+        if border is None:
+            continue
+        spots, place, why = _wanted(placed, border)
+        named.update(spot.row.number for spot in spots)
+        counts[why] += 1
+        tolerance = line.decoded.tolerance(options.tolerance, allowance(saying.packet))
+        if not why and not any(_is_alike(border, place, spot, tolerance) for spot in spots):
+            found.setdefault((spots[0].row.number, place, border.text), []).append((border, place, spots[0]))
+    remarks = [_remark(placed, each) for each in found.values()]
+    left = [row for kind in BORDERS for row in placed.plan.of_kind(kind) if row.number not in named]
+    remarks += [] if counts[NOT_DECODED] else [each for row in left for each in _unnamed(placed, row)]
+    return placed.result(BORDERS, remarks, counts)
+
+
+def _wanted(placed: Placed, border: Border) -> Tuple[Sequence[Spot], int, str]:
+    """The rows of the plan with which a border is compared, and its place; or why it is not compared."""
+    passage = border.saying.passage
+    place, way = passage.place(border.distance), passage.way
+    if not border.text:
+        return (), 0, NOT_DECODED
+    if place is None or way is None:
+        return (), 0, NO_PLACE
+    spots = placed.spots(border.kind, passage.track, way)
+    if not spots:
+        return (), place, SAYS_NOTHING
+    if placed.is_behind_point(passage, place):
+        return (), place, BEHIND_POINT
+    if border.has_place:
+        return [nearest(spots, place)], place, ""
+    ahead = [spot for spot in spots if way * spot.place > way * place]
+    passed = [spot for spot in spots if way * spot.place <= way * place]
+    asked = (ahead, passed) if border.kind == "rbc" else (passed,)
+    found = [nearest(some, place) for some in asked if some]
+    return found, place, "" if found else SAYS_NOTHING
+
+
+def _is_alike(border: Border, place: int, spot: Spot, tolerance: int) -> bool:
+    is_there = not border.has_place or abs(spot.place - place) <= tolerance
+    return is_there and border.text == spot.row.text_value
+
+
+def _remark(placed: Placed, said: Sequence[Tuple[Border, int, Spot]]) -> Remark:
+    border, place, spot = said[0]
+    passage, word = border.saying.passage, WORDS[border.kind]
+    where, apart = f"at {placed.km(passage, place)}", abs(place - spot.place)
+    also = f", {metres(apart)} m away" if apart and border.has_place else ""
+    sentence = f"{word} {border.text} {where}, and {word} {spot.row.text_value} by {plan_words(spot.row)}{also}"
+    values = {"km": placed.km_value(passage, place), "plan_km": spot.row.km}
+    for name, text in (("", border.text), ("plan_", spot.row.text_value)):
+        numbers = [Decimal(each) for each in text.replace("NTC:", "NTC").replace("/", " ").replace("NTC", "10").split()]
+        values.update({f"{name}{border.kind}_{index}": number for index, number in enumerate(numbers, 1)})
+    return remark("X5", [each.saying for each, _, _ in said], sentence, values)
+
+
+def _unnamed(placed: Placed, row: PlanRow) -> Iterator[Remark]:
+    """A border of the plan that no packet names, if it is within the table."""
+    place = placed.place(row.track, row.km)
+    group = placed.decoded.nearest(row.track, place) if place is not None else None
+    if place is not None and group is not None and placed.decoded.is_inside(row.track, place):
+        numbers = "41 or 46" if row.kind == "level" else "131 or 42"
+        sentence = f"no packet {numbers} names the {WORDS[row.kind]} border of {plan_words(row)}"
+        yield Remark("X5", group.location(), sentence, values={"plan_km": row.km})
+
+
+RULE = Rule("X5", "borders", __doc__ or "", find, Urgency.WRONG_INFORMATION, needs_kilometres=True)

@@ -1,0 +1,326 @@
+"""The track plan: a CSV file that says what the track is, with a row for each thing, and what is read of it.
+
+The columns are `kind, km, km_to, track, way, value, name`, in any order:
+
+- `km`: where it is or begins, as in the table: `13.850`, `13,850` or `13+850`. An aspect needs none.
+- `km_to`: where a speed or gradient ends, a greater kilometre. Without it, it ends where the next row of its kind
+  begins, and the last one never ends. Of a jump: the kilometre behind it.
+- `track`: the track's name, as in the table.
+- `way`: `rising` or `falling`, for trains for which the kilometres go that way. Without it for both.
+- `value`, by the kind:
+  - `speed`: the line speed in km/h, in steps of 5.
+  - `gradient`: whole per mille, uphill positive for a train of the row's way. Without a way that is a rising train, and
+    a falling one has the opposite.
+  - `signal`: none. It is a place at which authorities end: a signal, a marker board or a buffer stop.
+  - `aspect`: `v=120 end=1400 overlap=100 release=20`. V_MAIN in km/h; the end of authority in metres from the group;
+    the overlap's length in metres, or `none`; the release speed in km/h, `onboard` or `national`. A key that is missing
+    is not compared.
+  - `level`: the levels behind the border in the order of priority: `2`, or `2 NTC:7 0` with NID_NTC.
+  - `rbc`: the radio block centre behind the border: `NID_C/NID_RBC`.
+  - `jump`: none. The kilometres jump from `km` to `km_to`.
+  - `point`: none. At it trains of the row's way may leave the track.
+- `name`: of an aspect `SIGNAL/ASPECT`, by the columns `group` and `aspect` of the table, or `SIGNAL` if its one aspect
+  has no name. Of the other kinds it is free.
+"""
+from __future__ import annotations
+
+from dataclasses import dataclass
+from decimal import Decimal
+from difflib import get_close_matches
+from functools import cached_property
+from typing import Callable, Dict, Iterator, List, Mapping, NamedTuple, Optional, Sequence, Tuple, TypeVar
+
+from balisekit.errors import TableError, TableErrors, faults_of
+from balisekit.io import inputs
+from balisekit.io.csv_writing import plain
+from balisekit.tables import csv as csv_file, plan_values as values
+from balisekit.tables.cells import ERROR, GREATEST_NAME, Sheet
+from balisekit.tables.headings import ALIKE, Headings, compared
+from balisekit.tables.names import kilometre
+from balisekit.tables.plan_values import Terms, Value
+from balisekit.tables.reader import head_of, kilometre_of
+
+COLUMNS = ("kind", "km", "km_to", "track", "way", "value", "name")
+NEEDED = COLUMNS[:1]
+WAYS = {"rising": 1, "falling": -1, "": 0}
+WAY_WORDS = {way: word for word, way in WAYS.items()}
+STRETCHES = ("speed", "gradient")
+"""The kinds that hold from one kilometre to another."""
+BORDERS = ("level", "rbc")
+"""The kinds of which one place has one."""
+READERS: Mapping[str, Optional[Callable[[str], Value]]] = {
+    "speed": values.speed,
+    "gradient": values.gradient,
+    "signal": None,
+    "aspect": values.terms,
+    "level": values.levels,
+    "rbc": values.rbc,
+    "jump": None,
+    "point": None,
+}
+"""The kinds, and how the value of each is read. Those without have no value."""
+
+
+Meaning = TypeVar("Meaning")
+Lane = Tuple[str, str, int]
+"""A kind, a track and a way."""
+
+
+class PlanRow(NamedTuple):
+    """A row of the plan."""
+
+    number: int
+    """As a spreadsheet counts: the heading is row 1."""
+    kind: str
+    km: Decimal
+    km_to: Optional[Decimal] = None
+    track: str = ""
+    way: int = 0
+    """1 for rising kilometres, -1 for falling ones, 0 for both."""
+    value: Value = None
+    name: str = ""
+
+    @property
+    def number_value(self) -> int:
+        """The value of a speed or gradient."""
+        assert isinstance(self.value, int)
+        return self.value
+
+    @property
+    def text_value(self) -> str:
+        """The value of a level or RBC border."""
+        return str(self.value)
+
+    @property
+    def terms(self) -> Terms:
+        """The value of an aspect."""
+        assert isinstance(self.value, dict)
+        return self.value
+
+
+class Stretch(NamedTuple):
+    """A speed or gradient for trains of one way."""
+
+    row: PlanRow
+    begin: Decimal
+    end: Optional[Decimal]
+    """Without it there is no end."""
+    value: int
+    """A speed as it is sent, or a gradient in per mille, uphill positive for a train of that way."""
+
+
+@dataclass(frozen=True)
+class Plan:
+    """A track plan."""
+
+    path: str = ""
+    sha256: str = ""
+    rows: Tuple[PlanRow, ...] = ()
+    notes: Tuple[str, ...] = ()
+
+    def of_kind(self, kind: str) -> Sequence[PlanRow]:
+        """All rows of a kind, in the order of the file."""
+        return [row for row in self.rows if row.kind == kind]
+
+    def places(self, kind: str, track: str, way: int) -> Sequence[PlanRow]:
+        """The rows of a kind for trains of one way of a track, in the order of the kilometres."""
+        return self._lanes.get((kind, track, way), ())
+
+    @cached_property
+    def _lanes(self) -> Mapping[Lane, Sequence[PlanRow]]:
+        return _lanes(self.rows)
+
+    def stretches(self, kind: str, track: str, way: int) -> Sequence[Stretch]:
+        """The speeds or gradients for trains of one way of a track, in the order of the kilometres."""
+        rows = self.places(kind, track, way)
+        ends = [*(row.km for row in rows[1:]), None]
+        sign = -1 if kind == "gradient" and way < 0 else 1
+        return [
+            Stretch(row, row.km, row.km_to or end, row.number_value * (1 if row.way else sign))
+            for row, end in zip(rows, ends)
+        ]
+
+    @cached_property
+    def jumps(self) -> Sequence[Tuple[Decimal, Decimal, str]]:
+        """Where the kilometres jump: the kilometres before and after it, and the track."""
+        return [(row.km, row.km_to or row.km, row.track) for row in self.of_kind("jump")]
+
+    @cached_property
+    def aspects(self) -> Mapping[str, Sequence[PlanRow]]:
+        """What the aspects give, by SIGNAL/ASPECT. A signal for both ways has a row for each."""
+        found: Dict[str, List[PlanRow]] = {}
+        for row in self.of_kind("aspect"):
+            found.setdefault(row.name, []).append(row)
+        return found
+
+    def points_between(self, track: str, begin: Decimal, end: Decimal, way: int = 0) -> Sequence[PlanRow]:
+        """The points between two kilometres of a track, both included, at which trains of this way may leave it."""
+        low, high = min(begin, end), max(begin, end)
+        rows = self.places("point", track, way) if way else self.of_kind("point")
+        return [row for row in rows if row.track == track and low <= row.km <= high]
+
+
+def aspect_name(group: str, aspect: str) -> str:
+    """What a plan calls an aspect of the table."""
+    return group if aspect in ("", "*") else f"{group}/{aspect}"
+
+
+def read(path: str) -> Plan:
+    """The plan of this file. TableError or TableErrors is raised if it cannot be read."""
+    file = inputs.read(path)
+    with faults_of(path):
+        headings = Headings(COLUMNS, NEEDED)
+        sheet = csv_file.read(file.content, headings)
+        rows = _rows(sheet, *_head(sheet, headings))
+    return Plan(path, file.sha256, rows, sheet.notes)
+
+
+def cells(row: PlanRow) -> Sequence[str]:
+    """A row as a plan writes it, in the order of COLUMNS."""
+    km = "" if row.kind == "aspect" and not row.km else kilometre(row.km)
+    km_to = "" if row.km_to is None else kilometre(row.km_to)
+    return row.kind, km, km_to, row.track, WAY_WORDS[row.way], _value_text(row), row.name
+
+
+def _value_text(row: PlanRow) -> str:
+    if row.kind == "speed":
+        return values.speed_word(row.number_value)
+    if row.kind == "aspect":
+        return values.terms_text(row.terms)
+    return "" if row.value is None else str(row.value)
+
+
+def _head(sheet: Sheet, headings: Headings) -> Tuple[int, Dict[str, int]]:
+    """The row of the headings, and where each column is. A column that is not known is refused: it may be mistyped."""
+    place = headings.row_of(sheet.rows)
+    if place is None:
+        raise TableError(f"no column kind: the columns of a track plan are {', '.join(COLUMNS)}", row=1)
+    _, places = head_of(sheet, headings)
+    for name in compared(sheet.rows[place]):
+        if name and name not in COLUMNS:
+            meant = get_close_matches(name, COLUMNS, 1, ALIKE)
+            hint = f'did you mean "{meant[0]}"?' if meant else f"the columns are {', '.join(COLUMNS)}"
+            raise TableError(f"there is no column {name[:40]}: {hint}", row=place + 1)
+    return place, places
+
+
+def _rows(sheet: Sheet, place: int, places: Mapping[str, int]) -> Tuple[PlanRow, ...]:
+    """The rows below the headings. All that is wrong with them is raised together."""
+    rows: List[PlanRow] = []
+    faults: List[TableError] = []
+    width = len(sheet.rows[place])
+    for number, cells in enumerate(sheet.rows[place + 1 :], place + 2):
+        if any(map(str.strip, cells)):
+            try:
+                if any(map(str.strip, cells[width:])):
+                    raise TableError(f"it has {len(cells)} cells, and the heading {width}")
+                found = {name: cells[at] if at < len(cells) else "" for name, at in places.items()}
+                rows.append(_row(number, {name: _cell(name, found.get(name, "")) for name in COLUMNS}))
+            except TableError as fault:
+                fault.row = number
+                faults.append(fault)
+    faults += _clashes(rows)
+    if faults:
+        raise TableErrors(faults)
+    if not rows:
+        raise TableError("the plan has no row but its heading")
+    return tuple(rows)
+
+
+def _cell(name: str, cell: str) -> str:
+    """The text of a cell."""
+    text = plain(cell.strip())
+    if "\n" in text or "\r" in text:
+        raise TableError("a line end stands in the cell", column=name)
+    if ERROR.fullmatch(text):
+        raise TableError(f"{text} is an error of the spreadsheet: its formula failed", column=name)
+    if len(text) > GREATEST_NAME:
+        raise TableError(f"it has more than {GREATEST_NAME:,} characters", column=name)
+    return text
+
+
+def _row(number: int, cells: Mapping[str, str]) -> PlanRow:
+    """A row of the plan, whose cells fit its kind."""
+    kind = cells["kind"].lower()
+    if kind not in READERS:
+        meant = get_close_matches(kind, READERS, 1, ALIKE)
+        hint = f'did you mean "{meant[0]}"?' if meant else f"the kinds are {', '.join(READERS)}"
+        raise TableError(f"{cells['kind'][:40] or 'nothing'} is no kind: {hint}", column="kind")
+    way = WAYS.get(cells["way"].lower())
+    if way is None:
+        raise TableError(f"{cells['way'][:40]} is neither rising nor falling", column="way")
+    if kind == "aspect" and not cells["name"]:
+        raise TableError("an aspect needs a name: SIGNAL/ASPECT", column="name")
+    km, km_to = _kilometres(kind, cells)
+    value = _read("value", lambda text: _value(kind, text), cells)
+    return PlanRow(number, kind, km, km_to, cells["track"], way, value, cells["name"])
+
+
+def _kilometres(kind: str, cells: Mapping[str, str]) -> Tuple[Decimal, Optional[Decimal]]:
+    """Where a row begins and ends."""
+    km, km_to = (_read(name, lambda text: kilometre_of(text, ""), cells) for name in ("km", "km_to"))
+    if km is None and kind != "aspect":
+        raise TableError(f"empty: a {kind} needs a kilometre", column="km")
+    if km_to is not None and kind not in (*STRETCHES, "jump"):
+        raise TableError(f"{cells['km_to']}: a row of this kind has one kilometre only", column="km_to")
+    if km_to is None and kind == "jump":
+        raise TableError("empty: a jump needs the kilometre behind it", column="km_to")
+    if km is not None and km_to is not None and (km_to == km or km_to < km and kind in STRETCHES):
+        why = f"{kilometre(km_to)} is {'the same as' if km_to == km else 'before'} km {kilometre(km)}"
+        raise TableError(why, column="km_to")
+    return km or Decimal(), km_to
+
+
+def _value(kind: str, text: str) -> Value:
+    reader = READERS[kind]
+    if reader is None and text:
+        raise TableError(f"{text[:40]}: a {kind} has no value")
+    return reader(text) if reader else None
+
+
+def _read(name: str, meaning: Callable[[str], Meaning], cells: Mapping[str, str]) -> Meaning:
+    """What a cell means. TableError is raised with the column if it means nothing."""
+    try:
+        return meaning(cells[name])
+    except TableError as fault:
+        fault.column = name
+        raise
+
+
+def _lanes(rows: Sequence[PlanRow]) -> Mapping[Lane, Sequence[PlanRow]]:
+    """The rows by kind, track and way, in the order of the kilometres. A row for both ways is in two lanes."""
+    lanes: Dict[Lane, List[PlanRow]] = {}
+    for row in sorted(rows, key=lambda row: row.km):
+        for way in (row.way,) if row.way else (1, -1):
+            lanes.setdefault((row.kind, row.track, way), []).append(row)
+    return lanes
+
+
+def _clashes(rows: Sequence[PlanRow]) -> Iterator[TableError]:
+    """Rows that say two things of one place or aspect. Each is named once."""
+    named: Dict[int, TableError] = {}
+    for (kind, _, _), lane in _lanes(rows).items():
+        if kind in (*STRETCHES, *BORDERS):
+            far = lane[0]
+            for row in lane[1:]:
+                if row.km < (far.km_to or far.km) or row.km == far.km:
+                    fault = _clash(*sorted((far, row), key=lambda each: each.number))
+                    named.setdefault(fault.row or 0, fault)
+                far = row if (row.km_to or row.km) >= (far.km_to or far.km) else far
+    first: Dict[Tuple[str, int], PlanRow] = {}
+    for row in (row for row in rows if row.kind == "aspect"):
+        for way in (row.way,) if row.way else (1, -1):
+            earlier = first.setdefault((row.name, way), row)
+            if earlier is not row:
+                why = f"the aspect {row.name} is in row {earlier.number} already"
+                named.setdefault(row.number, TableError(why, row.number, "name"))
+    yield from named.values()
+
+
+def _clash(earlier: PlanRow, row: PlanRow) -> TableError:
+    """What is wrong with a row that has a border or holds where an earlier row of the file does."""
+    if row.kind in BORDERS:
+        return TableError(f"row {earlier.number} has a border at this kilometre already", row.number, "km")
+    reach = f" to {kilometre(earlier.km_to)}" if earlier.km_to is not None else ""
+    why = f"it overlaps row {earlier.number}, which holds from km {kilometre(earlier.km)}{reach}"
+    return TableError(why, row.number, "km")
