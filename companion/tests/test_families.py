@@ -93,7 +93,8 @@ def test_only(run: Run, program: Program, tmp_path: Path) -> None:
     assert run("check", path, "--only", "e,l,f") == run("check", path)
     status, out, _ = run("check", path, "--only", "E")
     assert status == 0 and out[1:] == [f"{MEANT} none", "aspects found: 1 in 4 groups", "remarks: none found"]
-    assert run("check", path, "--tolerance", "5")[0] == 0
+    assert run("check", path, "--only", "F,L", "--tolerance", "5")[0] == 0
+    assert run("check", path, "--tolerance", "8")[0] == 0
     assert run("check", path, "--only", "F", "--tolerance", "5")[2] == [
         "balisekit: --tolerance is not used with --only F"
     ]

@@ -26,6 +26,7 @@ from test_meaning import remarks, written
 from balisekit.engine.program import Program
 from balisekit.rules.rule import Options, Remark
 from balisekit.rules.urgency import Urgency
+from balisekit.tables import plan as plan_file
 
 PROFILES = "21 (gradient profile), 27 (international static speed profile)"
 FOUR = Line(signals=6, aspects=(RED, YELLOW, GREEN, "blue"))
@@ -189,6 +190,15 @@ def test_e10_as_far_as_both_name_the_same_groups(program: Program, tmp_path: Pat
     assert one.values["end_m"] == 1500 and "to 1500 m from the group" in one.sentence
     assert not found(program, path, "E10", unlinked, wrong)
     assert found(program, path, "E10", unlinked, wrong, packet_with(1, YELLOW, 12, l_endsection=3000))
+
+
+def test_e10_beyond_a_point(program: Program, tmp_path: Path) -> None:
+    """Signal 2 is at km 11.500. The aspects differ from there on, or from a point of the track plan on."""
+    path = written(program, tmp_path / "t.csv", SHORT, element_with(2, GREEN, 27, 0, v_static=24))
+    for km, count in (("11.500", 0), ("11.400", 1), ("15.000", 1)):
+        (tmp_path / "plan.csv").write_text(f"kind,km,km_to,track,way,value,name\npoint,{km},,,,,P1\n", "utf-8")
+        options = Options(plan=plan_file.read(str(tmp_path / "plan.csv")))
+        assert len(remarks(program, path, options, ["E10"])) == count, km
 
 
 def test_e10_of_one_wrong_aspect_is_one_remark(program: Program, tmp_path: Path) -> None:

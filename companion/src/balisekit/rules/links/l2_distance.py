@@ -10,7 +10,7 @@ How urgent. At worst the train brakes or is tripped, or it takes a wrong place f
 
 Usual cause. A group was moved and the links to it were not made anew. Q_SCALE is not that of the distances. A distance
 was counted from another balise than the first one of the group. Or the kilometre of the table is wrong: then all links
-to and from that group differ. Or the kilometres jump, and neither `--jumps` nor a track plan says so.
+to and from that group differ.
 
 What may happen. The train opens its window of expectation at another place. If the group lies outside, the train does
 not accept it there, and applies the linking reaction. If it lies inside, the train corrects its position by a wrong
@@ -19,8 +19,8 @@ distance.
 How to correct it. Correct D_LINK, or the kilometre of the table. Where the kilometres are rounded, say by how much with
 `--tolerance`.
 
-Correct data that gets it. Kilometres that jump between the groups, or that follow another axis than the track: all
-links over that place differ by the same amount.
+Correct data that gets it. Kilometres that jump between the groups, if neither `--jumps` nor a track plan says so, or
+that follow another axis than the track: all links over that place differ by the same amount.
 
 Example. The link of group A to group B says 1,010 m, and their kilometres are 1,000 m apart. The sum for group C begins
 anew at group B, so that there is one line.

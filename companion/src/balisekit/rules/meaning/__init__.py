@@ -43,8 +43,5 @@ from balisekit.rules.meaning.e21_session_for_level_2 import RULE as E21
 from balisekit.rules.meaning.e22_temporary_restriction import RULE as E22
 from balisekit.rules.meaning.e23_one_header import RULE as E23
 
-RULES = (
-    E1, E2, E3, E4, E5, E6, E7, E8, E9, E10, E11, E12,
-    E13, E14, E15, E16, E17, E18, E19, E20, E21, E22, E23,
-)
+RULES = (E1, E2, E3, E4, E5, E6, E7, E8, E9, E10, E11, E12, E13, E14, E15, E16, E17, E18, E19, E20, E21, E22, E23)
 __all__ = ["RULES"]

@@ -2,7 +2,7 @@
 from __future__ import annotations
 
 from decimal import Decimal
-from typing import Dict, Iterator, List, Mapping, NamedTuple, Optional, Sequence, Tuple
+from typing import Dict, Iterator, List, Mapping, NamedTuple, Optional, Sequence, Set, Tuple
 
 from balisekit.rules.decoded import AUTHORITIES, LINKING, Decoded, GroupData, Packet, Passage, allowance
 from balisekit.rules.rule import Options
@@ -27,6 +27,11 @@ class End(NamedTuple):
         """From the group to it."""
         return abs(self.place - (self.passage.place(0) or 0))
 
+    @property
+    def key(self) -> Tuple[int, str]:
+        """The packet and its direction."""
+        return id(self.packet), self.passage.direction
+
     def differs(self, other: End, decoded: Decoded, options: Options) -> bool:
         """Whether this is another place."""
         parts = (allowance(each.packet, each.packet.lengths) for each in (self, other))
@@ -42,13 +47,17 @@ def ends_of(decoded: Decoded) -> Sequence[End]:
 
 
 def _ends(decoded: Decoded) -> Iterator[End]:
+    """Each packet once in each direction: aspects share those of fixed balises."""
+    known: Set[Tuple[int, str]] = set()
     for passage in decoded.passages:
         for packet in passage.said:
             if (packet.number == 12 and packet.form["v_main"] or packet.number == 15) and passage.way is not None:
+                key = id(packet), passage.direction
                 form = packet.form
                 lengths = sum(section["l_section"] for section in form["sections"]) + form["l_endsection"]
                 place = passage.place(lengths * packet.unit)
-                if place is not None:
+                if place is not None and key not in known:
+                    known.add(key)
                     yield End(place, passage, packet)
 
 
@@ -84,11 +93,7 @@ def extents_of(decoded: Decoded) -> Mapping[Lane, Extent]:
     """From which place to which one the groups are that give an authority."""
     places: Dict[Lane, List[int]] = {}
     for data in decoded.groups:
-        own = {
-            passage.way
-            for passage in data.passages
-            if any(packet.number in AUTHORITIES for packet in passage.said)
-        }
+        own = {passage.way for passage in data.passages if any(packet.number in AUTHORITIES for packet in passage.said)}
         for way in own - {None} if data.place is not None else ():
             places.setdefault((data.group.track, way or 0), []).append(data.place or 0)
     return {lane: (min(some), max(some)) for lane, some in places.items()}

@@ -3,7 +3,8 @@
 What it says. For one stretch of track two aspects of a group have different V_STATIC, or signed gradients more than 5 ‰
 apart. The rule compares them as far as the packets 5 of both name the same groups. Without packets 5 it compares them
 only if both authorities end at the same place. Stretches that are shorter than `--tolerance` and the rounding of the
-lengths are passed over. One remark names the aspect that most others disagree with (SUBSET-026, 3.11).
+lengths are passed over, and so is what lies beyond a `point` of the track plan. One remark names the aspect that most
+others disagree with (SUBSET-026, 3.11).
 
 How urgent. At worst wrong information: one of the aspects has a speed or gradient that the track does not have.
 
@@ -21,12 +22,14 @@ How sure. 87 %.
 """
 from __future__ import annotations
 
-from itertools import combinations
+from decimal import Decimal
+from itertools import combinations, product
 from typing import Dict, Iterator, List, NamedTuple, Optional, Sequence, Tuple
 
 from balisekit.etcs.variables import metres
 from balisekit.rules.decoded import GRADIENTS, LINKING, SPEEDS, Packet, Passage
 from balisekit.rules.line import Line
+from balisekit.rules.meaning.along import leaves
 from balisekit.rules.meaning.sent import by_culprit, distance, overlaps, speed, tolerance
 from balisekit.rules.rule import Options, Remark, Result, Rule
 from balisekit.rules.urgency import Urgency
@@ -74,7 +77,7 @@ def _of_group(line: Line, options: Options, some: Sequence[Passage]) -> Iterator
     for number in (SPEEDS, GRADIENTS):
         pairs: Pairs = {}
         for one, other, reach in common:
-            contrary = _compared(line, options, one.of(number), other.of(number), reach) if reach else None
+            contrary = _compared(line, options, one, other, number, reach) if reach else None
             if contrary:
                 pairs[one.aspect, other.aspect] = contrary
         for culprit, others in by_culprit(list(pairs)):
@@ -102,18 +105,19 @@ def _common(line: Line, options: Options, one: Passage, other: Passage) -> int:
 
 
 def _compared(
-    line: Line, options: Options, mine: Sequence[Packet], its: Sequence[Packet], reach: int
+    line: Line, options: Options, one: Passage, other: Passage, number: int, reach: int
 ) -> Optional[Contrary]:
-    """The first stretch of which both say different things."""
-    for one in mine:
-        for other in its:
-            if one is other or one.form == other.form:
+    """The first stretch before a point of the track plan of which both say different things."""
+    for packets in product(one.of(number), other.of(number)):
+        if packets[0].form == packets[1].form:
+            continue
+        for begin, end, here, there in overlaps(packets[0].stretches, packets[1].stretches, reach):
+            if not _differ(number, here, there):
                 continue
-            for begin, end, here, there in overlaps(one.stretches, other.stretches, reach):
-                if not _differ(one.number, here, there):
-                    continue
-                if end - begin > tolerance(line, options, *((each, len(each.stretches)) for each in (one, other))):
-                    return Contrary((one, other), begin, end, (here, there))
+            least = tolerance(line, options, *((each, len(each.stretches)) for each in packets))
+            place = one.place(begin + least)
+            if end - begin > least and (place is None or not leaves(options, line.decoded, one, place)):
+                return Contrary(packets, begin, end, (here, there))
     return None
 
 
@@ -129,15 +133,12 @@ def _remark(some: Sequence[Passage], pairs: Pairs, culprit: str, others: Sequenc
     said = [f"{quoted(name)} has {_words(number, value)}" for name, value in zip((culprit, others[0]), first.values)]
     more = f"; {quoted(culprit)} differs from {listed([quoted(name) for name in others[1:]], NAMED)} too"
     sentence = f"from {metres(first.begin)} to {metres(first.end)} from the group, {said[0]}, and {said[1]}"
-    factor = 50 if number == SPEEDS else 10
-    values = {
-        "begin_m": distance(first.begin),
-        "end_m": distance(first.end),
-        **{f"value_{place}": distance(value * factor) for place, value in enumerate(first.values, 1)},
-    }
+    step = 5 if number == SPEEDS else 1
+    compared = {f"value_{place}": Decimal(value * step) for place, value in enumerate(first.values, 1)}
+    values = {"begin_m": distance(first.begin), "end_m": distance(first.end), **compared}
     rows = sorted({packet.row.number for each in own for packet in each.packets if packet.row})
-    words = sentence + (more if others[1:] else "")
-    return Remark("E10", some[0].at(), words, values=values, rows=rows, aspects=[culprit, *others])
+    sentence += more if others[1:] else ""
+    return Remark("E10", some[0].at(), sentence, values=values, rows=rows, aspects=[culprit, *others])
 
 
 def _words(number: int, value: int) -> str:

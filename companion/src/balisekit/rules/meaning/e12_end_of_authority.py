@@ -1,13 +1,13 @@
 """E12: end of authority.
 
 What it says. Authorities of one track and way whose packets 5 lead to one group end at different places, or an
-authority ends between groups. An end is the kilometre of the group and the sum of L_SECTION and L_ENDSECTION of a packet
-12 with V_MAIN above 0, or of a packet 15. Ends are compared if the packets 5 that are said with them name one group as
-the nearest within 200 m, or else as the last one before the end, if they also name a group beyond it. Without packets 5
-ends within 20 m of each other are compared. The tolerance is `--tolerance` (1 m without it), the unit of each packet by
-Q_SCALE, half a unit for each further length of a sum, and one unit of the last decimal of the kilometres. Besides, an
-end of a packet 12 between the first and the last signal of the table is at most 50 m and the tolerance from the first
-balise of some group, unless no group is within 200 m (SUBSET-026, 3.8 and 7.4.2).
+authority ends between groups. An end is the kilometre of the group and the sum of L_SECTION and L_ENDSECTION of a
+packet 12 with V_MAIN above 0, or of a packet 15. Ends are compared if the packets 5 that are said with them name one
+group as the nearest within 200 m, or else as the last one before the end, if they also name a group beyond it. Without
+packets 5 ends within 20 m of each other are compared. The tolerance is `--tolerance` (1 m without it), the unit of each
+packet by Q_SCALE, half a unit for each further length of a sum, and one unit of the last decimal of the kilometres.
+Besides, an end of a packet 12 between the first and the last signal of the table is at most 50 m and the tolerance from
+the first balise of some group, unless no group is within 200 m (SUBSET-026, 3.8 and 7.4.2).
 
 How urgent. At worst wrong information: a train may pass the signal at which it has to stop.
 
@@ -39,6 +39,7 @@ from balisekit.rules.meaning.words import merged, source
 from balisekit.rules.rule import Options, Remark, Result, Rule
 from balisekit.rules.urgency import Urgency
 
+NOWHERE = (1, 0)
 NEAR, STANDS, ALONE = 2000, 500, 200
 """In decimetres: how near a group is to its end, how near one has to be, and how near ends without links are."""
 
@@ -48,27 +49,29 @@ def find(line: Line, options: Options) -> Result:
     decoded, looked_at = line.decoded, 0
     linked: Dict[Tuple[Lane, GroupData], List[End]] = {}
     unlinked: Dict[Lane, List[End]] = {}
-    ends: List[Tuple[Lane, End]] = []
+    ends: List[Tuple[Lane, End]] = []  # (those that are not at the group to which they lead)
     for end in ends_of(decoded):
         lane, looked_at = lane_of(end.passage), looked_at + 1
         if leaves(options, decoded, end.passage, end.place):
             continue
-        ends.append((lane, end))
         target = _target(decoded, end)
+        if target is None or target.place is None or abs(target.place - end.place) > STANDS:
+            ends.append((lane, end))
         if target is not None:
             linked.setdefault((lane, target), []).append(end)
         elif not end.passage.of(5):
             unlinked.setdefault(lane, []).append(end)
-    found: Dict[int, Remark] = {}
+    found: Dict[Tuple[int, str], Remark] = {}
     for (_, target), some in linked.items():
-        found.update((id(end.packet), remark) for end, remark in _compare(decoded, options, some, target))
+        found.update((end.key, remark) for end, remark in _compare(decoded, options, some, target))
     for some in unlinked.values():
         for part in _parts(some):
-            found.update((id(end.packet), remark) for end, remark in _compare(decoded, options, part))
-    extents = extents_of(decoded)
+            found.update((end.key, remark) for end, remark in _compare(decoded, options, part))
+    extents = extents_of(decoded) if ends else {}
     for lane, end in ends:
-        if id(end.packet) not in found and extents[lane][0] <= end.place <= extents[lane][1]:
-            found.update((id(end.packet), remark) for remark in _between(decoded, options, end))
+        low, high = extents.get(lane, NOWHERE)
+        if end.key not in found and low <= end.place <= high:
+            found.update((end.key, remark) for remark in _between(decoded, options, end))
     return Result(merged(found.values()), looked_at)
 
 

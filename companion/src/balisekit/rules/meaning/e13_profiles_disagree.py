@@ -3,9 +3,10 @@
 What it says. On a stretch of one track and way the profiles of two groups differ: no V_STATIC of the group in rear is
 that of the group ahead, or their gradients are more than 5 per mille apart. Each group is compared with the next one
 ahead that has a profile there. All aspects of both groups count, of the group in rear only those whose packet 5 names
-the group ahead, if any does. Stretches are passed over that are no longer than the tolerance: `--tolerance` (1 m without
-it), the units of both packets by Q_SCALE, half a unit for each further distance, and one unit of the last decimal of the
-kilometres. If a group differs from those on both sides, the remark is on that group (SUBSET-026, 3.11.3 and 3.11.12).
+the group ahead, if any does. Stretches are passed over that are no longer than the tolerance: `--tolerance` (1 m
+without it), the units of both packets by Q_SCALE, half a unit for each further distance, and one unit of the last
+decimal of the kilometres. If a group differs from those on both sides, the remark is on that group (SUBSET-026, 3.11.3
+and 3.11.12).
 
 How urgent. At worst wrong information: a train may go too fast, or brake too late on a slope.
 
@@ -32,12 +33,10 @@ from typing import Dict, Iterator, List, Sequence, Tuple
 from balisekit.rules.decoded import GRADIENTS, SPEEDS, Decoded, Packet, allowance
 from balisekit.rules.line import Line
 from balisekit.rules.meaning.along import leaves
-from balisekit.rules.meaning.profiles import Piece, Profiles, agree, lanes_of, pieces_of
+from balisekit.rules.meaning.profiles import Piece, Profiles, agree, lanes_of, pairs, pieces_of
 from balisekit.rules.meaning.words import source
 from balisekit.rules.rule import Options, Remark, Result, Rule
 from balisekit.rules.urgency import Urgency
-
-FACTORS = (10, 100)
 
 
 @dataclass(frozen=True)
@@ -55,30 +54,16 @@ def find(line: Line, options: Options) -> Result:
     decoded, found, looked_at = line.decoded, [], 0
     for number in (SPEEDS, GRADIENTS):
         for lane in lanes_of(decoded, number).values():
-            differences = [each for one in _pairs(lane) for each in _difference(decoded, options, *one)]
+            differences = [each for one in pairs(lane) for each in _difference(decoded, options, *one)]
             looked_at += len(lane)
             found += list(_remarks(decoded, differences))
     return Result(found, looked_at)
 
 
-def _pairs(lane: Sequence[Profiles]) -> Iterator[Tuple[Profiles, Profiles, int]]:
-    """Each group with the next ones ahead, and from where on they are compared: where no group between has a profile."""
-    for index, rear in enumerate(lane):
-        covered = rear.begin
-        for ahead in lane[index + 1 : index + 9]:
-            if ahead.begin >= rear.reach or covered >= rear.reach:
-                break
-            if ahead.begin > rear.begin and ahead.reach > covered:
-                yield rear, ahead, covered
-                covered = ahead.reach
-
-
-def _difference(
-    decoded: Decoded, options: Options, rear: Profiles, ahead: Profiles, low: int
-) -> Iterator[Difference]:
+def _difference(decoded: Decoded, options: Options, rear: Profiles, ahead: Profiles, low: int) -> Iterator[Difference]:
     """The stretches on which two groups differ."""
     high = min(rear.reach, ahead.reach)
-    if agree(rear.longest, ahead.longest, low, high, rear.names(ahead, decoded)):
+    if agree(rear.longest, ahead.longest, low, high) and rear.names(ahead, decoded):
         return
     pieces = []
     for piece in pieces_of(rear.naming(ahead, decoded), ahead.aspects, low, high):
@@ -102,7 +87,9 @@ def _remarks(decoded: Decoded, differences: Sequence[Difference]) -> Iterator[Re
         is_rear = counts[id(each.rear)] >= counts[id(each.ahead)]
         if counts[id(each.rear)] == counts[id(each.ahead)]:
             piece = each.pieces[0]
-            is_rear = bool(_cause(each.rear, each.ahead, piece, True) or not _cause(each.ahead, each.rear, piece, False))
+            is_rear = bool(
+                _cause(each.rear, each.ahead, piece, True) or not _cause(each.ahead, each.rear, piece, False)
+            )
         by_group.setdefault(id(each.rear if is_rear else each.ahead), []).append((each, is_rear))
     for some in by_group.values():
         yield _remark(decoded, some)
@@ -118,17 +105,21 @@ def _remark(decoded: Decoded, some: Sequence[Tuple[Difference, bool]]) -> Remark
     name, unit = ("V_STATIC", "km/h") if own.packet.number == SPEEDS else ("G_A", "per mille")
     factor = 5 if own.packet.number == SPEEDS else 1
     more = sum(len(each.pieces) for each, _ in some) - 1
+    shown = [f"{value * factor:{'+' if factor == 1 else ''}} {unit}" for value in (own_value, other_value)]
     sentence = (
-        f"{name} is {own_value * factor:{'+' if factor == 1 else ''}} {unit} from {decoded.km(track, piece.low * way)} to "
-        f"{decoded.km(track, piece.high * way)}, and {other_value * factor:{'+' if factor == 1 else ''}} {unit} by "
+        f"{name} is {shown[0]} from {decoded.km(track, piece.low * way)} to {decoded.km(track, piece.high * way)}, and "
+        f"{shown[1]} by "
         f"{source(other.passage, other.packet)}{_cause(*groups, piece, is_rear)}"
         + (f"; they differ on {more} other stretch{'es' if more > 1 else ''} too" if more else "")
     )
     values = {f"{name.lower()}": Decimal(own_value * factor), f"other_{name.lower()}": Decimal(other_value * factor)}
-    rows = tuple(sorted({each.packet.row.number for each in piece.alike(own) if each.packet.row}))
+    alike = [each.packet.row for each in piece.alike(own) if each.packet.row]
+    rows = tuple(sorted({row.number for row in alike}))
+    aspects = tuple(dict.fromkeys(row.aspect for row in alike if row.aspect not in ("", "*")))
     others = tuple(dict.fromkeys(_row(each, is_own) for each, is_own in some))
     where = own.passage.at(own.packet)
-    return Remark("E13", where, sentence, None, values, rows=rows, others=tuple(sorted(set(others) - {0, *rows})))
+    named = tuple(sorted(set(others) - {0, *rows}))
+    return Remark("E13", where, sentence, None, values, rows=rows, others=named, aspects=aspects)
 
 
 def _row(difference: Difference, is_rear: bool) -> int:
@@ -146,12 +137,8 @@ def _cause(own: Profiles, other: Profiles, piece: Piece, is_rear: bool) -> str:
         return ": is V_STATIC in km/h instead of steps of 5 km/h?"
     if aspects[0].packet.number == GRADIENTS and value == -other_value:
         return ": is Q_GDIR wrong?"
-    for factor in FACTORS:
-        if own.longest.scaled(factor).agrees_with(other.longest):
-            return f": are its distances {factor} times too small, by Q_SCALE?"
-        if own.longest.scaled(1, factor).agrees_with(other.longest):
-            return f": are its distances {factor} times too large, by Q_SCALE?"
-    return ""
+    factor = own.longest.scale_of(other.longest)
+    return f": are its distances {factor}, by Q_SCALE?" if factor else ""
 
 
 RULE = Rule("E13", "profiles of groups", __doc__ or "", find, Urgency.WRONG_INFORMATION, needs_kilometres=True)

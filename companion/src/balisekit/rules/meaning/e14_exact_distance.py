@@ -29,7 +29,7 @@ from __future__ import annotations
 from collections import Counter
 from dataclasses import replace
 from decimal import Decimal
-from typing import Iterator, List, Optional
+from typing import Iterator, Optional
 
 from balisekit.etcs.variables import metres
 from balisekit.rules.line import Line
@@ -102,10 +102,7 @@ def _remarks(line: Line, step: Step, least: int) -> Iterator[Remark]:
         f"kilometres: they differ by {metres(abs(step.difference))}, which is within Q_LOCACC ({step.link.accuracy} m) "
         f"and above the tolerance of {metres(tolerance)}{_other_balise(line, step) or ''}"
     )
-    values = {
-        "metres_by_d_link": Decimal(step.distance) / 10,
-        "metres_by_kilometres": Decimal(step.by_kilometres) / 10,
-    }
+    values = {"metres_by_d_link": Decimal(step.distance) / 10, "metres_by_kilometres": Decimal(step.by_kilometres) / 10}
     for chain in step.chains:
         location = chain.at(step.link)
         yield Remark("E14", location, sentence, step.here, values, named=(step.base,))
@@ -120,7 +117,8 @@ def _other_balise(line: Line, step: Step) -> Optional[str]:
             own, place = line.places[group.number], chainage.place(row.km) if row else None
             if row is not None and own is not None and place is not None:
                 distance = step.by_kilometres + sign * step.way * (place - own)
-                words = f"; by the kilometres it is {metres(distance)} {which} balise {position} of {group}, row {row.number}"
+                balise = f"balise {position} of {group}, row {row.number}"
+                words = f"; by the kilometres it is {metres(distance)} {which} {balise}"
                 found.append((abs(step.distance - distance), words))
     best = min(found, default=None)
     return best[1] if best and best[0] < abs(step.difference) and best[0] <= line.decoded.resolution else None

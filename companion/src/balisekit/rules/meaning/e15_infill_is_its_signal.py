@@ -2,11 +2,11 @@
 
 What it says. A packet 136 names a group that the table has not, or that is not ahead of the infill group. Or a packet
 12, 21, 27 or 80 after it differs from that of the named group, in the aspect with the same name and in the direction in
-which the train passes that group: in a distance, a speed, a time or any other field but Q_DIR and Q_SCALE. Distances are
-compared in metres; if Q_SCALE differs, the greater unit is allowed. Packets that only one of the groups has are passed
-over. If the infill group is the last one of the track that gives an authority in its direction, a group that the table
-has not is a note: it may be beyond the table. The layouts of packets 80 and 136 are balisekit's own (SUBSET-026, 3.6.2
-and 7.4.2).
+which the train passes that group: in a distance, a speed, a time or any other field but Q_DIR and Q_SCALE. Distances
+are compared in metres; if Q_SCALE differs, the greater unit is allowed. Packets that only one of the groups has are
+passed over. If the infill group is the last one of the track that gives an authority in its direction, a group that the
+table has not is a note: it may be beyond the table. The layouts of packets 80 and 136 are balisekit's own (SUBSET-026,
+3.6.2 and 7.4.2).
 
 How urgent. At worst wrong information: the train gets another aspect than the signal shows.
 
@@ -26,33 +26,21 @@ How sure. 88 %.
 from __future__ import annotations
 
 from decimal import Decimal
-from typing import Any, Iterator, List, Mapping, NamedTuple, Optional, Sequence, Tuple
+from typing import Dict, Iterator, List, Optional, Sequence, Tuple
 
 from balisekit.etcs.geometry import DIRECTIONS
-from balisekit.etcs.packets import packet_name
-from balisekit.etcs.variables import Around, metres, value_words, variable_name
+from balisekit.etcs.variables import metres
 from balisekit.rules.decoded import GroupData, Packet, Passage
 from balisekit.rules.line import Line
 from balisekit.rules.location import NOT_KNOWN, Identity
 from balisekit.rules.meaning.along import Extent, extents_of, lane_of
+from balisekit.rules.meaning.fields import fields_apart
 from balisekit.rules.meaning.words import merged, source
 from balisekit.rules.rule import Options, Remark, Result, Rule
 from balisekit.rules.urgency import Urgency
-from balisekit.tables.names import clean, describe_identity, ordinal
+from balisekit.tables.names import clean, describe_identity
 
 COMPARED = (12, 21, 27, 80)
-NOT_COMPARED = {"q_dir", "q_scale", "l_packet", "body", "nid_packet"}
-INFINITE = 32_767
-
-
-class Apart(NamedTuple):
-    """A field that differs."""
-
-    name: str
-    own: str
-    other: str
-    values: Mapping[str, Decimal] = {}
-    """Both numbers as they are sent."""
 
 
 def find(line: Line, options: Options) -> Result:
@@ -108,64 +96,28 @@ def _signal(passage: Passage, target: GroupData) -> Optional[Passage]:
 
 
 def _differences(passage: Passage, target: GroupData) -> Iterator[Remark]:
+    """One remark on all packets of an aspect that differ from those of the signal."""
     signal = _signal(passage, target)
+    words: List[str] = []
+    others: List[int] = []
+    values: Dict[str, Decimal] = {}
+    first: Optional[Packet] = None
     for number in COMPARED if signal else ():
-        own = [packet for packet in passage.infill if packet.number == number]
-        others = signal.of(number) if signal else []
-        for packet, other in zip(own, others):
-            first = next(_apart(packet, other), None)
-            if signal and first:
-                sentence = (
-                    f"{first.name} is {first.own} in the infill, and {first.other} in the packet {number} "
-                    f"({packet_name(number)}) of {source(signal, other)}"
-                )
-                rows = (other.row.number,) if other.row else ()
-                yield Remark("E15", passage.at(packet), sentence, target.group, first.values, others=rows)
+        for packet, other in zip((each for each in passage.infill if each.number == number), _of(signal, number)):
+            apart = next(fields_apart(packet, other), None)
+            if signal and apart:
+                first = first or packet
+                of = f"packet {number} of {source(signal, other)}" if not words else f"packet {number} there"
+                words.append(f"{apart.name} is {apart.own} in the infill, and {apart.other} in {of}")
+                values = {**apart.values, **values}
+                others += [other.row.number] if other.row else []
+    if first is not None:
+        rows = tuple(dict.fromkeys(others))
+        yield Remark("E15", passage.at(first), "; ".join(words), target.group, values, others=rows)
 
 
-def _apart(one: Packet, other: Packet) -> Iterator[Apart]:
-    """The fields that differ. Distances may differ by the greater unit if Q_SCALE differs."""
-    allowed = 0 if one.unit == other.unit else max(one.unit, other.unit)
-    yield from _compared(one.form, other.form, (one, other), "", allowed)
-
-
-def _compared(
-    own: Any, theirs: Any, packets: Tuple[Packet, Packet], where: str, allowed: int
-) -> Iterator[Apart]:
-    """The fields of two objects that differ, by their order in the first one."""
-    keys: List[str] = [key for key in own if key not in NOT_COMPARED] + [key for key in theirs if key not in own]
-    for key in keys:
-        if key in NOT_COMPARED:
-            continue
-        values: Sequence[Any] = own.get(key), theirs.get(key)
-        if isinstance(values[0], dict) and isinstance(values[1], dict):
-            yield from _compared(values[0], values[1], packets, where, allowed)
-        elif isinstance(values[0], list) and isinstance(values[1], list):
-            for place, (mine, its) in enumerate(zip(*values)):
-                words = f" of the {ordinal(place)} {key.removesuffix('s')}{where}"
-                yield from _compared(mine, its, packets, words, allowed)
-            if len(values[0]) != len(values[1]):
-                yield Apart(f"the number of {key}{where}", str(len(values[0])), str(len(values[1])))
-        elif _differ(key, values, packets, allowed):
-            mine, its = (
-                _words(key, value, packet, parent) for value, packet, parent in zip(values, packets, (own, theirs))
-            )
-            numbers = {key: values[0], f"{key}_of_signal": values[1]}
-            sent = {name: Decimal(value) for name, value in numbers.items() if isinstance(value, int)}
-            yield Apart(f"{variable_name(key, own)}{where}", mine, its, sent)
-
-
-def _differ(key: str, values: Sequence[Any], packets: Sequence[Packet], allowed: int) -> bool:
-    numbers = all(isinstance(value, int) for value in values)
-    if numbers and key[:2] in ("d_", "l_") and INFINITE not in values:
-        return abs(values[0] * packets[0].unit - values[1] * packets[1].unit) > allowed
-    return bool(values[0] != values[1])
-
-
-def _words(key: str, value: Any, packet: Packet, parent: Any) -> str:
-    if not isinstance(value, (int, str)):
-        return "absent" if value is None else "present"
-    return value_words(key, value, Around(packet.form, parent)) or str(value)
+def _of(signal: Optional[Passage], number: int) -> Sequence[Packet]:
+    return signal.of(number) if signal else []
 
 
 RULE = Rule("E15", "infill", __doc__ or "", find, Urgency.WRONG_INFORMATION)

@@ -1,7 +1,7 @@
 """E16: direction of a single balise.
 
-What it says. A group of one balise with Q_LINK 1 has a packet for one direction (44, 145 and 254 apart), and no packet 5
-of the table names it. Or the packets 5 that name a single balise give it different nominal directions along the
+What it says. A group of one balise with Q_LINK 1 has a packet for one direction (44, 145 and 254 apart), and no packet
+5 of the table names it. Or the packets 5 that name a single balise give it different nominal directions along the
 kilometres, or another one than the column `nominal`. The first part is silent if no packet 5 that holds in the way of
 the packet leads past the kilometre of the balise. Single balises with Q_LINK 0 are L5 (SUBSET-026, 3.4.2 and 3.4.4).
 
@@ -28,7 +28,6 @@ from decimal import Decimal
 from typing import Dict, Iterator, List, Tuple
 
 from balisekit.etcs.geometry import DIRECTIONS
-from balisekit.etcs.packets import packet_name
 from balisekit.rules.decoded import Decoded, GroupData, Packet
 from balisekit.rules.line import Line
 from balisekit.rules.location import BaliseGroup, Location
@@ -99,8 +98,8 @@ def _directions(group: BaliseGroup, links: Dict[int, Tuple[Chain, Link]]) -> Ite
     if len(links) > 1:
         (chain, link), (other, _) = links[1], links[-1]
         sentence = (
-            f"Q_LINKORIENTATION says that the kilometres rise in the nominal direction of the single balise {group}, and "
-            f"the packet 5 of {_source(other)} says that they fall"
+            f"Q_LINKORIENTATION says that the kilometres rise in the nominal direction of the single balise {group}, "
+            f"and the packet 5 of {_source(other)} says that they fall"
         )
         row = other.location.row
         yield Remark("E16", chain.at(link), sentence, group, others=(row.number,) if row else ())
@@ -130,8 +129,8 @@ def _unnamed(decoded: Decoded, passed: Passed, data: GroupData) -> Iterator[Rema
     if data.place is None or not any(passed.is_passed(data.group.track, data.place, each) for each in ways):
         return
     sentence = (
-        f"it is for the {direction} direction ({packet_name(packet.number)}), the balise is single and has Q_LINK 1, and no "
-        f"packet 5 names it: those of other groups lead past {decoded.km(data.group.track, data.place)}"
+        f"it is for the {direction} direction, the balise is single and has Q_LINK 1, and no packet 5 names it: those "
+        f"of other groups lead past {decoded.km(data.group.track, data.place)}"
     )
     where = Location(data.group, packet.row, None, packet.place, direction, None, packet.number, packet.n_pig)
     yield Remark("E16", where, sentence, values={"km": Decimal(data.place) / 10_000})

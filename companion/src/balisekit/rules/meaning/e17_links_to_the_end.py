@@ -2,8 +2,8 @@
 
 What it says. A packet 12 with V_MAIN above 0 allows a train to go on for more than 50 m behind the last group that a
 packet 5 names, neither one of the same passage nor one of a group before it on that track and way. Groups count that
-say anything in the direction of passage. The rule is silent if no such group is between that place and the end of the
-authority, less 50 m, and if the end is beyond the last such group of the track. A table without any packet 5 gets one
+say anything in the direction of passage. The rule is silent if no such group is between that place and 50 m beyond the
+end of the authority, and if the end is beyond the last such group of the track. A table without any packet 5 gets one
 remark for all (SUBSET-026, 3.4.4).
 
 How urgent. At worst a wrong place: a train misses a group and goes on.
@@ -40,7 +40,10 @@ LESS = 500
 
 
 class Reach:
-    """How far the links go, from each place of a track and way on, and where the groups are. Places count along the way."""
+    """How far the links go, from each place of a track and way on, and where the groups are.
+
+    Places count along the way.
+    """
 
     def __init__(self) -> None:
         self.links: List[Tuple[int, int]] = []
@@ -108,11 +111,11 @@ def _look_at(decoded: Decoded, options: Options, lane: Reach, end: End) -> Itera
     reach = lane.at(begin)
     if reach >= place - LESS or not lane.groups or place > lane.groups[-1]:
         return
-    if lane.group_between(reach, place - LESS) and not leaves(options, decoded, passage, end.place):
+    if lane.group_between(reach, place + LESS) and not leaves(options, decoded, passage, end.place):
         linked = f"lead to {decoded.km(passage.track, reach * way)} only" if reach > begin else "name no group"
         sentence = (
-            f"the authority ends at {decoded.km(passage.track, end.place)}, and the packets 5 of this group and of those "
-            f"before it {linked}: the last {metres(place - reach)} are without links"
+            f"the authority ends at {decoded.km(passage.track, end.place)}, and the packets 5 of this group and of "
+            f"those before it {linked}: the last {metres(place - reach)} are without links"
         )
         values = {"end_m": Decimal(end.place) / 10, "links_to_m": Decimal(reach * way) / 10}
         yield Remark("E17", passage.at(end.packet), sentence, None, values)

@@ -3,9 +3,10 @@
 What it says. Packets 41 of one track and way announce a level transition within 500 m of each other, and differ in the
 place by more than the tolerance, or in the order of their M_LEVELTR and NID_NTC. A place is the kilometre of the group,
 and D_LEVELTR from it unless that is 32,767 (now). The packet with D_LEVELTR 0 or 32,767 counts as right, or else the
-most frequent place. The tolerance is `--tolerance` (1 m without it), the unit of each packet by Q_SCALE, and one unit of
-the last decimal of the kilometres. If a place is between the first and the last group of the track, some group there
-has to have a packet 41 with D_LEVELTR 0 or 32,767 (SUBSET-026, 5.10 and 7.4.2).
+most frequent place. The tolerance is `--tolerance` (1 m without it), the unit of each packet by Q_SCALE, and one unit
+of the last decimal of the kilometres. If a place is between the first and the last group of the track, some group there
+has to have a packet 41 with D_LEVELTR 0 or 32,767. A packet for both directions with a distance is E5 (SUBSET-026, 5.10
+and 7.4.2).
 
 How urgent. At worst wrong information: the train changes its level at another place.
 
@@ -38,6 +39,7 @@ from balisekit.rules.meaning.words import merged, source
 from balisekit.rules.rule import Options, Remark, Result, Rule
 from balisekit.rules.urgency import Urgency
 
+BOTH_DIRECTIONS = 2
 NOW, NEAR = 32_767, 5000
 """D_LEVELTR for at once, and in decimetres how near two announcements of one transition are."""
 
@@ -86,6 +88,8 @@ def _orders(decoded: Decoded) -> Dict[Lane, List[Order]]:
         for packet in passage.said:
             if packet.number == LEVELS and passage.way is not None:
                 sent = packet.form["d_leveltr"]
+                if packet.form["q_dir"] == BOTH_DIRECTIONS and sent not in (0, NOW):
+                    continue
                 place = passage.place(0 if sent == NOW else sent * packet.unit)
                 if place is not None:
                     own = found.setdefault(lane_of(passage), {})
@@ -118,7 +122,8 @@ def _compare(decoded: Decoded, options: Options, orders: Sequence[Order]) -> Ite
         if apart > tolerance:
             sentence = (
                 f"the level transition is at {decoded.km(track, order.place)} by D_LEVELTR, and at "
-                f"{decoded.km(track, usual.place)} by {source(usual.passage, usual.packet)}: they differ by {metres(apart)}"
+                f"{decoded.km(track, usual.place)} by {source(usual.passage, usual.packet)}: they differ by "
+                f"{metres(apart)}"
             )
             yield Remark("E18", where, sentence, None, values, others=others)
         elif order.levels != usual.levels:
@@ -126,8 +131,8 @@ def _compare(decoded: Decoded, options: Options, orders: Sequence[Order]) -> Ite
             yield Remark("E18", where, sentence, None, values, others=others)
     if not usual.is_now and decoded.is_inside(track, usual.place):
         sentence = (
-            f"it announces {usual.words} at {decoded.km(track, usual.place)}, and no group within {NEAR // 10} m of that "
-            "place has a packet 41 with D_LEVELTR 0 or 32,767"
+            f"it announces {usual.words} at {decoded.km(track, usual.place)}, and no group within {NEAR // 10} m of "
+            "that place has a packet 41 with D_LEVELTR 0 or 32,767"
         )
         values = {"place_m": Decimal(usual.place) / 10}
         yield Remark("E18", usual.passage.at(usual.packet), sentence, None, values)

@@ -25,41 +25,19 @@ How sure. 87 %.
 from __future__ import annotations
 
 from decimal import Decimal
-from typing import Dict, Iterator, List, NamedTuple, Optional, Sequence, Tuple
+from typing import Iterator, Optional
 
 from balisekit.etcs.variables import metres
 from balisekit.rules.decoded import GRADIENTS, Decoded, allowance
 from balisekit.rules.line import Line
-from balisekit.rules.meaning.profiles import Aspect, Profiles, lanes_of
+from balisekit.rules.meaning.both_ways import DOWN, UP, Both, joined, least, may_differ, steps
+from balisekit.rules.meaning.profiles import lanes_of
 from balisekit.rules.meaning.words import source
 from balisekit.rules.rule import Options, Remark, Result, Rule
 from balisekit.rules.urgency import Urgency
 
-UP, DOWN, LONG = 1, -3, 10_000
-"""In per mille, and in decimetres."""
-
-
-class Step(NamedTuple):
-    """A stretch of a profile: places along the kilometres."""
-
-    low: int
-    high: int
-    value: int
-    aspect: Aspect
-
-
-class Both(NamedTuple):
-    """A stretch that both ways cover, with the values that count."""
-
-    low: int
-    high: int
-    rising: Step
-    falling: Step
-
-    @property
-    def values(self) -> Tuple[int, int]:
-        """The gradients of both ways."""
-        return self.rising.value, self.falling.value
+LONG = 10_000
+"""In decimetres: from which length on stretches count on which both ways go down."""
 
 
 def find(line: Line, options: Options) -> Result:
@@ -69,79 +47,15 @@ def find(line: Line, options: Options) -> Result:
     for track in {track for track, _ in lanes}:
         both = [lanes.get((track, way), ()) for way in (1, -1)]
         looked_at += min(map(len, both))
-        if all(both) and _may_differ(*both):
-            steps = [[step for each in some for step in _steps(each.longest, way)] for some, way in zip(both, (1, -1))]
-            found += list(_uphill(decoded, options, _least(*steps, True)))
-            found += list(_downhill(decoded, _least(*steps, False)))
+        if all(both) and may_differ(*both):
+            own = [[step for each in some for step in steps(each.longest, way)] for some, way in zip(both, (1, -1))]
+            found += list(_uphill(decoded, options, least(own[0], own[1], True)))
+            found += list(_downhill(decoded, least(own[0], own[1], False)))
     return Result(found, looked_at)
 
 
-def _may_differ(rising: Sequence[Profiles], falling: Sequence[Profiles]) -> bool:
-    """Whether the nearest groups of both ways differ, or some groups give nothing as far as the next one."""
-    lanes: List[List[Tuple[int, int, int]]] = []
-    for lane in (rising, falling):
-        steps: List[Tuple[int, int, int]] = []
-        for each, after in zip(lane, [*lane[1:], None]):
-            until = each.reach if after is None else after.begin
-            if each.reach < until:
-                return True
-            steps += [(low, min(high, until), value) for low, high, value in each.longest.stretches if low < until]
-        lanes.append(steps)
-    one, other = lanes[0], [(-high, -low, value) for low, high, value in reversed(lanes[1])]
-    first = second = 0
-    while first < len(one) and second < len(other):
-        low, high, value = one[first]
-        other_low, other_high, other_value = other[second]
-        is_apart = value + other_value > UP or max(value, other_value) <= DOWN
-        if is_apart and max(low, other_low) < min(high, other_high):
-            return True
-        first, second = first + (high <= other_high), second + (other_high <= high)
-    return False
-
-
-def _steps(aspect: Aspect, way: int) -> Iterator[Step]:
-    for begin, end, value in aspect.stretches:
-        yield Step(min(begin * way, end * way), max(begin * way, end * way), value, aspect)
-
-
-def _least(rising: Sequence[Step], falling: Sequence[Step], is_least: bool) -> Iterator[Both]:
-    """Each stretch that both ways cover, with the profiles that go up least, or most."""
-    events: List[Tuple[int, int, int, Step]] = []
-    for lane, steps in enumerate((rising, falling)):
-        for step in steps:
-            events += [(step.low, 1, lane, step), (step.high, 0, lane, step)]
-    events.sort(key=lambda each: each[:2])
-    active: Tuple[Dict[int, Step], Dict[int, Step]] = ({}, {})
-    before: Optional[int] = None
-    for place, is_begin, lane, step in events:
-        if before is not None and place > before and all(active):
-            one, other = (
-                (min if is_least else max)(some.values(), key=lambda each: each.value) for some in active
-            )
-            yield Both(before, place, one, other)
-        if is_begin:
-            active[lane][id(step)] = step
-        else:
-            del active[lane][id(step)]
-        before = place
-
-
-def _joined(stretches: Sequence[Both]) -> Iterator[Both]:
-    """Neighbouring stretches as one, with the values of the first one."""
-    last: Optional[Both] = None
-    for each in stretches:
-        if last and last.high == each.low:
-            last = last._replace(high=each.high)
-            continue
-        if last:
-            yield last
-        last = each
-    if last:
-        yield last
-
-
 def _uphill(decoded: Decoded, options: Options, stretches: Iterator[Both]) -> Iterator[Remark]:
-    for both in _joined([each for each in stretches if sum(each.values) > UP]):
+    for both in joined([each for each in stretches if sum(each.values) > UP]):
         packets = [step.aspect.packet for step in (both.rising, both.falling)]
         parts = (allowance(packet, len(packet.stretches)) for packet in packets)
         if both.high - both.low > decoded.tolerance(options.tolerance_of_places, *parts):
@@ -149,7 +63,7 @@ def _uphill(decoded: Decoded, options: Options, stretches: Iterator[Both]) -> It
 
 
 def _downhill(decoded: Decoded, stretches: Iterator[Both]) -> Iterator[Remark]:
-    for both in _joined([each for each in stretches if max(each.values) <= DOWN]):
+    for both in joined([each for each in stretches if max(each.values) <= DOWN]):
         if both.high - both.low >= LONG:
             yield _remark(decoded, both, "both go down", Urgency.RULE_ONLY)
 

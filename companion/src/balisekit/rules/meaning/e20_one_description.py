@@ -23,83 +23,112 @@ from __future__ import annotations
 
 from collections import Counter
 from decimal import Decimal
-from typing import Dict, Iterator, List, NamedTuple, Set, Tuple
+from typing import Dict, Iterator, List, Literal, NamedTuple, Optional, Tuple
 
-from balisekit.etcs.variables import Around, value_words
-from balisekit.rules.decoded import Passage, Reached
+from balisekit.etcs.geometry import DIRECTIONS
+from balisekit.etcs.variables import Around, Form, value_words
+from balisekit.rules.decoded import LINKING, Decoded, Packet
 from balisekit.rules.line import Line
-from balisekit.rules.location import NOT_KNOWN, Identity
-from balisekit.rules.meaning.words import merged, source
+from balisekit.rules.location import NOT_KNOWN, BaliseGroup, Identity, Location
+from balisekit.rules.meaning.sent import Owner, located, sent
+from balisekit.rules.meaning.words import merged
+from balisekit.rules.passages import HOLDING
 from balisekit.rules.rule import Options, Remark, Result, Rule
 from balisekit.rules.urgency import Urgency
-from balisekit.tables.names import describe_identity, ordinal
+from balisekit.tables.names import describe_identity, ordinal, rows_words
 
 
-class Said(NamedTuple):
-    """What a link says of a group."""
+class Link(NamedTuple):
+    """A link, and the packet that has it."""
 
-    value: int
-    passage: Passage
-    reached: Reached
+    owner: Owner
+    packet: Packet
+    place: int
+    identity: Identity
+    form: Form
+
+    @property
+    def location(self) -> Location:
+        """Where it is."""
+        return located(self.owner, self.packet)._replace(link=self.place)
+
+    @property
+    def sender(self) -> Optional[BaliseGroup]:
+        """The group from which its distance counts."""
+        data = self.owner.group
+        return data if data is None or isinstance(data, BaliseGroup) else data.group
+
+    def name(self, decoded: Decoded) -> str:
+        """The group that it names."""
+        target = decoded.by_identity.get(self.identity)
+        return str(target.group) if target else describe_identity(self.identity)
+
+    @property
+    def source(self) -> str:
+        """Who sends it."""
+        row = self.packet.row
+        return f"{self.sender}, {rows_words([row.number])}" if row else "a message"
 
 
 def find(line: Line, options: Options) -> Result:
-    """Looks at all links, those of one packet once."""
+    """Looks at all links."""
     decoded, found, looked_at = line.decoded, [], 0
-    known: Set[Tuple[int, str]] = set()
-    described: Dict[Tuple[str, Identity, int], List[Said]] = {}
-    for passage in decoded.passages:
-        for packet in passage.of(5):
-            if (id(packet), passage.direction) in known:
-                continue
-            known.add((id(packet), passage.direction))
-            links = [each for each in decoded.reached(passage, [packet]) if each.identity[1] != NOT_KNOWN]
-            looked_at += len(links)
-            found += list(_repeated(passage, links))
-            for each in links if options.asks_for("E20") else ():
-                accuracy, reaction = each.form["q_locacc"], each.form["q_linkreaction"]
-                described.setdefault(("q_locacc", each.identity, 0), []).append(Said(accuracy, passage, each))
-                way = passage.way or 0
-                if way:
-                    described.setdefault(("q_linkreaction", each.identity, way), []).append(Said(reaction, passage, each))
-    for (key, _, _), said in described.items():
-        found += list(_differing(key, said))
+    described: Dict[Tuple[str, Identity, int], List[Link]] = {}
+    is_asked = options.asks_for("E20")
+    for owner, packet in sent(decoded, LINKING):
+        links = list(_links(owner, packet))
+        looked_at += len(links)
+        found += list(_repeated(decoded, links))
+        for link in links if is_asked else ():
+            described.setdefault(("q_locacc", link.identity, 0), []).append(link)
+            for index in HOLDING[packet.form["q_dir"]]:
+                way = link.sender.along(DIRECTIONS[index]) if link.sender else None
+                if way is not None:
+                    described.setdefault(("q_linkreaction", link.identity, way), []).append(link)
+    for (key, _, _), links in described.items():
+        found += list(_differing(decoded, "q_locacc" if key == "q_locacc" else "q_linkreaction", links))
     return Result(merged(found), looked_at)
 
 
-def _repeated(passage: Passage, links: List[Reached]) -> Iterator[Remark]:
+def _links(owner: Owner, packet: Packet) -> Iterator[Link]:
+    """The links of a packet that name a group. A link inherits NID_C."""
+    data = owner.group
+    group = data if data is None or isinstance(data, BaliseGroup) else data.group
+    country = group.identity[0] if group and group.identity else 0
+    for place, form in enumerate(packet.form["links"]):
+        country = form.get("nid_c", country)
+        if form["nid_bg"] != NOT_KNOWN:
+            yield Link(owner, packet, place, (country, form["nid_bg"]), form)
+
+
+def _repeated(decoded: Decoded, links: List[Link]) -> Iterator[Remark]:
     """Links to the own group, and second links to one group."""
+    own = links[0].sender.identity if links and links[0].sender else None
     first: Dict[Identity, int] = {}
-    own = passage.group.group.identity if passage.group else None
-    for each in links:
-        name = str(each.target.group) if each.target else describe_identity(each.identity)
-        values = {"nid_c": Decimal(each.identity[0]), "nid_bg": Decimal(each.identity[1])}
-        if each.identity == own:
-            yield Remark("E20", passage.at(each.packet, each.link), f"it names {name}, which sends it", None, values)
-        elif each.identity in first:
-            sentence = f"it names {name}, and so does the {ordinal(first[each.identity])} link of the packet"
-            yield Remark("E20", passage.at(each.packet, each.link), sentence, None, values)
-        first.setdefault(each.identity, each.link)
+    for link in links:
+        if link.identity == own or link.identity in first:
+            by = "which sends it" if link.identity == own else f"as its {ordinal(first[link.identity])} link does"
+            values = {"nid_c": Decimal(link.identity[0]), "nid_bg": Decimal(link.identity[1])}
+            yield Remark("E20", link.location, f"it names {link.name(decoded)}, {by}", None, values)
+        first.setdefault(link.identity, link.place)
 
 
-def _differing(key: str, said: List[Said]) -> Iterator[Remark]:
+def _differing(decoded: Decoded, key: Literal["q_locacc", "q_linkreaction"], links: List[Link]) -> Iterator[Remark]:
     """The links whose value is not the most frequent one."""
-    counts = Counter(each.value for each in said)
+    counts = Counter(link.form[key] for link in links)
     if len(counts) < 2:
         return
-    usual = max(said, key=lambda each: counts[each.value])
-    for each in said:
-        if each.value != usual.value:
-            name = str(each.reached.target.group) if each.reached.target else describe_identity(each.reached.identity)
-            own, other = (value_words(key, one.value, Around()) or str(one.value) for one in (each, usual))
+    usual = max(links, key=lambda link: counts[link.form[key]])
+    for link in links:
+        if link.form[key] != usual.form[key]:
+            own, other = (value_words(key, each.form[key], Around()) for each in (link, usual))
             sentence = (
-                f"{key.upper()} of {name} is {own}, and {other} in {counts[usual.value]} of {len(said)} links to it, such as "
-                f"that of {source(usual.passage, usual.reached.packet)}"
+                f"{key.upper()} of {link.name(decoded)} is {own}, and {other} in {counts[usual.form[key]]} of "
+                f"{len(links)} links to it, such as that of {usual.source}"
             )
-            values = {key: Decimal(each.value), f"other_{key}": Decimal(usual.value)}
-            others = (usual.reached.packet.row.number,) if usual.reached.packet.row else ()
-            where = each.passage.at(each.reached.packet, each.reached.link)
-            yield Remark("E20", where, sentence, None, values, urgency=Urgency.RULE_ONLY, others=others)
+            values = {key: Decimal(link.form[key]), f"other_{key}": Decimal(usual.form[key])}
+            others = (usual.packet.row.number,) if usual.packet.row else ()
+            yield Remark("E20", link.location, sentence, None, values, urgency=Urgency.RULE_ONLY, others=others)
 
 
 RULE = Rule("E20", "links", __doc__ or "", find, Urgency.BRAKING)

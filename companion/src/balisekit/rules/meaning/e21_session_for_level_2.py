@@ -21,13 +21,12 @@ How sure. 80 %.
 from __future__ import annotations
 
 from decimal import Decimal
-from typing import Dict, Iterator
+from typing import Dict, List, Sequence, Tuple
 
 from balisekit.etcs.variables import Around, value_words
 from balisekit.rules.decoded import LEVELS, Decoded, Packet, Passage
 from balisekit.rules.line import Line
 from balisekit.rules.meaning.along import Lane, lane_of
-from balisekit.rules.meaning.words import merged
 from balisekit.rules.rule import Options, Remark, Result, Rule
 from balisekit.rules.urgency import Urgency
 
@@ -35,19 +34,21 @@ SESSION, CONDITIONAL, BY_RADIO = 42, 46, (3, 4)
 
 
 def find(line: Line, options: Options) -> Result:
-    """Looks at each order that names level 2 or 3."""
+    """Looks at each order that names level 2 or 3. Those of one track and way are one remark."""
     decoded = line.decoded
     sessions = _sessions(decoded)
-    found, looked_at = [], 0
+    lacking: Dict[Lane, List[Tuple[int, Passage, Packet]]] = {}
+    looked_at = 0
     for passage in decoded.passages:
         place, way = passage.group.place if passage.group else None, passage.way
-        for packet in passage.of(LEVELS, CONDITIONAL) if place is not None and way is not None else ():
-            levels = [each["m_leveltr"] for each in packet.form.get("transitions", ()) if each["m_leveltr"] in BY_RADIO]
-            looked_at += bool(levels)
-            first = sessions.get(lane_of(passage))
-            if levels and place is not None and way is not None and (first is None or first > place * way):
-                found += list(_remark(decoded, passage, packet, levels[0]))
-    return Result(merged(found), looked_at)
+        if place is None or way is None:
+            continue
+        for packet in passage.of(LEVELS, CONDITIONAL):
+            if any(each["m_leveltr"] in BY_RADIO for each in packet.form.get("transitions", ())):
+                looked_at += 1
+                if sessions.get(lane_of(passage), place * way + 1) > place * way:
+                    lacking.setdefault(lane_of(passage), []).append((place * way, passage, packet))
+    return Result([_remark(line, lane[1], some) for lane, some in lacking.items()], looked_at)
 
 
 def _sessions(decoded: Decoded) -> Dict[Lane, int]:
@@ -62,14 +63,18 @@ def _sessions(decoded: Decoded) -> Dict[Lane, int]:
     return found
 
 
-def _remark(decoded: Decoded, passage: Passage, packet: Packet, level: int) -> Iterator[Remark]:
-    place = passage.group.place if passage.group else None
-    where = f" up to {decoded.km(passage.track, place)}" if place is not None else ""
+def _remark(line: Line, way: int, some: Sequence[Tuple[int, Passage, Packet]]) -> Remark:
+    """The remark on the first order of a track and way, with the rows of the others."""
+    place, passage, packet = min(some, key=lambda each: each[0])
+    level = next(each["m_leveltr"] for each in packet.form["transitions"] if each["m_leveltr"] in BY_RADIO)
     words = value_words("m_leveltr", level, Around(packet.form))
-    sentence = f"it names {words}, and no group of this track and direction{where} has a packet 42 with Q_RBC 1"
-    yield Remark("E21", passage.at(packet), sentence, None, {"m_leveltr": Decimal(level)})
+    sentence = (
+        f"it names {words}, and no group of this track and direction up to "
+        f"{line.decoded.km(passage.track, place * way)} has a packet 42 with Q_RBC 1"
+    )
+    rows = {each.row.number for _, _, each in some if each.row} - {packet.row.number if packet.row else 0}
+    values = {"m_leveltr": Decimal(level)}
+    return Remark("E21", passage.at(packet), sentence, None, values, others=tuple(sorted(rows)))
 
 
-RULE = Rule(
-    "E21", "level orders", __doc__ or "", find, Urgency.BRAKING, needs_kilometres=True, is_default=False
-)
+RULE = Rule("E21", "level orders", __doc__ or "", find, Urgency.BRAKING, needs_kilometres=True, is_default=False)

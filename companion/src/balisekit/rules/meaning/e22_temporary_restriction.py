@@ -1,7 +1,7 @@
 """E22: temporary speed restriction.
 
-What it says. Packets 65 of one track and way have one NID_TSR below 255 and places within 2 km of each other, and differ
-in the place by more than the tolerance, in L_TSR by more than the tolerance, or in V_TSR. The tolerance is
+What it says. Packets 65 of one track and way have one NID_TSR below 255 and places within 2 km of each other, and
+differ in the place by more than the tolerance, in L_TSR by more than the tolerance, or in V_TSR. The tolerance is
 `--tolerance` (1 m without it), the unit of each packet by Q_SCALE, and one unit of the last decimal of the kilometres.
 The most frequent one counts as right. The layout of packet 65 is balisekit's own (SUBSET-026, 3.11.5 and 7.4.2).
 
@@ -25,7 +25,7 @@ from collections import Counter
 from decimal import Decimal
 from typing import Dict, Iterator, List, NamedTuple, Sequence, Tuple
 
-from balisekit.etcs.variables import metres
+from balisekit.etcs.variables import Values, metres
 from balisekit.rules.decoded import Decoded, Packet, Passage
 from balisekit.rules.line import Line
 from balisekit.rules.meaning.along import lane_of
@@ -46,6 +46,12 @@ class Restriction(NamedTuple):
     """In km/h."""
     passage: Passage
     packet: Packet
+
+    @property
+    def number(self) -> int:
+        """NID_TSR."""
+        fields: Values = self.packet.form
+        return int(fields["nid_tsr"])
 
     @property
     def says(self) -> Tuple[int, int, int]:
@@ -72,7 +78,7 @@ def _restrictions(decoded: Decoded) -> Dict[Tuple[str, int, int], List[Restricti
     found: Dict[Tuple[str, int, int], Dict[Tuple[int, str], Restriction]] = {}
     for passage in decoded.passages:
         for packet in passage.said:
-            form = packet.form
+            form: Values = packet.form
             if packet.number == RESTRICTION and form.get("nid_tsr", NOT_REVOCABLE) != NOT_REVOCABLE:
                 place = passage.place(form["d_tsr"] * packet.unit) if passage.way is not None else None
                 if place is not None:
@@ -102,7 +108,7 @@ def _compare(decoded: Decoded, options: Options, some: Sequence[Restriction]) ->
         apart = max(abs(each.place - usual.place), abs(each.length - usual.length))
         if apart > tolerance or each.speed != usual.speed:
             sentence = (
-                f"the restriction with NID_TSR {each.packet.form['nid_tsr']} is at {each.words(decoded)}, and by "
+                f"the restriction with NID_TSR {each.number} is at {each.words(decoded)}, and by "
                 f"{source(usual.passage, usual.packet)} at {usual.words(decoded)}"
             )
             values = {"d_tsr_m": Decimal(each.place) / 10, "l_tsr_m": Decimal(each.length) / 10}

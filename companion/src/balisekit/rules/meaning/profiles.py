@@ -4,79 +4,45 @@ Places count in the direction of passage: those of trains towards lower kilometr
 """
 from __future__ import annotations
 
-from bisect import bisect_right
-from dataclasses import dataclass
-from functools import cached_property
 from typing import Dict, Iterator, List, Mapping, NamedTuple, Optional, Sequence, Tuple
 
 from balisekit.etcs.geometry import ELEMENT_KEYS
-from balisekit.rules.decoded import LINKING, SPEEDS, Decoded, GroupData, Packet, Passage
+from balisekit.rules.decoded import GRADIENTS, LINKING, SPEEDS, Decoded, GroupData, Packet, Passage
 
 APART = 5
 """By how many per mille gradients of two groups may differ."""
+FACTORS = (10, 100)
+"""Between two numbers of Q_SCALE."""
 Step = Tuple[int, int, int]
 """From a place to another one, a value."""
 Lanes = Mapping[Tuple[str, int], Sequence["Profiles"]]
 
 
-@dataclass(eq=False)
 class Aspect:
     """A profile that a group gives in one of its aspects."""
 
-    passage: Passage
-    packet: Packet
-    origin: int
-    """The place of the group."""
-    numerator: int = 1
-    denominator: int = 1
-    """By what its distances are multiplied and divided, to try another Q_SCALE."""
-
-    @cached_property
-    def stretches(self) -> Sequence[Step]:
+    def __init__(self, passage: Passage, packet: Packet, origin: int, up: int = 1, down: int = 1) -> None:
+        """`origin` is the place of the group. Distances are multiplied and divided, to try another Q_SCALE."""
+        self.passage, self.packet, self.origin = passage, packet, origin
+        self.stretches = _stretches(packet, origin, up, down)
         """Its stretches with an end, by their places."""
-        packet, up, down, origin = self.packet, self.numerator, self.denominator, self.origin
-        distance, key, mark = ELEMENT_KEYS[packet.number]
-        unit, is_speed = packet.unit, packet.number == SPEEDS
-        found: List[Step] = []
-        at, begin, before = 0, 0, mark
-        for each in packet.form["elements"]:
-            at += each[distance] * unit
-            place = origin + at if up == down else origin + at * up // down
-            if before != mark:
-                found.append((begin, place, value))
-            before, begin = each[key], place
-            if before == mark:
-                break
-            value = before if is_speed or each["q_gdir"] else -before
-        return found
-
-    @cached_property
-    def _begins(self) -> List[int]:
-        return [begin for begin, _, _ in self.stretches]
-
-    @cached_property
-    def reach(self) -> int:
-        """Where the last stretch with an end ends."""
-        distance, value, mark = ELEMENT_KEYS[self.packet.number]
-        total = 0
-        for each in self.packet.form["elements"]:
-            total += each[distance]
-            if each[value] == mark:
-                return self.origin + total * self.packet.unit
-        return self.stretches[-1][1] if self.stretches else self.origin
 
     def step_at(self, place: int) -> Optional[int]:
         """The value at a place, or None if it gives none there."""
-        index = bisect_right(self._begins, place) - 1
-        return self.stretches[index][2] if index >= 0 and place < self.stretches[index][1] else None
+        return next((value for begin, end, value in self.stretches if begin <= place < end), None)
 
     def value_at(self, place: int) -> int:
         """The value at a place that it covers."""
         return self.step_at(place) or 0
 
-    def scaled(self, up: int, down: int = 1) -> Aspect:
-        """The same with other distances."""
-        return Aspect(self.passage, self.packet, self.origin, up, down)
+    def scale_of(self, other: Aspect) -> str:
+        """By which factor its distances have to be changed to say what another profile says, in words."""
+        for factor in FACTORS:
+            if Aspect(self.passage, self.packet, self.origin, factor).agrees_with(other):
+                return f"{factor} times too small"
+            if Aspect(self.passage, self.packet, self.origin, 1, factor).agrees_with(other):
+                return f"{factor} times too large"
+        return ""
 
     def agrees_with(self, other: Aspect) -> bool:
         """Whether both say the same over the stretch that both cover, of which one stretch ends within it."""
@@ -84,45 +50,63 @@ class Aspect:
             return False
         low = max(self.stretches[0][0], other.stretches[0][0])
         high = min(self.stretches[-1][1], other.stretches[-1][1])
-        is_step = any(low < begin < high for begin in self._begins)
-        return is_step and agree(self, other, low, high, True)
+        return any(low < begin < high for begin, _, _ in self.stretches) and agree(self, other, low, high)
 
 
-@dataclass(eq=False)
+def _stretches(packet: Packet, origin: int, up: int, down: int) -> Sequence[Step]:
+    distance, key, mark = ELEMENT_KEYS[packet.number]
+    unit, is_speed = packet.unit, packet.number == SPEEDS
+    found: List[Step] = []
+    at, begin, before, value = 0, 0, mark, 0
+    for each in packet.form["elements"]:
+        at += each[distance] * unit
+        place = origin + (at if up == down else at * up // down)
+        if before != mark:
+            found.append((begin, place, value))
+        before, begin = each[key], place
+        if before == mark:
+            break
+        value = before if is_speed or each["q_gdir"] else -before
+    return found
+
+
 class Profiles:
     """All profiles of one kind that a group gives to trains of one way."""
 
-    data: GroupData
-    track: str
-    way: int
-    begin: int
-    """The place of the group."""
-    aspects: List[Aspect]
-
-    @cached_property
-    def longest(self) -> Aspect:
+    def __init__(self, data: GroupData, way: int, sayings: Sequence[Tuple[Passage, Packet]], differ: bool) -> None:
+        """`sayings` has each profile, and `differ` says whether its aspects have different packets 5."""
+        self.data, self.track, self.way = data, data.group.track, way
+        self.begin = way * (data.place or 0)
+        """The place of the group."""
+        passage, packet = sayings[0] if len(sayings) == 1 else max(sayings, key=_length)
+        self.longest = Aspect(passage, packet, self.begin)
         """The profile that reaches farthest."""
-        return self.aspects[0] if len(self.aspects) == 1 else max(self.aspects, key=lambda each: each.reach)
+        self.reach = self.longest.stretches[-1][1] if self.longest.stretches else self.begin
+        self._sayings, self._differ = sayings, differ
 
-    @cached_property
-    def reach(self) -> int:
-        """How far it reaches."""
-        return self.longest.reach
+    @property
+    def aspects(self) -> Sequence[Aspect]:
+        """All of them."""
+        longest = self.longest
+        return [
+            longest if packet is longest.packet else Aspect(one, packet, self.begin) for one, packet in self._sayings
+        ]
 
     def naming(self, ahead: Profiles, decoded: Decoded) -> Sequence[Aspect]:
         """The aspects whose packets 5 name a group, or all if none does."""
-        own = [each for each in self.aspects if _names(decoded, each.passage, ahead.data)]
-        return own or self.aspects
+        aspects = self.aspects
+        return [each for each in aspects if _names(decoded, each.passage, ahead.data)] or aspects
 
     def names(self, ahead: Profiles, decoded: Decoded) -> bool:
         """Whether the longest aspect is one of those that are compared with the group."""
-        return len(self.aspects) == 1 or not self._differ or self.longest in self.naming(ahead, decoded)
+        return not self._differ or any(each is self.longest for each in self.naming(ahead, decoded))
 
-    @cached_property
-    def _differ(self) -> bool:
-        """Whether its aspects have different packets 5."""
-        first, *others = ([packet for packet in each.passage.said if packet.number == LINKING] for each in self.aspects)
-        return any(each != first for each in others)
+
+def _length(saying: Tuple[Passage, Packet]) -> int:
+    """How far a profile reaches, if its end mark is the last element."""
+    packet = saying[1]
+    key = ELEMENT_KEYS[packet.number][0]
+    return sum([each[key] for each in packet.form["elements"]]) * packet.unit
 
 
 class Piece(NamedTuple):
@@ -145,36 +129,53 @@ class Piece(NamedTuple):
 
 def lanes_of(decoded: Decoded, number: int) -> Lanes:
     """The profiles of this NID_PACKET, by track and way, in the order of passing."""
-    known = lanes_of, number
-    if known not in decoded.worked_out:
-        decoded.worked_out[known] = _lanes(decoded, number)
-    found: Lanes = decoded.worked_out[known]
-    return found
+    if lanes_of not in decoded.worked_out:
+        made: Dict[int, Dict[Tuple[str, int], List[Profiles]]] = {SPEEDS: {}, GRADIENTS: {}}
+        for data in decoded.groups:
+            for kind, profiles in _of_group(data) if data.place is not None else ():
+                made[kind].setdefault((profiles.track, profiles.way), []).append(profiles)
+        for lanes in made.values():
+            for lane in lanes.values():
+                lane.sort(key=lambda each: each.begin)
+        decoded.worked_out[lanes_of] = made
+    found: Mapping[int, Lanes] = decoded.worked_out[lanes_of]
+    return found[number]
 
 
-def _lanes(decoded: Decoded, number: int) -> Lanes:
-    lanes: Dict[Tuple[str, int], List[Profiles]] = {}
-    for data in decoded.groups:
-        if data.place is None:
-            continue
-        own: Dict[int, Profiles] = {}
-        for passage in data.passages:
+def _of_group(data: GroupData) -> Iterator[Tuple[int, Profiles]]:
+    """The profiles of a group with their NID_PACKET."""
+    sayings: Dict[Tuple[int, int], List[Tuple[Passage, Packet]]] = {}
+    linking: Dict[int, List[List[Packet]]] = {}
+    for passage in data.passages:
+        way = passage.way
+        if way is not None:
+            links = []
             for packet in passage.said:
-                if packet.number == number:
-                    way = passage.way
-                    if way is None:
-                        break
-                    if way not in own:
-                        own[way] = Profiles(data, data.group.track, way, way * data.place, [])
-                        lanes.setdefault((data.group.track, way), []).append(own[way])
-                    own[way].aspects.append(Aspect(passage, packet, way * data.place))
-    return {lane: sorted(some, key=lambda each: each.begin) for lane, some in lanes.items()}
+                number = packet.number
+                if number == SPEEDS or number == GRADIENTS:
+                    sayings.setdefault((number, way), []).append((passage, packet))
+                elif number == LINKING:
+                    links.append(packet)
+            linking.setdefault(way, []).append(links)
+    for (number, way), some in sayings.items():
+        first, *others = linking[way]
+        yield number, Profiles(data, way, some, any(each != first for each in others))
 
 
-def agree(one: Aspect, other: Aspect, low: int, high: int, is_compared: bool) -> bool:
+def pairs(lane: Sequence[Profiles]) -> Iterator[Tuple[Profiles, Profiles, int]]:
+    """Each group with the next ones ahead, and from where on: where no group between them has a profile."""
+    for index, rear in enumerate(lane):
+        covered = rear.begin
+        for ahead in lane[index + 1 : index + 9]:
+            if ahead.begin >= rear.reach or covered >= rear.reach:
+                break
+            if ahead.begin > rear.begin and ahead.reach > covered:
+                yield rear, ahead, covered
+                covered = ahead.reach
+
+
+def agree(one: Aspect, other: Aspect, low: int, high: int) -> bool:
     """Whether two profiles agree from one place to another one, as far as both cover it."""
-    if not is_compared:
-        return False
     is_speed, some, others = one.packet.number == SPEEDS, one.stretches, other.stretches
     first = second = 0
     while first < len(some) and second < len(others):
@@ -195,7 +196,7 @@ def pieces_of(rear: Sequence[Aspect], ahead: Sequence[Aspect], low: int, high: i
     for begin, end in zip(places, places[1:]):
         some = [(each, each.step_at(begin)) for each in rear]
         others = [(each, each.step_at(begin)) for each in ahead]
-        piece = _piece(begin, end, [(a, v) for a, v in some if v is not None], [(a, v) for a, v in others if v is not None])
+        piece = _piece(begin, end, *([(one, v) for one, v in own if v is not None] for own in (some, others)))
         if open_piece and piece and _continues(open_piece, piece):
             open_piece = open_piece._replace(high=end)
             continue

@@ -25,7 +25,7 @@ def source(passage: Passage, packet: Packet) -> str:
     """Who says a packet: `Signal 3 (km 13.000), aspect "green", row 10`, or the message."""
     if passage.message is not None or packet.row is None or passage.group is None:
         return f"the message in {describe_message(passage.message)}" if passage.message else "a message"
-    aspect = f', aspect {quoted(packet.row.aspect)}' if packet.row.aspect not in ("", "*") else ""
+    aspect = f", aspect {quoted(packet.row.aspect)}" if packet.row.aspect not in ("", "*") else ""
     return f"{passage.group.group}{aspect}, {rows_words([packet.row.number])}"
 
 
@@ -34,7 +34,8 @@ def merged(remarks: Iterable[Remark]) -> Sequence[Remark]:
     found: Dict[Tuple[object, ...], List[Remark]] = {}
     for remark in remarks:
         where = remark.location
-        found.setdefault((where.group or where.message, where.direction, where.number, remark.sentence), []).append(remark)
+        key = where.group or where.message, where.direction, where.number, where.link, remark.sentence
+        found.setdefault(key, []).append(remark)
     return [_one_of(same) for same in found.values()]
 
 

@@ -1,0 +1,66 @@
+"""The fields in which two packets with one NID_PACKET differ."""
+from __future__ import annotations
+
+from decimal import Decimal
+from typing import Any, Iterator, List, Mapping, NamedTuple, Sequence, Tuple
+
+from balisekit.etcs.variables import Around, value_words, variable_name
+from balisekit.rules.decoded import Packet
+from balisekit.tables.names import ordinal
+
+NOT_COMPARED = {"q_dir", "q_scale", "l_packet", "body", "nid_packet"}
+INFINITE = 32_767
+"""A distance that has no unit."""
+
+
+class Apart(NamedTuple):
+    """A field that differs."""
+
+    name: str
+    own: str
+    other: str
+    values: Mapping[str, Decimal] = {}
+    """Both numbers as they are sent."""
+
+
+def fields_apart(one: Packet, other: Packet) -> Iterator[Apart]:
+    """The fields that differ. Distances may differ by the greater unit if Q_SCALE differs."""
+    allowed = 0 if one.unit == other.unit else max(one.unit, other.unit)
+    yield from _compared(one.form, other.form, (one, other), "", allowed)
+
+
+def _compared(own: Any, theirs: Any, packets: Tuple[Packet, Packet], where: str, allowed: int) -> Iterator[Apart]:
+    """The fields of two objects that differ, by their order in the first one."""
+    keys: List[str] = [key for key in own if key not in NOT_COMPARED] + [key for key in theirs if key not in own]
+    for key in keys:
+        if key in NOT_COMPARED:
+            continue
+        values: Sequence[Any] = own.get(key), theirs.get(key)
+        if isinstance(values[0], dict) and isinstance(values[1], dict):
+            yield from _compared(values[0], values[1], packets, where, allowed)
+        elif isinstance(values[0], list) and isinstance(values[1], list):
+            for place, (mine, its) in enumerate(zip(*values)):
+                words = f" of the {ordinal(place)} {key.removesuffix('s')}{where}"
+                yield from _compared(mine, its, packets, words, allowed)
+            if len(values[0]) != len(values[1]):
+                yield Apart(f"the number of {key}{where}", str(len(values[0])), str(len(values[1])))
+        elif _differ(key, values, packets, allowed):
+            mine, its = (
+                _words(key, value, packet, parent) for value, packet, parent in zip(values, packets, (own, theirs))
+            )
+            numbers = {key: values[0], f"{key}_of_signal": values[1]}
+            sent = {name: Decimal(value) for name, value in numbers.items() if isinstance(value, int)}
+            yield Apart(f"{variable_name(key, own)}{where}", mine, its, sent)
+
+
+def _differ(key: str, values: Sequence[Any], packets: Sequence[Packet], allowed: int) -> bool:
+    numbers = all(isinstance(value, int) for value in values)
+    if numbers and key[:2] in ("d_", "l_") and INFINITE not in values:
+        return bool(abs(values[0] * packets[0].unit - values[1] * packets[1].unit) > allowed)
+    return bool(values[0] != values[1])
+
+
+def _words(key: str, value: Any, packet: Packet, parent: Any) -> str:
+    if not isinstance(value, (int, str)):
+        return "absent" if value is None else "present"
+    return value_words(key, value, Around(packet.form, parent)) or str(value)

@@ -1,0 +1,495 @@
+"""The rules E12 to E23: what groups say of one line, by its kilometres."""
+from __future__ import annotations
+
+from decimal import Decimal
+from pathlib import Path
+from typing import Any, Callable, Dict, List, Sequence, Tuple
+
+import meaning_mistakes
+import pytest
+from meaning_line import Line, Row, change, table
+from meaning_mistakes import (
+    BORDER,
+    BOTH,
+    INFILL,
+    LEVEL_2,
+    MISTAKES,
+    RESTRICTED,
+    added,
+    all_of,
+    announcement_by_radio,
+    authority,
+    form_of,
+    restriction,
+    session,
+    set_in,
+    set_in_item,
+    single_balise,
+    with_packet,
+)
+from meaning_mistakes_of_groups import FIXED, GREEN, MISTAKES_FOLDER, RED, SHORT, YELLOW, Change, answer, raw
+from test_meaning import written
+
+from balisekit.engine.program import Program
+from balisekit.rules import checking, links, meaning
+from balisekit.rules.chainage import Jump
+from balisekit.rules.line import Line as LineOfTable
+from balisekit.rules.rule import ALL, Options, Remark, Result
+from balisekit.rules.urgency import Urgency
+from balisekit.tables import messages as messages_file, plan as plan_file, reader
+
+ASKED = Options(asked=frozenset({ALL}))
+RULES = {rule.name: rule for rule in (*links.RULES, *meaning.RULES)}
+
+
+def only(keeps: Callable[[Row], bool]) -> Change:
+    """Removes the other rows."""
+
+    def remove(rows: List[Row]) -> None:
+        rows[:] = [row for row in rows if keeps(row)]
+
+    return remove
+
+
+def unchanged(rows: List[Row]) -> None:
+    """Changes nothing."""
+
+
+class Found:
+    """What one rule finds of a changed line."""
+
+    def __init__(self, program: Program, path: Path) -> None:
+        self.program, self.path = program, path / "t.csv"
+
+    def result(self, rule: str, line: Line, change_: Change = unchanged, options: Options = ASKED) -> Result:
+        path = written(self.program, self.path, line, change_)
+        made = LineOfTable.of(checking.check(self.program, reader.read(str(path))), options.jumps)
+        return RULES[rule].find(made, options)
+
+    def __call__(
+        self, rule: str, line: Line, change_: Change = unchanged, options: Options = ASKED
+    ) -> Sequence[Remark]:
+        return self.result(rule, line, change_, options).found
+
+    def plan(self, *rows: str) -> Options:
+        """The options with a track plan of these rows."""
+        path = self.path.with_name("plan.csv")
+        path.write_text("kind,km,km_to,track,way,value,name\n" + "\n".join(rows) + "\n", "utf-8")
+        return Options(asked=ASKED.asked, plan=plan_file.read(str(path)))
+
+
+@pytest.fixture
+def found(program: Program, tmp_path: Path) -> Found:
+    return Found(program, tmp_path)
+
+
+def rows_named(remark: Remark) -> Tuple[int, ...]:
+    """The rows of a remark, those of the other group last."""
+    row = remark.location.row
+    return (*(remark.rows or ([row.number] if row else [])), *remark.others)
+
+
+@pytest.mark.parametrize("name", MISTAKES)
+def test_examples(program: Program, name: str) -> None:
+    """Each table is made of its mistake, and gets what is written beside it, at least from its own rule."""
+    path = MISTAKES_FOLDER / f"{name}.csv"
+    assert path.read_text("utf-8") == table(program, MISTAKES[name].rows)
+    said = answer(name)
+    assert said == path.with_suffix(".txt").read_text("utf-8") and f": {name}: " in said
+
+
+def on_track_2(rows: List[Row]) -> None:
+    """A second track beside the first one, with its own groups, speeds and gradients, whose kilometres fall."""
+    for row in rows:
+        row.track = "1"
+    for row in Line(signals=6, way=-1, seed=2).rows:
+        row.form["nid_bg"] += 100
+        for each in row.form["packets"]:
+            for link in each.get("links", ()):
+                link["nid_bg"] += 100
+        rows.append(row_on_track_2(row))
+
+
+def row_on_track_2(row: Row) -> Row:
+    name = f"{row.group} of track 2"
+    return Row(name, f"{name} {row.balise}", row.place, row.aspect, row.balise, row.form, "2")
+
+
+@pytest.mark.parametrize(
+    "line, change_",
+    [
+        (
+            LEVEL_2,
+            all_of(with_packet("Signal 1", FIXED, session()), with_packet("Signal 2", FIXED, announcement_by_radio())),
+        ),
+        (SHORT, on_track_2),
+        (SHORT, RESTRICTED),
+        (SHORT, single_balise),
+    ],
+)
+def test_sound_lines(found: Found, line: Line, change_: Change) -> None:
+    """Level 2 with its session and border of radio block centres, two tracks, and a restriction that two groups give."""
+    for rule in meaning.RULES:
+        assert not found(rule.name, line, change_), rule.name
+
+
+@pytest.mark.parametrize(
+    "group, aspect, metres, differences",
+    [
+        ("Signal 3", GREEN, 5, [5]),
+        ("Signal 3", GREEN, 4, []),
+        ("Signal 3", GREEN, -500, [1000]),
+        ("Signal 4", YELLOW, -50, [-50]),
+    ],
+)
+def test_e12(found: Found, group: str, aspect: str, metres: int, differences: List[int]) -> None:
+    """An end that is far from each group is compared with those that lead to the group before it."""
+    made = found("E12", SHORT, added(group, aspect, "l_endsection", 12, metres))
+    assert [each.values["end_m"] - each.values["other_end_m"] for each in made] == differences
+    for each in made:
+        assert each.location.row and (each.location.row.group, each.location.row.aspect) == (group, aspect)
+
+
+def without_links(rows: List[Row]) -> None:
+    for row in rows:
+        row.form["packets"] = [each for each in row.form["packets"] if each["nid_packet"] != 5]
+
+
+def test_e12_without_links(found: Found) -> None:
+    """Ends within 20 m are compared, and one more than 50 m from a group is remarked unless no group is near."""
+    longer = [
+        all_of(without_links, added("Signal 3", GREEN, "l_endsection", 12, metres)) for metres in (15, 30, 60, 300)
+    ]
+    made = [found("E12", SHORT, each) for each in longer]
+    assert [len(each) for each in made] == [1, 0, 1, 0]
+    assert "the nearest group, Signal 5 (km 16.000), is 60 m from there" in made[2][0].sentence
+
+
+def test_e12_is_silent_beyond_a_point(found: Found) -> None:
+    options = found.plan("point,15.000,,,rising,,W1")
+    longer = added("Signal 3", GREEN, "l_endsection", 12, 100)
+    assert found("E12", SHORT, longer) and not found("E12", SHORT, longer, options)
+
+
+def test_e12_of_messages(found: Found, program: Program) -> None:
+    """A packet 15 of a message counts from its group. Its end may be away from all groups."""
+    path = written(program, found.path, SHORT)
+    for metres, count in ((1500, 0), (1550, 1)):
+        packet_15 = {"nid_packet": 15, "q_dir": 1, "q_scale": 1, **authority(metres)}
+        del packet_15["v_main"]
+        links = change(SHORT.rows, "Signal 3", FIXED, 5)
+        message: Any = {"nid_message": 3, "t_train": 1, "m_ack": 0, "nid_c": 352, "nid_bg": 3}
+        (text,) = program.encode([{**message, "packets": [packet_15, links]}], radio=True)
+        radio = path.with_name("m.txt")
+        radio.write_text(f"{text.line};M\n", "utf-8")
+        checked = checking.check(program, reader.read(str(path)), messages_file.read(str(radio)))
+        made = RULES["E12"].find(LineOfTable.of(checked), Options()).found
+        assert len(made) == count
+    assert made[0].location.message and "ends at km 14.550, 1550 m from the group" in made[0].sentence
+
+
+def elements(aspects: Sequence[str], number: int, place: int, **values: Any) -> Change:
+    """Sets values in an element of signal 3 in these aspects."""
+    return all_of(*(set_in_item("Signal 3", aspect, number, "elements", place, **values) for aspect in aspects))
+
+
+EVERY = (RED, YELLOW, GREEN)
+
+
+def test_e13_gradients(found: Found) -> None:
+    """5 per mille apart is no difference; a difference from both sides is one remark on the group."""
+    value = change(SHORT.rows, "Signal 3", RED, 21)["elements"][0]
+    near, apart = (elements(EVERY, 21, 0, g_a=value["g_a"] - less) for less in (5, 6))
+    assert not found("E13", SHORT, near)
+    (one,) = found("E13", SHORT, apart)
+    assert rows_named(one)[:3] == (11, 12, 13) and one.values["g_a"] - one.values["other_g_a"] in (6, -6)
+    assert "G_A is" in one.sentence and "per mille from km 13.000 to km " in one.sentence
+
+
+def test_e13_speeds_in_kmh(found: Found) -> None:
+    line = Line(signals=6)
+    line.speeds = [(0, 100)]
+    made = found("E13", line, elements(EVERY, 27, 0, v_static=100))
+    assert [rows_named(each)[:3] for each in made] == [(11, 12, 13)]
+    assert ": is V_STATIC in km/h instead of steps of 5 km/h?" in made[0].sentence
+    assert "V_STATIC is 500 km/h from km 13.000 to km " in made[0].sentence
+
+
+def test_e13_scale(found: Found) -> None:
+    line = Line(signals=6)
+    line.speeds = [(0, 100), (13_400, 120), (14_600, 140), (15_200, 80)]
+    made = found("E13", line, meaning_mistakes.distances_in_tenths)
+    assert len(made) == 1 and "10 times too small, by Q_SCALE?" in made[0].sentence
+
+
+def test_e13_passes_over_short_stretches(found: Found) -> None:
+    line = Line(signals=6)
+    line.speeds = [(0, 100), (13_400, 120)]
+    for metres, count in ((4, 0), (40, 1)):
+        moved = all_of(
+            *(set_in_item("Signal 3", each, 27, "elements", 1, d_static=400 + metres) for each in (YELLOW, GREEN))
+        )
+        assert len(found("E13", line, moved)) == count, metres
+    assert not found("E13", line, moved, found.plan("point,12.000,,,rising,,W1", "point,13.100,,,rising,,W2"))
+
+
+def test_e13_compares_aspects_that_name_the_group(found: Found) -> None:
+    """An aspect for another route, whose packet 5 names other groups, is not compared."""
+
+    def route(rows: List[Row]) -> None:
+        fixed, green = form_of(rows, "Signal 2", FIXED), form_of(rows, "Signal 2", GREEN)
+        (link,) = [each for each in fixed["packets"] if each["nid_packet"] == 5]
+        fixed["packets"].remove(link)
+        form_of(rows, "Signal 2", YELLOW)["packets"].append(link)
+        for element in change(rows, "Signal 2", GREEN, 27)["elements"]:
+            element["v_static"] = min(element["v_static"] + 1, 127)
+        if names_it:
+            green["packets"].append(link)
+
+    names_it = False
+    assert not found("E13", SHORT, route)
+    names_it = True
+    assert found("E13", SHORT, route)
+
+
+def links_of(group: str, place: int, metres: int) -> Change:
+    def move(rows: List[Row]) -> None:
+        change(rows, group, FIXED, 5)["links"][place]["d_link"] += metres
+
+    return move
+
+
+def test_e14(found: Found) -> None:
+    """The tolerance itself, and what is beyond Q_LOCACC, are none."""
+    made = [found("E14", SHORT, links_of("Signal 4", 0, metres)) for metres in (3, 4, 5, 6, -4)]
+    assert [len(each) for each in made] == [0, 1, 1, 0, 1]
+    assert made[1][0].values == {"metres_by_d_link": Decimal(1504), "metres_by_kilometres": Decimal(1500)}
+    assert len(found("L2", SHORT, links_of("Signal 4", 0, 6))) == 1
+    assert "by the kilometres it is 1503 m to balise 1 of Signal 5 (km 16.000), row 19" in made[1][0].sentence
+
+
+def shifted(from_place: int, metres: int) -> Change:
+    """The kilometres jump."""
+
+    def shift(rows: List[Row]) -> None:
+        for row in rows:
+            row.place += metres if row.place > from_place else 0
+
+    return shift
+
+
+def test_jumps(found: Found) -> None:
+    """A jump is one remark, of L2 if it is greater than Q_LOCACC. One that is given is none."""
+    for metres, rule, other in ((4, "E14", "L2"), (50, "L2", "E14")):
+        (one,) = found(rule, BOTH, shifted(14_000, metres))
+        km = f"14.5{metres:02}"
+        assert f"kilometre jump? All links over the stretch from km 13.600 to km {km}" in one.sentence
+        assert f"are {metres} m shorter by D_LINK than by the kilometres" in one.sentence and len(one.others) > 1
+        assert not found(other, BOTH, shifted(14_000, metres))
+        given = Options(jumps=(Jump(Decimal("14"), Decimal("14") + Decimal(metres) / 1000),))
+        assert not found("L2", BOTH, shifted(14_000, metres), given)
+        assert not found("E14", BOTH, shifted(14_000, metres), given)
+
+
+def test_e14_of_many_links_is_a_note(found: Found) -> None:
+    def longer(rows: List[Row]) -> None:
+        for row in rows:
+            for each in row.form["packets"]:
+                for number, link in enumerate(each.get("links", ())):
+                    link["d_link"] += 4 + (number + row.form["nid_bg"]) % 2
+
+    result = found.result("E14", SHORT, longer)
+    assert not result.found and len(result.notes) == 1
+    assert result.notes[0].startswith("E14: ") and "links differ from the kilometres by more than" in result.notes[0]
+
+
+def infill(group: int, country: str = "0") -> Change:
+    """The infill names another group."""
+
+    def name(rows: List[Row]) -> None:
+        for aspect in EVERY:
+            (packet,) = [each for each in form_of(rows, SITE, aspect)["packets"] if each["nid_packet"] == 136]
+            packet.update(raw(136, f"{country}{group:014b}"))
+
+    return name
+
+
+SITE = "Infill of Signal 4"
+
+
+def test_e15(found: Found) -> None:
+    (one,) = found("E15", INFILL, set_in(SITE, GREEN, 12, v_main=10))
+    assert one.sentence.startswith("V_MAIN is 50 km/h in the infill, and ") and rows_named(one) == (17, 21)
+    (one,) = found("E15", INFILL, set_in_item(SITE, GREEN, 21, "elements", 0, g_a=39))
+    assert one.sentence.startswith("G_A of the first element is ")
+    (one,) = found(
+        "E15", INFILL, set_in(SITE, GREEN, 12, overlap={"d_startol": 100, "t_ol": 60, "d_ol": 190, "v_releaseol": 126})
+    )
+    assert one.sentence.startswith("D_OL is 190 m in the infill, and 200 m in packet 12 of Signal 4")
+
+
+def test_e15_compares_metres(found: Found) -> None:
+    """Another Q_SCALE, and a packet that only one of them has, are passed over."""
+
+    def rescaled(rows: List[Row]) -> None:
+        packet = change(rows, SITE, GREEN, 27)
+        packet["q_scale"] = 0
+        for element in packet["elements"]:
+            element["d_static"] *= 10
+
+    assert not found("E15", INFILL, rescaled)
+    profile = change(INFILL.rows, SITE, RED, 21)
+    assert not found("E15", INFILL, lambda rows: form_of(rows, SITE, RED)["packets"].remove(profile))
+
+
+def test_e15_names_a_group_ahead(found: Found) -> None:
+    (one,) = found("E15", INFILL, infill(2))
+    assert (
+        one.sentence
+        == "packet 136 names Signal 2 (km 11.500), which is 2600 m in rear of Infill of Signal 4 (km 14.100)"
+    )
+    (one,) = found("E15", INFILL, infill(777))
+    assert one.sentence == "packet 136 names group 777 of country or region 352, which the table has not"
+    result = found.result("E15", INFILL, only(lambda row: row.place <= 14_103))
+    assert not result.found and result.notes[0].endswith("which the table has not: it may be beyond the table")
+
+
+def test_e16(found: Found) -> None:
+    """Two links that disagree, and one that disagrees with the column."""
+    assert not found("E16", SHORT, single_balise)
+    (one,) = found("E16", SHORT, lambda rows: single_balise(rows, orientation=0))
+    assert "rise in the nominal direction of the single balise Single (km 15.600)" in one.sentence
+    assert rows_named(one) == (10, 14)
+
+
+def test_e16_and_the_column_nominal(found: Found, program: Program) -> None:
+    path = written(program, found.path, SHORT, single_balise)
+    head, *lines = path.read_text("utf-8").splitlines()
+    for word, count in (("rising", 0), ("falling", 1)):
+        named = [f"{head},nominal", *(f"{each},{word if each.startswith('Single') else ''}" for each in lines)]
+        path.write_text("\n".join(named), "utf-8")
+        line = LineOfTable.of(checking.check(program, reader.read(str(path))))
+        assert len(RULES["E16"].find(line, Options()).found) == count
+
+
+def test_e16_of_a_balise_that_nobody_names(found: Found) -> None:
+    """Q_LINK 0 is L5; a packet for both directions, or a balise that no packet 5 leads past, is none."""
+
+    def changed(**values: Any) -> Change:
+        def set_(rows: List[Row]) -> None:
+            single_balise(rows, named=False)
+            form = form_of(rows, "Single", "")
+            form["packets"][0].update({key: each for key, each in values.items() if key == "q_dir"})
+            form.update({key: each for key, each in values.items() if key == "q_link"})
+
+        return set_
+
+    several: List[Dict[str, int]] = [{}, {"q_link": 0}, {"q_dir": 2}]
+    assert [len(found("E16", SHORT, changed(**each))) for each in several] == [1, 0, 0]
+    assert not found("E16", SHORT, all_of(without_links, changed()))
+
+
+def test_e17(found: Found) -> None:
+    made = found("E17", SHORT, meaning_mistakes.links_shortened)
+    assert [each.location.row.group for each in made if each.location.row] == [
+        f"Signal {each}" for each in (1, 2, 3, 4)
+    ]
+    assert "and the packets 5 of this group and of those before it lead to km 11.500 only" in made[0].sentence
+    (one,) = found("E17", SHORT, without_links)
+    assert one.sentence == "no group or message has a packet 5 (linking), and 12 authorities have a V_MAIN above 0"
+
+
+@pytest.mark.parametrize("metres, count", [(50, 1), (3, 0), (-400, 1), (-900, 1)])
+def test_e18(found: Found, metres: int, count: int) -> None:
+    made = found("E18", BORDER, added("Signal 4", FIXED, "d_leveltr", 41, metres))
+    assert len(made) == count and all(rows_named(each)[0] == 14 for each in made)
+
+
+def test_e18_levels(found: Found) -> None:
+    (one,) = found("E18", BORDER, set_in("Signal 4", FIXED, 41, transitions=[{"m_leveltr": 2, "l_ackleveltr": 0}]))
+    assert one.sentence == "the levels are level 1, and Border (km 16.700), row 22, has level 0 at km 16.700"
+    without = found("E18", BORDER, only(lambda row: row.group != "Border"))
+    assert len(without) == 1 and "no group within 500 m of that place has a packet 41" in without[0].sentence
+    cut = found("E18", BORDER, only(lambda row: row.place < 16_100))
+    assert not cut
+
+
+def test_e19(found: Found) -> None:
+    """A sum of 1 per mille is none; both ways down over 1 km is of the lowest urgency."""
+    for steep, count in ((0, 0), (1, 0), (2, 1)):
+        line = Line(signals=6, both=True)
+        line.gradients = [(0, 10)]
+
+        def more(rows: List[Row], steep: int = steep) -> None:
+            for row in rows:
+                for each in row.form["packets"] if row.group.startswith("Signal R") else ():
+                    for element in each["elements"] if each["nid_packet"] == 21 else ():
+                        element["g_a"] = 10 - steep if element["g_a"] != 255 else 255
+
+        made = found("E19", line, more)
+        assert len(made) == count, steep
+    assert made[0].values == {"g_a": Decimal(10), "other_g_a": Decimal(-8)}
+    assert made[0].sentence.endswith("they add up to 2 per mille")
+    down = [each for each in found("E19", BOTH, meaning_mistakes.reverse_gradients_turned) if each.urgency]
+    assert down and all(each.urgency is Urgency.RULE_ONLY and each.sentence.endswith("both go down") for each in down)
+
+
+def test_e20(found: Found) -> None:
+    """Only the part about one packet is on by default."""
+    for group, words in ((5, "as its first link does"), (4, "which sends it")):
+        (one,) = found("E20", SHORT, set_in_item("Signal 4", FIXED, 5, "links", 1, nid_bg=group), Options())
+        assert words in one.sentence and one.values["nid_bg"] == group
+    for key, value in (("q_locacc", 12), ("q_linkreaction", 2)):
+        changed = set_in_item("Signal 4", FIXED, 5, "links", 0, **{key: value})
+        (one,) = found("E20", SHORT, changed)
+        usual = {"q_locacc": 5, "q_linkreaction": 1}[key]
+        assert one.values == {key: Decimal(value), f"other_{key}": Decimal(usual)}
+        assert not found("E20", SHORT, changed, Options())
+
+
+def test_e21(found: Found) -> None:
+    assert not found("E21", LEVEL_2, with_packet("Signal 4", FIXED, session()))
+    late = found("E21", LEVEL_2, with_packet("Signal 5", FIXED, session()))
+    assert [rows_named(each) for each in late] == [(14,)]
+    (one,) = found("E21", LEVEL_2)
+    assert rows_named(one) == (14, 18, 22) and one.sentence.startswith("it names level 2, and no group")
+    assert len(found("E21", SHORT, with_packet("Signal 4", FIXED, raw(46, f"{3:03b}{0:05b}")))) == 1
+    assert not found("E21", SHORT, with_packet("Signal 4", FIXED, raw(46, f"{2:03b}{0:05b}"))) and not found(
+        "E21", BORDER
+    )
+
+
+@pytest.mark.parametrize(
+    "number, distance, length, speed, count",
+    [(7, 0, 500, 40, 1), (7, 4, 500, 40, 1), (255, 100, 500, 40, 0), (7, 5000, 500, 40, 0), (8, 100, 500, 40, 0)],
+)
+def test_e22(found: Found, number: int, distance: int, length: int, speed: int, count: int) -> None:
+    """Places more than 2 km apart, other numbers, and restrictions without one, are not compared."""
+    changes = all_of(RESTRICTED, with_packet("Signal 4", FIXED, restriction(number, distance, length, speed)))
+    made = found("E22", SHORT, changes)
+    assert len(made) == count and all(rows_named(each) == (14, 6) for each in made)
+
+
+def test_e22_near_and_slow(found: Found) -> None:
+    same = RESTRICTED, with_packet("Signal 2", YELLOW, restriction(7, 2503, 500, 40))
+    assert not found("E22", SHORT, all_of(*same))
+    for length, speed in ((600, 40), (500, 45)):
+        (one,) = found(
+            "E22", SHORT, all_of(RESTRICTED, with_packet("Signal 2", YELLOW, restriction(7, 2500, length, speed)))
+        )
+        assert f"{length} m with {speed} km/h" in one.sentence
+
+
+def test_e23(found: Found) -> None:
+    """Groups of another country at an end of the line are none."""
+
+    def other(*groups: str) -> Change:
+        def set_(rows: List[Row]) -> None:
+            for row in rows:
+                row.form["nid_c"] = 353 if row.group in groups else 352
+
+        return set_
+
+    assert [
+        len(found("E23", SHORT, other(*each))) for each in (("Signal 6",), ("Signal 1", "Signal 2"), ("Signal 3",))
+    ] == [0, 0, 1]
