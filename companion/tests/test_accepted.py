@@ -249,11 +249,12 @@ def test_proposed_entries_are_about_their_findings(run: Run, tmp_path: Path) -> 
         ("F9", "Infill, packet 136"),
         ("F9", "Infill, packet 136"),
         ("F11", ""),
+        ("E15", ""),
     ]
     signed = [[*row[:9], "J. Doe", "2026-05-28", *row[11:]] for row in rows[1:]]
     file.write_text(csv_writing.text(rows[0], signed), "utf-8")
     out = run("check", LINE, "--accepted", file)[1]
-    assert out[-2] == "findings 5: accepted 4, open 1; entries at fault 1"
+    assert out[-2] == "findings 5, remarks 1: accepted 4, open 2; entries at fault 2"
 
 
 def test_correct_data_is_recognized(run: Run, table: Write, tmp_path: Path) -> None:

@@ -122,7 +122,7 @@ def test_refused_messages_and_files_elsewhere(
 
 
 def test_a_fingerprint_survives_new_rows(run: Run, table: Write, tmp_path: Path) -> None:
-    """Two findings and two remarks: a group is put in before them, and only the rows of their places change."""
+    """Findings, links and remarks: a group is put in before them, and only the rows of their places change."""
 
     def prints(path: Path) -> List[Tuple[str, str]]:
         _, log = written(run, tmp_path, path)
@@ -131,7 +131,7 @@ def test_a_fingerprint_survives_new_rows(run: Run, table: Write, tmp_path: Path)
     heading, *lines = LINKS.read_text("utf-8").splitlines()
     lines += [lines[-1].replace("D,D1,12.500", f"{name},,12.6") for name in "EF"]
     known = prints(table(heading, *lines))
-    assert len(known) == 3 and len(set(known)) == 3
+    assert len(known) == 5 and len(set(known)) == 5
     assert prints(table(heading, f"N,N1,9.000,rising,{ALONE}", *lines, name="new.csv")) == known
 
 

@@ -85,7 +85,7 @@ def test_e7(run: Run, program: Program, tmp_path: Path) -> None:
     path = written(program, tmp_path / "t.csv", Line(), _copied)
     status, out, _ = run("check", path)
     speed = change(Line().rows, "Signal 4", "green", 12)["v_main"] * 5
-    assert status == 1 and out[-1] == "program: yes: groups 15, messages 0; remarks: 1 found (E7 1)"
+    assert status == 1 and out[-1] == 'program: "yes: groups 15, messages 0"; remarks: 1 found (E7 1)'
     assert (
         'rows 16 to 17  Signal 4  km 14.500  aspects "yellow", "green": E7: the aspects "yellow", "green" have the '
         f"same packets in every balise, with V_MAIN {speed} km/h: one of them may be a copy"
@@ -154,8 +154,8 @@ def test_other_outputs(run: Run, program: Program, tmp_path: Path) -> None:
     """A remark is in the report, in the JSON and in a proposal, whose signed entry accepts it as correct data may."""
     path = written(program, tmp_path / "t.csv", Line(), _copied)
     sentence = "have the same packets in every balise"
-    assert run("report", path, "--html", tmp_path / "r.html")[0] == 0
-    assert (tmp_path / "r.html").read_text("utf-8").count(sentence) == 1
+    assert run("report", path, "--html", tmp_path / "r.html")[0] == 1
+    assert (tmp_path / "r.html").read_text("utf-8").count(sentence) == 2
     run("check", path, "--json", tmp_path / "a.json", "--propose", tmp_path / "p.csv")
     answer = json.loads((tmp_path / "a.json").read_text("utf-8"))
     (entry,) = answer["entries"]

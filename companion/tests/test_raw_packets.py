@@ -611,7 +611,7 @@ def test_commands(program: Program, run: Run, table: Write, tmp_path: Path) -> N
     assert run("table", old, "--expect", tmp_path / "sheet.csv")[0] == 0
     status, out, _ = run("table", new, "--expect", tmp_path / "sheet.csv")
     said = [line for line in out if line.startswith("row ")]
-    where = 'row 2  A  km 13.850  balise 0 "A0"  packet 65'
+    where = 'row 2  A  km 13.850  balise "A0" (first of its group)  packet 65'
     assert status == 1 and [line.partition(", ")[2] for line in said] == [
         f'column raw: expected "40c0fa012c10", found "40c0fa012c08": {where}  body',
         f'column raw: expected "16", found "8": {where}  V_TSR',

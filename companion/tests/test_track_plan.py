@@ -500,7 +500,7 @@ def test_options(run: Run, program: Program, tmp_path: Path) -> None:
     assert run("check", path, "--plan", file, "--json", file, "--force")[0] == 2
     (tmp_path / "balisekit.toml").write_text('[check]\nplan = "p.csv"\n', "utf-8")
     status, out, _ = run("check", path)
-    assert status == 0 and out[-1] == "program: yes: groups 15, messages 0; track plan: none found, 219 compared"
+    assert status == 0 and out[-1] == 'program: "yes: groups 15, messages 0"; track plan: none found, 219 compared'
 
 
 def test_without_kilometres(run: Run, program: Program, tmp_path: Path) -> None:
@@ -512,7 +512,7 @@ def test_without_kilometres(run: Run, program: Program, tmp_path: Path) -> None:
     rows_without = [{**row, "way": ""} for row in rows_of(file.read_text("utf-8"))]
     file.write_text(text_of(rows_without), "utf-8")
     status, out, _ = run("check", path, "--plan", file)
-    assert status == 0 and "compared: X4 45 authorities of aspects" in out
+    assert status == 0 and "compared: 45 authorities of aspects (X4)" in out
 
 
 def test_refused_telegrams(run: Run) -> None:
@@ -558,14 +558,14 @@ def test_example() -> None:
 
 
 def test_report(run: Run, tmp_path: Path) -> None:
-    """The page has the remarks and the counts of the last line, and its status is that of the program."""
+    """The page has the remarks and the counts of the last line, and its status is that of `check`."""
     pytest.importorskip("jinja2")
     words = ("report", TOP / plan_example.TABLE, "--html", tmp_path / "a.html")
-    assert run(*words, "--plan", TOP / plan_example.PLAN)[0] == 0
+    assert run(*words, "--plan", TOP / plan_example.PLAN)[0] == 1
     page = (tmp_path / "a.html").read_text("utf-8")
     assert "V_MAIN is 140 km/h, and 100 km/h by row 63 of the plan" in page
-    assert "track plan: compared: X1 67 speeds, X2 77 gradients, X3 30 ends of authority, " in page
-    assert run(*words, "--force")[0] == 0 and "track plan" not in (tmp_path / "a.html").read_text("utf-8")
+    assert "compared: 67 speeds (X1), 77 gradients (X2), 30 ends of authority (X3), " in page
+    assert run(*words, "--force")[0] == 0 and "Track plan, by" not in (tmp_path / "a.html").read_text("utf-8")
 
 
 def test_the_example_of_the_page() -> None:
