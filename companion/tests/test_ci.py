@@ -45,7 +45,7 @@ def entry(**fields: str) -> str:
 
 
 def read(path: Path) -> Any:
-    """The suite of the program's findings, by Debian's reader. That of remarks has the same groups, and finds nothing."""
+    """The suite of the program's findings, by Debian's reader. That of remarks finds nothing."""
     junitparser = pytest.importorskip("junitparser")
     findings, remarks = junitparser.JUnitXml.fromfile(str(path))
     assert remarks.name.startswith("balisekit remarks ") and not any(case.result for case in remarks)
