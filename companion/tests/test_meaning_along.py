@@ -439,6 +439,15 @@ def test_e19(found: Found) -> None:
     assert down and all(each.urgency is Urgency.RULE_ONLY and each.sentence.endswith("both go down") for each in down)
 
 
+def test_e19_passes_over_stretches_without_length(found: Found) -> None:
+    def empty(rows: List[Row]) -> None:
+        meaning_mistakes.reverse_gradients_turned(rows)
+        elements_of = change(rows, "Signal 3", GREEN, 21)["elements"]
+        elements_of.insert(1, {**elements_of[0], "d_gradient": 0})
+
+    assert found("E19", BOTH, empty) and not found("E13", BOTH, empty)
+
+
 def test_e20(found: Found) -> None:
     """Only the part about one packet is on by default."""
     for group, words in ((5, "as its first link does"), (4, "which sends it")):
