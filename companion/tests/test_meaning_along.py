@@ -98,6 +98,11 @@ def test_examples(program: Program, name: str) -> None:
     assert said == path.with_suffix(".txt").read_text("utf-8") and f": {name}: " in said
 
 
+WITH_SESSION = all_of(
+    with_packet("Signal 1", FIXED, session()), with_packet("Signal 2", FIXED, announcement_by_radio())
+)
+
+
 def on_track_2(rows: List[Row]) -> None:
     """A second track beside the first one, with its own groups, speeds and gradients, whose kilometres fall."""
     for row in rows:
@@ -128,7 +133,7 @@ def row_on_track_2(row: Row) -> Row:
     ],
 )
 def test_sound_lines(found: Found, line: Line, change_: Change) -> None:
-    """Level 2 with its session and border of radio block centres, two tracks, and a restriction that two groups give."""
+    """Level 2 with packets 42 and 131, two tracks, a restriction that two groups give, and a single balise."""
     for rule in meaning.RULES:
         assert not found(rule.name, line, change_), rule.name
 
@@ -432,6 +437,15 @@ def test_e19(found: Found) -> None:
     assert made[0].sentence.endswith("they add up to 2 per mille")
     down = [each for each in found("E19", BOTH, meaning_mistakes.reverse_gradients_turned) if each.urgency]
     assert down and all(each.urgency is Urgency.RULE_ONLY and each.sentence.endswith("both go down") for each in down)
+
+
+def test_e19_passes_over_stretches_without_length(found: Found) -> None:
+    def empty(rows: List[Row]) -> None:
+        meaning_mistakes.reverse_gradients_turned(rows)
+        elements_of = change(rows, "Signal 3", GREEN, 21)["elements"]
+        elements_of.insert(1, {**elements_of[0], "d_gradient": 0})
+
+    assert found("E19", BOTH, empty) and not found("E13", BOTH, empty)
 
 
 def test_e20(found: Found) -> None:
